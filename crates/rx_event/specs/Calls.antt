@@ -1,0 +1,50 @@
+-- The events that a call of the book adds before those that they force.
+use Rattle.std.specs.Prelude.{ℕ, ℤ, List, [], ◌∷◌, length}
+use Rattle.rx_note.specs.declared.note.Terminal.{Terminal}
+use Rattle.rx_note.specs.declared.note.Terminal.TheVariants.{Error}
+use Rattle.rx_event.specs.declared.event.Place.{Place}
+use Rattle.rx_event.specs.declared.event.Kind.{Kind}
+use Rattle.rx_event.specs.declared.event.Kind.TheVariants.{Pass}
+use Rattle.rx_event.specs.declared.event.Mode.{Mode}
+use Rattle.rx_event.specs.declared.event.Event.{Event}
+use Rattle.rx_event.specs.declared.event.Event.TheVariants.{Open, Hub, Connect, Accept, Use, Remove, Item, Decline, End, Close, Take}
+use Rattle.rx_event.specs.Lawful.{IsStep}
+
+-- what a caller asks for, with numbers in place of keys
+pub data Call : Type 0 where
+  Opening : Place → Kind → Call
+  OpeningUsing : Place → (tag : ℕ) → Call
+  Holding : (node tag : ℕ) → Call
+  Applying : (resource : ℕ) → Call
+  Removing : (resource : ℕ) → Call
+  Emitting : (leaf : ℕ) → (value : ℤ) → Call
+  Ending : (leaf : ℕ) → Terminal → Call
+  Aborting : (node code : ℕ) → Call
+  Declining : (merging : ℕ) → Call
+  Failing : (merging code : ℕ) → Call
+  Disposing : (root : ℕ) → Call
+  Publishing : Mode → Call
+  Connecting : (hub : ℕ) → Call
+  Disconnecting : (connection : ℕ) → Call
+  Taking : (resource : ℕ) → Call
+
+abbrev pub outside_of : List Event → Call → List Event
+outside_of h (Opening place kind) = Open place kind ∷ []
+outside_of h (OpeningUsing place tag) = Open place Pass ∷ Accept (length h) tag ∷ []
+outside_of h (Holding node tag) = Accept node tag ∷ []
+outside_of h (Applying r) = Use r ∷ []
+outside_of h (Removing r) = Remove r ∷ []
+outside_of h (Emitting leaf value) = Item leaf value ∷ []
+outside_of h (Ending leaf t) = End leaf t ∷ []
+outside_of h (Aborting n code) = End n (Error code) ∷ []
+outside_of h (Declining f) = Decline f ∷ []
+outside_of h (Failing f code) = End f (Error code) ∷ []
+outside_of h (Disposing root) = Close root ∷ []
+outside_of h (Publishing mode) = Hub mode ∷ []
+outside_of h (Connecting g) = Connect g ∷ []
+outside_of h (Disconnecting c) = Close c ∷ []
+outside_of h (Taking r) = Take r ∷ []
+
+-- the call took h to k
+abbrev pub IsStepOf : List Event → Call → List Event → Type 0
+IsStepOf h call k = IsStep h (outside_of h call) k

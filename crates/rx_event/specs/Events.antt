@@ -1,0 +1,150 @@
+-- Tests of one event. Numbers are places in a history: each names what the event at that place made.
+use Rattle.std.specs.Prelude.{ℕ, Bool, true, false, ◌==◌, Option, Some, None}
+use Rattle.rx_event.specs.declared.event.Place.{Place}
+use Rattle.rx_event.specs.declared.event.Place.TheVariants.{Root, Source, Inner, Notifier}
+use Rattle.rx_event.specs.declared.event.Kind.{Kind}
+use Rattle.rx_event.specs.declared.event.Kind.TheVariants.{Leaf, Pass, Flat, Switch, Until, Sub}
+use Rattle.rx_event.specs.declared.event.Mode.TheVariants.{Auto, Manual}
+use Rattle.rx_event.specs.declared.event.Event.{Event}
+use Rattle.rx_event.specs.declared.event.Event.TheVariants.{Open, Hub, Connect, Accept, Use, Remove, Item, Decline, End, Close, Take}
+
+-- what an event makes -----------------------------------------------------------------------------
+
+-- a node: what is opened, or a connection
+abbrev pub makes_node : Event → Bool
+makes_node (Open place kind) = true
+makes_node (Connect hub) = true
+makes_node _ = false
+
+abbrev pub makes_hub : Event → Bool
+makes_hub (Hub mode) = true
+makes_hub _ = false
+
+abbrev pub makes_resource : Event → Bool
+makes_resource (Accept node tag) = true
+makes_resource _ = false
+
+-- the node that a resource is held at
+abbrev pub node_of_accept : Event → Option ℕ
+node_of_accept (Accept node tag) = Some node
+node_of_accept _ = None
+
+-- where a node stands -----------------------------------------------------------------------------
+
+-- the node that a place names
+abbrev pub named_by : Place → Option ℕ
+named_by Root = None
+named_by (Source n) = Some n
+named_by (Inner n) = Some n
+named_by (Notifier n) = Some n
+
+-- a root and a connection name none
+abbrev pub parent_named : Event → Option ℕ
+parent_named (Open place kind) = named_by place
+parent_named _ = None
+
+abbrev pub is_root : Event → Bool
+is_root (Open Root kind) = true
+is_root _ = false
+
+abbrev pub is_source_of : ℕ → Event → Bool
+is_source_of f (Open (Source g) kind) = g == f
+is_source_of f _ = false
+
+abbrev pub is_inner_of : ℕ → Event → Bool
+is_inner_of f (Open (Inner g) kind) = g == f
+is_inner_of f _ = false
+
+abbrev pub is_notifier_of : ℕ → Event → Bool
+is_notifier_of f (Open (Notifier g) kind) = g == f
+is_notifier_of f _ = false
+
+-- what a node does --------------------------------------------------------------------------------
+
+abbrev pub is_leaf : Event → Bool
+is_leaf (Open place Leaf) = true
+is_leaf _ = false
+
+abbrev pub is_switch : Event → Bool
+is_switch (Open place Switch) = true
+is_switch _ = false
+
+abbrev pub is_until : Event → Bool
+is_until (Open place Until) = true
+is_until _ = false
+
+-- a FlatMap or a Switch, whose source's items are projected to inner observables
+abbrev pub is_merging : Event → Bool
+is_merging (Open place Flat) = true
+is_merging (Open place Switch) = true
+is_merging _ = false
+
+-- a node that passes on how its child ends
+abbrev pub is_mirroring : Event → Bool
+is_mirroring (Open place Pass) = true
+is_mirroring (Open place Until) = true
+is_mirroring (Connect hub) = true
+is_mirroring _ = false
+
+-- a node that has a place for a source below it: neither a leaf nor a subscriber
+abbrev pub has_source : Event → Bool
+has_source (Open place Pass) = true
+has_source (Open place Flat) = true
+has_source (Open place Switch) = true
+has_source (Open place Until) = true
+has_source (Connect hub) = true
+has_source _ = false
+
+-- hubs --------------------------------------------------------------------------------------------
+
+-- a hub with RefCount
+abbrev pub is_auto_hub : Event → Bool
+is_auto_hub (Hub Auto) = true
+is_auto_hub _ = false
+
+-- a hub that a caller connects
+abbrev pub is_manual_hub : Event → Bool
+is_manual_hub (Hub Manual) = true
+is_manual_hub _ = false
+
+abbrev pub is_connect_of : ℕ → Event → Bool
+is_connect_of g (Connect k) = k == g
+is_connect_of g _ = false
+
+abbrev pub is_subscriber_of : ℕ → Event → Bool
+is_subscriber_of g (Open place (Sub k)) = k == g
+is_subscriber_of g _ = false
+
+-- what befalls a resource -------------------------------------------------------------------------
+
+abbrev pub is_use_of : ℕ → Event → Bool
+is_use_of r (Use q) = q == r
+is_use_of r _ = false
+
+abbrev pub is_remove_of : ℕ → Event → Bool
+is_remove_of r (Remove q) = q == r
+is_remove_of r _ = false
+
+abbrev pub is_take_of : ℕ → Event → Bool
+is_take_of r (Take q) = q == r
+is_take_of r _ = false
+
+-- what is counted ---------------------------------------------------------------------------------
+
+-- an inner observable of f is opened, or declined: so one projected item of f is paid
+abbrev pub pays : ℕ → Event → Bool
+pays f (Open (Inner g) kind) = g == f
+pays f (Decline g) = g == f
+pays f _ = false
+
+abbrev pub is_item : Event → Bool
+is_item (Item leaf value) = true
+is_item _ = false
+
+abbrev pub is_take : Event → Bool
+is_take (Take r) = true
+is_take _ = false
+
+abbrev pub is_end : Event → Bool
+is_end (End n t) = true
+is_end _ = false

@@ -1,0 +1,5 @@
+pub mod Places
+pub mod Parents
+pub mod Openness
+pub mod Lawful
+pub mod Counts

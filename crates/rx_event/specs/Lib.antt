@@ -1,0 +1,14 @@
+pub mod Events
+pub mod Tree
+pub mod Resources
+pub mod Climb
+pub mod Moments
+pub mod Notes
+pub mod Totals
+pub mod Forced
+pub mod Allowed
+pub mod Lawful
+pub mod Calls
+pub mod Refusals
+pub mod Stored
+pub mod Laws

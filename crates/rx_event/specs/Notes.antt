@@ -1,0 +1,37 @@
+-- What observers are told (Observable Contract: OnNext, OnCompleted, OnError).
+use Rattle.std.specs.Prelude.{ℕ, ℤ, ◌==◌, Option, Some, None, List, [], ◌∷◌, length, filter, map, if◌then◌else◌}
+use Rattle.std.specs.List.{filter_map, flat_map}
+use Rattle.rx_note.specs.declared.note.Note.{Note}
+use Rattle.rx_note.specs.declared.note.Note.TheVariants.{Next, Project}
+use Rattle.rx_event.specs.declared.event.Event.{Event}
+use Rattle.rx_event.specs.declared.event.Event.TheVariants.{Item, End}
+use Rattle.rx_event.specs.Events.{is_root}
+use Rattle.rx_event.specs.Tree.{at}
+use Rattle.rx_event.specs.Climb.{Stop, Delivery, Projection, Firing, stops}
+use Rattle.rx_event.specs.Moments.{Moment, moments}
+
+-- a note, with the place of its event and the node that it goes to
+pub record Mail : Type 0 where
+  pub place : ℕ
+  pub to : ℕ
+  pub note : Note
+
+-- what a stop of the item tells: a delivery and a projection the item, a firing nothing
+abbrev pub told : ℕ → ℤ → Stop → Option Mail
+told place value (Delivery n) = Some (record { place = place; to = n; note = Next value })
+told place value (Projection f) = Some (record { place = place; to = f; note = Project value })
+told place value (Firing u) = None
+
+-- what an event after this history tells: an item its stops, the end of a root that end
+abbrev pub mail_of : List Event → Event → List Mail
+mail_of before (Item leaf value) = filter_map (told (length before) value) (stops before leaf)
+mail_of before (End n t) = if at is_root before n then (record { place = length before; to = n; note = Rattle.rx_note.specs.declared.note.Note.TheVariants.End t }) ∷ [] else []
+mail_of before _ = []
+
+-- all that was told, by place
+unfoldable pub notes : List Event → List Mail
+notes h = flat_map (λ m. mail_of m.before m.event) (moments h)
+
+-- what node n was told
+abbrev pub notes_to : List Event → ℕ → List Note
+notes_to h n = map (λ m. m.note) (filter (λ m. m.to == n) (notes h))

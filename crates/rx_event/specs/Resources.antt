@@ -1,0 +1,31 @@
+-- Where each resource is (Using: it is disposed of when the observer unsubscribes or the observable terminates; Finally).
+use Rattle.std.specs.Prelude.{ℕ, Bool, false, ◌&&◌, List, slice_get, filter, count_by}
+use Rattle.std.proofs.Math.Bool.{not}
+use Rattle.std.specs.List.{list_any}
+use Rattle.std.specs.Option.{option_and_then, option_map_or}
+use Rattle.rx_event.specs.declared.event.Event.{Event}
+use Rattle.rx_event.specs.Events.{makes_resource, node_of_accept, is_remove_of, is_take_of, is_use_of}
+use Rattle.rx_event.specs.Tree.{at, is_open, places}
+
+-- left open: its node is open, and it was not removed
+unfoldable pub is_held : List Event → ℕ → Bool
+is_held h r = option_map_or (is_open h) (option_and_then node_of_accept (slice_get h r)) false && not (list_any (is_remove_of r) h)
+
+-- handed out for its release
+unfoldable pub is_taken : List Event → ℕ → Bool
+is_taken h r = at makes_resource h r && list_any (is_take_of r) h
+
+-- neither held nor taken
+unfoldable pub is_waiting : List Event → ℕ → Bool
+is_waiting h r = at makes_resource h r && not (is_held h r) && not (is_taken h r)
+
+-- by rising number
+abbrev pub held_resources : List Event → List ℕ
+held_resources h = filter (is_held h) (places h)
+
+abbrev pub waiting_resources : List Event → List ℕ
+waiting_resources h = filter (is_waiting h) (places h)
+
+-- how often it was used
+unfoldable pub uses : List Event → ℕ → ℕ
+uses h r = count_by (is_use_of r) h

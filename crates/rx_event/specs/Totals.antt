@@ -1,0 +1,34 @@
+-- Counts over a history.
+use Rattle.std.specs.Prelude.{ℕ, ◌+◌, Bool, ◌&&◌, List, [], ◌∷◌, count_by, sum_by, if◌then◌else◌}
+use Rattle.rx_event.specs.declared.event.Event.{Event}
+use Rattle.rx_event.specs.Events.{is_item, is_take, makes_resource, is_merging}
+use Rattle.rx_event.specs.Tree.{at, places, is_open}
+use Rattle.rx_event.specs.Resources.{is_held, is_waiting}
+use Rattle.rx_event.specs.Moments.{owed}
+
+abbrev pub item_count : List Event → ℕ
+item_count h = count_by is_item h
+
+abbrev pub accepted_count : List Event → ℕ
+accepted_count h = count_by makes_resource h
+
+abbrev pub taken_count : List Event → ℕ
+taken_count h = count_by is_take h
+
+abbrev pub held_count : List Event → ℕ
+held_count h = count_by (is_held h) (places h)
+
+abbrev pub waiting_count : List Event → ℕ
+waiting_count h = count_by (is_waiting h) (places h)
+
+abbrev pub open_count : List Event → ℕ
+open_count h = count_by (is_open h) (places h)
+
+-- the events that the closing of what n made may still need: one for an open node, two for a held resource (its removal and
+-- its taking), one for a waiting one, and one for each projected item that a FlatMap or Switch still owes
+abbrev pub debt_of : List Event → ℕ → ℕ
+debt_of h n = (if is_open h n then 1 else 0) + (if is_held h n then 2 else 0) + (if is_waiting h n then 1 else 0) + (if is_open h n && at is_merging h n then owed h n else 0)
+
+-- the events that the closing of everything may still need
+unfoldable pub debt : List Event → ℕ
+debt h = sum_by (debt_of h) (places h)

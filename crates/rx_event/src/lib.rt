@@ -1,0 +1,20 @@
+//! Events of subscriptions, the histories that they make, and what a history means.
+//!
+//! Vocabulary: an `Event` is one accepted change, a `History` a list of them with a limit. The
+//! definitions in `specs/` say which nodes a history leaves open and which resources it leaves
+//! held or waiting, what observers were told, what operators still have to do, and which
+//! histories are lawful. `Refusal` names each cause for which a call changes nothing.
+//!
+//! Promised: a history is the list of the events that were pushed. The laws over the definitions
+//! are contracts of public functions without a body. Not promised: that a history is lawful;
+//! that is for whoever keeps one.
+#![tactic(auto)]
+
+mod event;
+mod history;
+mod refusal;
+
+pub use event::{Event, Kind, Mode, Place};
+pub use history::History;
+pub use refusal::Refusal;
+pub use rx_note::Terminal;

@@ -1,0 +1,16 @@
+//! The grammar at a worked example.
+
+use crate::{AfterEnd, Grammar, Note, Terminal};
+use std::test::Fail;
+
+#[test]
+fn nothing_comes_after_the_end(rt: HostRuntime) -> Result<(), Fail> {
+    let mut grammar = Grammar::new();
+    assert_eq!(rt; grammar.accept(&Note::Next(1)), Ok(()));
+    assert_eq!(rt; grammar.accept(&Note::Project(1)), Ok(()));
+    assert_eq!(rt; grammar.accept(&Note::Next(1)), Ok(()));
+    assert_eq!(rt; grammar.accept(&Note::End(Terminal::Completed)), Ok(()));
+    assert_eq!(rt; grammar.accept(&Note::Next(2)), Err(AfterEnd));
+    assert_eq!(rt; grammar.accept(&Note::End(Terminal::Error(3))), Err(AfterEnd));
+    Ok(())
+}
