@@ -28,6 +28,8 @@ ghost use Rattle.std.specs.Prelude.{◌≡◌, ℕ, ◌+◌, ◌<◌, ◌^◌};
 ghost use Rattle.rx_resource.specs.declared.Life.{Life};
 
 mod release;
+#[cfg(test)]
+mod tests;
 
 pub use release::{Handed, Released};
 

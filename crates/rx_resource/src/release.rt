@@ -80,8 +80,10 @@ impl<R: Resource> Handed<R> {
         ensures spent_released { R.life_of result.spent ≡ Life.Released }
         ensures spent_tag { R.tag_of result.spent ≡ R.tag_of self.1 }
     {
-        let Handed { number, resource } = self;
-        let mut spent = resource;
+        let Handed {
+            number,
+            resource: mut spent,
+        } = self;
         let tag = spent.tag();
         let fault = spent.release().err();
         Released {
