@@ -18,7 +18,7 @@
 //! # Promised, and not
 //!
 //! - A `Handed` is live, and its release makes it released whatever the resource answers.
-//! - No call here takes memory or waits.
+//! - No call of a `Handed` takes memory or waits, beside what the resource's own call does.
 //! - Nothing is promised of the word that `apply` answers, nor of what `release` answers: an
 //!   implementation is free in both. That [`Released`] passes on what the resource answered is tested.
 //! - What an implementation does beside these three numbers, as closing a file, is its own.
@@ -46,9 +46,9 @@ pub enum Life {
 ///
 /// It can move to another thread, since the thread that releases it need not be the one that made it.
 ///
-/// `tag`, `life`, `uses` and `apply` may be called while the runtime is locked, so they may not use
-/// the desk, the locked runtime: such a call waits for ever. `release` is called outside that lock,
-/// and may use it.
+/// No call of a resource but `release` may use the desk, which is the runtime behind its lock: the
+/// others, and a drop of the resource, may come while the lock is held, and would wait for ever.
+/// `release` is called outside the lock.
 pub trait Resource: Send + Drop {
     /// The number that the resource was made with, any `u64`; it never changes.
     ghost tag_of: { Self → ℕ };

@@ -70,8 +70,7 @@ impl<R: Resource> Handed<R> {
     /// Calls the resource's `release` once, and answers what is left of it.
     ///
     /// It has no refusal: a fault that the resource answers stands in `fault`, and the resource is
-    /// released then too. Takes no memory. What else it does, or how long it takes, is up to the
-    /// resource.
+    /// released then too. Takes no memory beside what the resource's own `release` takes.
     pub fn release(self) -> Released<R>
         ensures was_live { R.life_of self.1 ≡ Life.Live }
 
