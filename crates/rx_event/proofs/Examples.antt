@@ -1,0 +1,5 @@
+pub mod Using
+pub mod FlatMap
+pub mod Switch
+pub mod TakeUntil
+pub mod Hubs

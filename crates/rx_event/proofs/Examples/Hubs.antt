@@ -1,0 +1,67 @@
+-- The definitions at worked examples: Publish, Connect and RefCount.
+use Rattle.std.proofs.Common.{◌≡◌, ℕ, List, [], ◌∷◌, ◌++◌, refl, pos, false, true, ◌<◌, arith}
+use Rattle.rx_note.specs.declared.note.Terminal.{Terminal}
+use Rattle.rx_note.specs.declared.note.Terminal.TheVariants.{Completed, Error}
+use Rattle.rx_event.specs.declared.event.Place.TheVariants.{Root, Source}
+use Rattle.rx_event.specs.declared.event.Kind.TheVariants.{Leaf, Sub}
+use Rattle.rx_event.specs.declared.event.Mode.TheVariants.{Auto, Manual}
+use Rattle.rx_event.specs.declared.event.Event.{Event}
+use Rattle.rx_event.specs.declared.event.Event.TheVariants.{Open, Hub, Connect, Item, End, Close}
+use Rattle.rx_event.specs.Tree.{parent, ancestors, is_shut, is_open, open_nodes, open_connections, open_subscribers}
+use Rattle.rx_event.specs.Climb.{Delivery, most_visits, climb, stops}
+use Rattle.rx_event.specs.Moments.{moments}
+use Rattle.rx_event.specs.Forced.{mirrored, cut, left, IsDue}
+
+-- two hubs, one subscribed to inside a connection of the other: the last subscriber's leaving takes both connections down
+abbrev nested : List Event
+nested = Hub Auto ∷ Hub Auto ∷ Open Root (Sub 1) ∷ Connect 1 ∷ Open (Source 3) (Sub 0) ∷ Connect 0 ∷ []
+
+nested_open : open_nodes nested ≡ 2 ∷ 3 ∷ 4 ∷ 5 ∷ []
+unfolding is_open is_shut ancestors parent
+nested_open = refl
+
+outer_left : IsDue (nested ++ Close 2 ∷ []) (Close 3)
+unfolding is_open is_shut ancestors parent
+outer_left = left {g = 1} refl refl refl refl
+
+inner_left : IsDue (nested ++ Close 2 ∷ Close 3 ∷ []) (Close 5)
+unfolding is_open is_shut ancestors parent
+inner_left = left {g = 0} refl refl refl refl
+
+nested_closed : open_nodes (nested ++ Close 2 ∷ Close 3 ∷ Close 5 ∷ []) ≡ []
+unfolding is_open is_shut ancestors parent
+nested_closed = refl
+
+-- a hub stays connected while it has a subscriber, ends with its source, and is connected anew
+abbrev counted : List Event
+counted = Hub Auto ∷ Open Root (Sub 0) ∷ Connect 0 ∷ Open Root (Sub 0) ∷ Open (Source 2) Leaf ∷ Close 1 ∷ []
+
+counted_open : open_nodes counted ≡ 2 ∷ 3 ∷ 4 ∷ []
+unfolding is_open is_shut ancestors parent
+counted_open = refl
+
+connection_ends : IsDue (counted ++ End 4 (Error 3) ∷ []) (End 2 (Error 3))
+unfolding is_open is_shut ancestors parent
+connection_ends = mirrored refl refl (record { child = 4; below = refl; ended = record { place = 6; found = refl } })
+
+subscriber_ends : IsDue (counted ++ End 4 (Error 3) ∷ End 2 (Error 3) ∷ []) (End 3 (Error 3))
+unfolding is_open is_shut ancestors parent
+subscriber_ends = cut refl (record { hub = 0; connection = 2; place = 7; subscribes = refl; connects = refl; later = omega arith; ended = refl })
+
+connected_anew : open_nodes (counted ++ End 4 (Error 3) ∷ End 2 (Error 3) ∷ End 3 (Error 3) ∷ Open Root (Sub 0) ∷ Connect 0 ∷ []) ≡ 9 ∷ 10 ∷ []
+unfolding is_open is_shut ancestors parent
+connected_anew = refl
+
+-- a subscriber that comes after its hub's connection ended stays, and receives once the hub is connected again
+abbrev late : List Event
+late =
+    Hub Manual ∷ Open Root (Sub 0) ∷ Connect 0 ∷ Open (Source 2) Leaf ∷ End 3 (Error 1) ∷ End 2 (Error 1) ∷ End 1 (Error 1) ∷ Open Root (Sub 0) ∷ Connect 0
+    ∷ Open (Source 8) Leaf ∷ []
+
+late_open : open_nodes late ≡ 7 ∷ 8 ∷ 9 ∷ []
+unfolding is_open is_shut ancestors parent
+late_open = refl
+
+late_stops : stops late 9 ≡ Delivery 7 ∷ []
+unfolding stops climb most_visits is_open is_shut ancestors parent
+late_stops = refl
