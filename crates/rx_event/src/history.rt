@@ -46,7 +46,8 @@ impl History {
         ensures value { result ≡ length self.now.events }
         ensures limited { length self.now.events ≤ self.now.limit }
     {
-        self.events.len() as u64
+        let count = self.events.len();
+        count as u64
     }
 
     /// The event at a place, if there is one.

@@ -13,6 +13,8 @@
 mod event;
 mod history;
 mod refusal;
+#[cfg(test)]
+mod tests;
 
 pub use event::{Event, Kind, Mode, Place};
 pub use history::History;

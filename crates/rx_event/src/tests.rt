@@ -1,0 +1,49 @@
+//! What no clause says of a history: that room is had where there is memory, and what stays where
+//! there is none.
+
+use crate::{Event, History, Kind, Place, Refusal, Terminal};
+use rx_scarce::Scarce;
+use std::test::Fail;
+
+#[test]
+fn a_history_grows_up_to_its_limit(rt: HostRuntime) -> Result<(), Fail> {
+    let mut history = History::new(rt.alloc(), 2);
+    assert_eq!(rt; history.len(), 0);
+    assert_eq!(rt; history.get(0), None);
+    assert_eq!(rt; history.reserve(3), Err(Refusal::Full));
+    assert_eq!(rt; history.reserve(2), Ok(()));
+    let open = Event::Open {
+        place: Place::Root,
+        kind: Kind::Leaf,
+    };
+    let end = Event::End(0, Terminal::Completed);
+    history.push_reserved(open);
+    history.push_reserved(end);
+    assert_eq!(rt; history.len(), 2);
+    assert_eq!(rt; history.get(0), Some(open));
+    assert_eq!(rt; history.get(1), Some(end));
+    assert_eq!(rt; history.get(2), None);
+    assert_eq!(rt; history.reserve(0), Ok(()));
+    assert_eq!(rt; history.reserve(1), Err(Refusal::Full));
+    Ok(())
+}
+
+#[test]
+fn a_refused_reservation_changes_nothing(rt: HostRuntime) -> Result<(), Fail> {
+    let mut history = History::new(rt.alloc(), 1000);
+    assert_eq!(rt; history.reserve(1), Ok(()));
+    history.push_reserved(Event::Item(0, 7));
+    let mut scarce = Scarce::new(rt.alloc())?;
+    assert_eq!(rt; history.reserve(999), Err(Refusal::NoMemory));
+    for _ in 0..100_000 {
+        assert_eq!(rt; history.len(), 1);
+        assert_eq!(rt; history.get(0), Some(Event::Item(0, 7)));
+        if history.reserve(999).is_ok() {
+            break;
+        }
+        assert!(rt; scarce.give_back_one());
+    }
+    assert_eq!(rt; history.reserve(999), Ok(()));
+    assert_eq!(rt; history.reserve(1000), Err(Refusal::Full));
+    Ok(())
+}
