@@ -7,3 +7,4 @@ pub mod Sums
 pub mod Steps
 pub mod Resources
 pub mod Totals
+pub mod Projections

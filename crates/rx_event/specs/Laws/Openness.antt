@@ -240,3 +240,7 @@ is_open_made h e p node named o kept = is_open_step (h ++ e ∷ []) (length h) �
 -- an event that makes no node opens none
 pub is_open_last_none : (h : List Event) (e : Event) → makes_node e ≡ false → is_open (h ++ e ∷ []) (length h) ≡ false
 is_open_last_none h e no_node = is_open_step (h ++ e ∷ []) (length h) ∙ rw (slice_get_last h e, no_node) refl
+
+-- the parent of an open node is open
+pub parent_open : (h : List Event) (n p : ℕ) → is_open h n ≡ true → parent h n ≡ Some p → is_open h p ≡ true
+parent_open h n p o below = (and_parts _ _ (sym (is_open_step h n ∙ ap (λ q. is_standing h n && option_map_or (is_open h) q true) below) ∙ o)).1
