@@ -8,3 +8,4 @@ pub mod Steps
 pub mod Resources
 pub mod Totals
 pub mod Projections
+pub mod Debt

@@ -230,6 +230,17 @@ is_cut_inner h f kind n l = list_any_never (λ a. a ≤ n) (λ a. is_switched_in
   ltb_not : (m n : ℕ) → n ≤ m → nat_lt m n ≡ false
   ltb_not m n le = le-ltb m n le
 
+-- nor does that of a FlatMap cut anything
+pub is_cut_inner_flat : (h : List Event) (f : ℕ) (kind : Kind) → at is_switch h f ≡ false → (n : ℕ) → is_cut h (Open (Inner f) kind) n ≡ false
+is_cut_inner_flat h f kind flat n = none (ancestors h n) where
+  no_switch : (b c : Bool) → ((b && false) && c) ≡ false
+  no_switch true c = refl
+  no_switch false c = refl
+
+  none : (xs : List ℕ) → list_any (λ a. is_switched_inner h f a) xs ≡ false
+  none [] = refl
+  none (a ∷ xs) = rw (flat, no_switch (nat_lt f a) (at (is_inner_of f) h a)) (none xs)
+
 -- a new node below an open one is open, where it does not cut it
 pub is_open_made : (h : List Event) (e : Event) (p : ℕ) → makes_node e ≡ true → parent_named e ≡ Some p → is_open h p ≡ true → is_cut h e p ≡ false → is_open (h ++ e ∷ []) (length h) ≡ true
 unfolding parent

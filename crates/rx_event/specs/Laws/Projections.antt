@@ -195,6 +195,10 @@ pub stops_open : (h : List Event) (l : ℕ) → IsLawful h → is_open h l ≡ t
 unfolding stops
 stops_open h l law o = stops_well h law (climb h l) (climb_open h l o)
 
+zero_or_zero : (b : Bool) → cond {A = ℕ} b 0 0 ≡ 0
+zero_or_zero true = refl
+zero_or_zero false = refl
+
 abbrev pub is_projection : Stop → Bool
 is_projection (Projection f) = true
 is_projection (Delivery n) = false
@@ -206,10 +210,7 @@ projected_open h ss n = cond (is_open h n && at is_merging h n) (count_by (is_pr
 
 -- so all projections are to open FlatMaps and Switches
 pub projected_count : (h : List Event) (ss : List Stop) → AllByRecursion (ProjectsToOpen h) ss → sum_by (projected_open h ss) (places h) ≡ count_by is_projection ss
-projected_count h [] well = sum_by_none (projected_open h []) (length h) (λ n l. none (is_open h n && at is_merging h n)) where
-  none : (b : Bool) → cond {A = ℕ} b 0 0 ≡ 0
-  none true = refl
-  none false = refl
+projected_count h [] well = sum_by_none (projected_open h []) (length h) (λ n l. zero_or_zero (is_open h n && at is_merging h n))
 projected_count h (s ∷ ss) well =
     let each : sum_by (projected_open h (s ∷ ss)) (places h) ≡ sum_by (λ n. cond (is_open h n && at is_merging h n) (cond (is_projection_to n s) 1 0) 0 + projected_open h ss n) (places h) = sum_by-same (λ n. cond (is_open h n && at is_merging h n) (cond (is_projection_to n s) 1 0) 0 + projected_open h ss n) (projected_open h (s ∷ ss)) (length h) (λ n l. shape (is_open h n && at is_merging h n) _ _ _ (sum_by-cons (λ t. cond (is_projection_to n t) 1 0) s ss)) in
     let split = sum_by-plus (λ n. cond (is_open h n && at is_merging h n) (cond (is_projection_to n s) 1 0) 0) (projected_open h ss) (length h) in
@@ -227,16 +228,9 @@ projected_count h (s ∷ ss) well =
         let o : is_open h n ≡ true = rw (← eqb-true f n same) well.0 in
         let m : at is_merging h n ≡ true = rw (← eqb-true f n same) well.1 in
         rw (o, m) refl
-    to_one f n well false apart = none (is_open h n && at is_merging h n) where
-      none : (b : Bool) → cond {A = ℕ} b 0 0 ≡ 0
-      none true = refl
-      none false = refl
-
-    nothing : (b : Bool) → cond {A = ℕ} b 0 0 ≡ 0
-    nothing true = refl
-    nothing false = refl
+    to_one f n well false apart = zero_or_zero (is_open h n && at is_merging h n)
 
     by_stop : (s : Stop) → ProjectsToOpen h s → sum_by (λ n. cond (is_open h n && at is_merging h n) (cond (is_projection_to n s) 1 0) 0) (places h) ≡ cond {A = ℕ} (is_projection s) 1 0
     by_stop (Projection f) well = sum_by-same (λ n. cond (f == n) 1 0) (λ n. cond (is_open h n && at is_merging h n) (cond (f == n) 1 0) 0) (length h) (λ n l. to_one f n well (f == n) refl) ∙ count_by_one f (length h) (is_open_within h f well.0)
-    by_stop (Delivery m) well = sum_by_none _ (length h) (λ n l. nothing (is_open h n && at is_merging h n))
-    by_stop (Firing u) well = sum_by_none _ (length h) (λ n l. nothing (is_open h n && at is_merging h n))
+    by_stop (Delivery m) well = sum_by_none _ (length h) (λ n l. zero_or_zero (is_open h n && at is_merging h n))
+    by_stop (Firing u) well = sum_by_none _ (length h) (λ n l. zero_or_zero (is_open h n && at is_merging h n))

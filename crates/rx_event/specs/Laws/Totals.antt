@@ -21,7 +21,7 @@ use Rattle.rx_event.specs.Laws.Steps.{by_events, may_open, may_accept, may_use, 
 use Rattle.rx_event.specs.Laws.Sums.{sum_by-places-push, sums_balance, sum_by-same, sum_by_falls, sum_by_none, count_by_one}
 use Rattle.rx_event.specs.Laws.Resources.{loses, node_of, moves_none, is_held-push, is_held_last, is_held_within, is_held_unchanged, is_waiting-push, is_waiting_new, is_waiting_within, is_waiting_unchanged, is_waiting_past, is_held_past, waiting_parts, held_not_taken}
 
-one_if : {a b : Bool} → a ≡ b → cond {A = ℕ} a 1 0 ≡ cond {A = ℕ} b 1 0
+pub one_if : {a b : Bool} → a ≡ b → cond {A = ℕ} a 1 0 ≡ cond {A = ℕ} b 1 0
 one_if same = ap (λ (b : Bool). cond {A = ℕ} b 1 0) same
 
 -- events counted ----------------------------------------------------------------------------------
@@ -105,7 +105,7 @@ waiting_count-push h e law next =
     shape false true false false apart waited = refl
     shape false false k false apart waited = refl
 
-accepts_open : (h : List Event) (e : Event) → MayFollow h e → option_map_or (is_open h) (node_of_accept e) false ≡ makes_resource e
+pub accepts_open : (h : List Event) (e : Event) → MayFollow h e → option_map_or (is_open h) (node_of_accept e) false ≡ makes_resource e
 accepts_open h (Accept n tag) next = may_accept next
 accepts_open h _ next = refl
 
@@ -119,7 +119,7 @@ accepted_count-parts = by_events (λ h. accepted_count h ≡ held_count h + wait
     let n = one_if (accepts_open h e next) in
     omega arith)
 
-lost_none : (h : List Event) (e : Event) → ((r : ℕ) → loses h e r ≡ false) → lost_count h e ≡ 0
+pub lost_none : (h : List Event) (e : Event) → ((r : ℕ) → loses h e r ≡ false) → lost_count h e ≡ 0
 lost_none h e keeps = sum_by_none (λ r. cond (is_held h r && loses h e r) 1 0) (length h) (λ r l. rw (keeps r) (shape (is_held h r))) where
   shape : (b : Bool) → cond {A = ℕ} (b && false) 1 0 ≡ 0
   shape true = refl
@@ -195,7 +195,7 @@ waiting_count-take h q law next =
     omega arith
 
 -- a removal of what is held
-lost_one : (h : List Event) (q : ℕ) → is_held h q ≡ true → lost_count h (Remove q) ≡ 1
+pub lost_one : (h : List Event) (q : ℕ) → is_held h q ≡ true → lost_count h (Remove q) ≡ 1
 lost_one h q held = sum_by-same (λ r. cond (q == r) 1 0) (λ r. cond (is_held h r && loses h (Remove q) r) 1 0) (length h) (λ r l. one_if (just_that r (node_of h r) (cases_Bool (q == r)))) ∙ count_by_one q (length h) (is_held_within h q held) where
   no_cut : (o : Option ℕ) (b : Bool) → (option_map_or (is_cut h (Remove q)) o false || b) ≡ b
   no_cut None b = refl
@@ -274,7 +274,7 @@ open_count_made h e next s =
 pub is_within_self : (h : List Event) (c : ℕ) → is_within h c c ≡ true
 is_within_self h c = rw (ancestors_step h c, eq-eqb c c refl) refl
 
-within_some : (h : List Event) (c : ℕ) → is_open h c ≡ true → 1 ≤ count_by (λ n. is_open h n && is_within h c n) (places h)
+pub within_some : (h : List Event) (c : ℕ) → is_open h c ≡ true → 1 ≤ count_by (λ n. is_open h n && is_within h c n) (places h)
 within_some h c o =
     let here : cond {A = ℕ} (is_open h c && is_within h c c) 1 0 ≡ 1 = rw (o, is_within_self h c) refl in
     let none = sum_by_none (λ n. 0) (length h) (λ n l. refl) in
