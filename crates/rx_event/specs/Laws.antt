@@ -5,6 +5,7 @@ pub mod Lawful
 pub mod Counts
 pub mod Sums
 pub mod Steps
+pub mod Switches
 pub mod Resources
 pub mod Totals
 pub mod Projections

@@ -19,7 +19,7 @@ use Rattle.rx_event.specs.Lawful.{MayFollow, IsLawful}
 use Rattle.rx_event.specs.Laws.Openness.{is_open_within, parent_open}
 use Rattle.rx_event.specs.Laws.Lawful.{lawful_at}
 use Rattle.rx_event.specs.Laws.Counts.{projections-push}
-use Rattle.rx_event.specs.Laws.Steps.{by_pushes, by_events, may_open, may_decline, may_emit}
+use Rattle.rx_event.specs.Laws.Steps.{by_pushes, by_events, may_open, may_decline, parent-named}
 use Rattle.rx_event.specs.Laws.Sums.{sum_by-same, sum_by-plus, sum_by_none, count_by_one}
 
 -- who is projected to ------------------------------------------------------------------------------
@@ -149,16 +149,6 @@ pub climb_open : (h : List Event) (l : ℕ) → is_open h l ≡ true → AllByRe
 unfolding climb
 climb_open h l o = visited_open (suc most_visits) h (l ∷ []) (o, tt)
 
--- the source of a node of a lawful history stands below it
-source_below : (h : List Event) → IsLawful h → (n f : ℕ) (kind : Kind) → slice_get h n ≡ Some (Open (Source f) kind) → parent h n ≡ Some f
-unfolding parent
-source_below h law n f kind at_n = rw (at_n, lt-ltb f n less) refl where
-  less : f < n
-  less =
-      let o = is_open_within (take n h) f (may_open (lawful_at h law n (Open (Source f) kind) at_n)).0 in
-      let l = slice_get_within h n (Open (Source f) kind) at_n in
-      grind (arith, common_steps)
-
 -- the stop at an open node projects to open FlatMaps and Switches alone
 abbrev pub ProjectsToOpen : List Event → Stop → Type 0
 ProjectsToOpen h (Projection f) = (is_open h f ≡ true) × (at is_merging h f ≡ true)
@@ -173,7 +163,7 @@ stop_open : (h : List Event) → IsLawful h → (n : ℕ) → is_open h n ≡ tr
 stop_open h law n o = by_event (slice_get h n) refl where
   if_merging : (f : ℕ) (kind : Kind) → slice_get h n ≡ Some (Open (Source f) kind) → (b : Bool) → at is_merging h f ≡ b → StopsWell h (cond b (Some (Projection f)) None)
   if_merging f kind at_n false m = tt
-  if_merging f kind at_n true m = (parent_open h n f o (source_below h law n f kind at_n), m)
+  if_merging f kind at_n true m = (parent_open h n f o (parent-named h law n f (Open (Source f) kind) at_n refl), m)
 
   by_event : (e : Option Event) → slice_get h n ≡ e → StopsWell h (option_and_then (stop_made h n) e)
   by_event None at_n = tt
