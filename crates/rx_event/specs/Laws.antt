@@ -10,3 +10,4 @@ pub mod Resources
 pub mod Totals
 pub mod Projections
 pub mod Debt
+pub mod Claims

@@ -14,7 +14,7 @@ use Rattle.rx_event.specs.Events.{makes_node, makes_resource, is_merging, is_swi
 use Rattle.rx_event.specs.Tree.{at, places, is_open}
 use Rattle.rx_event.specs.Resources.{is_held, is_waiting}
 use Rattle.rx_event.specs.Climb.{stops}
-use Rattle.rx_event.specs.Moments.{owed, is_projection_to, stops_of}
+use Rattle.rx_event.specs.Moments.{owed, is_projection, is_projection_to, stops_of}
 use Rattle.rx_event.specs.Totals.{open_count, held_count, waiting_count, owed_open, owed_count, debt}
 use Rattle.rx_event.specs.Lawful.{MayFollow, IsLawful}
 use Rattle.rx_event.specs.Laws.Lawful.{may_end}
@@ -24,7 +24,7 @@ use Rattle.rx_event.specs.Laws.Steps.{may_open, may_accept, may_remove, may_take
 use Rattle.rx_event.specs.Laws.Sums.{sum_by-places-push, sums_balance, sum_by-same, sum_by-plus, sum_by_no_rise, sum_by_falls, sum_by_none, count_by_one}
 use Rattle.rx_event.specs.Laws.Resources.{loses, node_of}
 use Rattle.rx_event.specs.Laws.Totals.{lost_count, cut_count, held_count-push, waiting_count-push, open_count-push, is_open_new, accepts_open, within_some, lost_one, lost_none, one_if}
-use Rattle.rx_event.specs.Laws.Projections.{owed-push, owed_new, projected_open, projected_count, is_projection, stops_open}
+use Rattle.rx_event.specs.Laws.Projections.{owed-push, owed_new, projected_open, projected_count, stops_open}
 
 -- the debt as a sum of totals -----------------------------------------------------------------------
 

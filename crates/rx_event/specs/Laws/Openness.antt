@@ -307,3 +307,13 @@ open_above (suc k) h n l o = rw (ancestors_step h n) (o, above (open_above k h) 
 
 pub ancestors_open : (h : List Event) (n : ℕ) → is_open h n ≡ true → AllByRecursion (λ a. is_open h a ≡ true) (ancestors h n)
 ancestors_open h n o = open_above (suc n) h n (omega arith) o
+
+-- an event that shuts nothing closes nothing
+pub is_cut_never : (h : List Event) (e : Event) → ((m : ℕ) → shuts h m e ≡ false) → (n : ℕ) → is_cut h e n ≡ false
+is_cut_never h e never n = none (ancestors h n) where
+  none : (xs : List ℕ) → list_any (λ a. shuts h a e) xs ≡ false
+  none [] = refl
+  none (a ∷ xs) = rw (never a) (none xs)
+
+pub is_open_uncut : (h : List Event) (e : Event) → ((m : ℕ) → shuts h m e ≡ false) → (n : ℕ) → n < length h → is_open (h ++ e ∷ []) n ≡ is_open h n
+is_open_uncut h e never n l = is_open_cut h e n l ∙ ap (λ b. is_open h n && not b) (is_cut_never h e never n) ∙ and_true (is_open h n)

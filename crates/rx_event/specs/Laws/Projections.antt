@@ -14,7 +14,7 @@ use Rattle.rx_event.specs.declared.event.Event.TheVariants.{Open, Hub, Connect, 
 use Rattle.rx_event.specs.Events.{is_merging, pays}
 use Rattle.rx_event.specs.Tree.{at, places, parent, if_less, is_open, open_subscribers}
 use Rattle.rx_event.specs.Climb.{Stop, Delivery, Projection, Firing, stop_made, stop_at, onward_from, onward, onward_unless, visited, climb, stops, most_visits}
-use Rattle.rx_event.specs.Moments.{moments, projections, owed, is_projection_to, stops_of}
+use Rattle.rx_event.specs.Moments.{moments, projections, owed, is_projection, is_projection_to, stops_of}
 use Rattle.rx_event.specs.Lawful.{MayFollow, IsLawful}
 use Rattle.rx_event.specs.Laws.Openness.{is_open_within, parent_open}
 use Rattle.rx_event.specs.Laws.Lawful.{lawful_at}
@@ -188,11 +188,6 @@ stops_open h l law o = stops_well h law (climb h l) (climb_open h l o)
 zero_or_zero : (b : Bool) → cond {A = ℕ} b 0 0 ≡ 0
 zero_or_zero true = refl
 zero_or_zero false = refl
-
-abbrev pub is_projection : Stop → Bool
-is_projection (Projection f) = true
-is_projection (Delivery n) = false
-is_projection (Firing u) = false
 
 -- what stops project to n, where it is an open FlatMap or Switch
 abbrev pub projected_open : List Event → List Stop → ℕ → ℕ

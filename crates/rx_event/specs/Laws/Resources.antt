@@ -144,6 +144,24 @@ held_resource h r held = by_event (slice_get h r) (and_parts _ _ held).0 where
   by_event (Some (Accept n tag)) o = refl
   by_event (Some _) o = o
 
+-- what is held is held at an open node
+pub held_open : (h : List Event) (r n : ℕ) → node_of h r ≡ Some n → is_held h r ≡ true → is_open h n ≡ true
+unfolding is_held
+held_open h r n at_r held = sym (ap (λ o. option_map_or (is_open h) o false) at_r) ∙ (and_parts _ _ held).0
+
+-- a resource stays held as long as its node is open and it is not removed
+pub is_held-open : (h : List Event) (e : Event) → IsLawful h → (r n : ℕ) → node_of h r ≡ Some n → is_held (h ++ e ∷ []) r ≡ (is_held h r && is_open (h ++ e ∷ []) n && not (is_remove_of r e))
+is_held-open h e law r n at_r =
+    let s : n < r = node_of-lt h law r n at_r in
+    let l : r < length h = node_of_within h r n at_r in
+    rw (is_held-push h e law r l, at_r, is_open_cut h e n (omega arith)) (shape (is_held h r) (is_open h n) (is_cut h e n) (is_remove_of r e) (held_open h r n at_r))
+  where
+    shape : (held o c k : Bool) → (held ≡ true → o ≡ true) → (held && not (c || k)) ≡ ((held && (o && not c)) && not k)
+    shape false o c k open_where = refl
+    shape true false c k open_where = absurd (false≢true (open_where refl))
+    shape true true true k open_where = refl
+    shape true true false k open_where = refl
+
 -- taken -------------------------------------------------------------------------------------------
 
 -- an older resource is taken if it was, or if the event takes it
@@ -374,3 +392,19 @@ is_waiting_unchanged h e law m r = by_place (cases_order r (length h)) where
   by_place (inr (inl l)) = is_waiting_kept h e law r l parts.shuts (parts.removes r) (parts.takes r)
   by_place (inl same) = ap (is_waiting (h ++ e ∷ [])) same ∙ is_waiting_last h e law ∙ ap (λ b. b && not (option_map_or (is_open h) (node_of_accept e) false)) parts.accepts ∙ sym (is_waiting_past h r (omega arith))
   by_place (inr (inr g)) = is_waiting_past (h ++ e ∷ []) r (omega (arith, length-append {A = Event})) ∙ sym (is_waiting_past h r (omega arith))
+
+-- an older resource waits if it did, or is held no more, and the event does not take it
+pub is_waiting-unheld : (h : List Event) (e : Event) → IsLawful h → (r : ℕ) → r < length h → is_waiting (h ++ e ∷ []) r ≡ ((is_waiting h r || (is_held h r && not (is_held (h ++ e ∷ []) r))) && not (is_take_of r e))
+is_waiting-unheld h e law r l = rw (is_waiting-push h e law r l, is_held-push h e law r l) (shape (is_waiting h r) (is_held h r) (loses h e r) (is_take_of r e)) where
+  shape : (w held k t : Bool) → ((w || (held && k)) && not t) ≡ ((w || (held && not (held && not k))) && not t)
+  shape true held k t = refl
+  shape false false k t = refl
+  shape false true true t = refl
+  shape false true false t = refl
+
+-- a new resource is held
+pub is_held_new : (h : List Event) (e : Event) → IsLawful h → MayFollow h e → is_held (h ++ e ∷ []) (length h) ≡ makes_resource e
+is_held_new h e law next = is_held_last h e law ∙ by_event e next where
+  by_event : (e : Event) → MayFollow h e → option_map_or (is_open h) (node_of_accept e) false ≡ makes_resource e
+  by_event (Accept n tag) next = may_accept next
+  by_event _ next = refl

@@ -98,15 +98,17 @@ and_yes : (a b : Bool) → (a ≡ true → b ≡ false) → (a && not b) ≡ a
 and_yes true b none = ap not (none refl)
 and_yes false b none = refl
 
+-- the open inner of a Switch is the only one
+same_inner : (h : List Event) (f c : ℕ) → IsLawful h → at is_switch h f ≡ true → at (is_inner_of f) h c ≡ true → is_open h c ≡ true → (a : ℕ) → is_open h a ≡ true → is_switched_inner h f a ≡ (c == a)
+same_inner h f c law switch inner o a there = by_test (is_switched_inner h f a) refl (cases_Bool (c == a)) where
+  by_test : (b : Bool) → is_switched_inner h f a ≡ b → ((c == a) ≡ true) ⊎ ((c == a) ≡ false) → b ≡ (c == a)
+  by_test true s e = sym (eq-eqb c a (one_inner h law f c a (record { switch = switch; one = inner; one_open = o; other = (and_parts _ _ s).1; other_open = there })))
+  by_test false s (inl e) = absurd (both_ways _ s (ap (is_switched_inner h f) (sym (eqb-true c a e)) ∙ switched h law f c switch inner))
+  by_test false s (inr e) = sym e
+
 -- the opening of another inner of a Switch closes the open inner c, and what is below it
 pub is_open-inner_switch : (h : List Event) (f c : ℕ) (kind : Kind) → IsLawful h → at is_switch h f ≡ true → at (is_inner_of f) h c ≡ true → is_open h c ≡ true → (n : ℕ) → n < length h → is_open (h ++ Open (Inner f) kind ∷ []) n ≡ (is_open h n && not (is_within h c n))
-is_open-inner_switch h f c kind law switch inner o n l = is_open_cut h (Open (Inner f) kind) n l ∙ and_same (is_open h n) _ _ (λ here. list_any-agree (λ a. is_open h a ≡ true) (λ a. is_switched_inner h f a) (λ a. c == a) same (ancestors h n) (ancestors_open h n here)) where
-  same : (a : ℕ) → is_open h a ≡ true → is_switched_inner h f a ≡ (c == a)
-  same a there = by_test (is_switched_inner h f a) refl (cases_Bool (c == a)) where
-    by_test : (b : Bool) → is_switched_inner h f a ≡ b → ((c == a) ≡ true) ⊎ ((c == a) ≡ false) → b ≡ (c == a)
-    by_test true s e = sym (eq-eqb c a (one_inner h law f c a (record { switch = switch; one = inner; one_open = o; other = (and_parts _ _ s).1; other_open = there })))
-    by_test false s (inl e) = absurd (both_ways _ s (ap (is_switched_inner h f) (sym (eqb-true c a e)) ∙ switched h law f c switch inner))
-    by_test false s (inr e) = sym e
+is_open-inner_switch h f c kind law switch inner o n l = is_open_cut h (Open (Inner f) kind) n l ∙ and_same (is_open h n) _ _ (λ here. list_any-agree (λ a. is_open h a ≡ true) (λ a. is_switched_inner h f a) (λ a. c == a) (same_inner h f c law switch inner o) (ancestors h n) (ancestors_open h n here))
 
 -- where no inner is open, it closes nothing
 pub is_open-inner_first : (h : List Event) (f : ℕ) (kind : Kind) → ((c : ℕ) → at (is_inner_of f) h c ≡ true → is_open h c ≡ false) → (n : ℕ) → n < length h → is_open (h ++ Open (Inner f) kind ∷ []) n ≡ is_open h n
@@ -124,3 +126,10 @@ is_open-inner_first h f kind none n l = is_open_cut h (Open (Inner f) kind) n l 
 -- the opening of an inner of a FlatMap closes nothing
 pub is_open-inner_flat : (h : List Event) (f : ℕ) (kind : Kind) → at is_switch h f ≡ false → (n : ℕ) → n < length h → is_open (h ++ Open (Inner f) kind ∷ []) n ≡ is_open h n
 is_open-inner_flat h f kind flat n l = is_open_cut h (Open (Inner f) kind) n l ∙ and_yes (is_open h n) _ (λ here. is_cut_inner_flat h f kind flat n)
+
+-- of the open nodes, it cuts those within c
+pub is_cut-inner_switch : (h : List Event) (f c : ℕ) (kind : Kind) → IsLawful h → at is_switch h f ≡ true → at (is_inner_of f) h c ≡ true → is_open h c ≡ true → (n : ℕ) → (is_open h n && is_cut h (Open (Inner f) kind) n) ≡ (is_open h n && is_within h c n)
+is_cut-inner_switch h f c kind law switch inner o n = cut_same (is_open h n) _ _ (λ here. list_any-agree (λ a. is_open h a ≡ true) (λ a. is_switched_inner h f a) (λ a. c == a) (same_inner h f c law switch inner o) (ancestors h n) (ancestors_open h n here)) where
+  cut_same : (a b c : Bool) → (a ≡ true → b ≡ c) → (a && b) ≡ (a && c)
+  cut_same true b c same = same refl
+  cut_same false b c same = refl

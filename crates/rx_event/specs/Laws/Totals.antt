@@ -10,15 +10,16 @@ use Rattle.rx_event.specs.declared.event.Place.TheVariants.{Root, Source, Inner,
 use Rattle.rx_event.specs.declared.event.Kind.{Kind}
 use Rattle.rx_event.specs.declared.event.Event.{Event}
 use Rattle.rx_event.specs.declared.event.Event.TheVariants.{Open, Hub, Connect, Accept, Use, Remove, Item, Decline, End, Close, Take}
-use Rattle.rx_event.specs.Events.{makes_node, makes_resource, node_of_accept, parent_named, is_use_of, is_remove_of, is_take_of, is_item, is_take}
+use Rattle.rx_event.specs.Events.{makes_node, makes_resource, node_of_accept, parent_named, is_switch, is_inner_of, is_use_of, is_remove_of, is_take_of, is_item, is_take}
 use Rattle.rx_event.specs.Tree.{at, places, parent, if_less, ancestors, is_open, is_within}
 use Rattle.rx_event.specs.Resources.{is_held, is_taken, is_waiting, uses}
 use Rattle.rx_event.specs.Totals.{item_count, accepted_count, taken_count, held_count, waiting_count, open_count}
 use Rattle.rx_event.specs.Lawful.{MayFollow, IsLawful}
 use Rattle.rx_event.specs.Laws.Parents.{ancestors_step}
-use Rattle.rx_event.specs.Laws.Openness.{is_cut, is_cut_none, is_cut_inner, is_open_cut, is_open_last, is_open_made, is_open_within, is_open_last_none, shuts_none}
+use Rattle.rx_event.specs.Laws.Openness.{is_cut, is_cut_none, is_cut_inner, is_cut_inner_flat, is_open_cut, is_open_last, is_open_made, is_open_within, is_open_last_none, shuts_none}
 use Rattle.rx_event.specs.Laws.Steps.{by_events, may_open, may_accept, may_use, may_remove, may_take}
 use Rattle.rx_event.specs.Laws.Sums.{sum_by-places-push, sums_balance, sum_by-same, sum_by_falls, sum_by_none, count_by_one}
+use Rattle.rx_event.specs.Laws.Switches.{is_cut-inner_switch}
 use Rattle.rx_event.specs.Laws.Resources.{loses, node_of, moves_none, is_held-push, is_held_last, is_held_within, is_held_unchanged, is_waiting-push, is_waiting_new, is_waiting_within, is_waiting_unchanged, is_waiting_past, is_held_past, waiting_parts, held_not_taken}
 
 pub one_if : {a b : Bool} → a ≡ b → cond {A = ℕ} a 1 0 ≡ cond {A = ℕ} b 1 0
@@ -258,17 +259,20 @@ is_open_new h (Take r) next = is_open_last h (Take r) refl
 is_open_new h (End n t) next = is_open_last_none h (End n t) refl
 is_open_new h (Close n) next = is_open_last_none h (Close n) refl
 
--- an event that shuts no node
-pub open_count_made : (h : List Event) (e : Event) → MayFollow h e → shuts_none e ≡ true → open_count (h ++ e ∷ []) ≡ open_count h + cond (makes_node e) 1 0
-open_count_made h e next s =
+-- an event that cuts no node
+pub open_count_uncut : (h : List Event) (e : Event) → MayFollow h e → ((n : ℕ) → is_cut h e n ≡ false) → open_count (h ++ e ∷ []) ≡ open_count h + cond (makes_node e) 1 0
+open_count_uncut h e next whole =
     let b = open_count-push h e in
     let n = one_if (is_open_new h e next) in
-    let k = sum_by_none (λ n. cond (is_open h n && is_cut h e n) 1 0) (length h) (λ n l. rw (is_cut_none h e n s) (shape (is_open h n))) in
+    let k = sum_by_none (λ n. cond (is_open h n && is_cut h e n) 1 0) (length h) (λ n l. rw (whole n) (shape (is_open h n))) in
     omega arith
   where
     shape : (b : Bool) → cond {A = ℕ} (b && false) 1 0 ≡ 0
     shape true = refl
     shape false = refl
+
+pub open_count_made : (h : List Event) (e : Event) → MayFollow h e → shuts_none e ≡ true → open_count (h ++ e ∷ []) ≡ open_count h + cond (makes_node e) 1 0
+open_count_made h e next s = open_count_uncut h e next (λ n. is_cut_none h e n s)
 
 -- c is within itself
 pub is_within_self : (h : List Event) (c : ℕ) → is_within h c c ≡ true
@@ -300,3 +304,15 @@ open_count_falls-end h c t o = let b = open_count-end h c t in let s = within_so
 
 pub open_count_falls-close : (h : List Event) (c : ℕ) → is_open h c ≡ true → open_count (h ++ Close c ∷ []) + 1 ≤ open_count h
 open_count_falls-close h c o = let b = open_count-close h c in let s = within_some h c o in omega arith
+
+-- an inner of a FlatMap is one open node more
+pub open_count-inner_flat : (h : List Event) (f : ℕ) (kind : Kind) → MayFollow h (Open (Inner f) kind) → at is_switch h f ≡ false → open_count (h ++ Open (Inner f) kind ∷ []) ≡ open_count h + 1
+open_count-inner_flat h f kind next flat = open_count_uncut h (Open (Inner f) kind) next (is_cut_inner_flat h f kind flat)
+
+-- an inner of a Switch comes in place of the open inner c, and of what is open below it
+pub open_count-inner_switch : (h : List Event) (f c : ℕ) (kind : Kind) → IsLawful h → MayFollow h (Open (Inner f) kind) → at is_switch h f ≡ true → at (is_inner_of f) h c ≡ true → is_open h c ≡ true → open_count (h ++ Open (Inner f) kind ∷ []) + count_by (λ n. is_open h n && is_within h c n) (places h) ≡ open_count h + 1
+open_count-inner_switch h f c kind law next switch inner o =
+    let b = open_count-push h (Open (Inner f) kind) in
+    let n = one_if (is_open_new h (Open (Inner f) kind) next) in
+    let k = sum_by-same (λ n. cond (is_open h n && is_within h c n) 1 0) (λ n. cond (is_open h n && is_cut h (Open (Inner f) kind) n) 1 0) (length h) (λ n l. one_if (is_cut-inner_switch h f c kind law switch inner o n)) in
+    omega arith
