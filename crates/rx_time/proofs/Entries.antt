@@ -4,6 +4,7 @@ use Rattle.std.proofs.lemmas.Bool.{cond_both}
 use Rattle.std.proofs.lemmas.Bool.Decides.{nat_tests}
 use Rattle.std.proofs.lemmas.Cmp.{nat_cmp_total, eq_by_cmp_equiv}
 use Rattle.std.proofs.lemmas.List.Elements.{All-head, All-tail, All-cons}
+use Rattle.std.proofs.lemmas.List.Sorted.{IsPermutation-cons, IsPermutation-insert, IsPermutation-refl, IsPermutation-sym, IsPermutation-trans}
 use Rattle.std.proofs.lemmas.Map.{lookup-remove_entry}
 use Rattle.std.proofs.lemmas.Map.Entries.{lookup_from_place}
 use Rattle.std.proofs.lemmas.Map.Keys.{IsDistinct-from_sorted}
@@ -11,10 +12,12 @@ use Rattle.std.proofs.lemmas.Option.{slice_get-get_or}
 use Rattle.std.specs.BTreeMap.{insert_entry}
 use Rattle.std.specs.Cmp.{nat_cmp_is}
 use Rattle.std.specs.List.{AllByRecursion}
-use Rattle.std.specs.List.Sorted.{IsStrictlySortedBy}
+use Rattle.std.specs.List.Sorted.{IsPermutation, IsStrictlySortedBy}
 use Rattle.std.specs.Map.{lookup, remove_entry, keys_of}
 use Rattle.std.specs.Ordering.{is_eq, nat_cmp}
 use Rattle.std.specs.declared.cmp.Ordering.TheVariants.{Less, Greater}
+use Rattle.rx_time.specs.declared.work.Work.{Work}
+use Rattle.rx_time.specs.Schedule.{items_of}
 
 -- a search by `cmp` stops where one by `==` does
 is_eq-nat_cmp : (t k : ℕ) → is_eq (nat_cmp t k) ≡ nat_eq t k
@@ -75,3 +78,19 @@ module _ {X : Type 0} where
   All-looked_up es ascending = λ i d within.
       let e : ℕ × X = get_or es i d in
       rw (lookup-nat_cmp e.0 es) at (lookup_from_place (eq_by_cmp_equiv nat_cmp_total) es i e.0 e.1 (IsDistinct-from_sorted nat_cmp (keys_of es) ascending) (slice_get-get_or es i d within))
+
+-- the item of an entry, and those of the others, are all items
+pub items_of-without : {T : Type 0} (t : ℕ) (w : Work T) (es : List (ℕ × Work T)) → lookup (nat_eq t) es ≡ Some w → IsPermutation (items_of es) (w.item ∷ items_of (remove_entry (nat_eq t) es))
+items_of-without t w [] found = cc
+items_of-without t w (e ∷ es) found =
+    elim (nat_eq t e.0) as (λ b. nat_eq t e.0 ≡ b → IsPermutation (items_of (e ∷ es)) (w.item ∷ items_of (cond b es (e ∷ remove_entry (nat_eq t) es)))) [
+      | true ↦ λ same.
+          let here : Some e.1 ≡ Some w = rw same at found in
+          let is : w ≡ e.1 = cc in
+          rw is (IsPermutation-refl (items_of (e ∷ es)))
+      | false ↦ λ apart.
+          let rest = items_of (remove_entry (nat_eq t) es) in
+          let later = items_of-without t w es (rw apart at found) in
+          let exchange = IsPermutation-sym (w.item ∷ e.1.item ∷ rest) (e.1.item ∷ w.item ∷ rest) (IsPermutation-insert (e.1.item ∷ rest) 1 w.item) in
+          IsPermutation-trans (items_of (e ∷ es)) (e.1.item ∷ w.item ∷ rest) (w.item ∷ e.1.item ∷ rest) (IsPermutation-cons e.1.item (items_of es) (w.item ∷ rest) later) exchange
+    ] refl

@@ -1,5 +1,5 @@
 -- Which entry comes next.
-use Rattle.std.proofs.Common.{◌≡◌, ℕ, ◌<◌, ◌≤◌, true, false, nat_eq, nat_le, List, [], ◌∷◌, Option, Some, None, IfSome, IsSomeAnd, MatchOption, All, refl, inl, inr, arith}
+use Rattle.std.proofs.Common.{◌≡◌, ℕ, ◌<◌, ◌≤◌, true, false, nat_eq, nat_le, List, [], ◌∷◌, Option, Some, None, IfSome, IsSomeAnd, MatchOption, All, refl, ap, inl, inr, arith}
 use Rattle.std.proofs.lemmas.Bool.{cases_lt, cond_both, cond-true, cond-false, le-leb, lt-leb, eqb-true}
 use Rattle.std.proofs.lemmas.List.Elements.{All-nil, All-cons, All-head, All-tail, All-weaker}
 use Rattle.std.proofs.lemmas.Map.Keys.{sorted_head, sorted_tail}
@@ -8,7 +8,7 @@ use Rattle.std.specs.Map.{lookup, keys_of}
 use Rattle.std.specs.Ordering.{nat_cmp}
 use Rattle.rx_time.specs.declared.work.Work.{Work}
 use Rattle.rx_time.specs.Agenda.{PointsAt}
-use Rattle.rx_time.specs.Schedule.{earlier, next_of}
+use Rattle.rx_time.specs.Schedule.{IsNext, earlier, if_due, next_due, next_of}
 use Rattle.rx_time.proofs.Entries.{above_from_lookup}
 
 module _ {T : Type 0} where
@@ -77,3 +77,40 @@ module _ {T : Type 0} where
     go : (o : Option (Work T)) → IsSomeAnd o (λ w. (w.due ≡ place.0) × (next_of es ≡ Some (place.1, w))) → All (λ f. place.0 ≤ f.1.due) es
     go None points = absurd points
     go (Some w) points = rw (← points.0) (rw points.1 at (next_of-least es))
+
+  IsNext-step : (g : ℕ × Work T) (o : Option (ℕ × Work T)) (gs : List (ℕ × Work T)) → MatchOption o (gs ≡ []) (λ e. All (λ f. e.1.due ≤ f.1.due) gs) → IfSome o (IsNext gs) → IfSome (earlier g o) (IsNext (g ∷ gs))
+  IsNext-step g None gs none next = record {
+    before = [];
+    after = gs;
+    place = refl;
+    later = All-nil (λ f. g.1.due < f.1.due);
+    no_earlier = rw none (All-nil (λ f. g.1.due ≤ f.1.due));
+  }
+  IsNext-step g (Some e) gs least next =
+      elim (cases_lt e.1.due g.1.due) [
+        | inl yields ↦ rw (earlier-yields g e yields) (record {
+          before = g ∷ next.before;
+          after = next.after;
+          place = ap (λ (es : List (ℕ × Work T)). g ∷ es) next.place;
+          later = All-cons (λ f. e.1.due < f.1.due) g next.before yields next.later;
+          no_earlier = next.no_earlier;
+        })
+        | inr keeps ↦ rw (earlier-keeps g (Some e) keeps) (record {
+          before = [];
+          after = gs;
+          place = refl;
+          later = All-nil (λ f. g.1.due < f.1.due);
+          no_earlier = All-weaker (λ f. e.1.due ≤ f.1.due) (λ f. g.1.due ≤ f.1.due) (λ f later. omega arith) gs least;
+        })
+      ]
+
+  -- what the definition computes is what the words say
+  pub IsNext-next_of : (es : List (ℕ × Work T)) → IfSome (next_of es) (IsNext es)
+  IsNext-next_of [] = tt
+  IsNext-next_of (g ∷ gs) = IsNext-step g (next_of gs) gs (next_of-least gs) (IsNext-next_of gs)
+
+  pub IsNext-next_due : (until : ℕ) (es : List (ℕ × Work T)) → IfSome (next_due until es) (IsNext es)
+  IsNext-next_due until es = go (next_of es) (IsNext-next_of es) where
+    go : (o : Option (ℕ × Work T)) → IfSome o (IsNext es) → IfSome (if_due until o) (IsNext es)
+    go None next = tt
+    go (Some e) next = cond_both (nat_le e.1.due until) (Some e) None (λ o. IfSome o (IsNext es)) (λ _. next) (λ _. tt)

@@ -1,6 +1,6 @@
 -- What a contract sees of a timeline, and which of its entries comes next. A virtual-time scheduler does its
 -- work in the order of the due times, and work that is due at one time in the order in which it was scheduled.
-use Rattle.std.specs.Prelude.{ℕ, ◌+◌, ◌<◌, ◌≤◌, max, List, [], ◌∷◌, ◌++◌, Option, Some, None, All, nat_eq, nat_le, if◌then◌else◌}
+use Rattle.std.specs.Prelude.{◌≡◌, ℕ, ◌+◌, ◌<◌, ◌≤◌, max, List, [], ◌∷◌, ◌++◌, Option, Some, None, All, map, nat_eq, nat_le, if◌then◌else◌}
 use Rattle.std.specs.Option.{option_map}
 use Rattle.std.specs.Map.{lookup, remove_entry, keys_of}
 use Rattle.std.specs.List.Sorted.{IsStrictlySortedBy}
@@ -36,6 +36,14 @@ module _ {T : Type 0} where
   abbrev pub next_due : ℕ → List (ℕ × Work T) → Option (ℕ × Work T)
   next_due until work = if_due until (next_of work)
 
+  -- in other words: what was scheduled before it is due later, and what was scheduled after it no earlier
+  pub record IsNext (work : List (ℕ × Work T)) (e : ℕ × Work T) : Type 0 where
+    pub before : List (ℕ × Work T)
+    pub after : List (ℕ × Work T)
+    pub place : work ≡ before ++ e ∷ after
+    pub later : All (λ f. e.1.due < f.1.due) before
+    pub no_earlier : All (λ f. e.1.due ≤ f.1.due) after
+
   -- one ticket more, and its work last, due now where its own time is past
   abbrev pub with_work : ℕ → T → Schedule T → Schedule T
   with_work due item s =
@@ -48,6 +56,10 @@ module _ {T : Type 0} where
   -- the other entries
   abbrev pub without : ℕ → List (ℕ × Work T) → List (ℕ × Work T)
   without ticket work = remove_entry (nat_eq ticket) work
+
+  -- the items, in order of scheduling
+  abbrev pub items_of : List (ℕ × Work T) → List T
+  items_of work = map (λ e. e.1.item) work
 
   -- what holds of every timeline: the tickets of the entries rise and were given, and nothing is overdue
   pub record IsSound (s : Schedule T) : Type 0 where

@@ -1,26 +1,30 @@
-ghost use Rattle.std.specs.Prelude.{◌≡◌, ◌+◌, ◌<◌, ◌≤◌, ◌↔◌, [], ◌∷◌, ◌++◌, length, max, nat_eq, All, IsTrue, Err, IfOk, IfErr, OnErr, OnSome, IfSome, IfNone};
+ghost use Rattle.std.specs.Prelude.{◌≡◌, ◌+◌, ◌<◌, ◌≤◌, ◌↔◌, [], ◌∷◌, ◌++◌, length, max, nat_eq, All, IsTrue, Err, IfOk, IfErr, OnOk, OnErr, OnSome, IfSome, IfNone};
 ghost use Rattle.std.specs.Map.{lookup};
+ghost use Rattle.std.specs.List.Sorted.{IsPermutation};
 
-use crate::ticket::Ticket;
+use crate::ticket::{MAX_TICKETS, Ticket};
 use crate::work::Work;
 use rx_disposable::{Back, Why};
 use std::alloc::Global;
 use std::collections::{BTreeMap, BTreeSet};
 use std::marker::Model;
 
-/// Work in virtual time: System.Reactive's `VirtualTimeScheduler`, with `HistoricalScheduler` and
-/// `TestScheduler`, its kinds.
+/// Work in virtual time: System.Reactive's `VirtualTimeScheduler`, of which `HistoricalScheduler`
+/// and `TestScheduler` are kinds.
 ///
-/// Time is a number of ticks, from 0 to `u64::MAX`, that moves only where [`next_until`](Timeline::next_until)
-/// moves it, and never back. Work comes out in the order of its due times, and work that is due at one time in
-/// the order in which it was scheduled.
+/// Time is a number of ticks, from 0 to `u64::MAX`, that moves only where
+/// [`next_until`](Timeline::next_until) moves it, and never back. Work comes out in the order of
+/// its due times, and work that is due at one time in the order in which it was scheduled.
 ///
-/// It differs from those schedulers in two things. It runs nothing by itself: it hands the work out, one item a
-/// call, and the caller runs it. And work whose time is past is due now, with no tick added, where
-/// `TestScheduler` makes it due one tick after now.
+/// It differs from those schedulers in two things. It runs nothing by itself: it hands the work
+/// out, one item a call, and the caller runs it. And work whose time is past is due now, with no
+/// tick added, where `TestScheduler` makes it due one tick after now.
 ///
-/// Contracts see a timeline as a `Schedule`: its virtual time, how many tickets it gave, and under its ticket
-/// each entry's work, in the order of scheduling.
+/// A timeline whose items are `Drop` may be dropped with its work; any other is emptied first, and
+/// given to [`destroy_empty`](Timeline::destroy_empty).
+///
+/// Contracts see a timeline as a `Schedule`: its virtual time, how many tickets it gave, and under
+/// its ticket each entry's work, in the order of scheduling.
 #[derive(Drop)]
 pub struct Timeline<T> {
     clock: u64,
@@ -44,7 +48,7 @@ impl<T> Model for Timeline<T> {
 impl<T> Timeline<T> {
     ghost use Rattle.std.specs.Option.{option_map};
     ghost use Rattle.rx_time.specs.Agenda.{PointsAt};
-    ghost use Rattle.rx_time.specs.Schedule.{schedule, next_of, next_due, with_work, item_of, without, IsSound};
+    ghost use Rattle.rx_time.specs.Schedule.{schedule, next_of, next_due, with_work, item_of, items_of, without, IsNext, IsSound};
 
     /// A timeline with no work, at time 0. It allocates nothing.
     pub fn new(alloc: Global) -> Self
@@ -60,8 +64,8 @@ impl<T> Timeline<T> {
 
     /// The virtual time, in ticks.
     ///
-    /// The clause `sound` says what holds of every timeline: the tickets of its entries rise and were given,
-    /// and no work is overdue.
+    /// The clause `sound` says what holds of every timeline: the tickets of its entries rise and
+    /// were given, and no work is overdue.
     pub fn now(&self) -> u64
         ensures value { result ≡ self.now.clock }
         ensures sound { IsSound self.now }
@@ -76,20 +80,23 @@ impl<T> Timeline<T> {
         self.entries.is_empty()
     }
 
-    /// Puts the item in, due at this time, or now where that time is past, and gives the ticket that stands
-    /// for it.
+    /// Puts the item in, due at this time, or now where that time is past, and gives the ticket
+    /// that stands for it.
     ///
-    /// Both refusals hand the item back and change nothing. `TooMany` comes exactly where all of
-    /// [`Ticket::LIMIT`] tickets were given, and `NoMemory` where there was a ticket and memory was refused.
+    /// Both refusals hand the item back and change nothing. `TooMany` comes exactly where all
+    /// [`MAX_TICKETS`] tickets were given, and `NoMemory` where there was a ticket and memory was
+    /// refused.
     pub fn schedule(&mut self, due: u64, item: T) -> Result<Ticket, Back<T>>
-        ensures ok { IfOk result (λ ticket. (ticket ≡ self.old.tickets) × (self.new ≡ with_work due item self.old)) }
+        ensures ok { IfOk result (λ ticket. ticket ≡ self.old.tickets) }
+        ensures added { OnOk result (self.new ≡ with_work due item self.old) }
 
-        ensures refused_too_many { (result ≡ Err (record { why = Why.TooMany; value = item })) ↔ (Ticket.LIMIT ≤ self.old.tickets) }
-        ensures refused_no_memory { self.old.tickets < Ticket.LIMIT
+        ensures refused_too_many { (result ≡ Err (record { why = Why.TooMany; value = item }))
+            ↔ (MAX_TICKETS ≤ self.old.tickets) }
+        ensures refused_no_memory { self.old.tickets < MAX_TICKETS
             → IfErr result (λ back. back ≡ record { why = Why.NoMemory; value = item }) }
         ensures kept { OnErr result (self.new ≡ self.old) }
     {
-        if self.tickets == Ticket::LIMIT {
+        if self.tickets == MAX_TICKETS {
             return Err(Back {
                 why: Why::TooMany,
                 value: item,
@@ -105,12 +112,15 @@ impl<T> Timeline<T> {
         }
     }
 
-    /// Takes the item of this ticket out, or gives `None` and changes nothing where there is no such entry: its
-    /// item came out before, or the ticket is another timeline's. It takes no memory.
+    /// Takes the item of this ticket out, or gives `None` and changes nothing where there is no
+    /// such entry: its item came out before, or the ticket is another timeline's. It takes no
+    /// memory.
     pub fn cancel(&mut self, ticket: Ticket) -> Option<T>
         ensures value { result ≡ item_of ticket self.old.work }
         ensures others { self.new ≡ record self.old { work = without ticket self.old.work } }
 
+        ensures once { IfSome result
+            (λ item. IsPermutation (items_of self.old.work) (item ∷ items_of self.new.work)) }
         ensures fewer { OnSome result (length self.new.work + 1 ≡ length self.old.work) }
         ensures kept { IfNone result (self.new ≡ self.old) }
     {
@@ -120,19 +130,25 @@ impl<T> Timeline<T> {
         }
     }
 
-    /// Takes out what comes next, with its due time, where that is at or before this time, and moves the
-    /// virtual time to it. Where there is no such work, gives `None` and moves the virtual time to this time if
-    /// it is later. It takes no memory.
+    /// Takes out what comes next, with its due time, where that is at or before this time, and
+    /// moves the virtual time to it. Where there is no such work, gives `None` and moves the
+    /// virtual time to this time if it is later. It takes no memory.
     pub fn next_until(&mut self, until: u64) -> Option<(u64, T)>
-        ensures value { result ≡ option_map (λ e. (e.1.due, e.1.item)) (next_due until self.old.work) }
+        ensures value { result
+            ≡ option_map (λ e. (e.1.due, e.1.item)) (next_due until self.old.work) }
         ensures some { IfSome (next_due until self.old.work)
-            (λ e. self.new ≡ record self.old { clock = e.1.due; work = without e.0 self.old.work }) }
-        ensures none { IfNone (next_due until self.old.work) (self.new ≡ record self.old { clock = max self.old.clock until }) }
+            (λ e. self.new
+            ≡ record self.old { clock = e.1.due; work = without e.0 self.old.work }) }
+        ensures none { IfNone (next_due until self.old.work)
+            (self.new ≡ record self.old { clock = max self.old.clock until }) }
 
-        // What follows from these: the order in which work comes out, that time never goes back, and a measure.
-        ensures least { IfSome result (λ came. All (λ e. came.0 ≤ e.1.due) self.old.work) }
-        ensures forward { self.old.clock ≤ self.new.clock }
+        // What follows: which entry that is, that each item comes out once, and that time never
+        // goes back.
+        ensures next { IfSome (next_due until self.old.work) (IsNext self.old.work) }
+        ensures once { IfSome result
+            (λ came. IsPermutation (items_of self.old.work) (came.1 ∷ items_of self.new.work)) }
         ensures fewer { OnSome result (length self.new.work + 1 ≡ length self.old.work) }
+        ensures forward { self.old.clock ≤ self.new.clock }
     {
         match self.place_due(until) {
             Some((due, number)) => {
@@ -165,10 +181,11 @@ impl<T> Timeline<T> {
 
     // Puts work last, or gives it back where memory is refused.
     fn enter(&mut self, work: Work<T>) -> Result<Ticket, Work<T>>
-        requires ticket { self.old.tickets < Ticket.LIMIT }
+        requires ticket { self.old.tickets < MAX_TICKETS }
         requires ahead { self.old.clock ≤ work.due }
-        ensures ok { IfOk result (λ ticket. (ticket ≡ self.old.tickets) × (self.new
-            ≡ schedule self.old.clock (self.old.tickets + 1) (self.old.work ++ (self.old.tickets, work) ∷ []))) }
+        ensures ok { IfOk result (λ ticket. ticket ≡ self.old.tickets) }
+        ensures added { OnOk result (self.new ≡ schedule self.old.clock (self.old.tickets + 1)
+            (self.old.work ++ (self.old.tickets, work) ∷ [])) }
         ensures back { IfErr result (λ back. back ≡ work) }
         ensures kept { OnErr result (self.new ≡ self.old) }
     {
@@ -195,6 +212,8 @@ impl<T> Timeline<T> {
     fn take(&mut self, number: u32) -> Option<Work<T>>
         ensures value { result ≡ lookup (nat_eq number) self.old.work }
         ensures others { self.new ≡ record self.old { work = without number self.old.work } }
+        ensures once { IfSome result
+            (λ work. IsPermutation (items_of self.old.work) (work.item ∷ items_of self.new.work)) }
         ensures fewer { OnSome result (length self.new.work + 1 ≡ length self.old.work) }
         ensures kept { IfNone result (self.new ≡ self.old) }
     {
@@ -218,7 +237,8 @@ impl<T> Timeline<T> {
         }
     }
 
-    // The same, where that is due at or before this time. No work is due before it, or before this time.
+    // The same, where that is due at or before this time. No work is due before it, or before this
+    // time.
     fn place_due(&self, until: u64) -> Option<(u64, u32)>
         ensures next { PointsAt self.now.work (next_due until self.now.work) result }
         ensures ahead { IfSome result (λ place. self.now.clock ≤ place.0) }
@@ -237,5 +257,29 @@ impl<T> Timeline<T> {
         ensures { self.new ≡ record self.old { clock = max self.old.clock to } }
     {
         self.clock = self.clock.max(to);
+    }
+}
+
+#[cfg(test)]
+mod tests {
+    use super::*;
+
+    #[test]
+    fn the_last_ticket_was_given(rt: HostRuntime) {
+        let mut timeline = Timeline {
+            clock: 7,
+            tickets: MAX_TICKETS,
+            entries: BTreeMap::new(rt.alloc()),
+            agenda: BTreeSet::new(rt.alloc()),
+        };
+        match timeline.schedule(9, 'x') {
+            Ok(_) => panic!(rt; "one too many"),
+            Err(Back { why, value }) => {
+                assert_eq!(rt; why, Why::TooMany);
+                assert_eq!(rt; value, 'x');
+            }
+        }
+        assert!(rt; timeline.is_empty());
+        assert_eq!(rt; timeline.now(), 7);
     }
 }

@@ -5,11 +5,15 @@ use std::alloc::Global;
 use std::collections::VecDeque;
 use std::marker::Model;
 
-/// Work that runs after the work which scheduled it: System.Reactive's `CurrentThreadScheduler` and RxJava's
-/// `Schedulers.trampoline`.
+/// Work that runs after the work which scheduled it: System.Reactive's `CurrentThreadScheduler` and
+/// RxJava's `Schedulers.trampoline`.
 ///
-/// What is pushed while an item is being done comes out after it, first in, first out. Unlike those two it
-/// runs nothing by itself, and it knows no due times: delayed work belongs in a [`Timeline`](crate::Timeline).
+/// What is pushed while an item is being done comes out after it, first in, first out. Unlike those
+/// two it runs nothing by itself, and it knows no due times: delayed work belongs in a
+/// [`Timeline`](crate::Timeline).
+///
+/// A trampoline whose items are `Drop` may be dropped with its work; any other is emptied first, and
+/// given to [`destroy_empty`](Trampoline::destroy_empty).
 ///
 /// Contracts see a trampoline as the list of its items, the next one first.
 #[derive(Drop)]
@@ -37,12 +41,13 @@ impl<T> Trampoline<T> {
 
     /// Puts the item behind all others.
     ///
-    /// The only refusal is `NoMemory`, where memory was needed and refused: the item comes back, and nothing
-    /// has changed.
+    /// The only refusal is `NoMemory`, where memory was needed and refused: the item comes back,
+    /// and nothing has changed.
     pub fn push(&mut self, item: T) -> Result<(), Back<T>>
         ensures ok { OnOk result (self.new ≡ self.old ++ item ∷ []) }
 
-        ensures refused_no_memory { IfErr result (λ back. back ≡ record { why = Why.NoMemory; value = item }) }
+        ensures refused_no_memory { IfErr result
+            (λ back. back ≡ record { why = Why.NoMemory; value = item }) }
         ensures kept { OnErr result (self.new ≡ self.old) }
     {
         match self.queue.push_back(item) {

@@ -23,8 +23,8 @@ invariant_of-self-in-Err g c =
     let s = schedule c.self.inside.clock c.self.inside.tickets c.self.inside.entries.entries in
     rw c.in-Err.ensures.err (IsKept-undone s c.args.work.due c.self.inside.agenda c.insert.new.self c.remove.new.self c.self.invariant c.in-Ok.ensures.updates c.remove.ensures.updates)
 
-pub returns-in-Ok-None-clause-ok : goal.returns-in-Ok-None-clause-ok
-returns-in-Ok-None-clause-ok g c =
+pub returns-in-Ok-None-clause-added : goal.returns-in-Ok-None-clause-added
+returns-in-Ok-None-clause-added g c =
     let s = schedule c.self.inside.clock c.self.inside.tickets c.self.inside.entries.entries in
     let last = c.in-Ok-None.ensures.entries ∙ insert_entry-last s.work s.tickets c.args.work c.self.invariant.sound.given in
     rw (← c.self.view_is, last) (search rules)
