@@ -1,0 +1,276 @@
+//! What no clause says: the worked example, the happy path of each call, and memory that is
+//! refused.
+ghost use Rattle.std.specs.Prelude.{◌≡◌, [], Some, IfOk, nat_le, if◌then◌else◌};
+ghost use Rattle.rx_time.specs.Schedule.{schedule};
+
+use crate::{Ticket, Timeline, Trampoline};
+use rx_disposable::{Back, Why};
+use rx_scarce::{MOST_BLOCKS, Scarce};
+use std::process::Abort;
+use std::test::Fail;
+
+// An item that has to be taken apart.
+struct Job {
+    number: u32,
+}
+
+fn reason<T: Drop>(back: Back<T>) -> Why {
+    let Back { why, value: _ } = back;
+    why
+}
+
+fn scheduled<T: Drop>(timeline: &mut Timeline<T>, due: u64, item: T) -> Result<Ticket, Why> {
+    timeline.schedule(due, item).map_err(reason)
+}
+
+fn pushed<T: Drop>(trampoline: &mut Trampoline<T>, item: T) -> Result<(), Why> {
+    trampoline.push(item).map_err(reason)
+}
+
+// What a caller can prove: of two items the one that is due first comes out first, in whatever
+// order they were scheduled, and at a tie the first.
+fn first_of_two(timeline: &mut Timeline<char>, a: u64, b: u64) -> Result<Option<(u64, char)>, Why>
+    requires { timeline.old ≡ schedule 0 0 [] }
+    ensures { IfOk result (λ first. first ≡ Some (if nat_le a b then (a, 97) else (b, 98))) }
+{
+    timeline.schedule(a, 'a').map_err(reason)?;
+    timeline.schedule(b, 'b').map_err(reason)?;
+    Ok(timeline.next_until(u64::MAX))
+}
+
+#[test]
+fn the_contracts_say_what_comes_first(rt: HostRuntime) -> Result<(), Fail> {
+    let mut timeline = Timeline::new(rt.alloc());
+    assert_eq!(rt; first_of_two(&mut timeline, 8, 6)?, Some((6, 'b')));
+    Ok(())
+}
+
+// Schedules under scarce memory: each refusal hands the item back and changes nothing, and then one
+// block is given back. Gives the ticket, and how often memory was refused.
+fn schedule_in_the_end(
+    rt: &impl Abort,
+    timeline: &mut Timeline<u64>,
+    scarce: &mut Scarce,
+    due: u64,
+    item: u64,
+) -> (Ticket, usize) {
+    let now = timeline.now();
+    let was_empty = timeline.is_empty();
+    for refusals in 0..MOST_BLOCKS {
+        match timeline.schedule(due, item) {
+            Ok(ticket) => return (ticket, refusals),
+            Err(Back { why, value }) => {
+                assert_eq!(rt; why, Why::NoMemory);
+                assert_eq!(rt; value, item);
+                assert_eq!(rt; timeline.now(), now);
+                assert_eq!(rt; timeline.is_empty(), was_empty);
+                assert!(rt; scarce.give_back_one());
+            }
+        }
+    }
+    panic!(rt; "memory was refused to the end")
+}
+
+const ITEMS: u64 = 60;
+
+// Due times that rise, fall and repeat.
+fn due_of(item: u64) -> u64 {
+    item % 20 * 7 % 20 + 3
+}
+
+#[test]
+fn a_refused_schedule_changes_nothing(rt: HostRuntime) -> Result<(), Fail> {
+    let mut ample = Timeline::new(rt.alloc());
+    let mut tickets = Vec::new(rt.alloc());
+    for item in 0..ITEMS {
+        tickets.push(scheduled(&mut ample, due_of(item), item)?)?;
+    }
+    let mut timeline = Timeline::new(rt.alloc());
+    let mut refusals = 0usize;
+    {
+        let mut scarce = Scarce::new(rt.alloc())?;
+        for (item, ticket) in (0..ITEMS).zip(tickets.iter()) {
+            let (given, refused) = schedule_in_the_end(
+                &rt,
+                &mut timeline,
+                &mut scarce,
+                due_of(item),
+                item,
+            );
+            assert_eq!(rt; given, *ticket);
+            refusals = refusals.saturating_add(refused);
+        }
+    }
+    assert!(rt; refusals > 2, "refused {refusals}");
+    for _ in 0..ITEMS {
+        let came = ample.next_until(30);
+        assert!(rt; came.is_some());
+        assert_eq!(rt; timeline.next_until(30), came);
+        assert_eq!(rt; timeline.now(), ample.now());
+    }
+    assert!(rt; timeline.is_empty());
+    Ok(())
+}
+
+#[test]
+fn taking_out_needs_no_memory(rt: HostRuntime) -> Result<(), Fail> {
+    let mut timeline = Timeline::new(rt.alloc());
+    let mut trampoline = Trampoline::new(rt.alloc());
+    let cancelled = scheduled(&mut timeline, 5, 1000)?;
+    for item in 0..ITEMS {
+        scheduled(&mut timeline, due_of(item), item)?;
+        pushed(&mut trampoline, item)?;
+    }
+    let scarce = Scarce::new(rt.alloc())?;
+    let mut taken = 0u64;
+    assert_eq!(rt; timeline.cancel(cancelled), Some(1000));
+    for item in 0..ITEMS {
+        assert_eq!(rt; trampoline.next(), Some(item));
+        if timeline.next_until(30).is_some() {
+            taken = taken.wrapping_add(1);
+        }
+    }
+    drop(scarce);
+    assert_eq!(rt; taken, ITEMS);
+    assert!(rt; timeline.is_empty());
+    Ok(())
+}
+
+#[test]
+fn a_refused_push_changes_nothing(rt: HostRuntime) -> Result<(), Fail> {
+    let mut trampoline = Trampoline::new(rt.alloc());
+    let mut refusals = 0u32;
+    let mut count = 0u64;
+    {
+        let mut scarce = Scarce::new(rt.alloc())?;
+        for _ in 0..MOST_BLOCKS {
+            if count == ITEMS {
+                break;
+            }
+            match trampoline.push(count) {
+                Ok(()) => count = count.wrapping_add(1),
+                Err(Back { why, value }) => {
+                    assert_eq!(rt; why, Why::NoMemory);
+                    assert_eq!(rt; value, count);
+                    refusals = refusals.wrapping_add(1);
+                    assert!(rt; scarce.give_back_one());
+                }
+            }
+        }
+    }
+    assert_eq!(rt; count, ITEMS);
+    assert!(rt; refusals > 2, "refused {refusals}");
+    for item in 0..ITEMS {
+        assert_eq!(rt; trampoline.next(), Some(item));
+    }
+    assert_eq!(rt; trampoline.next(), None);
+    Ok(())
+}
+
+#[test]
+fn work_comes_out_by_due_time_then_by_order(rt: HostRuntime) -> Result<(), Fail> {
+    let mut timeline = Timeline::new(rt.alloc());
+    let a = scheduled(&mut timeline, 10, 'a')?;
+    scheduled(&mut timeline, 5, 'b')?;
+    scheduled(&mut timeline, 5, 'c')?;
+    assert_eq!(rt; timeline.next_until(7), Some((5, 'b')));
+    assert_eq!(rt; timeline.next_until(7), Some((5, 'c')));
+    assert_eq!(rt; timeline.next_until(7), None);
+    assert_eq!(rt; timeline.now(), 7);
+    scheduled(&mut timeline, 3, 'd')?;
+    assert_eq!(rt; timeline.next_until(7), Some((7, 'd')));
+    assert_eq!(rt; timeline.cancel(a), Some('a'));
+    assert_eq!(rt; timeline.next_until(20), None);
+    assert_eq!(rt; timeline.now(), 20);
+    Ok(())
+}
+
+#[test]
+fn a_trampoline_is_first_in_first_out(rt: HostRuntime) -> Result<(), Fail> {
+    let mut trampoline = Trampoline::new(rt.alloc());
+    pushed(&mut trampoline, 1)?;
+    assert_eq!(rt; trampoline.next(), Some(1));
+    pushed(&mut trampoline, 2)?;
+    pushed(&mut trampoline, 3)?;
+    assert_eq!(rt; trampoline.next(), Some(2));
+    assert_eq!(rt; trampoline.next(), Some(3));
+    assert_eq!(rt; trampoline.next(), None);
+    Ok(())
+}
+
+#[test]
+fn a_ticket_cancels_its_entry_once(rt: HostRuntime) -> Result<(), Fail> {
+    let mut timeline = Timeline::new(rt.alloc());
+    assert!(rt; timeline.is_empty());
+    let first = scheduled(&mut timeline, 1, 'a')?;
+    let taken = scheduled(&mut timeline, 0, 'b')?;
+    scheduled(&mut timeline, 2, 'c')?;
+    let last = scheduled(&mut timeline, 3, 'd')?;
+    let mut other = Timeline::new(rt.alloc());
+    for _ in 0..4 {
+        scheduled(&mut other, 0, 'x')?;
+    }
+    let made_up = scheduled(&mut other, 0, 'x')?;
+    assert_eq!(rt; timeline.next_until(0), Some((0, 'b')));
+    assert_eq!(rt; timeline.cancel(taken), None);
+    assert_eq!(rt; timeline.cancel(made_up), None);
+    assert_eq!(rt; timeline.cancel(first), Some('a'));
+    assert_eq!(rt; timeline.cancel(first), None);
+    assert_eq!(rt; timeline.cancel(last), Some('d'));
+    assert_eq!(rt; timeline.next_until(9), Some((2, 'c')));
+    assert_eq!(rt; timeline.now(), 2);
+    assert!(rt; timeline.is_empty());
+    assert_ne!(rt; first, last);
+    Ok(())
+}
+
+#[test]
+fn the_last_tick_is_a_due_time(rt: HostRuntime) -> Result<(), Fail> {
+    let mut timeline = Timeline::new(rt.alloc());
+    scheduled(&mut timeline, u64::MAX, 'z')?;
+    assert_eq!(rt; timeline.next_until(u64::MAX - 1), None);
+    assert_eq!(rt; timeline.next_until(u64::MAX), Some((u64::MAX, 'z')));
+    scheduled(&mut timeline, 0, 'y')?;
+    assert_eq!(rt; timeline.next_until(0), None);
+    assert_eq!(rt; timeline.now(), u64::MAX);
+    assert_eq!(rt; timeline.next_until(u64::MAX), Some((u64::MAX, 'y')));
+    Ok(())
+}
+
+#[test]
+fn items_need_not_be_dropped(rt: HostRuntime) {
+    let mut timeline = Timeline::new(rt.alloc());
+    let mut trampoline = Trampoline::new(rt.alloc());
+    let ticket = match timeline.schedule(4, Job { number: 40 }) {
+        Ok(ticket) => ticket,
+        Err(_) => panic!(rt; "refused"),
+    };
+    match timeline.schedule(3, Job { number: 30 }) {
+        Ok(_) => {}
+        Err(_) => panic!(rt; "refused"),
+    }
+    match timeline.next_until(5) {
+        Some((due, Job { number })) => {
+            assert_eq!(rt; due, 3);
+            assert_eq!(rt; number, 30);
+        }
+        None => panic!(rt; "nothing came"),
+    }
+    match timeline.cancel(ticket) {
+        Some(job) => match trampoline.push(job) {
+            Ok(()) => {}
+            Err(_) => panic!(rt; "refused"),
+        },
+        None => panic!(rt; "no entry"),
+    }
+    assert!(rt; timeline.is_empty());
+    timeline.destroy_empty();
+    match trampoline.next() {
+        Some(Job { number }) => assert_eq!(rt; number, 40),
+        None => panic!(rt; "nothing came"),
+    }
+    match trampoline.next() {
+        Some(_) => panic!(rt; "one too many"),
+        None => trampoline.destroy_empty(),
+    }
+}

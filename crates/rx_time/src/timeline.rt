@@ -1,0 +1,285 @@
+ghost use Rattle.std.specs.Prelude.{◌≡◌, ◌+◌, ◌<◌, ◌≤◌, ◌↔◌, [], ◌∷◌, ◌++◌, length, max, nat_eq, All, IsTrue, Err, IfOk, IfErr, OnOk, OnErr, OnSome, IfSome, IfNone};
+ghost use Rattle.std.specs.Map.{lookup};
+ghost use Rattle.std.specs.List.Sorted.{IsPermutation};
+
+use crate::ticket::{MAX_TICKETS, Ticket};
+use crate::work::Work;
+use rx_disposable::{Back, Why};
+use std::alloc::Global;
+use std::collections::{BTreeMap, BTreeSet};
+use std::marker::Model;
+
+/// Work in virtual time: System.Reactive's `VirtualTimeScheduler`, of which `HistoricalScheduler`
+/// and `TestScheduler` are kinds.
+///
+/// Time is a number of ticks, from 0 to `u64::MAX`, that moves only where
+/// [`next_until`](Timeline::next_until) moves it, and never back. Work comes out in the order of
+/// its due times, and work that is due at one time in the order in which it was scheduled.
+///
+/// It differs from those schedulers in two things. It runs nothing by itself: it hands the work
+/// out, one item a call, and the caller runs it. And work whose time is past is due now, with no
+/// tick added, where `TestScheduler` makes it due one tick after now.
+///
+/// A timeline whose items are `Drop` may be dropped with its work; any other is emptied first, and
+/// given to [`destroy_empty`](Timeline::destroy_empty).
+///
+/// Contracts see a timeline as a `Schedule`: its virtual time, how many tickets it gave, and under
+/// its ticket each entry's work, in the order of scheduling.
+#[derive(Drop)]
+pub struct Timeline<T> {
+    clock: u64,
+    tickets: u32,
+    entries: BTreeMap<u32, Work<T>>,
+    agenda: BTreeSet<(u64, u32)>,
+}
+
+impl<T> Model for Timeline<T> {
+    ghost use Rattle.rx_time.specs.Schedule.{Schedule, schedule};
+
+    ghost Value = { Schedule T };
+
+    ghost use Rattle.rx_time.specs.Agenda.{IsKept};
+
+    ghost view = { λ a. schedule a.clock a.tickets a.entries.entries };
+
+    ghost invariant = { λ a. IsKept (schedule a.clock a.tickets a.entries.entries) a.agenda };
+}
+
+impl<T> Timeline<T> {
+    ghost use Rattle.std.specs.Option.{option_map};
+    ghost use Rattle.rx_time.specs.Agenda.{PointsAt};
+    ghost use Rattle.rx_time.specs.Schedule.{schedule, next_of, next_due, with_work, item_of, items_of, without, IsNext, IsSound};
+
+    /// A timeline with no work, at time 0. It allocates nothing.
+    pub fn new(alloc: Global) -> Self
+        ensures { result ≡ schedule 0 0 [] }
+    {
+        Timeline {
+            clock: 0,
+            tickets: 0,
+            entries: BTreeMap::new(alloc),
+            agenda: BTreeSet::new(alloc),
+        }
+    }
+
+    /// The virtual time, in ticks.
+    ///
+    /// The clause `sound` says what holds of every timeline: the tickets of its entries rise and
+    /// were given, and no work is overdue.
+    pub fn now(&self) -> u64
+        ensures value { result ≡ self.now.clock }
+        ensures sound { IsSound self.now }
+    {
+        self.clock
+    }
+
+    /// Whether there is no work.
+    pub fn is_empty(&self) -> bool
+        ensures { IsTrue result ↔ (self.now.work ≡ []) }
+    {
+        self.entries.is_empty()
+    }
+
+    /// Puts the item in, due at this time, or now where that time is past, and gives the ticket
+    /// that stands for it.
+    ///
+    /// Both refusals hand the item back and change nothing. `TooMany` comes exactly where all
+    /// [`MAX_TICKETS`] tickets were given, and `NoMemory` where there was a ticket and memory was
+    /// refused.
+    pub fn schedule(&mut self, due: u64, item: T) -> Result<Ticket, Back<T>>
+        ensures ok { IfOk result (λ ticket. ticket ≡ self.old.tickets) }
+        ensures added { OnOk result (self.new ≡ with_work due item self.old) }
+
+        ensures refused_too_many { (result ≡ Err (record { why = Why.TooMany; value = item }))
+            ↔ (MAX_TICKETS ≤ self.old.tickets) }
+        ensures refused_no_memory { self.old.tickets < MAX_TICKETS
+            → IfErr result (λ back. back ≡ record { why = Why.NoMemory; value = item }) }
+        ensures kept { OnErr result (self.new ≡ self.old) }
+    {
+        if self.tickets == MAX_TICKETS {
+            return Err(Back {
+                why: Why::TooMany,
+                value: item,
+            });
+        }
+        let due = due.max(self.clock);
+        match self.enter(Work { due, item }) {
+            Ok(ticket) => Ok(ticket),
+            Err(Work { due: _, item }) => Err(Back {
+                why: Why::NoMemory,
+                value: item,
+            }),
+        }
+    }
+
+    /// Takes the item of this ticket out, or gives `None` and changes nothing where there is no
+    /// such entry: its item came out before, or the ticket is another timeline's. It takes no
+    /// memory.
+    pub fn cancel(&mut self, ticket: Ticket) -> Option<T>
+        ensures value { result ≡ item_of ticket self.old.work }
+        ensures others { self.new ≡ record self.old { work = without ticket self.old.work } }
+
+        ensures once { IfSome result
+            (λ item. IsPermutation (items_of self.old.work) (item ∷ items_of self.new.work)) }
+        ensures fewer { OnSome result (length self.new.work + 1 ≡ length self.old.work) }
+        ensures kept { IfNone result (self.new ≡ self.old) }
+    {
+        match self.take(ticket.number) {
+            Some(Work { due: _, item }) => Some(item),
+            None => None,
+        }
+    }
+
+    /// Takes out what comes next, with its due time, where that is at or before this time, and
+    /// moves the virtual time to it. Where there is no such work, gives `None` and moves the
+    /// virtual time to this time if it is later. It takes no memory.
+    pub fn next_until(&mut self, until: u64) -> Option<(u64, T)>
+        ensures value { result
+            ≡ option_map (λ e. (e.1.due, e.1.item)) (next_due until self.old.work) }
+        ensures some { IfSome (next_due until self.old.work)
+            (λ e. self.new
+            ≡ record self.old { clock = e.1.due; work = without e.0 self.old.work }) }
+        ensures none { IfNone (next_due until self.old.work)
+            (self.new ≡ record self.old { clock = max self.old.clock until }) }
+
+        // What follows: which entry that is, that each item comes out once, and that time never
+        // goes back.
+        ensures next { IfSome (next_due until self.old.work) (IsNext self.old.work) }
+        ensures once { IfSome result
+            (λ came. IsPermutation (items_of self.old.work) (came.1 ∷ items_of self.new.work)) }
+        ensures fewer { OnSome result (length self.new.work + 1 ≡ length self.old.work) }
+        ensures forward { self.old.clock ≤ self.new.clock }
+    {
+        match self.place_due(until) {
+            Some((due, number)) => {
+                self.advance(due);
+                match self.take(number) {
+                    Some(Work { due, item }) => Some((due, item)),
+                    None => None,
+                }
+            }
+            None => {
+                self.advance(until);
+                None
+            }
+        }
+    }
+
+    /// Frees a timeline with no work, where `T` need not be `Drop`.
+    pub fn destroy_empty(self)
+        requires { self.work ≡ [] }
+    {
+        let Timeline {
+            clock: _,
+            tickets: _,
+            entries,
+            agenda,
+        } = self;
+        entries.destroy_empty();
+        drop(agenda);
+    }
+
+    // Puts work last, or gives it back where memory is refused.
+    fn enter(&mut self, work: Work<T>) -> Result<Ticket, Work<T>>
+        requires ticket { self.old.tickets < MAX_TICKETS }
+        requires ahead { self.old.clock ≤ work.due }
+        ensures ok { IfOk result (λ ticket. ticket ≡ self.old.tickets) }
+        ensures added { OnOk result (self.new ≡ schedule self.old.clock (self.old.tickets + 1)
+            (self.old.work ++ (self.old.tickets, work) ∷ [])) }
+        ensures back { IfErr result (λ back. back ≡ work) }
+        ensures kept { OnErr result (self.new ≡ self.old) }
+    {
+        let number = self.tickets;
+        let due = work.due;
+        let Ok(_) = self.agenda.insert((due, number)) else {
+            return Err(work);
+        };
+        match self.entries.insert(number, work) {
+            Ok(None) => {
+                self.tickets += 1;
+                Ok(Ticket { number })
+            }
+            Ok(Some(_before)) => unreachable!(),
+            Err(failed) => {
+                self.agenda.remove(&(due, number));
+                let (_, work) = failed.value;
+                Err(work)
+            }
+        }
+    }
+
+    // Takes the work of a ticket out, and its place off the agenda.
+    fn take(&mut self, number: u32) -> Option<Work<T>>
+        ensures value { result ≡ lookup (nat_eq number) self.old.work }
+        ensures others { self.new ≡ record self.old { work = without number self.old.work } }
+        ensures once { IfSome result
+            (λ work. IsPermutation (items_of self.old.work) (work.item ∷ items_of self.new.work)) }
+        ensures fewer { OnSome result (length self.new.work + 1 ≡ length self.old.work) }
+        ensures kept { IfNone result (self.new ≡ self.old) }
+    {
+        match self.entries.remove(&number) {
+            Some(work) => {
+                self.agenda.remove(&(work.due, number));
+                Some(work)
+            }
+            None => None,
+        }
+    }
+
+    // The due time and the ticket of what comes next.
+    fn first_place(&self) -> Option<(u64, u32)>
+        ensures next { PointsAt self.now.work (next_of self.now.work) result }
+        ensures ahead { IfSome result (λ place. self.now.clock ≤ place.0) }
+    {
+        match self.agenda.first() {
+            Some(place) => Some(*place),
+            None => None,
+        }
+    }
+
+    // The same, where that is due at or before this time. No work is due before it, or before this
+    // time.
+    fn place_due(&self, until: u64) -> Option<(u64, u32)>
+        ensures next { PointsAt self.now.work (next_due until self.now.work) result }
+        ensures ahead { IfSome result (λ place. self.now.clock ≤ place.0) }
+        ensures least { IfSome result (λ place. All (λ e. place.0 ≤ e.1.due) self.now.work) }
+        ensures none { IfNone result (All (λ e. until ≤ e.1.due) self.now.work) }
+    {
+        match self.first_place() {
+            Some((due, number)) if due <= until => Some((due, number)),
+            _ => None,
+        }
+    }
+
+    // Moves the virtual time on, past no work.
+    fn advance(&mut self, to: u64)
+        requires { All (λ e. to ≤ e.1.due) self.old.work }
+        ensures { self.new ≡ record self.old { clock = max self.old.clock to } }
+    {
+        self.clock = self.clock.max(to);
+    }
+}
+
+#[cfg(test)]
+mod tests {
+    use super::*;
+
+    #[test]
+    fn the_last_ticket_was_given(rt: HostRuntime) {
+        let mut timeline = Timeline {
+            clock: 7,
+            tickets: MAX_TICKETS,
+            entries: BTreeMap::new(rt.alloc()),
+            agenda: BTreeSet::new(rt.alloc()),
+        };
+        match timeline.schedule(9, 'x') {
+            Ok(_) => panic!(rt; "one too many"),
+            Err(Back { why, value }) => {
+                assert_eq!(rt; why, Why::TooMany);
+                assert_eq!(rt; value, 'x');
+            }
+        }
+        assert!(rt; timeline.is_empty());
+        assert_eq!(rt; timeline.now(), 7);
+    }
+}
