@@ -2,5 +2,11 @@
 #![tactic(auto)]
 
 mod back;
+mod counted;
+mod serial;
+mod single;
 
 pub use back::{Back, Why};
+pub use counted::{Counted, Denied, MAX_LEASES, NoLease};
+pub use serial::Serial;
+pub use single::Single;

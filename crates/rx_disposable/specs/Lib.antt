@@ -1,0 +1,4 @@
+pub mod Back
+pub mod Counted
+pub mod Holding
+pub mod Lends
