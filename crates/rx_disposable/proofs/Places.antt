@@ -26,6 +26,10 @@ module _ {T : Type 0} where
   kept_made ms es capacity given disposed made sound inline =
       record { filled = filled_made ms es made; sound = rw (entries_made ms es made) sound; inline = inline }
 
+  -- as many tickets and values as members
+  pub length-entries_of : (ms : List (Member T)) → AreFilled ms → length (entries_of ms) ≡ length ms
+  length-entries_of ms filled = sym (ap length filled ∙ length-map _ _)
+
   -- one member more
   pub made-append : (ms : List (Member T)) (es : List (ℕ × T)) (e : ℕ × T) → ms ≡ map member_of es → ms ++ member_of e ∷ [] ≡ map member_of (es ++ e ∷ [])
   made-append ms es e made = rw (made, map-append) refl
@@ -100,10 +104,6 @@ pub kept_none : {T : Type 0} (given : ℕ) (disposed : Bool) → IsKept {T = T} 
 kept_none given disposed = record { filled = refl; sound = record { tickets = omega arith; emptied = λ over. refl }; inline = omega arith }
 
 module _ {T : Type 0} (ms : List (Member T)) (capacity given : ℕ) (disposed : Bool) (kept : IsKept ms capacity given disposed) where
-  -- as many members as tickets and values
-  pub kept_length : length (entries_of ms) ≡ length ms
-  kept_length = sym (ap length kept.filled ∙ length-map _ _)
-
   pub kept_in_order : AreInOrder ms
   kept_in_order = in_order 0 given ms kept.filled kept.sound.tickets
 
@@ -135,7 +135,7 @@ module _ {T : Type 0} (ms : List (Member T)) (capacity given : ℕ) (disposed : 
     entry_here = subst (λ xs. m ≡ get_or xs i m) kept.filled at
 
     within_entries : i < length (entries_of ms)
-    within_entries = rw kept_length within
+    within_entries = rw (length-entries_of ms kept.filled) within
 
     -- the member has the value that its ticket stands for
     pub kept_value : m.value ≡ lookup (nat_eq ticket) (entries_of ms)

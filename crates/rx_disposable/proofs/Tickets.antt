@@ -1,5 +1,5 @@
 -- A group's tickets rise: what that says of a look-up, and which changes keep it.
-use Rattle.std.proofs.Common.{◌≡◌, ◌≢◌, ℕ, ◌+◌, ◌<◌, ◌≤◌, nat_eq, true, false, cond, List, [], ◌∷◌, ◌++◌, Option, Some, None, refl, arith}
+use Rattle.std.proofs.Common.{◌≡◌, ◌≢◌, ℕ, ◌+◌, ◌<◌, ◌≤◌, nat_eq, true, false, cond, List, [], ◌∷◌, ◌++◌, Option, Some, None, refl, ap, arith}
 use Rattle.std.specs.Map.{lookup, remove_entry, set_value}
 use Rattle.std.proofs.lemmas.Bool.Decides.{nat_tests}
 use Rattle.rx_disposable.specs.Group.{Group, value_at, with_added, without, Updates, TicketsRise, IsSound}
@@ -47,3 +47,38 @@ module _ {T : Type 0} where
       below_next : (first next : ℕ) (members : List (ℕ × T)) → TicketsRise first next members → first ≤ next
       below_next first next [] rise = rise
       below_next first next (m ∷ later) rise = omega (arith, rise.0, below_next (m.0 + 1) next later rise.1)
+
+  -- what the next ticket's value changes
+  lookup-added_other : (next ticket : ℕ) (members : List (ℕ × T)) (value : T) → ticket ≢ next → lookup (nat_eq ticket) (members ++ (next, value) ∷ []) ≡ lookup (nat_eq ticket) members
+  lookup-added_other next ticket [] value other = grind (arith, nat_tests)
+  lookup-added_other next ticket (m ∷ later) value other =
+      ap (cond (nat_eq ticket m.0) (Some m.1)) (lookup-added_other next ticket later value other)
+
+  lookup-added : (next : ℕ) (members : List (ℕ × T)) (value : T) → lookup (nat_eq next) members ≡ None → lookup (nat_eq next) (members ++ (next, value) ∷ []) ≡ Some value
+  lookup-added next [] value none = grind (arith, nat_tests)
+  lookup-added next (m ∷ later) value none = grind (arith, nat_tests, lookup-added next later value)
+
+  pub updates_added : (group : Group T) (value : T) → IsSound group → Updates group (with_added group value) group.given (Some value)
+  updates_added group value sound =
+      record {
+        changed = lookup-added group.given group.members value (lookup_next 0 group.given group.members sound.tickets);
+        others = λ other apart. lookup-added_other group.given other group.members value apart;
+      }
+
+  -- what a removal changes
+  lookup-remove_entry_other : (ticket other : ℕ) (members : List (ℕ × T)) → other ≢ ticket → lookup (nat_eq other) (remove_entry (nat_eq ticket) members) ≡ lookup (nat_eq other) members
+  lookup-remove_entry_other ticket other [] apart = refl
+  lookup-remove_entry_other ticket other (m ∷ later) apart =
+      grind (arith, nat_tests, lookup-remove_entry_other ticket other later apart)
+
+  lookup-remove_entry : (first next ticket : ℕ) (members : List (ℕ × T)) → TicketsRise first next members → lookup (nat_eq ticket) (remove_entry (nat_eq ticket) members) ≡ None
+  lookup-remove_entry first next ticket [] rise = refl
+  lookup-remove_entry first next ticket (m ∷ later) rise =
+      grind (arith, nat_tests, lookup-remove_entry (m.0 + 1) next ticket later rise.1, lookup_below (m.0 + 1) next ticket later rise.1)
+
+  pub updates_removed : (group : Group T) (ticket : ℕ) → IsSound group → Updates group (without group ticket) ticket None
+  updates_removed group ticket sound =
+      record {
+        changed = lookup-remove_entry 0 group.given ticket group.members sound.tickets;
+        others = λ other apart. lookup-remove_entry_other ticket other group.members apart;
+      }

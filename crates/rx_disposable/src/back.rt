@@ -7,11 +7,13 @@ pub enum Why {
     Already,
     /// The place has given all the tickets that it has.
     TooMany,
-    /// Memory was refused.
+    /// There was no memory for it.
     NoMemory,
 }
 
 /// A value that was not taken in, handed back as it was.
+///
+/// It may not be dropped, so that no refused value gets lost: take it apart.
 pub struct Back<T> {
     /// What stood against it.
     pub why: Why,

@@ -4,7 +4,7 @@ ghost use Rattle.std.specs.Borrow.{sem};
 
 use std::marker::Model;
 
-/// How many leases can be out at once.
+/// How many leases can be out at once: 4,294,967,295.
 pub const MAX_LEASES: u32 = u32::MAX;
 
 /// Why no lease was given.
@@ -23,9 +23,10 @@ pub struct NoLease;
 /// A value that stays inside until the whole is disposed of and every lease is given back:
 /// System.Reactive's `RefCountDisposable`.
 ///
-/// It differs in two ways. A lease is a count and not an object, so the caller gives back each one
+/// It differs in three ways. A lease is a count and not an object, so the caller gives back each one
 /// that it was given. After disposal no lease is given, where System.Reactive still gives out
-/// dependents while others are out.
+/// dependents while others are out. The value goes to the caller to be released, by the call after
+/// which the whole is disposed of and no lease is out.
 #[derive(Drop)]
 pub struct Counted<T> {
     value: Option<T>,
@@ -105,7 +106,9 @@ impl<T> Counted<T> {
         }
     }
 
-    /// The value, for writing, while it is inside.
+    /// The value, for writing; `None` where it came out.
+    ///
+    /// After disposal too it is lent, as long as a lease is out.
     pub fn get_mut(&mut self) -> Option<&mut T>
         ensures* writes_back { sem 𝓛 (LendsValue T.row self.entry result) }
         ensures value { option_copied_mut result ≡ self.old.value }
@@ -126,11 +129,10 @@ impl<T> Counted<T> {
         ensures rest { self.new ≡ rest_of (record self.old { disposed = true }) }
     {
         self.disposed = true;
-        if self.leases == 0 {
-            self.value.take()
-        } else {
-            None
+        if self.leases > 0 {
+            return None;
         }
+        self.value.take()
     }
 
     /// Ends the place and gives out the value that is inside, if there is one.
@@ -142,7 +144,7 @@ impl<T> Counted<T> {
         ensures ok { IfOk result (λ out. out ≡ self.value) }
         ensures err { IfErr result (λ same. same ≡ self) }
     {
-        if self.leases > 0 {
+        if self.leases != 0 {
             return Err(self);
         }
         let Counted {

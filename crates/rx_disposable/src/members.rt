@@ -4,9 +4,10 @@ ghost use Rattle.std.specs.Iterator.{YieldsFirst, item_count};
 ghost use Rattle.rx_disposable.specs.Members.{AreInOrder};
 
 use smallvec::{IntoIter, SmallVec};
+use std::iter::FusedIterator;
 use std::marker::Model;
 
-/// How many values are kept without memory.
+/// How many values a group keeps in itself, with no memory asked for.
 pub const INLINE_LEN: usize = 4;
 
 // A ticket, and the place of its value: `Some` in every member that a list holds. The blank one, with
@@ -51,7 +52,8 @@ impl<T> Default for Member<T> {
 
 /// Tickets and values that left a group together, to be taken one by one in order of adding.
 ///
-/// Taking one needs no memory.
+/// It is an iterator, and to take one from it needs no memory. Those that are left when it is dropped
+/// are dropped.
 #[derive(Drop)]
 #[must_use]
 pub struct Members<T: Drop> {
@@ -93,7 +95,20 @@ impl<T: Drop> Iterator for Members<T> {
         let member = self.rest.next()?;
         Some((member.ticket, member.into_value()))
     }
+
+    fn size_hint(&self) -> (usize, Option<usize>) {
+        let len = self.len();
+        (len, Some(len))
+    }
 }
+
+impl<T: Drop> ExactSizeIterator for Members<T> {
+    fn len(&self) -> usize {
+        self.rest.len()
+    }
+}
+
+impl<T: Drop> FusedIterator for Members<T> {}
 
 // The place of a ticket among members in order of their tickets.
 pub(crate) fn place_of<T>(members: &[Member<T>], ticket: u64) -> Option<usize>

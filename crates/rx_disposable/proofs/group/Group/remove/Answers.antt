@@ -1,5 +1,6 @@
 use Rattle.std.proofs.Common.{refl, sym, ◌∙◌}
 use Rattle.rx_disposable.proofs.Places.{kept_in_order, kept_absent, remove_absent, kept_some, kept_value, kept_removed, entries_removed}
+use Rattle.rx_disposable.proofs.Tickets.{updates_removed}
 use Rattle.rx_disposable.proofs.group.Group.remove.Goals as goal
 
 pub place_of-requires : goal.place_of-requires
@@ -28,3 +29,14 @@ returns-clause-value g c =
 pub returns-clause-rest : goal.returns-clause-rest
 returns-clause-rest g c =
     rw (← c.self.view_is, c.remove.ensures.items, entries_removed _ _ _ _ c.self.invariant c.args.ticket _ c.remove.result (rw c.as_slice.ensures at c.in_ok-place.ensures.found) c.remove.ensures.value (rw c.as_slice.ensures at c.in_ok-place.ensures.has_ticket)) refl
+
+pub returns-in_err-place-clause-updates : goal.returns-in_err-place-clause-updates
+returns-in_err-place-clause-updates g c =
+    record {
+      changed = rw (← c.self.view_is) (kept_absent _ _ _ _ c.self.invariant c.args.ticket (rw c.as_slice.ensures at c.in_err-place.ensures.absent));
+      others = λ other apart. refl;
+    }
+
+pub returns-clause-updates : goal.returns-clause-updates
+returns-clause-updates g c =
+    rw (← c.self.view_is, c.remove.ensures.items, entries_removed _ _ _ _ c.self.invariant c.args.ticket _ c.remove.result (rw c.as_slice.ensures at c.in_ok-place.ensures.found) c.remove.ensures.value (rw c.as_slice.ensures at c.in_ok-place.ensures.has_ticket)) (updates_removed _ c.args.ticket c.self.invariant.sound)
