@@ -1,5 +1,5 @@
 -- A ticket's place among the members as they are kept.
-use Rattle.std.proofs.Common.{◌≡◌, ◌≢◌, ℕ, zero, suc, ◌+◌, ◌<◌, ◌≤◌, nat_eq, Bool, true, List, [], ◌∷◌, ◌++◌, length, map, get_or, slice_set, Option, Some, None, IsSome, All, false, refl, sym, ap, subst, ◌∙◌, arith}
+use Rattle.std.proofs.Common.{◌≡◌, ◌≢◌, ℕ, zero, suc, ◌+◌, ◌<◌, ◌≤◌, nat_eq, Bool, true, List, [], ◌∷◌, ◌++◌, length, map, get_or, slice_set, Some, None, IsSome, All, false, refl, sym, ap, subst, ◌∙◌, arith}
 use Rattle.std.specs.List.{remove, HoldsAt}
 use Rattle.std.specs.Map.{lookup, remove_entry, set_value}
 use Rattle.std.proofs.lemmas.Bool.Decides.{nat_tests}

@@ -1,8 +1,8 @@
 -- A group's tickets rise: what that says of a look-up, and which changes keep it.
-use Rattle.std.proofs.Common.{◌≡◌, ◌≢◌, ℕ, ◌+◌, ◌<◌, ◌≤◌, nat_eq, true, false, cond, List, [], ◌∷◌, ◌++◌, Option, Some, None, refl, ap, arith}
+use Rattle.std.proofs.Common.{◌≡◌, ◌≢◌, ℕ, ◌+◌, ◌<◌, ◌≤◌, nat_eq, true, false, cond, List, [], ◌∷◌, ◌++◌, Some, None, refl, ap, arith}
 use Rattle.std.specs.Map.{lookup, remove_entry, set_value}
 use Rattle.std.proofs.lemmas.Bool.Decides.{nat_tests}
-use Rattle.rx_disposable.specs.Group.{Group, value_at, with_added, without, Updates, TicketsRise, IsSound}
+use Rattle.rx_disposable.specs.Group.{Group, with_added, without, Updates, TicketsRise, IsSound}
 
 module _ {T : Type 0} where
   -- a lower first number will do
