@@ -1,0 +1,33 @@
+-- How members are kept: a ticket and a place for its value, which is filled.
+use Rattle.std.specs.Prelude.{◌≡◌, ℕ, ◌<◌, ◌≤◌, Bool, List, length, slice_index_or, map, filter_map, Option, Some, option_map}
+use Rattle.rx_disposable.specs.Group.{IsSound}
+use Rattle.rx_disposable.specs.declared.members.Member.{Member}
+
+module _ {T : Type 0} where
+  -- the ticket and the value of a member, where it has one
+  abbrev pub entry_of : Member T → Option (ℕ × T)
+  entry_of member = option_map (λ value. (member.ticket, value)) member.value
+
+  -- the tickets and values of members
+  abbrev pub entries_of : List (Member T) → List (ℕ × T)
+  entries_of members = filter_map entry_of members
+
+  -- the member of a ticket and a value
+  abbrev pub member_of : ℕ × T → Member T
+  member_of entry = record { ticket = entry.0; value = Some entry.1 }
+
+  -- every place has its value
+  abbrev pub AreFilled : List (Member T) → Type 0
+  AreFilled members = members ≡ map member_of (entries_of members)
+
+  -- the tickets rise
+  abbrev pub AreInOrder : List (Member T) → Type 0
+  AreInOrder members =
+      (i j : ℕ) (d : Member T) → i < j → j < length members
+      → (slice_index_or members i d).ticket < (slice_index_or members j d).ticket
+
+  -- what a group keeps true of its fields
+  pub record IsKept (members : List (Member T)) (capacity given : ℕ) (disposed : Bool) : Type 0 where
+    pub filled : AreFilled members
+    pub sound : IsSound (record { members = entries_of members; given = given; disposed = disposed })
+    pub inline : 4 ≤ capacity

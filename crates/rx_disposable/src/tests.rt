@@ -1,0 +1,221 @@
+//! Worked examples, and calls in want of memory.
+use crate::{Back, Counted, Denied, Group, INLINE_LEN, NoLease, Serial, Single, Why};
+use rx_scarce::{MOST_BLOCKS, Scarce};
+use std::test::Fail;
+
+// A value that may not be dropped.
+struct Token(u32);
+
+fn spend(token: Token) -> u32 {
+    let Token(number) = token;
+    number
+}
+
+// The answer, with a refusal as a pair that can be compared.
+fn told<U, T>(answer: Result<U, Back<T>>) -> Result<U, (Why, T)> {
+    match answer {
+        Ok(taken) => Ok(taken),
+        Err(Back { why, value }) => Err((why, value)),
+    }
+}
+
+fn spent_value(value: Option<Token>) -> Option<u32> {
+    value.map(spend)
+}
+
+fn spent((why, token): (Why, Token)) -> (Why, u32) {
+    (why, spend(token))
+}
+
+#[test]
+fn a_single_takes_one_value(rt: HostRuntime) {
+    let mut single = Single::new();
+    assert_eq!(rt; told(single.set(1)), Ok(()));
+    assert_eq!(rt; told(single.set(2)), Err((Why::Already, 2)));
+    assert_eq!(rt; single.dispose(), Some(1));
+    assert_eq!(rt; single.dispose(), None);
+    assert_eq!(rt; told(single.set(3)), Err((Why::Disposed, 3)));
+    assert_eq!(rt; single.into_inner(), None);
+}
+
+#[test]
+fn a_single_takes_a_value_that_may_not_be_dropped(rt: HostRuntime) {
+    let mut single = Single::new();
+    assert_eq!(rt; told(single.set(Token(1))).map_err(spent), Ok(()));
+    assert_eq!(rt;
+        told(single.set(Token(2))).map_err(spent),
+        Err((Why::Already, 2))
+    );
+    assert_eq!(rt; single.dispose().map(spend), Some(1));
+    assert_eq!(rt; single.dispose().map(spend), None);
+    assert_eq!(rt;
+        told(single.set(Token(3))).map_err(spent),
+        Err((Why::Disposed, 3))
+    );
+    assert_eq!(rt; single.into_inner().map(spend), None);
+}
+
+#[test]
+fn a_serial_gives_the_previous_value(rt: HostRuntime) {
+    let mut serial = Serial::new();
+    assert_eq!(rt; serial.replace(1), Ok(None));
+    assert_eq!(rt; serial.replace(2), Ok(Some(1)));
+    assert_eq!(rt; serial.dispose(), Some(2));
+    assert_eq!(rt; serial.replace(3), Err(3));
+    assert_eq!(rt; serial.dispose(), None);
+    assert_eq!(rt; serial.into_inner(), None);
+}
+
+#[test]
+fn a_serial_takes_values_that_may_not_be_dropped(rt: HostRuntime) {
+    let mut serial = Serial::new();
+    assert_eq!(rt;
+        serial.replace(Token(1)).map(spent_value).map_err(spend),
+        Ok(None)
+    );
+    assert_eq!(rt;
+        serial.replace(Token(2)).map(spent_value).map_err(spend),
+        Ok(Some(1))
+    );
+    assert_eq!(rt; serial.dispose().map(spend), Some(2));
+    assert_eq!(rt;
+        serial.replace(Token(3)).map(spent_value).map_err(spend),
+        Err(3)
+    );
+    assert_eq!(rt; serial.into_inner().map(spend), None);
+}
+
+#[test]
+fn a_group_gives_its_values_by_ticket_and_together(rt: HostRuntime) {
+    let mut group = Group::new(rt.alloc());
+    assert_eq!(rt; told(group.add('x')), Ok(0));
+    assert_eq!(rt; told(group.add('y')), Ok(1));
+    assert_eq!(rt; group.remove(0), Some('x'));
+    assert_eq!(rt; group.remove(0), None);
+    let mut cleared = group.clear();
+    assert_eq!(rt; cleared.next(), Some((1, 'y')));
+    assert_eq!(rt; cleared.next(), None);
+    assert_eq!(rt; told(group.add('z')), Ok(2));
+    let mut disposed = group.dispose();
+    assert_eq!(rt; disposed.next(), Some((2, 'z')));
+    assert_eq!(rt; disposed.next(), None);
+    assert_eq!(rt; told(group.add('w')), Err((Why::Disposed, 'w')));
+    assert_eq!(rt; group.dispose().len(), 0);
+}
+
+#[test]
+fn a_counted_value_comes_out_at_the_last_lease(rt: HostRuntime) {
+    let mut counted = Counted::new(9);
+    assert_eq!(rt; counted.lease(), Ok(()));
+    assert_eq!(rt; counted.dispose(), None);
+    assert_eq!(rt; counted.lease(), Err(Denied::Disposed));
+    assert_eq!(rt; counted.give_back(), Ok(Some(9)));
+    assert_eq!(rt; counted.give_back(), Err(NoLease));
+    assert_eq!(rt; counted.dispose(), None);
+    assert_eq!(rt; counted.into_inner().ok(), Some(None));
+}
+
+#[test]
+fn a_counted_value_may_be_one_that_may_not_be_dropped(rt: HostRuntime) {
+    let mut counted = Counted::new(Token(9));
+    assert_eq!(rt; counted.lease(), Ok(()));
+    assert_eq!(rt; counted.dispose().map(spend), None);
+    if let Some(token) = counted.get_mut() {
+        token.0 = 10;
+    }
+    let mut counted = match counted.into_inner() {
+        Err(counted) => counted,
+        Ok(_) => unreachable!(),
+    };
+    assert_eq!(rt; counted.give_back().map(spent_value), Ok(Some(10)));
+    assert_eq!(rt; counted.give_back().map(spent_value), Err(NoLease));
+    match counted.into_inner() {
+        Ok(value) => assert_eq!(rt; spent_value(value), None),
+        Err(_) => unreachable!(),
+    }
+}
+
+#[test]
+fn a_write_to_a_ticket_changes_that_value_alone(rt: HostRuntime) -> Result<(), Fail> {
+    let mut group = Group::new(rt.alloc());
+    for number in 0..100 {
+        assert_eq!(rt; told(group.add(number)), Ok(number));
+    }
+    for ticket in 0..50 {
+        assert_eq!(rt; group.remove(2 * ticket), Some(2 * ticket));
+    }
+    assert_eq!(rt; group.len(), 50);
+    assert!(rt; !group.is_empty());
+    assert!(rt; group.get_mut(40).is_none());
+    if let Some(value) = group.get_mut(41) {
+        *value = 1000;
+    }
+    let disposed = group.dispose();
+    assert_eq!(rt; disposed.len(), 50);
+    for (ticket, value) in disposed {
+        assert_eq!(rt; ticket % 2, 1);
+        assert_eq!(rt; value, if ticket == 41 { 1000 } else { ticket });
+    }
+    assert!(rt; group.is_empty());
+    Ok(())
+}
+
+#[test]
+fn an_add_in_want_of_memory_hands_the_value_back(rt: HostRuntime) -> Result<(), Fail> {
+    let mut group = Group::new(rt.alloc());
+    let mut scarce = Scarce::new(rt.alloc())?;
+    let mut refusals = 0u32;
+    for number in 0..40 {
+        for _ in 0..MOST_BLOCKS {
+            let answer = told(group.add(number));
+            if answer == Ok(number) {
+                break;
+            }
+            assert_eq!(rt; answer, Err((Why::NoMemory, number)));
+            assert!(rt; group.len() >= INLINE_LEN);
+            for ticket in 0..number {
+                assert_eq!(rt; group.get_mut(ticket).map(|value| *value), Some(ticket));
+            }
+            assert!(rt; group.get_mut(number).is_none());
+            refusals = refusals.wrapping_add(1);
+            assert!(rt; scarce.give_back_one());
+        }
+    }
+    assert!(rt; refusals > 0);
+    let mut disposed = group.dispose();
+    for number in 0..40 {
+        assert_eq!(rt; disposed.next(), Some((number, number)));
+    }
+    assert_eq!(rt; disposed.next(), None);
+    Ok(())
+}
+
+#[test]
+fn all_else_needs_no_memory(rt: HostRuntime) -> Result<(), Fail> {
+    let mut group = Group::new(rt.alloc());
+    for number in 0..10 {
+        assert_eq!(rt; told(group.add(number)), Ok(number));
+    }
+    let mut scarce = Scarce::new(rt.alloc())?;
+    let block: Result<Vec<u8>, _> = Vec::with_capacity(rt.alloc(), 16);
+    assert!(rt; block.is_err());
+    assert_eq!(rt; group.get_mut(7).map(|value| *value), Some(7));
+    assert_eq!(rt; group.remove(7), Some(7));
+    assert_eq!(rt; group.clear().len(), 9);
+    assert_eq!(rt; told(group.add(10)), Ok(10));
+    assert_eq!(rt; group.dispose().next(), Some((10, 10)));
+    let mut other = Group::new(rt.alloc());
+    assert_eq!(rt; told(other.add('x')), Ok(0));
+    let mut single = Single::new();
+    assert_eq!(rt; told(single.set(1)), Ok(()));
+    assert_eq!(rt; single.dispose(), Some(1));
+    let mut serial = Serial::new();
+    assert_eq!(rt; serial.replace(1), Ok(None));
+    assert_eq!(rt; serial.dispose(), Some(1));
+    let mut counted = Counted::new(1);
+    assert_eq!(rt; counted.lease(), Ok(()));
+    assert_eq!(rt; counted.give_back(), Ok(None));
+    assert_eq!(rt; counted.dispose(), Some(1));
+    assert!(rt; scarce.give_back_one());
+    Ok(())
+}
