@@ -1,15 +1,14 @@
 -- What a contract sees of `Slots`: a finite map from slots to numbered values, and three counts.
 -- A key is a slot and a number, and finds the value of its slot where that has its number.
-use Rattle.std.specs.Prelude.{◌≡◌, ◌≢◌, ℕ, ◌==◌, cond, List, Option, Some, None, option_map, slice_index_or, slice_set, refl}
+use Rattle.std.specs.Prelude.{◌≡◌, ◌≢◌, ℕ, ◌+◌, ◌-◌, ◌==◌, cond, List, ◌++◌, length, replicate, Option, Some, None, option_map, slice_index_or, slice_set, refl}
 use Rattle.std.specs.Coded.{Coded, code_by, coded×, coded_ℕ, coded_list, coded_option}
 use Rattle.rx_slots.specs.declared.Entry.{Entry}
 use Rattle.rx_slots.specs.declared.Key.{Key}
 
--- what stands at each slot from 0 on, nothing past the end; one past the last slot that was ever used; how
--- many slots have a value; how many values more need no memory
+-- what stands at each slot that was ever used, from 0 on; how many slots have a value; how many values
+-- more need no memory
 pub record Slots (T : Type 0) : Type 0 where
   pub entries : List (Option (Entry T))
-  pub slot_count : ℕ
   pub count : ℕ
   pub room : ℕ
 
@@ -22,13 +21,17 @@ entry_code {T} code =
 abbrev pub slots_code : {T : Type 0} → Coded T → Coded (Slots T)
 slots_code {T} code =
     code_by
-    (List (Option (Entry T)) × (ℕ × (ℕ × ℕ)))
-    (coded× (coded_list (coded_option (entry_code code))) (coded× coded_ℕ (coded× coded_ℕ coded_ℕ)))
-    (λ s. (s.entries, (s.slot_count, (s.count, s.room))))
-    (λ p. record { entries = p.0; slot_count = p.1.0; count = p.1.1.0; room = p.1.1.1 })
+    (List (Option (Entry T)) × (ℕ × ℕ))
+    (coded× (coded_list (coded_option (entry_code code))) (coded× coded_ℕ coded_ℕ))
+    (λ s. (s.entries, (s.count, s.room)))
+    (λ p. record { entries = p.0; count = p.1.0; room = p.1.1 })
     (λ _. refl)
 
 module _ {T : Type 0} where
+  -- how many slots were ever used: each value is at a slot below
+  abbrev pub slot_count : Slots T → ℕ
+  slot_count s = length s.entries
+
   -- what stands at a slot
   abbrev pub entry_at : Slots T → ℕ → Option (Entry T)
   entry_at s slot = slice_index_or s.entries slot None
@@ -53,6 +56,11 @@ module _ {T : Type 0} where
   -- what a key finds
   abbrev pub find : Slots T → Key → Option T
   find s key = with_number key.number (entry_at s key.slot)
+
+  -- these entries with one more at a slot, and nothing at the slots between
+  abbrev pub placed : List (Option (Entry T)) → ℕ → Entry T → List (Option (Entry T))
+  placed entries slot e =
+      slice_set (entries ++ replicate (slot + 1 - length entries) None) slot (Some e)
 
   -- this slot has this, and every other slot keeps what it had
   pub record Changes (old new : Slots T) (slot : ℕ) (entry : Option (Entry T)) : Type 0 where

@@ -1,7 +1,7 @@
 //! Checked slots.
 #![tactic(auto)]
 
-ghost use Rattle.std.specs.Prelude.{◌≡◌, ◌≢◌, ◌↔◌, IsTrue, ℕ, ◌+◌, ◌<◌, ◌≤◌, max, IsOk, IsSome, IfOk, IfErr, IfNone, IfSome, OnOk, OnErr, OnSome, option_copied, ◌==◌, is_some, count_by};
+ghost use Rattle.std.specs.Prelude.{◌≡◌, ◌≢◌, ◌↔◌, IsTrue, ℕ, ◌+◌, ◌<◌, ◌≤◌, max, IsOk, IsSome, IfOk, IfErr, IfNone, IfSome, OnOk, OnErr, OnSome, option_copied, ◌==◌, is_some, count_by, [], slice_set};
 ghost use Rattle.std.specs.Option.{option_copied_mut};
 ghost use Rattle.std.specs.Borrow.{sem};
 
@@ -34,33 +34,25 @@ pub struct Slots<T> {
 }
 
 impl<T> Model for Slots<T> {
-    ghost use Rattle.std.specs.Prelude.{◌-◌};
-    ghost use Rattle.slab.specs.Slab.{slab_len};
     ghost use Rattle.rx_slots.specs.Slots.{Slots as Table, slots_code};
 
     ghost Value = { Table T };
 
     ghost coded = { slots_code T.code };
 
-    ghost use Rattle.rx_slots.specs.Kept.{IsKept};
+    ghost use Rattle.rx_slots.specs.Kept.{shown, IsKept};
 
-    ghost view = { λ s. record {
-      entries = s.cells.slots;
-      slot_count = s.slot_count;
-      count = slab_len s.cells;
-      room = s.cells.capacity - slab_len s.cells;
-    } };
+    ghost view = { λ s. shown s.cells s.slot_count };
 
     ghost invariant = { λ s. IsKept s.cells s.slot_count };
 }
 
 impl<T> Slots<T> {
-    ghost use Rattle.rx_slots.specs.Slots.{entry_at, number_at, value_at, key_at, find, Changes, KeepsOthers};
+    ghost use Rattle.rx_slots.specs.Slots.{slot_count, placed, entry_at, number_at, value_at, key_at, find, Changes, KeepsOthers};
     ghost use Rattle.rx_slots.specs.Lends.{lends_value};
 
     pub fn new(alloc: Global) -> Self
-        ensures empty { (slot : ℕ) → entry_at result slot ≡ None }
-        ensures slot_count { result.slot_count ≡ 0 }
+        ensures empty { result.entries ≡ [] }
         ensures count { result.count ≡ 0 }
         ensures room { result.room ≡ 0 }
     {
@@ -83,7 +75,8 @@ impl<T> Slots<T> {
         ensures numbered { IfOk result (λ key. key.number ≡ number) }
         ensures was_free { IfOk result (λ key. entry_at self.old key.slot ≡ None) }
         ensures changes { IfOk result (λ key. Changes self.old self.new key.slot (Some (record { number = number; value = value }))) }
-        ensures slot_count { IfOk result (λ key. self.new.slot_count ≡ max self.old.slot_count (key.slot + 1)) }
+        ensures placed { IfOk result (λ key. self.new.entries ≡ placed self.old.entries key.slot (record { number = number; value = value })) }
+        ensures slot_count { IfOk result (λ key. slot_count self.new ≡ max (slot_count self.old) (key.slot + 1)) }
         ensures kept { IfOk result (λ key. KeepsOthers self.old self.new key) }
         ensures count { OnOk result (self.new.count ≡ self.old.count + 1) }
         ensures succeeds { 0 < self.old.room → IsOk result }
@@ -133,7 +126,8 @@ impl<T> Slots<T> {
         ensures value { result ≡ find self.old key }
         ensures changes { OnSome result (Changes self.old self.new key.slot None) }
         ensures kept { KeepsOthers self.old self.new key }
-        ensures slot_count { self.new.slot_count ≡ self.old.slot_count }
+        ensures removed { OnSome result (self.new.entries ≡ slice_set self.old.entries key.slot None) }
+        ensures slot_count { slot_count self.new ≡ slot_count self.old }
         ensures count { OnSome result (self.new.count + 1 ≡ self.old.count) }
         ensures room { OnSome result (self.new.room ≡ self.old.room + 1) }
         ensures absent { IfNone result (self.new ≡ self.old) }
@@ -160,8 +154,7 @@ impl<T> Slots<T> {
     }
 
     pub fn slot_count(&self) -> usize
-        ensures value { result ≡ self.now.slot_count }
-        ensures bound { (slot : ℕ) → result ≤ slot → entry_at self.now slot ≡ None }
+        ensures { result ≡ slot_count self.now }
     {
         self.slot_count
     }
