@@ -1,12 +1,12 @@
 -- What the table of slots shows of the slab underneath.
-use Rattle.std.proofs.Common.{◌≡◌, ◌⊎◌, ℕ, ◌+◌, ◌-◌, ◌<◌, max, ◌++◌, length, get_or, set, replicate, Option, Some, None, is_some, IsSome, count_by, cond, refl, sym, ap, ◌∙◌, inl, inr, arith, zero-add, true≢false}
+use Rattle.std.proofs.Common.{List, ◌≡◌, ◌⊎◌, ℕ, ◌+◌, ◌-◌, ◌<◌, max, ◌++◌, length, get_or, set, replicate, Option, Some, None, is_some, IsSome, count_by, cond, option_map, refl, sym, ap, ◌∙◌, inl, inr, arith, zero-add, true≢false}
 use Rattle.std.proofs.lemmas.Bool.{cases_eq, cases_lt}
 use Rattle.std.proofs.lemmas.List.{get_or_past, get_or-set_same, get_or-set_other, length-set, length-append, length-replicate}
 use Rattle.std.proofs.lemmas.List.FromFn.{length-map-range_with_len, get_or-map-range_with_len, fill_by_all}
 use Rattle.slab.specs.Slab.{Slab, get, slab_len, with_value, Updates}
 use Rattle.rx_slots.specs.declared.Entry.{Entry}
 use Rattle.rx_slots.specs.declared.Key.{Key}
-use Rattle.rx_slots.specs.Slots.{with_number, find, placed, with_value as with_value_at}
+use Rattle.rx_slots.specs.Slots.{entry_at, with_number, find, placed, with_value as written_at, with_new_value, with_value_at}
 use Rattle.rx_slots.specs.Kept.{table, shown, IsKept}
 use Rattle.rx_slots.proofs.SlotsLemmas.{get_or-append-nothing, sum_by-same_reads, numbered_entry, with_number-same}
 use Rattle.slab.proofs.SlabLemmas.{ContainsKey-within, Updates-with_value}
@@ -96,8 +96,22 @@ module _ {T : Type 0} where
       let read = ap counts found in
       omega (arith, sum_by-set counts cells.slots slot (Some new) None (ContainsKey-within cells slot (ap is_some found)))
 
-  -- what a contract sees of such a write
-  pub shown-with_value : (cells : Slab (Entry T)) (n : ℕ) (key : Key) (e : Entry T) (value : T) → IsKept cells n → get cells key.slot ≡ Some e → e.number ≡ key.number → shown (with_value cells key.slot (record e { value = value })) n ≡ with_value_at (shown cells n) key value
+  -- the table shows an entry that the slab has
+  pub entry_at-stored : (cells : Slab (Entry T)) (n slot : ℕ) (e : Entry T) → IsKept cells n → get cells slot ≡ Some e → entry_at (shown cells n) slot ≡ Some e
+  entry_at-stored cells n slot e kept read = get_or-table cells n slot kept ∙ read
+
+  -- what a contract sees of a write at a slot
+  pub shown-with_value_at : (cells : Slab (Entry T)) (n slot : ℕ) (e : Entry T) (value : T) → IsKept cells n → get cells slot ≡ Some e → shown (with_value cells slot (record e { value = value })) n ≡ with_value_at (shown cells n) slot value
+  shown-with_value_at cells n slot e value kept read =
+      let new : Entry T = record e { value = value } in
+      let entries = table-with_value cells n slot e new kept read in
+      let count = slab_len-with_value cells slot e new read in
+      let rest : Option (Entry T) → List (Option (Entry T)) = λ at. set (table cells n) slot (option_map (with_new_value value) at) in
+      let written = entries ∙ ap rest (sym (entry_at-stored cells n slot e kept read)) in
+      λ i. record { entries = written i; next_slot = cells.vacant_key; count = count i; room = cells.capacity - count i }
+
+  -- and of one at a key
+  pub shown-with_value : (cells : Slab (Entry T)) (n : ℕ) (key : Key) (e : Entry T) (value : T) → IsKept cells n → get cells key.slot ≡ Some e → e.number ≡ key.number → shown (with_value cells key.slot (record e { value = value })) n ≡ written_at (shown cells n) key value
   shown-with_value cells n key e value kept read number =
       let new : Entry T = record e { value = value } in
       let entries = table-with_value cells n key.slot e new kept read in
@@ -105,7 +119,7 @@ module _ {T : Type 0} where
       let renumbered : ℕ → Entry T = λ m. record { number = m; value = value } in
       let named = ap (λ m. set (table cells n) key.slot (Some (renumbered m))) number in
       let written = entries ∙ named in
-      λ i. record { entries = written i; count = count i; room = cells.capacity - count i }
+      λ i. record { entries = written i; next_slot = cells.vacant_key; count = count i; room = cells.capacity - count i }
 
 -- a `&mut` leaves what two functions that agree everywhere say alike
 pub same_loan : {G W S : Type 0} (name : G) (f g : W → S) → ((w : W) → f w ≡ g w) → ◌≡◌ {A = (G × (W → S)) ⊎ S} (inl (name, f)) (inl (name, g))

@@ -1,4 +1,4 @@
--- What `Slots` keeps true of its fields. No public clause cites this module.
+-- What `Slots` shows of its fields, and keeps true of them. No public clause cites this module.
 use Rattle.std.specs.Prelude.{◌≡◌, ℕ, ◌-◌, ◌≤◌, List, map, Option, None}
 use Rattle.std.specs.List.{range_with_len}
 use Rattle.slab.specs.Slab.{Slab, get, slab_len}
@@ -15,11 +15,13 @@ module _ {T : Type 0} where
   shown cells slot_count =
       record {
         entries = table cells slot_count;
+        next_slot = cells.vacant_key;
         count = slab_len cells;
         room = cells.capacity - slab_len cells;
       }
 
-  -- every value is below the count of slots, and the values fit
+  -- every value is at a slot below the count of slots, and the slots and the values fit
   pub record IsKept (cells : Slab (Entry T)) (slot_count : ℕ) : Type 0 where
     pub below : (slot : ℕ) → slot_count ≤ slot → get cells slot ≡ None
-    pub fits : slab_len cells ≤ cells.capacity
+    pub slots_fit : slot_count ≤ cells.capacity
+    pub values_fit : slab_len cells ≤ cells.capacity

@@ -1,14 +1,15 @@
--- What a contract sees of `Slots`: a finite map from slots to numbered values, and three counts.
--- A key is a slot and a number, and finds the value of its slot where that has its number.
+-- What a contract sees of `Slots`: a finite map from slots to values with numbers, and three counts.
+-- A key is a slot and a number. It finds the value of its slot where that has its number, and else nothing.
 use Rattle.std.specs.Prelude.{◌≡◌, ◌≢◌, ℕ, ◌+◌, ◌-◌, ◌==◌, cond, List, ◌++◌, length, replicate, Option, Some, None, option_map, slice_index_or, slice_set, refl}
 use Rattle.std.specs.Coded.{Coded, code_by, coded×, coded_ℕ, coded_list, coded_option}
 use Rattle.rx_slots.specs.declared.Entry.{Entry}
 use Rattle.rx_slots.specs.declared.Key.{Key}
 
--- what stands at each slot that was ever used, from 0 on; how many slots have a value; how many values
--- more need no memory
+-- what stands at each slot that was ever used, from 0 on; the slot that the next insert uses; how many slots
+-- have a value; how many values more need no memory
 pub record Slots (T : Type 0) : Type 0 where
   pub entries : List (Option (Entry T))
+  pub next_slot : ℕ
   pub count : ℕ
   pub room : ℕ
 
@@ -21,10 +22,10 @@ entry_code {T} code =
 abbrev pub slots_code : {T : Type 0} → Coded T → Coded (Slots T)
 slots_code {T} code =
     code_by
-    (List (Option (Entry T)) × (ℕ × ℕ))
-    (coded× (coded_list (coded_option (entry_code code))) (coded× coded_ℕ coded_ℕ))
-    (λ s. (s.entries, (s.count, s.room)))
-    (λ p. record { entries = p.0; count = p.1.0; room = p.1.1 })
+    (List (Option (Entry T)) × (ℕ × (ℕ × ℕ)))
+    (coded× (coded_list (coded_option (entry_code code))) (coded× coded_ℕ (coded× coded_ℕ coded_ℕ)))
+    (λ s. (s.entries, (s.next_slot, (s.count, s.room))))
+    (λ p. record { entries = p.0; next_slot = p.1.0; count = p.1.1.0; room = p.1.1.1 })
     (λ _. refl)
 
 module _ {T : Type 0} where
@@ -32,7 +33,7 @@ module _ {T : Type 0} where
   abbrev pub slot_count : Slots T → ℕ
   slot_count s = length s.entries
 
-  -- what stands at a slot
+  -- what stands at a slot, nothing past the last one
   abbrev pub entry_at : Slots T → ℕ → Option (Entry T)
   entry_at s slot = slice_index_or s.entries slot None
 
@@ -71,7 +72,16 @@ module _ {T : Type 0} where
   abbrev pub KeepsOthers : Slots T → Slots T → Key → Type 0
   KeepsOthers old new key = (other : Key) → other ≢ key → find new other ≡ find old other
 
-  -- the slots after this value was written at a key
+  -- the slots after this value was written at a key that finds one
   abbrev pub with_value : Slots T → Key → T → Slots T
   with_value s key value =
       record s { entries = slice_set s.entries key.slot (Some (record { number = key.number; value = value })) }
+
+  -- an entry with another value
+  abbrev pub with_new_value : T → Entry T → Entry T
+  with_new_value value e = record e { value = value }
+
+  -- the slots after this value was written at a slot that has one
+  abbrev pub with_value_at : Slots T → ℕ → T → Slots T
+  with_value_at s slot value =
+      record s { entries = slice_set s.entries slot (option_map (with_new_value value) (entry_at s slot)) }

@@ -1,9 +1,10 @@
-use Rattle.std.proofs.Common.{length, sym, ap, ◌∙◌, arith}
+use Rattle.std.proofs.Common.{length, refl, sym, ap, ◌∙◌, arith}
 use Rattle.slab.specs.Slab.{get}
+use Rattle.rx_slots.specs.declared.Entry.{Entry}
 use Rattle.rx_slots.specs.declared.Key.{Key}
-use Rattle.rx_slots.specs.Slots.{placed}
+use Rattle.rx_slots.specs.Slots.{with_number, placed}
 use Rattle.rx_slots.specs.Kept.{table}
-use Rattle.rx_slots.proofs.SlotsLemmas.{length-placed, Changes-placed, KeepsOthers-insert}
+use Rattle.rx_slots.proofs.SlotsLemmas.{length-placed, with_number-same, Changes-placed, KeepsOthers-insert}
 use Rattle.rx_slots.proofs.KeptLemmas.{get_or-table, Updates-grown, table-placed}
 use Rattle.rx_slots.proofs.Slots.insert.Goals as goal
 
@@ -33,3 +34,8 @@ pub returns-clause-kept : goal.returns-clause-kept
 returns-clause-kept g c =
     let key : Key = record { slot = c.insert_reserved-slot.result; number = c.args.number } in
     KeepsOthers-insert c.args.self.now _ key c.args.value (returns-clause-was_free g c) (returns-clause-changes g c)
+
+pub returns-clause-found : goal.returns-clause-found
+returns-clause-found g c =
+    let placed_entry : Entry g.row.T.Denot = record { number = c.args.number; value = c.args.value } in
+    ap (with_number c.args.number) (returns-clause-changes g c).changed ∙ with_number-same c.args.number placed_entry refl

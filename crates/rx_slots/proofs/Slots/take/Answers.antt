@@ -1,4 +1,5 @@
 use Rattle.std.proofs.Common.{◌<◌, None, is_some, set, sym, ap, ◌∙◌}
+use Rattle.rx_slots.specs.Slots.{with_number}
 use Rattle.rx_slots.proofs.SlotsLemmas.{found_entry, within_count, Changes-set, KeepsOthers-take}
 use Rattle.rx_slots.proofs.KeptLemmas.{length-table, stored_entry, find-stored, table-update}
 use Rattle.rx_slots.proofs.Slots.take.Goals as goal
@@ -28,3 +29,6 @@ returns-then-contains-clause-changes g c =
 pub returns-then-contains-clause-kept : goal.returns-then-contains-clause-kept
 returns-then-contains-clause-kept g c =
     KeepsOthers-take c.args.self.now _ c.args.key (c.contains.ensures.0 c.if-contains.true) (returns-then-contains-clause-changes g c)
+
+pub returns-then-contains-clause-gone : goal.returns-then-contains-clause-gone
+returns-then-contains-clause-gone g c = ap (with_number c.args.key.number) (returns-then-contains-clause-changes g c).changed
