@@ -1,24 +1,64 @@
+ghost use Rattle.std.specs.Prelude.{◌≡◌, ◌+◌, ◌↔◌, OnOk, IsTrue, IsSome, is_some, count_by};
+ghost use Rattle.rx_slots.specs.Slots.{find, KeepsOthers};
+
 use super::*;
 use rx_scarce::{MOST_BLOCKS, Scarce};
 use std::test::Fail;
 
-// The stores hold ten times the number of each value.
+// Puts a value in where there is memory: the entries then have one value more.
+fn put<T: Drop>(slots: &mut Slots<T>, number: u64, value: T) -> Result<Key, Fail>
+    ensures { OnOk result (count_by is_some slots.new.entries ≡ count_by is_some slots.old.entries + 1) }
+{
+    match slots.insert(number, value) {
+        Ok(key) => Ok(key),
+        Err(_) => Err(Fail::from("no memory")),
+    }
+}
+
+// A store of some numbers, each with its tenfold as the value.
 fn numbered(alloc: Global, numbers: &[u64]) -> Result<Slots<u64>, Fail> {
     let mut slots = Slots::new(alloc);
     for number in numbers {
-        let value = number.wrapping_mul(10);
-        let _ = slots.insert(*number, value).map_err(|_| "no memory")?;
+        put(&mut slots, *number, number.wrapping_mul(10))?;
     }
     Ok(slots)
+}
+
+// How many values a walk over all slots meets.
+fn values_met<T>(slots: &Slots<T>) -> usize
+    ensures { result ≡ count_by is_some slots.now.entries }
+{
+    let mut met = 0;
+    for slot in 0..slots.slot_count() {
+        if slots.value_at(slot).is_some() {
+            met += 1;
+        }
+    }
+    met
+}
+
+// Writes a value through a key, where that finds one.
+fn write(slots: &mut Slots<u64>, key: Key, value: u64) -> bool
+    ensures found { IsTrue result ↔ IsSome (find slots.old key) }
+    ensures written { IsTrue result → find slots.new key ≡ Some value }
+    ensures kept { KeepsOthers slots.old slots.new key }
+    ensures room { slots.new.room ≡ slots.old.room }
+{
+    if let Some(place) = slots.get_mut(key) {
+        *place = value;
+        true
+    } else {
+        false
+    }
 }
 
 #[test]
 fn a_key_finds_its_own_number_alone(rt: HostRuntime) -> Result<(), Fail> {
     let mut slots = Slots::new(rt.alloc());
     assert_eq!(rt; slots.reserve(2), Ok(()));
-    let first = slots.insert(4, 'x').map_err(|_| "no memory")?;
+    let first = put(&mut slots, 4, 'x')?;
     assert_eq!(rt; slots.take(first), Some('x'));
-    let second = slots.insert(9, 'y').map_err(|_| "no memory")?;
+    let second = put(&mut slots, 9, 'y')?;
     assert_eq!(rt; slots.get(first), None);
     assert_eq!(rt; slots.get(second), Some(&'y'));
     Ok(())
@@ -27,10 +67,10 @@ fn a_key_finds_its_own_number_alone(rt: HostRuntime) -> Result<(), Fail> {
 #[test]
 fn a_key_whose_slot_was_used_again_finds_nothing(rt: HostRuntime) -> Result<(), Fail> {
     let mut slots = Slots::new(rt.alloc());
-    let other = slots.insert(1, 'a').map_err(|_| "no memory")?;
-    let old = slots.insert(2, 'b').map_err(|_| "no memory")?;
+    let other = put(&mut slots, 1, 'a')?;
+    let old = put(&mut slots, 2, 'b')?;
     assert_eq!(rt; slots.take(old), Some('b'));
-    let new = slots.insert(3, 'c').map_err(|_| "no memory")?;
+    let new = put(&mut slots, 3, 'c')?;
     assert_eq!(rt; (new.slot, new.number), (old.slot, 3));
     assert!(rt; !slots.contains(old));
     assert_eq!(rt; slots.get(old), None);
@@ -53,10 +93,13 @@ fn a_walk_meets_each_value_once(rt: HostRuntime) -> Result<(), Fail> {
         (slots.len(), slots.slot_count(), slots.next_slot()),
         (3, 4, 1)
     );
+    assert_eq!(rt; values_met(&slots), 3);
     assert_eq!(rt; slots.next_key(0), Some(Key { slot: 0, number: 5 }));
     assert_eq!(rt; slots.next_key(1), Some(Key { slot: 2, number: 7 }));
     assert_eq!(rt; slots.next_key(3), Some(Key { slot: 3, number: 8 }));
     assert_eq!(rt; slots.next_key(4), None);
+    assert!(rt; !write(&mut slots, Key { slot: 3, number: 9 }, 99));
+    assert!(rt; write(&mut slots, Key { slot: 3, number: 8 }, 88));
     if let Some(value) = slots.value_at_mut(2) {
         *value = 77;
     }
@@ -65,7 +108,7 @@ fn a_walk_meets_each_value_once(rt: HostRuntime) -> Result<(), Fail> {
         (Some(5), Some(50)),
         (None, None),
         (Some(7), Some(77)),
-        (Some(8), Some(80)),
+        (Some(8), Some(88)),
     ];
     for (slot, (number, value)) in found.into_iter().enumerate() {
         assert_eq!(rt; slots.number_at(slot), number, "at {slot}");
@@ -153,9 +196,7 @@ fn inserts_after_a_reserve_take_no_memory(rt: HostRuntime) -> Result<(), Fail> {
     slots.reserve(1000)?;
     let _scarce = Scarce::new(rt.alloc())?;
     for number in 0..1000u64 {
-        let key = slots
-            .insert(number, number.wrapping_mul(10))
-            .map_err(|_| "no memory")?;
+        let key = put(&mut slots, number, number.wrapping_mul(10))?;
         assert_eq!(rt; key.number, number);
     }
     let mut from = 0;

@@ -1,6 +1,5 @@
-use Rattle.std.proofs.Common.{◌≡◌, Option, Some, None, Bor, true, is_some, option_copied, refl, sym, ap, ◌∙◌}
+use Rattle.std.proofs.Common.{◌≡◌, Option, Some, None, Bor, is_some, option_copied, refl, sym, ap, ◌∙◌}
 use Rattle.rx_slots.proofs.KeptLemmas.{get_or-table, entry_at-stored, shown-with_value_at, same_loan}
-use Rattle.rx_slots.specs.Slots.{value_at}
 use Rattle.rx_slots.proofs.Slots.value_at_mut.Goals as goal
 
 is_some-option_copied : {A : Type 0} (o : Option (Bor A)) → is_some (option_copied o) ≡ is_some o
