@@ -6,7 +6,7 @@ use Rattle.std.proofs.lemmas.List.FromFn.{length-map-range_with_len, get_or-map-
 use Rattle.slab.specs.Slab.{Slab, get, slab_len, with_value, Updates}
 use Rattle.rx_slots.specs.declared.Entry.{Entry}
 use Rattle.rx_slots.specs.declared.Key.{Key}
-use Rattle.rx_slots.specs.Slots.{entry_at, with_number, find, placed, with_value as written_at, with_new_value, with_value_at}
+use Rattle.rx_slots.specs.Slots.{entry_at, with_number, find, placed, with_value as written_at, entry_of, with_value_at}
 use Rattle.rx_slots.specs.Kept.{table, shown, IsKept}
 use Rattle.rx_slots.proofs.SlotsLemmas.{get_or-append-nothing, sum_by-same_reads, numbered_entry, with_number-same}
 use Rattle.slab.proofs.SlabLemmas.{ContainsKey-within, Updates-with_value}
@@ -106,7 +106,7 @@ module _ {T : Type 0} where
       let new : Entry T = record e { value = value } in
       let entries = table-with_value cells n slot e new kept read in
       let count = slab_len-with_value cells slot e new read in
-      let rest : Option (Entry T) → List (Option (Entry T)) = λ at. set (table cells n) slot (option_map (with_new_value value) at) in
+      let rest : Option (Entry T) → List (Option (Entry T)) = λ at. set (table cells n) slot (option_map (λ number. entry_of number value) (option_map (λ x. x.number) at)) in
       let written = entries ∙ ap rest (sym (entry_at-stored cells n slot e kept read)) in
       λ i. record { entries = written i; next_slot = cells.vacant_key; count = count i; room = cells.capacity - count i }
 

@@ -6,7 +6,7 @@ use Rattle.rx_slots.specs.Slots.{Slots, with_value, with_value_at}
 use Rattle.rx_slots.specs.contracts.Slots.{the_row}
 
 module _ (T : RattleType) (s : MutBor (Slots T.Denot)) where
-  -- once the borrow ends, the key has the last value written through it, and at `None` nothing changed
+  -- once the borrow ends, the key has the last value written, and at `None` nothing changed
   abbrev pub lends_value : Key → Option (MutBor T.Denot) → Fml
   lends_value key r = LendsIf (the_row T) T s r (with_value s.now key) s.now
 

@@ -1,12 +1,12 @@
--- What a contract sees of `Slots`: a finite map from slots to values with numbers, and three counts.
--- A key is a slot and a number. It finds the value of its slot where that has its number, and else nothing.
+-- What a contract sees of `Slots`: a finite map from slots to values with their numbers.
+-- A key is a slot and a number. It finds the value of its slot where that has its number.
 use Rattle.std.specs.Prelude.{◌≡◌, ◌≢◌, ℕ, ◌+◌, ◌-◌, ◌==◌, cond, List, ◌++◌, length, replicate, Option, Some, None, option_map, slice_index_or, slice_set, refl}
 use Rattle.std.specs.Coded.{Coded, code_by, coded×, coded_ℕ, coded_list, coded_option}
 use Rattle.rx_slots.specs.declared.Entry.{Entry}
 use Rattle.rx_slots.specs.declared.Key.{Key}
 
--- what stands at each slot that was ever used, from 0 on; the slot that the next insert uses; how many slots
--- have a value; how many values more need no memory
+-- what stands at each slot that was ever used, from 0 on; the slot that the next insert uses; how
+-- many slots have a value; how many values more need no memory
 pub record Slots (T : Type 0) : Type 0 where
   pub entries : List (Option (Entry T))
   pub next_slot : ℕ
@@ -16,7 +16,12 @@ pub record Slots (T : Type 0) : Type 0 where
 -- an entry is stored as the pair of its fields
 abbrev pub entry_code : {T : Type 0} → Coded T → Coded (Entry T)
 entry_code {T} code =
-    code_by (ℕ × T) (coded× coded_ℕ code) (λ e. (e.number, e.value)) (λ p. record { number = p.0; value = p.1 }) (λ _. refl)
+    code_by
+    (ℕ × T)
+    (coded× coded_ℕ code)
+    (λ e. (e.number, e.value))
+    (λ p. record { number = p.0; value = p.1 })
+    (λ _. refl)
 
 -- and slots as the tuple of theirs
 abbrev pub slots_code : {T : Type 0} → Coded T → Coded (Slots T)
@@ -29,6 +34,10 @@ slots_code {T} code =
     (λ _. refl)
 
 module _ {T : Type 0} where
+  -- a value with its number
+  abbrev pub entry_of : ℕ → T → Entry T
+  entry_of number value = record { number = number; value = value }
+
   -- how many slots were ever used: each value is at a slot below
   abbrev pub slot_count : Slots T → ℕ
   slot_count s = length s.entries
@@ -75,13 +84,10 @@ module _ {T : Type 0} where
   -- the slots after this value was written at a key that finds one
   abbrev pub with_value : Slots T → Key → T → Slots T
   with_value s key value =
-      record s { entries = slice_set s.entries key.slot (Some (record { number = key.number; value = value })) }
-
-  -- an entry with another value
-  abbrev pub with_new_value : T → Entry T → Entry T
-  with_new_value value e = record e { value = value }
+      record s { entries = slice_set s.entries key.slot (Some (entry_of key.number value)) }
 
   -- the slots after this value was written at a slot that has one
   abbrev pub with_value_at : Slots T → ℕ → T → Slots T
   with_value_at s slot value =
-      record s { entries = slice_set s.entries slot (option_map (with_new_value value) (entry_at s slot)) }
+      let written = option_map (λ number. entry_of number value) (number_at s slot) in
+      record s { entries = slice_set s.entries slot written }

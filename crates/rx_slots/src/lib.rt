@@ -1,22 +1,24 @@
 //! Checked slots: a store of values whose keys never answer for another value.
 //!
 //! A [`Slots`] gives each value a slot, a small number that is used again once the value was taken,
-//! and keeps beside it the number that its caller gave it. A [`Key`] is both, and it finds a value
-//! only where its slot has its number. So where a caller gives each value a number of its own, a key
-//! that is kept after its value was taken finds nothing, also once its slot has another value.
+//! and keeps beside it the number that its caller gave. A [`Key`] is both, and finds a value only
+//! where its slot has its number. So where a caller gives each value a number of its own, a key that
+//! is kept after its value was taken finds nothing, also once its slot has another value. The form is
+//! known as a slot map or a generational arena; the generation is here a number of the caller's.
 //!
 //! Vocabulary, for contracts, in `specs/Slots.antt`: a store is the list of its `entries`, one for
 //! each slot that was ever used, its `next_slot`, its `count` of values and its `room`, how many
 //! values more need no memory. `entry_at`, `number_at`, `value_at` and `key_at` look a slot up, and
-//! `find` a key. `Changes` says that one slot changes, `KeepsOthers` that every other key finds what
-//! it found, `placed` what an insert and `with_value` what a write makes of the entries.
-//! `proofs/SlotsLemmas.antt` has lemmas on these for callers, and `src/tests.rt` a caller that walks.
+//! `find` a key. `Changes` says that one slot changes, and `KeepsOthers` that every other key finds
+//! what it found. `placed` is what an insert makes of the entries, `with_value` what a write does.
+//! `proofs/SlotsLemmas.antt` has lemmas on these for callers, and `src/tests.rt` three callers with
+//! contracts of their own: an insert that counts, a walk over all slots, and a write through a key.
 //!
 //! Promised: each answer is the one that the entries tell, and after `reserve(n)` n inserts succeed
-//! with no memory. A walk over all slots, by [`Slots::slot_count`] or [`Slots::next_key`], takes no
+//! with no memory. A walk over all values, by [`Slots::slot_count`] or [`Slots::next_key`], takes no
 //! memory. Values need not be `Drop`.
 //!
-//! Not promised: that numbers differ, which is the caller's part, and that memory is there. A store
+//! Not promised: that numbers differ, which is the caller's part, and that there is memory. A store
 //! is `Drop` only where its values are: one of other values can be emptied, but not let go.
 #![tactic(auto)]
 
@@ -43,7 +45,9 @@ pub struct Key {
 /// A value and the number that it was given, as they stand at a slot.
 #[derive(Drop)]
 pub struct Entry<T> {
+    /// The number that the caller gave to `insert`.
     pub number: u64,
+    /// The value.
     pub value: T,
 }
 
@@ -70,7 +74,7 @@ impl<T> Model for Slots<T> {
 }
 
 impl<T> Slots<T> {
-    ghost use Rattle.rx_slots.specs.Slots.{slot_count, placed, entry_at, number_at, value_at, key_at, find, Changes, KeepsOthers};
+    ghost use Rattle.rx_slots.specs.Slots.{entry_of, slot_count, placed, entry_at, number_at, value_at, key_at, find, Changes, KeepsOthers};
     ghost use Rattle.rx_slots.specs.Lends.{lends_value, lends_value_at};
 
     /// An empty store, which takes no memory until the first `reserve` or `insert`.
@@ -104,20 +108,25 @@ impl<T> Slots<T> {
     /// Refused only where there was no room and memory was refused: the value then comes back, and
     /// the same call uses the same slot once there is memory.
     pub fn insert(&mut self, number: u64, value: T) -> Result<Key, T>
+        // The value goes to the next slot, which was free, and no other slot changes.
         ensures numbered { IfOk result (λ key. key.number ≡ number) }
         ensures slot { IfOk result (λ key. key.slot ≡ self.old.next_slot) }
         ensures was_free { IfOk result (λ key. entry_at self.old key.slot ≡ None) }
-        ensures placed { IfOk result (λ key. self.new.entries ≡ placed self.old.entries key.slot (record { number = number; value = value })) }
-        ensures changes { IfOk result (λ key. Changes self.old self.new key.slot (Some (record { number = number; value = value }))) }
+        ensures placed { IfOk result (λ key.
+            self.new.entries ≡ placed self.old.entries key.slot (entry_of number value)) }
+        ensures changes { IfOk result (λ key.
+            Changes self.old self.new key.slot (Some (entry_of number value))) }
         ensures found { IfOk result (λ key. find self.new key ≡ Some value) }
         ensures kept { IfOk result (λ key. KeepsOthers self.old self.new key) }
-        ensures slot_count { IfOk result (λ key. slot_count self.new ≡ max (slot_count self.old) (key.slot + 1)) }
+        ensures slot_count { IfOk result (λ key.
+            slot_count self.new ≡ max (slot_count self.old) (key.slot + 1)) }
         ensures count { OnOk result (self.new.count ≡ self.old.count + 1) }
 
         // One place of the room is used, where there was room.
         ensures succeeds { 0 < self.old.room → IsOk result }
         ensures had_room { 0 < self.old.room → self.new.room + 1 ≡ self.old.room }
 
+        // A refusal gives the value back, and changes no entry.
         ensures given_back { IfErr result (λ back. back ≡ value) }
         ensures err { OnErr result (self.new ≡ record self.old { room = self.new.room }) }
         ensures room { OnErr result (self.old.room ≤ self.new.room) }
@@ -167,7 +176,8 @@ impl<T> Slots<T> {
     /// The slot is free again, and the next that `insert` uses.
     pub fn take(&mut self, key: Key) -> Option<T>
         ensures value { result ≡ find self.old key }
-        ensures removed { OnSome result (self.new.entries ≡ slice_set self.old.entries key.slot None) }
+        ensures removed { OnSome result
+            (self.new.entries ≡ slice_set self.old.entries key.slot None) }
         ensures changes { OnSome result (Changes self.old self.new key.slot None) }
         ensures gone { find self.new key ≡ None }
         ensures kept { KeepsOthers self.old self.new key }
@@ -177,12 +187,11 @@ impl<T> Slots<T> {
         ensures room { OnSome result (self.new.room ≡ self.old.room + 1) }
         ensures absent { IfNone result (self.new ≡ self.old) }
     {
-        if self.contains(key) {
-            let Entry { number: _, value } = self.cells.remove(key.slot);
-            Some(value)
-        } else {
-            None
+        if !self.contains(key) {
+            return None;
         }
+        let Entry { number: _, value } = self.cells.remove(key.slot);
+        Some(value)
     }
 
     /// How many values there are.
@@ -261,11 +270,12 @@ impl<T> Slots<T> {
 
     /// The key of the first value at this slot or a later one; None where no value stands there.
     ///
-    /// A walk over all values asks from 0 on, and then each time from the slot past the last answer.
+    /// A walk over all values asks from 0 on, and then from the slot past the last answer.
     pub fn next_key(&self, from: usize) -> Option<Key>
         ensures found { IfSome result (λ key. key_at self.now key.slot ≡ Some key) }
         ensures from { IfSome result (λ key. from ≤ key.slot) }
-        ensures first { IfSome result (λ key. (slot : ℕ) → from ≤ slot → slot < key.slot → entry_at self.now slot ≡ None) }
+        ensures first { IfSome result (λ key.
+            (slot : ℕ) → from ≤ slot → slot < key.slot → entry_at self.now slot ≡ None) }
         ensures end { IfNone result ((slot : ℕ) → from ≤ slot → entry_at self.now slot ≡ None) }
     {
         for slot in from..self.slot_count() {

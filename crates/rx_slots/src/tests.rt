@@ -7,7 +7,8 @@ use std::test::Fail;
 
 // Puts a value in where there is memory: the entries then have one value more.
 fn put<T: Drop>(slots: &mut Slots<T>, number: u64, value: T) -> Result<Key, Fail>
-    ensures { OnOk result (count_by is_some slots.new.entries ≡ count_by is_some slots.old.entries + 1) }
+    ensures { OnOk result
+        (count_by is_some slots.new.entries ≡ count_by is_some slots.old.entries + 1) }
 {
     match slots.insert(number, value) {
         Ok(key) => Ok(key),
