@@ -1,5 +1,5 @@
-ghost use Rattle.std.specs.Prelude.{◌≡◌, ◌+◌, ◌↔◌, OnOk, IsTrue, IsSome, is_some, count_by};
-ghost use Rattle.rx_slots.specs.Slots.{find, KeepsOthers};
+ghost use Rattle.std.specs.Prelude.{◌≡◌, ◌+◌, ◌↔◌, OnOk, IsTrue, IsSome, Some, is_some, count_by};
+ghost use Rattle.rx_slots.specs.Slots.{entry_of, find, Changes, KeepsOthers};
 
 use super::*;
 use rx_scarce::{MOST_BLOCKS, Scarce};
@@ -41,7 +41,8 @@ fn values_met<T>(slots: &Slots<T>) -> usize
 // Writes a value through a key, where that finds one.
 fn write(slots: &mut Slots<u64>, key: Key, value: u64) -> bool
     ensures found { IsTrue result ↔ IsSome (find slots.old key) }
-    ensures written { IsTrue result → find slots.new key ≡ Some value }
+    ensures changes { IsTrue result →
+        Changes slots.old slots.new key.slot (Some (entry_of key.number value)) }
     ensures kept { KeepsOthers slots.old slots.new key }
     ensures room { slots.new.room ≡ slots.old.room }
 {
