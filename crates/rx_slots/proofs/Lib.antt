@@ -1,0 +1,2 @@
+pub mod SlotsLemmas
+pub mod KeptLemmas

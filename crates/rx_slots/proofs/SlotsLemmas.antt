@@ -1,0 +1,119 @@
+-- Lemmas on what a contract sees of `Slots`, for this crate and its callers.
+use Rattle.std.proofs.Common.{◌≡◌, ◌≢◌, ℕ, zero, suc, ◌+◌, ◌-◌, ◌<◌, List, [], ◌∷◌, ◌++◌, length, get_or, set, replicate, Option, Some, None, is_some, IsSome, refl, sym, ap, ◌∙◌, inl, inr, arith, rules, true≢false}
+use Rattle.std.specs.List.{sum_by}
+use Rattle.std.proofs.lemmas.Bool.{cases_eq, cases_lt}
+use Rattle.std.proofs.lemmas.List.Sums.{sum_by-set, sum_by-cons}
+use Rattle.std.proofs.lemmas.List.{length-set, length-append, length-replicate, get_or_past, get_or-set_same, get_or-set_other}
+use Rattle.rx_slots.specs.declared.Entry.{Entry}
+use Rattle.rx_slots.specs.declared.Key.{Key}
+use Rattle.rx_slots.specs.Slots.{Slots, slot_count, entry_at, with_number, find, placed, Changes, KeepsOthers}
+
+-- nothing more is read past the end of a list that is longer by nothing
+pub get_or-append-nothing : {X : Type 0} (xs : List (Option X)) (more k : ℕ) → get_or (xs ++ replicate more None) k None ≡ get_or xs k None
+get_or-append-nothing [] zero k = refl
+get_or-append-nothing [] (suc more) zero = refl
+get_or-append-nothing [] (suc more) (suc k) = get_or-append-nothing [] more k
+get_or-append-nothing (x ∷ xs) more zero = refl
+get_or-append-nothing (x ∷ xs) more (suc k) = get_or-append-nothing xs more k
+
+-- a sum to which nothing adds nothing is told by the look-ups alone
+pub sum_by-same_reads : {X : Type 0} (f : Option X → ℕ) → f None ≡ 0 → (xs ys : List (Option X)) → ((k : ℕ) → get_or xs k None ≡ get_or ys k None) → sum_by f xs ≡ sum_by f ys
+sum_by-same_reads f nothing [] [] same = refl
+sum_by-same_reads f nothing [] (y ∷ ys) same =
+    let head : f y ≡ 0 = ap f (sym (same 0)) ∙ nothing in
+    omega (arith, sum_by-same_reads f nothing [] ys (λ k. same (suc k)), sum_by-cons f y ys)
+sum_by-same_reads f nothing (x ∷ xs) [] same =
+    let head : f x ≡ 0 = ap f (same 0) ∙ nothing in
+    omega (arith, sum_by-same_reads f nothing xs [] (λ k. same (suc k)), sum_by-cons f x xs)
+sum_by-same_reads f nothing (x ∷ xs) (y ∷ ys) same =
+    let head : f x ≡ f y = ap f (same 0) in
+    omega (arith, sum_by-same_reads f nothing xs ys (λ k. same (suc k)), sum_by-cons f x xs, sum_by-cons f y ys)
+
+same_key : (a b : Key) → a.slot ≡ b.slot → a.number ≡ b.number → a ≡ b
+same_key a b slot number = λ i. record { slot = slot i; number = number i }
+
+module _ {T : Type 0} where
+  pub length-placed : (entries : List (Option (Entry T))) (slot : ℕ) (e : Entry T) → length (placed entries slot e) ≡ length entries + (slot + 1 - length entries)
+  length-placed entries slot e =
+      let more = slot + 1 - length entries in
+      let nothing : Option (Entry T) = None in
+      omega (arith, length-set (entries ++ replicate more nothing) slot (Some e), length-append entries (replicate more nothing), length-replicate more nothing)
+
+  -- what a sum gains by an insert
+  pub sum_by-placed : (f : Option (Entry T) → ℕ) → f None ≡ 0 → (entries : List (Option (Entry T))) (slot : ℕ) (e : Entry T) → sum_by f (placed entries slot e) + f (get_or entries slot None) ≡ sum_by f entries + f (Some e)
+  sum_by-placed f nothing entries slot e =
+      let more = slot + 1 - length entries in
+      let none : Option (Entry T) = None in
+      let longer = entries ++ replicate more none in
+      let within : slot < length longer = omega (arith, length-append entries (replicate more none), length-replicate more none) in
+      let same : sum_by f longer ≡ sum_by f entries = sum_by-same_reads f nothing longer entries (get_or-append-nothing entries more) in
+      let read : f (get_or longer slot None) ≡ f (get_or entries slot None) = ap f (get_or-append-nothing entries more slot) in
+      omega (arith, sum_by-set f longer slot (Some e) None within)
+
+  -- the number of an entry finds its value
+  pub with_number-same : (number : ℕ) (e : Entry T) → e.number ≡ number → with_number number (Some e) ≡ Some e.value
+  with_number-same number e same = search rules
+
+  -- another number finds nothing
+  pub with_number-other : (number : ℕ) (e : Entry T) → e.number ≢ number → with_number number (Some e) ≡ None
+  with_number-other number e differs = search rules
+
+  -- where a number finds a value, the entry has that number
+  pub numbered_entry : (number : ℕ) (at : Option (Entry T)) → IsSome (with_number number at) → (e : Entry T) × (at ≡ Some e) × (e.number ≡ number)
+  numbered_entry number None some = absurd (true≢false (sym some))
+  numbered_entry number (Some e) some =
+      elim (cases_eq e.number number) [
+        | inl same ↦ (e, refl, same)
+        | inr differs ↦ absurd (true≢false (sym (rw (with_number-other number e differs) at some)))
+      ]
+
+  -- a key that finds a value has the number of its slot
+  pub found_entry : (s : Slots T) (key : Key) → IsSome (find s key) → (e : Entry T) × (entry_at s key.slot ≡ Some e) × (e.number ≡ key.number)
+  found_entry s key found = numbered_entry key.number (entry_at s key.slot) found
+
+  -- a slot with an entry is below the count of slots
+  pub within_count : (s : Slots T) (slot : ℕ) (e : Entry T) → entry_at s slot ≡ Some e → slot < slot_count s
+  within_count s slot e found =
+      elim (cases_lt slot (slot_count s)) [
+        | inl within ↦ within
+        | inr past ↦ absurd (true≢false (ap is_some (sym found ∙ get_or_past s.entries slot None past)))
+      ]
+
+  -- a write of one slot changes that slot alone
+  pub Changes-set : (old new : Slots T) (slot : ℕ) (entry : Option (Entry T)) → slot < slot_count old → new.entries ≡ set old.entries slot entry → Changes old new slot entry
+  Changes-set old new slot entry within written =
+      record {
+        changed = rw written (get_or-set_same old.entries slot entry None within);
+        others = λ other differs. rw written (get_or-set_other old.entries slot other entry None differs);
+      }
+
+  -- and so does an insert
+  pub Changes-placed : (old new : Slots T) (slot : ℕ) (e : Entry T) → new.entries ≡ placed old.entries slot e → Changes old new slot (Some e)
+  Changes-placed old new slot e written =
+      let more = slot + 1 - length old.entries in
+      let none : Option (Entry T) = None in
+      let longer = old.entries ++ replicate more none in
+      let within : slot < length longer = omega (arith, length-append old.entries (replicate more none), length-replicate more none) in
+      record {
+        changed = rw written (get_or-set_same longer slot (Some e) None within);
+        others = λ other differs. rw written (get_or-set_other longer slot other (Some e) None differs ∙ get_or-append-nothing old.entries more other);
+      }
+
+  -- where another key finds what it found before, if its slot kept it or found nothing for other numbers
+  KeepsOthers-at : (old new : Slots T) (key : Key) → ((number : ℕ) → key.number ≢ number → with_number number (entry_at new key.slot) ≡ with_number number (entry_at old key.slot)) → ((slot : ℕ) → slot ≢ key.slot → entry_at new slot ≡ entry_at old slot) → KeepsOthers old new key
+  KeepsOthers-at old new key here elsewhere other differs =
+      elim (cases_eq other.slot key.slot) [
+        | inl same ↦ rw same (here other.number (λ q. differs (same_key other key same (sym q))))
+        | inr apart ↦ ap (with_number other.number) (elsewhere other.slot apart)
+      ]
+
+  -- a value put at a free slot leaves what each other key finds
+  pub KeepsOthers-insert : (old new : Slots T) (key : Key) (value : T) → entry_at old key.slot ≡ None → Changes old new key.slot (Some (record { number = key.number; value = value })) → KeepsOthers old new key
+  KeepsOthers-insert old new key value free changes =
+      KeepsOthers-at old new key (λ number apart. rw (changes.changed, free) (with_number-other number _ apart)) changes.others
+
+  -- and so does a value taken out
+  pub KeepsOthers-take : (old new : Slots T) (key : Key) → IsSome (find old key) → Changes old new key.slot None → KeepsOthers old new key
+  KeepsOthers-take old new key found changes =
+      let at = found_entry old key found in
+      KeepsOthers-at old new key (λ number apart. rw (changes.changed, at.1) (sym (with_number-other number at.0 (λ q. apart (sym at.2 ∙ q))))) changes.others

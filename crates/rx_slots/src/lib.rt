@@ -1,0 +1,288 @@
+//! Checked slots: a store of values whose keys never answer for another value.
+//!
+//! A [`Slots`] gives each value a slot, a small number that is used again once the value was taken,
+//! and keeps beside it the number that its caller gave. A [`Key`] is both, and finds a value only
+//! where its slot has its number. So where a caller gives each value a number of its own, a key that
+//! is kept after its value was taken finds nothing, also once its slot has another value. The form is
+//! known as a slot map or a generational arena; the generation is here a number of the caller's.
+//!
+//! Vocabulary, for contracts, in `specs/Slots.antt`: a store is the list of its `entries`, one for
+//! each slot that was ever used, its `next_slot`, its `count` of values and its `room`, how many
+//! values more need no memory. `entry_at`, `number_at`, `value_at` and `key_at` look a slot up, and
+//! `find` a key. `Changes` says that one slot changes, and `KeepsOthers` that every other key finds
+//! what it found. `placed` is what an insert makes of the entries, `with_value` what a write does.
+//! `proofs/SlotsLemmas.antt` has lemmas on these for callers, and `src/tests.rt` three callers with
+//! contracts of their own: an insert that counts, a walk over all slots, and a write through a key.
+//!
+//! Promised: each answer is the one that the entries tell, and after `reserve(n)` n inserts succeed
+//! with no memory. A walk over all values, by [`Slots::slot_count`] or [`Slots::next_key`], takes no
+//! memory. Values need not be `Drop`.
+//!
+//! Not promised: that numbers differ, which is the caller's part, and that there is memory. A store
+//! is `Drop` only where its values are: one of other values can be emptied, but not let go.
+#![tactic(auto)]
+
+ghost use Rattle.std.specs.Prelude.{◌≡◌, ◌≢◌, ◌↔◌, IsTrue, ℕ, ◌+◌, ◌<◌, ◌≤◌, max, IsOk, IsSome, IfOk, IfErr, IfNone, IfSome, OnOk, OnErr, OnSome, option_copied, ◌==◌, is_some, count_by, [], slice_set};
+ghost use Rattle.std.specs.Option.{option_copied_mut};
+ghost use Rattle.std.specs.Borrow.{sem};
+
+#[cfg(test)]
+mod tests;
+
+use slab::Slab;
+use std::alloc::{AllocError, Global};
+use std::marker::Model;
+
+/// The slot that a value was put at, and the number that it was given.
+#[derive(Clone, Copy, Debug, PartialEq, Eq)]
+pub struct Key {
+    /// The slot, from 0 on.
+    pub slot: usize,
+    /// The number that the caller gave to `insert`.
+    pub number: u64,
+}
+
+/// A value and the number that it was given, as they stand at a slot.
+#[derive(Drop)]
+pub struct Entry<T> {
+    /// The number that the caller gave to `insert`.
+    pub number: u64,
+    /// The value.
+    pub value: T,
+}
+
+/// Values at slots, each under a key that finds no other value.
+#[derive(Drop)]
+pub struct Slots<T> {
+    cells: Slab<Entry<T>>,
+    // One past the last slot that was ever used.
+    slot_count: usize,
+}
+
+impl<T> Model for Slots<T> {
+    ghost use Rattle.rx_slots.specs.Slots.{Slots as Entries, slots_code};
+
+    ghost Value = { Entries T };
+
+    ghost coded = { slots_code T.code };
+
+    ghost use Rattle.rx_slots.specs.Kept.{shown, IsKept};
+
+    ghost view = { λ s. shown s.cells s.slot_count };
+
+    ghost invariant = { λ s. IsKept s.cells s.slot_count };
+}
+
+impl<T> Slots<T> {
+    ghost use Rattle.rx_slots.specs.Slots.{entry_of, slot_count, placed, entry_at, number_at, value_at, key_at, find, Changes, KeepsOthers};
+    ghost use Rattle.rx_slots.specs.Lends.{lends_value, lends_value_at};
+
+    /// An empty store, which takes no memory until the first `reserve` or `insert`.
+    pub fn new(alloc: Global) -> Self
+        ensures empty { result.entries ≡ [] }
+        ensures next_slot { result.next_slot ≡ 0 }
+        ensures count { result.count ≡ 0 }
+        ensures room { result.room ≡ 0 }
+    {
+        Slots {
+            cells: Slab::new(alloc),
+            slot_count: 0,
+        }
+    }
+
+    /// Makes room for `additional` values more, so that as many inserts succeed and take no memory.
+    ///
+    /// Refused only where there was less room and memory was refused. No entry changes either way.
+    pub fn reserve(&mut self, additional: usize) -> Result<(), AllocError>
+        ensures ok { OnOk result (additional ≤ self.new.room) }
+        ensures succeeds { additional ≤ self.old.room → IsOk result }
+        ensures had_room { additional ≤ self.old.room → self.new ≡ self.old }
+        ensures kept { self.new ≡ record self.old { room = self.new.room } }
+        ensures room { self.old.room ≤ self.new.room }
+    {
+        self.cells.reserve(additional)
+    }
+
+    /// Puts a value at the next slot, under a number that its caller gives.
+    ///
+    /// Refused only where there was no room and memory was refused: the value then comes back, and
+    /// the same call uses the same slot once there is memory.
+    pub fn insert(&mut self, number: u64, value: T) -> Result<Key, T>
+        // The value goes to the next slot, which was free, and no other slot changes.
+        ensures numbered { IfOk result (λ key. key.number ≡ number) }
+        ensures slot { IfOk result (λ key. key.slot ≡ self.old.next_slot) }
+        ensures was_free { IfOk result (λ key. entry_at self.old key.slot ≡ None) }
+        ensures placed { IfOk result (λ key.
+            self.new.entries ≡ placed self.old.entries key.slot (entry_of number value)) }
+        ensures changes { IfOk result (λ key.
+            Changes self.old self.new key.slot (Some (entry_of number value))) }
+        ensures found { IfOk result (λ key. find self.new key ≡ Some value) }
+        ensures kept { IfOk result (λ key. KeepsOthers self.old self.new key) }
+        ensures slot_count { IfOk result (λ key.
+            slot_count self.new ≡ max (slot_count self.old) (key.slot + 1)) }
+        ensures count { OnOk result (self.new.count ≡ self.old.count + 1) }
+
+        // One place of the room is used, where there was room.
+        ensures succeeds { 0 < self.old.room → IsOk result }
+        ensures had_room { 0 < self.old.room → self.new.room + 1 ≡ self.old.room }
+
+        // A refusal gives the value back, and changes no entry.
+        ensures given_back { IfErr result (λ back. back ≡ value) }
+        ensures err { OnErr result (self.new ≡ record self.old { room = self.new.room }) }
+        ensures room { OnErr result (self.old.room ≤ self.new.room) }
+    {
+        if self.cells.reserve(1).is_err() {
+            return Err(value);
+        }
+        let slot = self.cells.insert_reserved(Entry { number, value });
+        prove!(slot < self.cells.capacity());
+        self.slot_count = self.slot_count.max(slot + 1);
+        Ok(Key { slot, number })
+    }
+
+    /// The value of a key; None where its slot has no value, or one of another number.
+    pub fn get(&self, key: Key) -> Option<&T>
+        ensures { option_copied result ≡ find self.now key }
+    {
+        let entry = self.entry_at(key.slot)?;
+        if entry.number == key.number {
+            Some(&entry.value)
+        } else {
+            None
+        }
+    }
+
+    /// Whether a key finds a value.
+    pub fn contains(&self, key: Key) -> bool
+        ensures { IsTrue result ↔ IsSome (find self.now key) }
+    {
+        self.get(key).is_some()
+    }
+
+    /// The value of a key for writing; None where its slot has no value, or one of another number.
+    pub fn get_mut(&mut self, key: Key) -> Option<&mut T>
+        ensures* writes_back { sem 𝓛 (lends_value T.row self.entry key result) }
+        ensures value { option_copied_mut result ≡ find self.old key }
+    {
+        if self.contains(key) {
+            Some(&mut self.cells[key.slot].value)
+        } else {
+            None
+        }
+    }
+
+    /// Takes the value of a key out; None where its slot has no value, or one of another number.
+    ///
+    /// The slot is free again, and the next that `insert` uses.
+    pub fn take(&mut self, key: Key) -> Option<T>
+        ensures value { result ≡ find self.old key }
+        ensures removed { OnSome result
+            (self.new.entries ≡ slice_set self.old.entries key.slot None) }
+        ensures changes { OnSome result (Changes self.old self.new key.slot None) }
+        ensures gone { find self.new key ≡ None }
+        ensures kept { KeepsOthers self.old self.new key }
+        ensures slot_count { slot_count self.new ≡ slot_count self.old }
+        ensures next_slot { OnSome result (self.new.next_slot ≡ key.slot) }
+        ensures count { OnSome result (self.new.count + 1 ≡ self.old.count) }
+        ensures room { OnSome result (self.new.room ≡ self.old.room + 1) }
+        ensures absent { IfNone result (self.new ≡ self.old) }
+    {
+        if !self.contains(key) {
+            return None;
+        }
+        let Entry { number: _, value } = self.cells.remove(key.slot);
+        Some(value)
+    }
+
+    /// How many values there are.
+    pub fn len(&self) -> usize
+        ensures value { result ≡ self.now.count }
+        ensures counted { result ≡ count_by is_some self.now.entries }
+    {
+        self.cells.len()
+    }
+
+    /// Whether there is no value.
+    pub fn is_empty(&self) -> bool
+        ensures { result ≡ (self.now.count == 0) }
+    {
+        self.cells.is_empty()
+    }
+
+    /// How many slots were ever used: each value is at a slot below.
+    ///
+    /// Slots are used again before further ones are, so there are no more than values fit.
+    pub fn slot_count(&self) -> usize
+        ensures value { result ≡ slot_count self.now }
+        ensures at_most { result ≤ self.now.count + self.now.room }
+    {
+        self.slot_count
+    }
+
+    /// The slot that the next insert uses.
+    pub fn next_slot(&self) -> usize
+        ensures value { result ≡ self.now.next_slot }
+        ensures free { entry_at self.now result ≡ None }
+    {
+        self.cells.vacant_key()
+    }
+
+    /// The value at a slot with its number, if one stands there.
+    pub fn entry_at(&self, slot: usize) -> Option<&Entry<T>>
+        ensures { option_copied result ≡ entry_at self.now slot }
+    {
+        self.cells.get(slot)
+    }
+
+    /// The number at a slot, if a value stands there.
+    pub fn number_at(&self, slot: usize) -> Option<u64>
+        ensures { result ≡ number_at self.now slot }
+    {
+        Some(self.entry_at(slot)?.number)
+    }
+
+    /// The key of the value at a slot, if one stands there.
+    pub fn key_at(&self, slot: usize) -> Option<Key>
+        ensures { result ≡ key_at self.now slot }
+    {
+        let number = self.number_at(slot)?;
+        Some(Key { slot, number })
+    }
+
+    /// The value at a slot, if one stands there.
+    pub fn value_at(&self, slot: usize) -> Option<&T>
+        ensures { option_copied result ≡ value_at self.now slot }
+    {
+        Some(&self.entry_at(slot)?.value)
+    }
+
+    /// The value at a slot for writing, if one stands there.
+    pub fn value_at_mut(&mut self, slot: usize) -> Option<&mut T>
+        ensures* writes_back { sem 𝓛 (lends_value_at T.row self.entry slot result) }
+        ensures value { option_copied_mut result ≡ value_at self.old slot }
+    {
+        if self.entry_at(slot).is_some() {
+            Some(&mut self.cells[slot].value)
+        } else {
+            None
+        }
+    }
+
+    /// The key of the first value at this slot or a later one; None where no value stands there.
+    ///
+    /// A walk over all values asks from 0 on, and then from the slot past the last answer.
+    pub fn next_key(&self, from: usize) -> Option<Key>
+        ensures found { IfSome result (λ key. key_at self.now key.slot ≡ Some key) }
+        ensures from { IfSome result (λ key. from ≤ key.slot) }
+        ensures first { IfSome result (λ key.
+            (slot : ℕ) → from ≤ slot → slot < key.slot → entry_at self.now slot ≡ None) }
+        ensures end { IfNone result ((slot : ℕ) → from ≤ slot → entry_at self.now slot ≡ None) }
+    {
+        for slot in from..self.slot_count() {
+            if let Some(key) = self.key_at(slot) {
+                return Some(key);
+            }
+        }
+        None
+    }
+}
