@@ -2,3 +2,4 @@ pub mod Nodes
 pub mod Resources
 pub mod Totals
 pub mod Debt
+pub mod Hubs

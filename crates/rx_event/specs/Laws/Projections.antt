@@ -16,6 +16,7 @@ use Rattle.rx_event.specs.Climb.{Stop, Delivery, Projection, Firing, stop_made, 
 use Rattle.rx_event.specs.Moments.{moments, projections, owed, is_projection, is_projection_to, stops_of}
 use Rattle.rx_event.specs.Lawful.{MayFollow, IsLawful}
 use Rattle.rx_event.specs.Laws.Openness.{is_open_within, parent_open}
+use Rattle.rx_event.specs.Laws.Lists.{AllByRecursion-both, filtered}
 use Rattle.rx_event.specs.Laws.Counts.{projections-push}
 use Rattle.rx_event.specs.Laws.Steps.{by_pushes, by_events, may_open, may_decline, parent-named}
 use Rattle.rx_event.specs.Laws.Sums.{sum_by-same, sum_by-plus, sum_by_none, count_by_one}
@@ -109,17 +110,6 @@ owed_kept h e f no_stops pays_none =
     omega arith
 
 -- projections of one item ---------------------------------------------------------------------------
-
-AllByRecursion-both : {X : Type 0} (P : X → Type 0) (xs ys : List X) → AllByRecursion P xs → AllByRecursion P ys → AllByRecursion P (xs ++ ys)
-AllByRecursion-both P [] ys a b = b
-AllByRecursion-both P (x ∷ xs) ys a b = (a.0, AllByRecursion-both P xs ys a.1 b)
-
-filtered : {X : Type 0} (p : X → Bool) (P : X → Type 0) → ((x : X) → p x ≡ true → P x) → (xs : List X) → AllByRecursion P (filter p xs)
-filtered p P holds [] = tt
-filtered p P holds (x ∷ xs) = by_test (p x) refl (filtered p P holds xs) where
-  by_test : (b : Bool) → p x ≡ b → AllByRecursion P (filter p xs) → AllByRecursion P (cond b (x ∷ filter p xs) (filter p xs))
-  by_test true at_x rest = (holds x at_x, rest)
-  by_test false at_x rest = rest
 
 -- from an open node the climb goes on to open nodes
 onward_open : (h : List Event) (n : ℕ) → is_open h n ≡ true → AllByRecursion (λ m. is_open h m ≡ true) (onward h n)
