@@ -12,4 +12,5 @@ pub mod Totals
 pub mod Projections
 pub mod Debt
 pub mod Hubs
+pub mod Notes
 pub mod Claims

@@ -3,3 +3,5 @@ pub mod Resources
 pub mod Totals
 pub mod Debt
 pub mod Hubs
+pub mod Climbs
+pub mod Notes
