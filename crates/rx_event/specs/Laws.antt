@@ -12,5 +12,6 @@ pub mod Totals
 pub mod Projections
 pub mod Debt
 pub mod Hubs
+pub mod Climbs
 pub mod Notes
 pub mod Claims

@@ -1,19 +1,28 @@
 -- Hubs: at most one connection of each is open, and in a settled history a RefCount hub has one just where it has a subscriber.
-use Rattle.std.proofs.Common.{◌≡◌, ◌≢◌, ℕ, ◌+◌, ◌<◌, ◌≤◌, Bool, true, false, List, [], ◌∷◌, ◌++◌, length, Option, Some, None, refl, sym, ap, ◌∙◌, arith, inl, inr, ◌⊎◌, slice_get, length-append}
+use Rattle.std.proofs.Common.{◌≡◌, ◌≢◌, ℕ, ◌+◌, ◌<◌, ◌≤◌, Bool, true, false, List, [], ◌∷◌, ◌++◌, length, Option, Some, None, refl, sym, ap, ◌∙◌, arith, inl, inr, ◌⊎◌, ◌==◌, take, drop, slice_get, length-append, take-append-drop}
 use Rattle.std.proofs.Math.Bool.{◌&&◌}
 use Rattle.std.specs.Option.{option_map_or}
-use Rattle.std.proofs.lemmas.Bool.{cases_order, both_ways, false≢true, and_parts, and_from, eqb-true}
+use Rattle.std.proofs.lemmas.Bool.{cases_order, both_ways, false≢true, and_parts, and_from, eq-eqb, eqb-true}
+use Rattle.std.proofs.lemmas.List.{length-take, length-take-le}
+use Rattle.std.proofs.lemmas.Option.{slice_get_within, same_Some, none-some}
+use Rattle.std.specs.List.{list_any}
+use Rattle.rx_event.specs.declared.event.Place.{Place}
+use Rattle.rx_event.specs.declared.event.Place.TheVariants.{Root, Source, Inner, Notifier}
+use Rattle.rx_event.specs.declared.event.Kind.{Kind}
+use Rattle.rx_event.specs.declared.event.Kind.TheVariants.{Sub}
 use Rattle.rx_event.specs.declared.event.Event.{Event}
-use Rattle.rx_event.specs.declared.event.Event.TheVariants.{Connect, Close}
-use Rattle.rx_event.specs.Events.{is_auto_hub, is_connect_of, is_subscriber_of}
-use Rattle.rx_event.specs.Tree.{at, places, is_open, open_subscribers, open_connections}
+use Rattle.rx_event.specs.declared.event.Event.TheVariants.{Open, Connect, Close}
+use Rattle.rx_event.specs.Events.{makes_hub, is_auto_hub, is_connect_of, is_subscriber_of}
+use Rattle.rx_event.specs.Tree.{at, places, parent, ancestors, is_within, is_open, open_subscribers, open_connections}
 use Rattle.rx_event.specs.Forced.{cut, left, connecting, due, IsDue, IsForced, IsConnectDue, IsSettled, SourceEnded}
-use Rattle.rx_event.specs.Allowed.{connected, IsAllowed}
+use Rattle.rx_event.specs.Allowed.{opened, connected, IsAllowed, IsHubbed, IsInOrder, IsInOrderAt}
 use Rattle.rx_event.specs.Lawful.{forced, allowed, MayFollow, IsLawful}
 use Rattle.rx_event.specs.Laws.Lists.{first_passes, filter_nonempty, filter_few}
-use Rattle.rx_event.specs.Laws.Places.{slice_get_last, at-append}
+use Rattle.rx_event.specs.Laws.Places.{slice_get-append, slice_get_last, at-append, at_within}
+use Rattle.rx_event.specs.Laws.Parents.{parent-lt, parent_name, ancestors-append, is_within-le, within_cases}
+use Rattle.rx_event.specs.Laws.Lawful.{lawful_at}
 use Rattle.rx_event.specs.Laws.Openness.{is_open_within, is_open_past, is_open_cut}
-use Rattle.rx_event.specs.Laws.Steps.{by_events}
+use Rattle.rx_event.specs.Laws.Steps.{by_events, forced_kind}
 
 -- a connection --------------------------------------------------------------------------------------
 
@@ -133,3 +142,58 @@ one_where_subscribed h g law settled auto subscribed = by_list (open_connections
   by_list [] e few = absurd (subscribed (subscribed_connected h g settled auto e))
   by_list (c ∷ []) e few = refl
   by_list (c ∷ d ∷ cs) e few = absurd (omega arith)
+
+-- the order of hubs -------------------------------------------------------------------------------
+
+subscriber_found : (g : ℕ) (o : Option Event) → option_map_or (is_subscriber_of g) o false ≡ true → (place : Place) × (o ≡ Some (Open place (Sub g)))
+subscriber_found g None subscribes = absurd (false≢true subscribes)
+subscriber_found g (Some (Open place (Sub k))) subscribes = (place, ap (λ q. Some (Open place (Sub q))) (eqb-true k g subscribes))
+subscriber_found g (Some _) subscribes = absurd (false≢true subscribes)
+
+allowed_hubbed : {h : List Event} {place : Place} {kind : Kind} → IsAllowed h (Open place kind) → IsHubbed h place kind
+allowed_hubbed (opened free hubbed few room) = hubbed
+
+-- the hub of what is opened is there, and in order
+pub may_subscribe : {h : List Event} {place : Place} {kind : Kind} → MayFollow h (Open place kind) → IsHubbed h place kind
+may_subscribe (forced f) = absurd (false≢true (forced_kind f))
+may_subscribe (allowed s a) = allowed_hubbed a
+
+-- the hub of a subscriber is in the history
+pub subscriber_hub : (h : List Event) → IsLawful h → (g s : ℕ) → at (is_subscriber_of g) h s ≡ true → g < length h
+subscriber_hub h law g s subscribes =
+    let found = subscriber_found g (slice_get h s) subscribes in
+    let hubbed : IsHubbed (take s h) found.0 (Sub g) = may_subscribe (lawful_at h law s (Open found.0 (Sub g)) found.1) in
+    let l : g < length (take s h) = at_within makes_hub (take s h) g hubbed.0 in
+    omega (arith, length-take s h)
+
+-- the connections above an old node were there when it was a new one
+older_order : (h : List Event) (g s q a k : ℕ) → IsInOrderAt (take s h) g q → q < s → s < length h → is_within h a q ≡ true → slice_get h a ≡ Some (Connect k) → g < k
+older_order h g s q a k order l m within connects =
+    let same : take s h ++ drop s h ≡ h = take-append-drop s h in
+    let room : length (take s h) ≡ s = length-take-le s h (omega arith) in
+    let above : ancestors (take s h) q ≡ ancestors h q = sym (ancestors-append (take s h) (drop s h) q (omega arith)) ∙ ap (λ t. ancestors t q) same in
+    let le : a ≤ q = is_within-le h a q within in
+    let here : slice_get (take s h) a ≡ slice_get h a = sym (slice_get-append (take s h) (drop s h) a (omega arith)) ∙ ap (λ t. slice_get t a) same in
+    order a k (ap (list_any (λ b. a == b)) above ∙ within) (here ∙ connects)
+
+-- every connection above a subscriber is of a later hub, so that no item goes round in a circle
+pub hubs_in_order : (h : List Event) → IsLawful h → (g s a k : ℕ) → at (is_subscriber_of g) h s ≡ true → is_within h a s ≡ true → slice_get h a ≡ Some (Connect k) → g < k
+hubs_in_order h law g s a k subscribes within connects = by_place found.0 found.1 (may_subscribe (lawful_at h law s (Open found.0 (Sub g)) found.1)).1 (within_cases h a s within) where
+  found : (place : Place) × (slice_get h s ≡ Some (Open place (Sub g)))
+  found = subscriber_found g (slice_get h s) subscribes
+
+  itself : (place : Place) → slice_get h s ≡ Some (Open place (Sub g)) → a ≡ s → ⊥
+  itself place at_s same = false≢true (ap (is_connect_of k) (same_Some (Open place (Sub g)) (Connect k) (sym at_s ∙ ap (slice_get h) (sym same) ∙ connects)) ∙ eq-eqb k k refl)
+
+  named : (place : Place) (q p : ℕ) → slice_get h s ≡ Some (Open place (Sub g)) → IsInOrderAt (take s h) g q → Some q ≡ Some p → parent h s ≡ Some p → is_within h a p ≡ true → g < k
+  named place q p at_s order name below above =
+      let number : q ≡ p = same_Some q p name in
+      let l : p < s = parent-lt h s p below in
+      older_order h g s q a k order (omega arith) (slice_get_within h s (Open place (Sub g)) at_s) (ap (is_within h a) number ∙ above) connects
+
+  by_place : (place : Place) → slice_get h s ≡ Some (Open place (Sub g)) → IsInOrder (take s h) g place → (a ≡ s) ⊎ ((p : ℕ) × (parent h s ≡ Some p) × (is_within h a p ≡ true)) → g < k
+  by_place place at_s order (inl same) = absurd (itself place at_s same)
+  by_place Root at_s order (inr (p, below, above)) = absurd (none-some p (parent_name h s p (Open Root (Sub g)) below at_s))
+  by_place (Source q) at_s order (inr (p, below, above)) = named (Source q) q p at_s order (parent_name h s p (Open (Source q) (Sub g)) below at_s) below above
+  by_place (Inner q) at_s order (inr (p, below, above)) = named (Inner q) q p at_s order (parent_name h s p (Open (Inner q) (Sub g)) below at_s) below above
+  by_place (Notifier q) at_s order (inr (p, below, above)) = named (Notifier q) q p at_s order (parent_name h s p (Open (Notifier q) (Sub g)) below at_s) below above

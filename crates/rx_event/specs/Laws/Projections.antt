@@ -115,7 +115,7 @@ owed_kept h e f no_stops pays_none =
 -- projections of one item ---------------------------------------------------------------------------
 
 -- from an open node the climb goes on to open nodes
-onward_open : (h : List Event) (n : ℕ) → is_open h n ≡ true → AllByRecursion (λ m. is_open h m ≡ true) (onward h n)
+pub onward_open : (h : List Event) (n : ℕ) → is_open h n ≡ true → AllByRecursion (λ m. is_open h m ≡ true) (onward h n)
 onward_open h n o = by_stop (stop_at h n) where
   by_parent : (p : Option ℕ) → parent h n ≡ p → AllByRecursion (λ m. is_open h m ≡ true) (option_to_list p)
   by_parent None below = tt
