@@ -1,3 +1,4 @@
+pub mod Lists
 pub mod Places
 pub mod Parents
 pub mod Openness
@@ -10,4 +11,7 @@ pub mod Resources
 pub mod Totals
 pub mod Projections
 pub mod Debt
+pub mod Hubs
+pub mod Climbs
+pub mod Notes
 pub mod Claims

@@ -20,8 +20,8 @@ mod tests;
 pub use event::{Event, Kind, Mode, Place};
 pub use history::History;
 pub use laws::{
-    a_switch_has_one_open_inner, closed_stays_closed, each_resource_is_in_one_place,
-    what_one_event_changes,
+    a_hub_connects_once, a_switch_has_one_open_inner, climbs_go_on_in_order, closed_stays_closed,
+    each_resource_is_in_one_place, notes_obey_the_grammar, what_one_event_changes,
 };
 pub use refusal::Refusal;
 pub use rx_note::Terminal;

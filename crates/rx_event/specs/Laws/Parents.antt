@@ -1,13 +1,13 @@
 -- Parents and ancestors in a longer history.
-use Rattle.std.proofs.Common.{◌≡◌, ℕ, zero, suc, ◌+◌, ◌<◌, ◌≤◌, Bool, true, false, List, [], ◌∷◌, ◌++◌, length, Option, Some, None, refl, sym, ap, ◌∙◌, arith, inl, inr, ◌⊎◌, nat_lt, slice_get, length-append}
-use Rattle.std.specs.List.{AllByRecursion}
+use Rattle.std.proofs.Common.{◌≡◌, ℕ, zero, suc, ◌+◌, ◌<◌, ◌≤◌, Bool, true, false, List, [], ◌∷◌, ◌++◌, length, Option, Some, None, refl, sym, ap, ◌∙◌, arith, inl, inr, ◌⊎◌, nat_lt, ◌==◌, slice_get, length-append}
+use Rattle.std.specs.List.{AllByRecursion, list_any}
 use Rattle.std.specs.Option.{option_and_then, option_map_or}
-use Rattle.std.proofs.lemmas.Bool.{cases_order, ltb-true}
+use Rattle.std.proofs.lemmas.Bool.{cases_order, ltb-true, eqb-true, or_cases, or_right, false≢true}
 use Rattle.std.proofs.lemmas.Option.{cond_some, option_and_then_some, slice_get_within, none-some}
 use Rattle.rx_event.specs.declared.event.Event.{Event}
 use Rattle.rx_event.specs.declared.event.Event.TheVariants.{Open}
 use Rattle.rx_event.specs.Events.{parent_named, makes_node}
-use Rattle.rx_event.specs.Tree.{parent, if_less, ancestors, ancestors_within}
+use Rattle.rx_event.specs.Tree.{parent, if_less, ancestors, ancestors_within, is_within}
 use Rattle.rx_event.specs.Laws.Places.{slice_get-append, slice_get_last}
 
 -- parents have smaller numbers
@@ -75,6 +75,12 @@ unfolding parent
 parent_within h c p below =
     option_and_then_some (if_less c) (option_and_then parent_named (slice_get h c)) p below (λ x a b. option_and_then_some parent_named (slice_get h c) x a (λ e at_c named. slice_get_within h c e at_c))
 
+-- a node with a parent names it
+pub parent_name : (h : List Event) (n p : ℕ) (e : Event) → parent h n ≡ Some p → slice_get h n ≡ Some e → parent_named e ≡ Some p
+unfolding parent
+parent_name h n p e below at_n =
+    option_and_then_some (if_less n) (option_and_then parent_named (slice_get h n)) p below (λ x a b. sym (ap (option_and_then parent_named) at_n) ∙ a ∙ ap Some (cond_some (nat_lt x n) x p b).1)
+
 names_no_parent : (e : Event) → makes_node e ≡ false → parent_named e ≡ None
 names_no_parent (Open place kind) n = cc
 names_no_parent _ n = refl
@@ -91,3 +97,29 @@ old_child h e no_node p c below = by_place (cases_order c (length h)) where
   by_place (inl same) = absurd (none-some p (sym (ap (parent (h ++ e ∷ [])) same ∙ last_none) ∙ below))
   by_place (inr (inr g)) = let l = parent_within (h ++ e ∷ []) c p below in absurd (omega (arith, length-append {A = Event}))
 
+-- what n is within ---------------------------------------------------------------------------------
+
+-- n is within c where it is c, or its parent is within c
+pub within_cases : (h : List Event) (c n : ℕ) → is_within h c n ≡ true → (c ≡ n) ⊎ ((p : ℕ) × (parent h n ≡ Some p) × (is_within h c p ≡ true))
+within_cases h c n within = by_number (or_cases (c == n) (list_any (λ a. c == a) (option_map_or (ancestors h) (parent h n) [])) (ap (list_any (λ a. c == a)) (sym (ancestors_step h n)) ∙ within)) where
+  by_parent : (o : Option ℕ) → parent h n ≡ o → list_any (λ a. c == a) (option_map_or (ancestors h) o []) ≡ true → (c ≡ n) ⊎ ((p : ℕ) × (parent h n ≡ Some p) × (is_within h c p ≡ true))
+  by_parent None below above = absurd (false≢true above)
+  by_parent (Some p) below above = inr (p, below, above)
+
+  by_number : ((c == n) ≡ true) ⊎ (list_any (λ a. c == a) (option_map_or (ancestors h) (parent h n) []) ≡ true) → (c ≡ n) ⊎ ((p : ℕ) × (parent h n ≡ Some p) × (is_within h c p ≡ true))
+  by_number (inl same) = inl (eqb-true c n same)
+  by_number (inr above) = by_parent (parent h n) refl above
+
+pub within_parent : (h : List Event) (c n p : ℕ) → parent h n ≡ Some p → is_within h c p ≡ true → is_within h c n ≡ true
+within_parent h c n p below above = ap (list_any (λ a. c == a)) (ancestors_step h n) ∙ rw below (or_right (c == n) (is_within h c p) above)
+
+within-le : (xs : List ℕ) (c n : ℕ) → AllByRecursion (λ a. a ≤ n) xs → list_any (λ a. c == a) xs ≡ true → c ≤ n
+within-le [] c n all found = absurd (false≢true found)
+within-le (x ∷ xs) c n all found = by_number (within-le xs c n all.1) (or_cases (c == x) (list_any (λ a. c == a) xs) found) where
+  by_number : (list_any (λ a. c == a) xs ≡ true → c ≤ n) → ((c == x) ≡ true) ⊎ (list_any (λ a. c == a) xs ≡ true) → c ≤ n
+  by_number rest (inl same) = let e : c ≡ x = eqb-true c x same in let l : x ≤ n = all.0 in omega arith
+  by_number rest (inr later) = rest later
+
+-- then c has no larger number
+pub is_within-le : (h : List Event) (c n : ℕ) → is_within h c n ≡ true → c ≤ n
+is_within-le h c n within = within-le (ancestors h n) c n (ancestors-le h n) within

@@ -2,7 +2,7 @@
 use Rattle.std.proofs.Common.{◌≡◌, ℕ, zero, suc, ◌+◌, ◌<◌, ◌≤◌, Bool, true, false, List, [], ◌∷◌, ◌++◌, length, take, drop, Option, Some, None, refl, sym, ap, ◌∙◌, arith, inl, inr, ◌⊎◌, slice_get, length-append, take-append-drop}
 use Rattle.std.specs.Option.{option_map_or}
 use Rattle.std.proofs.lemmas.Grind.{common_steps}
-use Rattle.std.proofs.lemmas.Bool.{cases_order}
+use Rattle.std.proofs.lemmas.Bool.{cases_order, false≢true}
 use Rattle.std.proofs.lemmas.Option.{slice_get_within, same_Some}
 use Rattle.rx_event.specs.declared.event.Event.{Event}
 use Rattle.rx_event.specs.Tree.{at}
@@ -25,6 +25,13 @@ at-append p h t n l = ap (λ o. option_map_or p o false) (slice_get-append h t n
 -- a test of an event that stands before c
 pub at-take : (q : Event → Bool) (h : List Event) (c n : ℕ) → n < c → c < length h → at q (take c h) n ≡ at q h n
 at-take q h c n l m = sym (at-append q (take c h) (drop c h) n (grind (arith, common_steps))) ∙ ap (λ k. at q k n) (take-append-drop c h)
+
+-- what passes a test is in the history
+pub at_within : (q : Event → Bool) (h : List Event) (n : ℕ) → at q h n ≡ true → n < length h
+at_within q h n passes = by_event (slice_get h n) refl passes where
+  by_event : (o : Option Event) → slice_get h n ≡ o → option_map_or q o false ≡ true → n < length h
+  by_event None at_n fails = absurd (false≢true fails)
+  by_event (Some e) at_n passes = slice_get_within h n e at_n
 
 -- where a place is in the longer history
 pub cases_push : (h : List Event) (e x : Event) (i : ℕ) → slice_get (h ++ e ∷ []) i ≡ Some x → (slice_get h i ≡ Some x) ⊎ (e ≡ x)

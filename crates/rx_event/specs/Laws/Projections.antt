@@ -5,19 +5,23 @@ use Rattle.std.specs.List.{AllByRecursion, sum_by, count_by, range_with_len, fil
 use Rattle.std.specs.Option.{option_and_then, option_map_or, option_to_list}
 use Rattle.std.proofs.lemmas.Bool.{cases_Bool, both_ways, false≢true, and_parts, eqb-true}
 use Rattle.std.proofs.lemmas.List.Sums.{sum_by_push, sum_by-cons}
-use Rattle.std.proofs.lemmas.Option.{slice_get_past}
+use Rattle.std.proofs.lemmas.Option.{slice_get_past, slice_get_within}
 use Rattle.rx_event.specs.declared.event.Place.TheVariants.{Root, Source, Inner, Notifier}
 use Rattle.rx_event.specs.declared.event.Kind.{Kind}
 use Rattle.rx_event.specs.declared.event.Event.{Event}
 use Rattle.rx_event.specs.declared.event.Event.TheVariants.{Open, Connect, Item, Decline}
-use Rattle.rx_event.specs.Events.{is_merging, pays}
+use Rattle.rx_event.specs.Events.{is_merging, is_until, pays}
 use Rattle.rx_event.specs.Tree.{at, places, parent, is_open}
 use Rattle.rx_event.specs.Climb.{Stop, Delivery, Projection, Firing, stop_made, stop_at, onward_from, onward, onward_unless, visited, climb, stops, most_visits}
 use Rattle.rx_event.specs.Moments.{moments, projections, owed, is_projection, is_projection_to, stops_of}
 use Rattle.rx_event.specs.Lawful.{MayFollow, IsLawful}
 use Rattle.rx_event.specs.Laws.Openness.{is_open_within, parent_open}
+use Rattle.rx_event.specs.Laws.Claims.Climbs.{StopsAtOpen}
+use Rattle.rx_event.specs.Laws.Places.{at-take}
+use Rattle.rx_event.specs.Laws.Lawful.{lawful_at}
+use Rattle.rx_event.specs.Laws.Lists.{AllByRecursion-both, filtered}
 use Rattle.rx_event.specs.Laws.Counts.{projections-push}
-use Rattle.rx_event.specs.Laws.Steps.{by_pushes, by_events, may_open, may_decline, parent-named}
+use Rattle.rx_event.specs.Laws.Steps.{by_pushes, by_events, may_open, may_decline, named_below, parent-named}
 use Rattle.rx_event.specs.Laws.Sums.{sum_by-same, sum_by-plus, sum_by_none, count_by_one}
 
 -- who is projected to ------------------------------------------------------------------------------
@@ -110,19 +114,8 @@ owed_kept h e f no_stops pays_none =
 
 -- projections of one item ---------------------------------------------------------------------------
 
-AllByRecursion-both : {X : Type 0} (P : X → Type 0) (xs ys : List X) → AllByRecursion P xs → AllByRecursion P ys → AllByRecursion P (xs ++ ys)
-AllByRecursion-both P [] ys a b = b
-AllByRecursion-both P (x ∷ xs) ys a b = (a.0, AllByRecursion-both P xs ys a.1 b)
-
-filtered : {X : Type 0} (p : X → Bool) (P : X → Type 0) → ((x : X) → p x ≡ true → P x) → (xs : List X) → AllByRecursion P (filter p xs)
-filtered p P holds [] = tt
-filtered p P holds (x ∷ xs) = by_test (p x) refl (filtered p P holds xs) where
-  by_test : (b : Bool) → p x ≡ b → AllByRecursion P (filter p xs) → AllByRecursion P (cond b (x ∷ filter p xs) (filter p xs))
-  by_test true at_x rest = (holds x at_x, rest)
-  by_test false at_x rest = rest
-
 -- from an open node the climb goes on to open nodes
-onward_open : (h : List Event) (n : ℕ) → is_open h n ≡ true → AllByRecursion (λ m. is_open h m ≡ true) (onward h n)
+pub onward_open : (h : List Event) (n : ℕ) → is_open h n ≡ true → AllByRecursion (λ m. is_open h m ≡ true) (onward h n)
 onward_open h n o = by_stop (stop_at h n) where
   by_parent : (p : Option ℕ) → parent h n ≡ p → AllByRecursion (λ m. is_open h m ≡ true) (option_to_list p)
   by_parent None below = tt
@@ -147,39 +140,39 @@ pub climb_open : (h : List Event) (l : ℕ) → is_open h l ≡ true → AllByRe
 unfolding climb
 climb_open h l o = visited_open (suc most_visits) h (l ∷ []) (o, tt)
 
--- the stop at an open node projects to open FlatMaps and Switches alone
-abbrev pub ProjectsToOpen : List Event → Stop → Type 0
-ProjectsToOpen h (Projection f) = (is_open h f ≡ true) × (at is_merging h f ≡ true)
-ProjectsToOpen h (Delivery n) = Unit {0}
-ProjectsToOpen h (Firing u) = Unit {0}
-
 abbrev StopsWell : List Event → Option Stop → Type 0
 StopsWell h None = Unit {0}
-StopsWell h (Some s) = ProjectsToOpen h s
+StopsWell h (Some s) = StopsAtOpen h s
 
+-- the climb stops at an open root, FlatMap, Switch or TakeUntil
 stop_open : (h : List Event) → IsLawful h → (n : ℕ) → is_open h n ≡ true → StopsWell h (stop_at h n)
 stop_open h law n o = by_event (slice_get h n) refl where
   if_merging : (f : ℕ) (kind : Kind) → slice_get h n ≡ Some (Open (Source f) kind) → (b : Bool) → at is_merging h f ≡ b → StopsWell h (cond b (Some (Projection f)) None)
   if_merging f kind at_n false m = tt
   if_merging f kind at_n true m = (parent_open h n f o (parent-named h law n f (Open (Source f) kind) at_n refl), m)
 
+  until : (u : ℕ) (kind : Kind) → slice_get h n ≡ Some (Open (Notifier u) kind) → at is_until h u ≡ true
+  until u kind at_n =
+      let l : u < n = named_below h law n u (Open (Notifier u) kind) at_n refl in
+      sym (at-take is_until h n u l (slice_get_within h n (Open (Notifier u) kind) at_n)) ∙ (may_open (lawful_at h law n (Open (Notifier u) kind) at_n)).1
+
   by_event : (e : Option Event) → slice_get h n ≡ e → StopsWell h (option_and_then (stop_made h n) e)
   by_event None at_n = tt
-  by_event (Some (Open Root kind)) at_n = tt
+  by_event (Some (Open Root kind)) at_n = (o, rw at_n refl)
   by_event (Some (Open (Source f) kind)) at_n = if_merging f kind at_n (at is_merging h f) refl
   by_event (Some (Open (Inner f) kind)) at_n = tt
-  by_event (Some (Open (Notifier u) kind)) at_n = tt
+  by_event (Some (Open (Notifier u) kind)) at_n = (parent_open h n u o (parent-named h law n u (Open (Notifier u) kind) at_n refl), until u kind at_n)
   by_event (Some _) at_n = tt
 
-stops_well : (h : List Event) → IsLawful h → (ns : List ℕ) → AllByRecursion (λ m. is_open h m ≡ true) ns → AllByRecursion (ProjectsToOpen h) (filter_map (stop_at h) ns)
+stops_well : (h : List Event) → IsLawful h → (ns : List ℕ) → AllByRecursion (λ m. is_open h m ≡ true) ns → AllByRecursion (StopsAtOpen h) (filter_map (stop_at h) ns)
 stops_well h law [] open_all = tt
 stops_well h law (n ∷ ns) open_all = by_stop (stop_at h n) (stop_open h law n open_all.0) (stops_well h law ns open_all.1) where
-  by_stop : (s : Option Stop) → StopsWell h s → AllByRecursion (ProjectsToOpen h) (filter_map (stop_at h) ns) → AllByRecursion (ProjectsToOpen h) (Rattle.std.specs.List.cons_option s (filter_map (stop_at h) ns))
+  by_stop : (s : Option Stop) → StopsWell h s → AllByRecursion (StopsAtOpen h) (filter_map (stop_at h) ns) → AllByRecursion (StopsAtOpen h) (Rattle.std.specs.List.cons_option s (filter_map (stop_at h) ns))
   by_stop None well rest = rest
   by_stop (Some s) well rest = (well, rest)
 
--- an open leaf's item is projected to open FlatMaps and Switches alone
-pub stops_open : (h : List Event) (l : ℕ) → IsLawful h → is_open h l ≡ true → AllByRecursion (ProjectsToOpen h) (stops h l)
+-- so does the item of an open leaf
+pub stops_open : (h : List Event) (l : ℕ) → IsLawful h → is_open h l ≡ true → AllByRecursion (StopsAtOpen h) (stops h l)
 unfolding stops
 stops_open h l law o = stops_well h law (climb h l) (climb_open h l o)
 
@@ -192,7 +185,7 @@ abbrev pub projected_open : List Event → List Stop → ℕ → ℕ
 projected_open h ss n = cond (is_open h n && at is_merging h n) (count_by (is_projection_to n) ss) 0
 
 -- so all projections are to open FlatMaps and Switches
-pub projected_count : (h : List Event) (ss : List Stop) → AllByRecursion (ProjectsToOpen h) ss → sum_by (projected_open h ss) (places h) ≡ count_by is_projection ss
+pub projected_count : (h : List Event) (ss : List Stop) → AllByRecursion (StopsAtOpen h) ss → sum_by (projected_open h ss) (places h) ≡ count_by is_projection ss
 projected_count h [] well = sum_by_none (projected_open h []) (length h) (λ n l. zero_or_zero (is_open h n && at is_merging h n))
 projected_count h (s ∷ ss) well =
     let each : sum_by (projected_open h (s ∷ ss)) (places h) ≡ sum_by (λ n. cond (is_open h n && at is_merging h n) (cond (is_projection_to n s) 1 0) 0 + projected_open h ss n) (places h) = sum_by-same (λ n. cond (is_open h n && at is_merging h n) (cond (is_projection_to n s) 1 0) 0 + projected_open h ss n) (projected_open h (s ∷ ss)) (length h) (λ n l. shape (is_open h n && at is_merging h n) _ _ _ (sum_by-cons (λ t. cond (is_projection_to n t) 1 0) s ss)) in
@@ -213,7 +206,7 @@ projected_count h (s ∷ ss) well =
         rw (o, m) refl
     to_one f n well false apart = zero_or_zero (is_open h n && at is_merging h n)
 
-    by_stop : (s : Stop) → ProjectsToOpen h s → sum_by (λ n. cond (is_open h n && at is_merging h n) (cond (is_projection_to n s) 1 0) 0) (places h) ≡ cond {A = ℕ} (is_projection s) 1 0
+    by_stop : (s : Stop) → StopsAtOpen h s → sum_by (λ n. cond (is_open h n && at is_merging h n) (cond (is_projection_to n s) 1 0) 0) (places h) ≡ cond {A = ℕ} (is_projection s) 1 0
     by_stop (Projection f) well = sum_by-same (λ n. cond (f == n) 1 0) (λ n. cond (is_open h n && at is_merging h n) (cond (f == n) 1 0) 0) (length h) (λ n l. to_one f n well (f == n) refl) ∙ count_by_one f (length h) (is_open_within h f well.0)
     by_stop (Delivery m) well = sum_by_none _ (length h) (λ n l. zero_or_zero (is_open h n && at is_merging h n))
     by_stop (Firing u) well = sum_by_none _ (length h) (λ n l. zero_or_zero (is_open h n && at is_merging h n))

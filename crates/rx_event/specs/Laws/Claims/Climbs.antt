@@ -1,0 +1,49 @@
+-- What is promised of climbs.
+use Rattle.std.specs.Prelude.{◌≡◌, ◌↔◌, ℕ, suc, ◌+◌, ◌<◌, ◌≤◌, ◌==◌, Option, Some, None, List, [], ◌∷◌, ◌++◌, length, slice_get, take, count_by, sum_by, IsTrue}
+use Rattle.std.specs.List.{AllByRecursion, flat_map}
+use Rattle.rx_event.specs.declared.event.Event.{Event}
+use Rattle.rx_event.specs.declared.event.Event.TheVariants.{Connect}
+use Rattle.rx_event.specs.Events.{is_root, is_merging, is_until, is_subscriber_of}
+use Rattle.rx_event.specs.Tree.{at, places, is_within, is_open}
+use Rattle.rx_event.specs.Climb.{Stop, Delivery, Projection, Firing, stop_at, onward, most_visits, climb, stops, visits}
+use Rattle.rx_event.specs.Lawful.{IsLawful}
+
+-- the whole climbs from these nodes, one after the other: a node, then the climbs of where it goes on, in order, and then those
+-- of the others
+pub data Visits (h : List Event) : List ℕ → List ℕ → Type 0 where
+  nowhere : Visits h [] []
+  visit : {n : ℕ} {others later rest : List ℕ} → Visits h (onward h n) later → Visits h others rest → Visits h (n ∷ others) (n ∷ later ++ rest)
+
+-- the stop is at an open node: a root that is told the item, a FlatMap or Switch that projects it, a TakeUntil that it fires
+abbrev pub StopsAtOpen : List Event → Stop → Type 0
+StopsAtOpen h (Delivery n) = IsTrue (is_open h n) × IsTrue (at is_root h n)
+StopsAtOpen h (Projection f) = IsTrue (is_open h f) × IsTrue (at is_merging h f)
+StopsAtOpen h (Firing u) = IsTrue (is_open h u) × IsTrue (at is_until h u)
+
+-- every climb ends, and what it reaches is open
+pub record ClimbsEnd : Type 0 where
+  pub ends : (h : List Event) → IsLawful h → (n : ℕ) → IsTrue (is_open h n) → (vs : List ℕ) × Visits h (n ∷ []) vs
+  -- in one way alone
+  pub only : (h : List Event) (ns vs ws : List ℕ) → Visits h ns vs → Visits h ns ws → vs ≡ ws
+  pub opened : (h : List Event) (n : ℕ) (vs : List ℕ) → IsTrue (is_open h n) → Visits h (n ∷ []) vs → AllByRecursion (λ m. IsTrue (is_open h m)) vs
+  pub stopped : (h : List Event) → IsLawful h → (n : ℕ) → IsTrue (is_open h n) → AllByRecursion (StopsAtOpen h) (stops h n)
+  -- for each hub above a subscriber of g is a later one
+  pub later : (h : List Event) → IsLawful h → (g s a k : ℕ) → IsTrue (at (is_subscriber_of g) h s) → IsTrue (is_within h a s) → slice_get h a ≡ Some (Connect k) → g < k
+
+-- the climb is the whole climb, as far as the limit lets it
+pub record ClimbsWhole : Type 0 where
+  -- cut off one after the limit
+  pub cut_off : (h : List Event) (n : ℕ) (vs : List ℕ) → Visits h (n ∷ []) vs → climb h n ≡ take (suc most_visits) vs
+  pub within : (h : List Event) (n : ℕ) (vs : List ℕ) → Visits h (n ∷ []) vs → visits h n ≤ most_visits ↔ length vs ≤ most_visits
+  pub whole : (h : List Event) (n : ℕ) (vs : List ℕ) → Visits h (n ∷ []) vs → length vs ≤ most_visits → climb h n ≡ vs
+  -- within the limit: the node, and then the climbs of where it goes on, in order
+  pub in_order : (h : List Event) → IsLawful h → (n : ℕ) → IsTrue (is_open h n) → visits h n ≤ most_visits → climb h n ≡ n ∷ flat_map (climb h) (onward h n)
+  -- and the stops of where it goes on, in order, where it does not stop
+  pub stop : (h : List Event) (n : ℕ) (s : Stop) → stop_at h n ≡ Some s → stops h n ≡ s ∷ []
+  pub stops_in_order : (h : List Event) → IsLawful h → (n : ℕ) → IsTrue (is_open h n) → visits h n ≤ most_visits → stop_at h n ≡ None → stops h n ≡ flat_map (stops h) (onward h n)
+
+-- how often a node is visited: as often as visited nodes go on to it, and as the climbs begin at it
+pub record VisitsCounted : Type 0 where
+  pub each : (h : List Event) (ns vs : List ℕ) → Visits h ns vs → (k : ℕ) → count_by (λ m. m == k) vs ≡ count_by (λ m. m == k) ns + sum_by (λ v. count_by (λ m. m == k) (onward h v)) vs
+  -- and all visits are those of the nodes together
+  pub all : (h : List Event) (n : ℕ) (vs : List ℕ) → IsTrue (is_open h n) → Visits h (n ∷ []) vs → length vs ≡ sum_by (λ k. count_by (λ m. m == k) vs) (places h)

@@ -1,0 +1,52 @@
+-- What holds of the elements of a list, and what a filter leaves.
+use Rattle.std.proofs.Common.{◌≡◌, ℕ, zero, suc, ◌+◌, ◌<◌, ◌≤◌, Bool, true, false, List, [], ◌∷◌, ◌++◌, length, cond, refl, ap, ◌∙◌, arith, inl, inr, ◌⊎◌, filter}
+use Rattle.std.specs.List.{AllByRecursion, range_with_len}
+use Rattle.std.proofs.lemmas.Bool.{cases_Bool, cases_order, both_ways}
+
+pub AllByRecursion-both : {X : Type 0} (P : X → Type 0) (xs ys : List X) → AllByRecursion P xs → AllByRecursion P ys → AllByRecursion P (xs ++ ys)
+AllByRecursion-both P [] ys a b = b
+AllByRecursion-both P (x ∷ xs) ys a b = (a.0, AllByRecursion-both P xs ys a.1 b)
+
+-- filters -----------------------------------------------------------------------------------------
+
+pub filtered : {X : Type 0} (p : X → Bool) (P : X → Type 0) → ((x : X) → p x ≡ true → P x) → (xs : List X) → AllByRecursion P (filter p xs)
+filtered p P holds [] = tt
+filtered p P holds (x ∷ xs) = by_test (p x) refl (filtered p P holds xs) where
+  by_test : (b : Bool) → p x ≡ b → AllByRecursion P (filter p xs) → AllByRecursion P (cond b (x ∷ filter p xs) (filter p xs))
+  by_test true at_x rest = (holds x at_x, rest)
+  by_test false at_x rest = rest
+
+-- what a filter leaves first passes
+pub first_passes : {X : Type 0} (p : X → Bool) (xs : List X) (x : X) (rest : List X) → filter p xs ≡ x ∷ rest → p x ≡ true
+first_passes p xs x rest e =
+    let each : AllByRecursion (λ y. p y ≡ true) (filter p xs) = filtered p (λ y. p y ≡ true) (λ y t. t) xs in
+    (rw e at each).0
+
+-- a number that passes is left
+pub filter_nonempty : (p : ℕ → Bool) (s n k : ℕ) → s ≤ k → k < s + n → p k ≡ true → filter p (range_with_len s n) ≡ [] → ⊥
+filter_nonempty p s zero k above below passes empty = absurd (omega arith)
+filter_nonempty p s (suc n) k above below passes empty = by_test (p s) refl (filter_nonempty p (s + 1) n k) empty where
+  by_place : (p s ≡ false) → (s + 1 ≤ k → k < (s + 1) + n → p k ≡ true → filter p (range_with_len (s + 1) n) ≡ [] → ⊥) → filter p (range_with_len (s + 1) n) ≡ [] → (s ≡ k) ⊎ ((s < k) ⊎ (k < s)) → ⊥
+  by_place out rest none (inl same) = both_ways (p s) out (ap p same ∙ passes)
+  by_place out rest none (inr (inl l)) = rest (omega arith) (omega arith) passes none
+  by_place out rest none (inr (inr l)) = absurd (omega arith)
+
+  by_test : (b : Bool) → p s ≡ b → (s + 1 ≤ k → k < (s + 1) + n → p k ≡ true → filter p (range_with_len (s + 1) n) ≡ [] → ⊥) → cond b (s ∷ filter p (range_with_len (s + 1) n)) (filter p (range_with_len (s + 1) n)) ≡ [] → ⊥
+  by_test true at_s rest none = absurd (let long : suc (length (filter p (range_with_len (s + 1) n))) ≡ 0 = ap length none in omega arith)
+  by_test false at_s rest none = by_place at_s rest none (cases_order s k)
+
+filter_none : (p : ℕ → Bool) (s n : ℕ) → ((k : ℕ) → s ≤ k → p k ≡ false) → filter p (range_with_len s n) ≡ []
+filter_none p s zero none = refl
+filter_none p s (suc n) none = rw (none s (omega arith)) (filter_none p (s + 1) n (λ k l. none k (omega arith)))
+
+-- where no two numbers pass, at most one is left
+pub filter_few : (p : ℕ → Bool) (s n : ℕ) → ((a b : ℕ) → p a ≡ true → p b ≡ true → a ≡ b) → length (filter p (range_with_len s n)) ≤ 1
+filter_few p s zero same = omega arith
+filter_few p s (suc n) same = by_test (p s) refl (filter_few p (s + 1) n same) where
+  other : p s ≡ true → (k : ℕ) → s + 1 ≤ k → (p k ≡ true) ⊎ (p k ≡ false) → p k ≡ false
+  other at_s k l (inl passes) = absurd (let e = same s k at_s passes in omega arith)
+  other at_s k l (inr fails) = fails
+
+  by_test : (b : Bool) → p s ≡ b → length (filter p (range_with_len (s + 1) n)) ≤ 1 → length (cond b (s ∷ filter p (range_with_len (s + 1) n)) (filter p (range_with_len (s + 1) n))) ≤ 1
+  by_test true at_s rest = rw (filter_none p (s + 1) n (λ k l. other at_s k l (cases_Bool (p k)))) (omega arith)
+  by_test false at_s rest = rest
