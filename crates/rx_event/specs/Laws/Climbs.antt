@@ -1,7 +1,7 @@
 -- Climbs in the subject's own words: a node, and then the climbs of where it goes on, in order.
 use Rattle.std.proofs.Common.{◌≡◌, ◌↔◌, ℕ, zero, suc, ◌+◌, ◌*◌, ◌<◌, ◌≤◌, Bool, true, false, List, [], ◌∷◌, ◌++◌, length, take, Option, Some, None, cond, min, refl, sym, ap, ◌∙◌, arith, ◌==◌, slice_get, append_assoc, append-nil, add-zero, length-append}
 use Rattle.std.proofs.Math.Bool.{◌&&◌}
-use Rattle.std.specs.List.{AllByRecursion, filter_map, flat_map, count_by, sum_by, range_with_len, cons_option}
+use Rattle.std.specs.List.{AllByRecursion, filter_map, flat_map, sum_by, range_with_len, cons_option}
 use Rattle.std.specs.Option.{option_map_or, option_to_list}
 use Rattle.std.proofs.lemmas.Bool.{and_parts}
 use Rattle.std.proofs.Math.Nat.{add-mul}
