@@ -148,6 +148,11 @@ stops_stop h n s stop =
     let one : climb h n ≡ n ∷ [] = ap (λ (xs : List ℕ). n ∷ xs) (ap (λ t. visited most_visits h (onward_unless t (option_map_or (onward_from h n) (slice_get h n) []) ++ [])) stop ∙ visited_nothing most_visits h) in
     ap (filter_map (stop_at h)) one ∙ rw stop refl
 
+-- within the limit the stops are those of the whole climb
+pub stops_whole : (h : List Event) (n : ℕ) (vs : List ℕ) → Visits h (n ∷ []) vs → length vs ≤ most_visits → stops h n ≡ filter_map (stop_at h) vs
+unfolding stops
+stops_whole h n vs v few = ap (filter_map (stop_at h)) (climb_whole h n vs v few)
+
 filter_map-flat_map : {X Y Z : Type 0} (f : Y → Option Z) (g : X → List Y) (xs : List X) → filter_map f (flat_map g xs) ≡ flat_map (λ x. filter_map f (g x)) xs
 filter_map-flat_map f g [] = refl
 filter_map-flat_map f g (x ∷ xs) = filter_map-append f (g x) (flat_map g xs) ∙ ap (λ rest. filter_map f (g x) ++ rest) (filter_map-flat_map f g xs)
