@@ -8,7 +8,7 @@ use Rattle.rx_event.specs.declared.event.Event.TheVariants.{Item, End}
 use Rattle.rx_event.specs.Events.{is_root}
 use Rattle.rx_event.specs.Tree.{at}
 use Rattle.rx_event.specs.Climb.{Stop, Delivery, Projection, Firing, stops}
-use Rattle.rx_event.specs.Moments.{Moment, moments}
+use Rattle.rx_event.specs.Moments.{moments}
 
 -- a note, with the place of its event and the node that it goes to
 pub record Mail : Type 0 where

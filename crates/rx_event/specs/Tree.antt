@@ -1,6 +1,6 @@
 -- The subscription tree that a history leaves: which nodes there are, where they stand and which are open.
 -- Observable Contract: an end and an unsubscription stop the observable, and with it all that it subscribed to.
-use Rattle.std.specs.Prelude.{ℕ, zero, suc, Bool, true, false, ◌&&◌, ◌==◌, nat_lt, if◌then◌else◌, Option, Some, None, List, [], ◌∷◌, drop, length, slice_get, filter}
+use Rattle.std.specs.Prelude.{ℕ, zero, suc, Bool, false, ◌&&◌, ◌==◌, nat_lt, if◌then◌else◌, Option, Some, None, List, [], ◌∷◌, drop, length, slice_get, filter}
 use Rattle.std.proofs.Math.Bool.{not}
 use Rattle.std.specs.List.{list_any, list_all, range_with_len}
 use Rattle.std.specs.Option.{option_and_then, option_map_or}

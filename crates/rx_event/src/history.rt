@@ -20,9 +20,7 @@ impl Model for History {
 
     ghost Value = { Stored };
 
-    ghost view = {
-        λ h. record { events = h.events.items; limit = h.limit; room = min (vec_capacity h.events) h.limit - vec_len h.events }
-    };
+    ghost view = { λ h. record { events = h.events.items; limit = h.limit; room = min (vec_capacity h.events) h.limit - vec_len h.events } };
 
     ghost invariant = { λ h. (h.limit ≤ 4294967295) × (length h.events.items ≤ h.limit) };
 }

@@ -1,5 +1,5 @@
 -- The Observable Contract's grammar: OnNext any number of times, then at most one OnCompleted or OnError, then nothing.
-use Rattle.std.specs.Prelude.{◌≡◌, ◌↔◌, Bool, true, false, ◌&&◌, Option, List, [], ◌∷◌, ◌++◌, IsTrue}
+use Rattle.std.specs.Prelude.{◌≡◌, Bool, true, false, ◌&&◌, Option, List, [], ◌∷◌, ◌++◌, IsTrue}
 use Rattle.std.proofs.Math.Bool.{not}
 use Rattle.std.specs.List.{list_all}
 use Rattle.std.specs.Option.{option_to_list, option_map}

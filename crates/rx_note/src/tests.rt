@@ -11,6 +11,9 @@ fn nothing_comes_after_the_end(rt: HostRuntime) -> Result<(), Fail> {
     assert_eq!(rt; grammar.accept(&Note::Next(1)), Ok(()));
     assert_eq!(rt; grammar.accept(&Note::End(Terminal::Completed)), Ok(()));
     assert_eq!(rt; grammar.accept(&Note::Next(2)), Err(AfterEnd));
-    assert_eq!(rt; grammar.accept(&Note::End(Terminal::Error(3))), Err(AfterEnd));
+    assert_eq!(rt;
+        grammar.accept(&Note::End(Terminal::Error(3))),
+        Err(AfterEnd)
+    );
     Ok(())
 }

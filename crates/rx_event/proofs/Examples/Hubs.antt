@@ -1,15 +1,13 @@
 -- The definitions at worked examples: Publish, Connect and RefCount.
-use Rattle.std.proofs.Common.{◌≡◌, ℕ, List, [], ◌∷◌, ◌++◌, refl, pos, false, true, ◌<◌, arith}
-use Rattle.rx_note.specs.declared.note.Terminal.{Terminal}
-use Rattle.rx_note.specs.declared.note.Terminal.TheVariants.{Completed, Error}
+use Rattle.std.proofs.Common.{◌≡◌, List, [], ◌∷◌, ◌++◌, refl, arith}
+use Rattle.rx_note.specs.declared.note.Terminal.TheVariants.{Error}
 use Rattle.rx_event.specs.declared.event.Place.TheVariants.{Root, Source}
 use Rattle.rx_event.specs.declared.event.Kind.TheVariants.{Leaf, Sub}
 use Rattle.rx_event.specs.declared.event.Mode.TheVariants.{Auto, Manual}
 use Rattle.rx_event.specs.declared.event.Event.{Event}
-use Rattle.rx_event.specs.declared.event.Event.TheVariants.{Open, Hub, Connect, Item, End, Close}
-use Rattle.rx_event.specs.Tree.{parent, ancestors, is_shut, is_open, open_nodes, open_connections, open_subscribers}
+use Rattle.rx_event.specs.declared.event.Event.TheVariants.{Open, Hub, Connect, End, Close}
+use Rattle.rx_event.specs.Tree.{parent, ancestors, is_shut, is_open, open_nodes}
 use Rattle.rx_event.specs.Climb.{Delivery, most_visits, climb, stops}
-use Rattle.rx_event.specs.Moments.{moments}
 use Rattle.rx_event.specs.Forced.{mirrored, cut, left, IsDue}
 
 -- two hubs, one subscribed to inside a connection of the other: the last subscriber's leaving takes both connections down

@@ -1,5 +1,5 @@
 -- The definitions at worked examples: TakeUntil.
-use Rattle.std.proofs.Common.{◌≡◌, List, [], ◌∷◌, ◌++◌, refl, pos, true}
+use Rattle.std.proofs.Common.{◌≡◌, List, [], ◌∷◌, ◌++◌, refl, pos}
 use Rattle.rx_note.specs.declared.note.Terminal.TheVariants.{Completed}
 use Rattle.rx_note.specs.declared.note.Note.TheVariants.{Next, End as Ended}
 use Rattle.rx_event.specs.declared.event.Place.TheVariants.{Root, Source, Notifier}

@@ -6,7 +6,7 @@ use Rattle.rx_event.specs.declared.event.Place.TheVariants.{Root, Source}
 use Rattle.rx_event.specs.declared.event.Kind.TheVariants.{Leaf, Pass}
 use Rattle.rx_event.specs.declared.event.Event.{Event}
 use Rattle.rx_event.specs.declared.event.Event.TheVariants.{Open, Accept, Item, End, Close, Take}
-use Rattle.rx_event.specs.Tree.{parent, ancestors, is_shut, is_open, open_nodes}
+use Rattle.rx_event.specs.Tree.{parent, ancestors, is_shut, is_open}
 use Rattle.rx_event.specs.Resources.{is_held, is_taken, is_waiting, held_resources, waiting_resources}
 use Rattle.rx_event.specs.Climb.{most_visits, climb, stops}
 use Rattle.rx_event.specs.Moments.{moments, projections, owed}

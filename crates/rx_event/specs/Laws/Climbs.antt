@@ -1,9 +1,10 @@
 -- Climbs in the subject's own words: a node, and then the climbs of where it goes on, in order.
-use Rattle.std.proofs.Common.{◌≡◌, ◌↔◌, ℕ, zero, suc, ◌+◌, ◌<◌, ◌≤◌, Bool, true, false, List, [], ◌∷◌, ◌++◌, length, take, Option, Some, None, cond, min, refl, sym, ap, ◌∙◌, arith, ◌==◌, slice_get, append_assoc, append-nil, length-append}
+use Rattle.std.proofs.Common.{◌≡◌, ◌↔◌, ℕ, zero, suc, ◌+◌, ◌*◌, ◌<◌, ◌≤◌, Bool, true, false, List, [], ◌∷◌, ◌++◌, length, take, Option, Some, None, cond, min, refl, sym, ap, ◌∙◌, arith, ◌==◌, slice_get, append_assoc, append-nil, add-zero, length-append}
 use Rattle.std.proofs.Math.Bool.{◌&&◌}
-use Rattle.std.specs.List.{AllByRecursion, filter_map, flat_map, count_by, sum_by, range_with_len, cons_option}
+use Rattle.std.specs.List.{AllByRecursion, filter_map, flat_map, sum_by, range_with_len, cons_option}
 use Rattle.std.specs.Option.{option_map_or, option_to_list}
 use Rattle.std.proofs.lemmas.Bool.{and_parts}
+use Rattle.std.proofs.Math.Nat.{add-mul}
 use Rattle.std.proofs.lemmas.List.{length-take, take_all}
 use Rattle.std.proofs.lemmas.List.Elements.{filter_map-append}
 use Rattle.std.proofs.lemmas.List.Sums.{sum_by-cons, sum_by-append}
@@ -13,11 +14,11 @@ use Rattle.rx_event.specs.Events.{is_subscriber_of}
 use Rattle.rx_event.specs.Tree.{at, places, parent, is_within, is_open}
 use Rattle.rx_event.specs.Climb.{Stop, stop_at, onward_from, onward_unless, onward, visited, most_visits, climb, stops, visits}
 use Rattle.rx_event.specs.Lawful.{IsLawful}
-use Rattle.rx_event.specs.Laws.Claims.Climbs.{nowhere, visit, Visits}
+use Rattle.rx_event.specs.Laws.Claims.Climbs.{nowhere, visit, Visits, times}
 use Rattle.rx_event.specs.Laws.Lists.{AllByRecursion-both, filtered}
 use Rattle.rx_event.specs.Laws.Parents.{parent-lt, within_parent}
 use Rattle.rx_event.specs.Laws.Openness.{is_open_within, parent_open}
-use Rattle.rx_event.specs.Laws.Sums.{sum_by-same, sum_by-plus, sum_by_none, count_by_one}
+use Rattle.rx_event.specs.Laws.Sums.{sum_by-same, sum_by-plus, sum_by_none, sum_by_one}
 use Rattle.rx_event.specs.Laws.Totals.{is_within_self}
 use Rattle.rx_event.specs.Laws.Projections.{onward_open}
 use Rattle.rx_event.specs.Laws.Hubs.{subscriber_hub, hubs_in_order}
@@ -147,6 +148,11 @@ stops_stop h n s stop =
     let one : climb h n ≡ n ∷ [] = ap (λ (xs : List ℕ). n ∷ xs) (ap (λ t. visited most_visits h (onward_unless t (option_map_or (onward_from h n) (slice_get h n) []) ++ [])) stop ∙ visited_nothing most_visits h) in
     ap (filter_map (stop_at h)) one ∙ rw stop refl
 
+-- within the limit the stops are those of the whole climb
+pub stops_whole : (h : List Event) (n : ℕ) (vs : List ℕ) → Visits h (n ∷ []) vs → length vs ≤ most_visits → stops h n ≡ filter_map (stop_at h) vs
+unfolding stops
+stops_whole h n vs v few = ap (filter_map (stop_at h)) (climb_whole h n vs v few)
+
 filter_map-flat_map : {X Y Z : Type 0} (f : Y → Option Z) (g : X → List Y) (xs : List X) → filter_map f (flat_map g xs) ≡ flat_map (λ x. filter_map f (g x)) xs
 filter_map-flat_map f g [] = refl
 filter_map-flat_map f g (x ∷ xs) = filter_map-append f (g x) (flat_map g xs) ∙ ap (λ rest. filter_map f (g x) ++ rest) (filter_map-flat_map f g xs)
@@ -157,9 +163,6 @@ unfolding stops
 stops_in_order h law n o few passes = ap (filter_map (stop_at h)) (climb_in_order h law n o few) ∙ ap (λ t. cons_option t (filter_map (stop_at h) (flat_map (climb h) (onward h n)))) passes ∙ filter_map-flat_map (stop_at h) (climb h) (onward h n)
 
 -- counts ------------------------------------------------------------------------------------------
-
-abbrev times : ℕ → List ℕ → ℕ
-times k ns = count_by (λ m. m == k) ns
 
 -- how often visited nodes go on to k
 abbrev onward_times : List Event → ℕ → List ℕ → ℕ
@@ -176,19 +179,39 @@ visits_each h k (visit {n = n} {others = others} {later = later} {rest = rest} p
     balance : (here onward_here in_all in_both in_later in_rest in_ns in_others on_all on_both on_later on_rest : ℕ) → in_all ≡ here + in_both → in_both ≡ in_later + in_rest → in_ns ≡ here + in_others → on_all ≡ onward_here + on_both → on_both ≡ on_later + on_rest → in_later ≡ onward_here + on_later → in_rest ≡ in_others + on_rest → in_all ≡ in_ns + on_all
     balance here onward_here in_all in_both in_later in_rest in_ns in_others on_all on_both on_later on_rest a b c d e f g = omega arith
 
-length-by_number : (n : ℕ) (xs : List ℕ) → AllByRecursion (λ x. x < n) xs → length xs ≡ sum_by (λ k. times k xs) (range_with_len 0 n)
-length-by_number n [] below = sym (sum_by_none (λ k. times k []) n (λ k l. refl))
-length-by_number n (x ∷ xs) below =
-    let rest = length-by_number n xs below.1 in
-    let each : sum_by (λ k. times k (x ∷ xs)) (range_with_len 0 n) ≡ sum_by (λ k. cond (x == k) 1 0 + times k xs) (range_with_len 0 n) = sum_by-same (λ k. cond (x == k) 1 0 + times k xs) (λ k. times k (x ∷ xs)) n (λ k l. sum_by-cons (λ m. cond (m == k) 1 0) x xs) in
-    let split = sum_by-plus (λ k. cond (x == k) 1 0) (λ k. times k xs) n in
-    let one = count_by_one x n below.0 in
+-- a sum over a list by how often each number is in it
+sum_by-by_number : (f : ℕ → ℕ) (n : ℕ) (xs : List ℕ) → AllByRecursion (λ x. x < n) xs → sum_by f xs ≡ sum_by (λ k. times k xs * f k) (range_with_len 0 n)
+sum_by-by_number f n [] below = sym (sum_by_none (λ k. times k [] * f k) n (λ k l. omega arith))
+sum_by-by_number f n (x ∷ xs) below =
+    let rest = sum_by-by_number f n xs below.1 in
+    let each : sum_by (λ k. times k (x ∷ xs) * f k) (range_with_len 0 n) ≡ sum_by (λ k. cond (x == k) (f k) 0 + times k xs * f k) (range_with_len 0 n) = sum_by-same (λ k. cond (x == k) (f k) 0 + times k xs * f k) (λ k. times k (x ∷ xs) * f k) n (λ k l. ap (λ t. t * f k) (sum_by-cons (λ m. cond (m == k) 1 0) x xs) ∙ split_off (x == k) (times k xs) (f k)) in
+    let split = sum_by-plus (λ k. cond (x == k) (f k) 0) (λ k. times k xs * f k) n in
+    let one = sum_by_one f x n below.0 in
+    let first = sum_by-cons f x xs in
     omega arith
+  where
+    split_off : (b : Bool) (t y : ℕ) → (cond b 1 0 + t) * y ≡ cond b y 0 + t * y
+    split_off true t y = add-mul 1 t y ∙ (let z : 1 * y ≡ y = omega arith in ap (λ u. u + t * y) z)
+    split_off false t y = add-mul 0 t y ∙ (let z : 0 * y ≡ 0 = omega arith in ap (λ u. u + t * y) z)
 
 all_within : (h : List Event) (vs : List ℕ) → AllByRecursion (λ m. is_open h m ≡ true) vs → AllByRecursion (λ m. m < length h) vs
 all_within h [] open_all = tt
 all_within h (v ∷ vs) open_all = (is_open_within h v open_all.0, all_within h vs open_all.1)
 
+-- what is reached stands in the history
+visits_in : (h : List Event) (n : ℕ) (vs : List ℕ) → is_open h n ≡ true → Visits h (n ∷ []) vs → AllByRecursion (λ m. m < length h) vs
+visits_in h n vs o v = all_within h vs (visits_open h v (o, tt))
+
+-- a node is visited as often as the others go on to it, each as often as it is visited
+pub visits_by_node : (h : List Event) (n : ℕ) (vs : List ℕ) → is_open h n ≡ true → Visits h (n ∷ []) vs → (k : ℕ) → times k vs ≡ cond (n == k) 1 0 + sum_by (λ v. times v vs * times k (onward h v)) (places h)
+visits_by_node h n vs o v k =
+    let start : times k (n ∷ []) ≡ cond (n == k) 1 0 = sum_by-cons (λ m. cond (m == k) 1 0) n [] ∙ add-zero (cond (n == k) 1 0) in
+    visits_each h k v ∙ (λ i. start i + sum_by-by_number (λ u. times k (onward h u)) (length h) vs (visits_in h n vs o v) i)
+
+length-sum_by : (xs : List ℕ) → length xs ≡ sum_by (λ x. 1) xs
+length-sum_by [] = refl
+length-sum_by (x ∷ xs) = let rest = length-sum_by xs in let first = sum_by-cons (λ (y : ℕ). 1) x xs in omega arith
+
 -- all visits are those of the nodes together
-pub visits_all : (h : List Event) (n : ℕ) (vs : List ℕ) → is_open h n ≡ true → Visits h (n ∷ []) vs → length vs ≡ sum_by (λ k. count_by (λ m. m == k) vs) (places h)
-visits_all h n vs o v = length-by_number (length h) vs (all_within h vs (visits_open h v (o, tt)))
+pub visits_all : (h : List Event) (n : ℕ) (vs : List ℕ) → is_open h n ≡ true → Visits h (n ∷ []) vs → length vs ≡ sum_by (λ k. times k vs) (places h)
+visits_all h n vs o v = length-sum_by vs ∙ sum_by-by_number (λ x. 1) (length h) vs (visits_in h n vs o v) ∙ sum_by-same (λ k. times k vs) (λ k. times k vs * 1) (length h) (λ k l. omega arith)

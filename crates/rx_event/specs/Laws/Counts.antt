@@ -20,4 +20,3 @@ unfolding projections
 projections-push h e f =
     let g : Moment → ℕ = λ m. count_by (is_projection_to f) (stops_of m.before m.event) in
     ap (sum_by g) (moments-push h e) ∙ sum_by-append g (moments h) ((record { before = h; event = e }) ∷ []) ∙ ap (λ (k : ℕ). sum_by g (moments h) + k) (sum_by-cons g (record { before = h; event = e }) [] ∙ add-zero _)
-

@@ -1,5 +1,5 @@
 -- Hubs: at most one connection of each is open, and in a settled history a RefCount hub has one just where it has a subscriber.
-use Rattle.std.proofs.Common.{◌≡◌, ◌≢◌, ℕ, ◌+◌, ◌<◌, ◌≤◌, Bool, true, false, List, [], ◌∷◌, ◌++◌, length, Option, Some, None, refl, sym, ap, ◌∙◌, arith, inl, inr, ◌⊎◌, ◌==◌, take, drop, slice_get, length-append, take-append-drop}
+use Rattle.std.proofs.Common.{◌≡◌, ◌≢◌, ℕ, ◌+◌, ◌<◌, ◌≤◌, true, false, List, [], ◌∷◌, ◌++◌, length, Option, Some, None, refl, sym, ap, ◌∙◌, arith, inl, inr, ◌⊎◌, ◌==◌, take, drop, slice_get, length-append, take-append-drop}
 use Rattle.std.proofs.Math.Bool.{◌&&◌}
 use Rattle.std.specs.Option.{option_map_or}
 use Rattle.std.proofs.lemmas.Bool.{cases_order, both_ways, false≢true, and_parts, and_from, eq-eqb, eqb-true}
@@ -14,7 +14,7 @@ use Rattle.rx_event.specs.declared.event.Event.{Event}
 use Rattle.rx_event.specs.declared.event.Event.TheVariants.{Open, Connect, Close}
 use Rattle.rx_event.specs.Events.{makes_hub, is_auto_hub, is_connect_of, is_subscriber_of}
 use Rattle.rx_event.specs.Tree.{at, places, parent, ancestors, is_within, is_open, open_subscribers, open_connections}
-use Rattle.rx_event.specs.Forced.{cut, left, connecting, due, IsDue, IsForced, IsConnectDue, IsSettled, SourceEnded}
+use Rattle.rx_event.specs.Forced.{cut, left, connecting, due, IsDue, IsForced, IsConnectDue, IsSettled}
 use Rattle.rx_event.specs.Allowed.{opened, connected, IsAllowed, IsHubbed, IsInOrder, IsInOrderAt}
 use Rattle.rx_event.specs.Lawful.{forced, allowed, MayFollow, IsLawful}
 use Rattle.rx_event.specs.Laws.Lists.{first_passes, filter_nonempty, filter_few}

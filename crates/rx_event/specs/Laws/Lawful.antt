@@ -1,5 +1,5 @@
 -- Lawful histories, event by event.
-use Rattle.std.proofs.Common.{◌≡◌, ℕ, zero, suc, ◌+◌, ◌<◌, ◌≤◌, true, List, [], ◌∷◌, ◌++◌, length, take, Some, refl, sym, ap, ◌∙◌, arith, slice_get, append_assoc, append-nil}
+use Rattle.std.proofs.Common.{◌≡◌, ℕ, zero, suc, ◌<◌, true, List, [], ◌∷◌, ◌++◌, take, Some, sym, ap, ◌∙◌, arith, slice_get, append_assoc, append-nil}
 use Rattle.std.specs.List.{AllByRecursion}
 use Rattle.std.proofs.lemmas.Grind.{common_steps}
 use Rattle.std.proofs.lemmas.Option.{slice_get_within, same_Some, none-some}
@@ -8,7 +8,7 @@ use Rattle.rx_event.specs.declared.event.Event.{Event}
 use Rattle.rx_event.specs.declared.event.Event.TheVariants.{End}
 use Rattle.rx_event.specs.Tree.{is_open}
 use Rattle.rx_event.specs.Moments.{Moment, moments, moments_after}
-use Rattle.rx_event.specs.Forced.{mirrored, fired, failed, completed, cut, left, connecting, due, IsDue, IsForced}
+use Rattle.rx_event.specs.Forced.{mirrored, fired, failed, completed, cut, due, IsDue, IsForced}
 use Rattle.rx_event.specs.Allowed.{leaf_ended, aborted, projection_failed, IsAllowed}
 use Rattle.rx_event.specs.Lawful.{forced, allowed, MayFollow, IsLawful}
 use Rattle.rx_event.specs.Laws.Openness.{is_open_within}
@@ -76,4 +76,3 @@ ended_after h law i c t at_i =
     let o = is_open_within (take i h) c (may_end (lawful_at h law i (End c t) at_i)) in
     let l = slice_get_within h i (End c t) at_i in
     grind (arith, common_steps)
-

@@ -1,8 +1,7 @@
 -- What each node is told: items, then at most one end, then nothing.
-use Rattle.std.proofs.Common.{◌≡◌, ℕ, ℤ, ◌+◌, ◌<◌, ◌≤◌, Bool, true, false, List, [], ◌∷◌, ◌++◌, length, Option, Some, None, cond, refl, sym, ap, ◌∙◌, arith, inl, inr, ◌⊎◌, ◌==◌, append-nil, filter, map, length-append}
-use Rattle.std.proofs.Math.Bool.{not, ◌&&◌}
+use Rattle.std.proofs.Common.{◌≡◌, ℕ, ℤ, ◌<◌, ◌≤◌, Bool, true, false, List, [], ◌∷◌, ◌++◌, length, Some, None, cond, refl, sym, ap, ◌∙◌, arith, inl, inr, ◌⊎◌, ◌==◌, append-nil, filter, map, length-append}
+use Rattle.std.proofs.Math.Bool.{not}
 use Rattle.std.specs.List.{AllByRecursion, list_all, filter_map}
-use Rattle.std.specs.Option.{option_map_or}
 use Rattle.std.proofs.lemmas.Bool.{cases_Bool, cases_lt, both_ways, and_from, eqb-true}
 use Rattle.std.proofs.lemmas.List.{map-append}
 use Rattle.std.proofs.lemmas.List.Elements.{filter-append}
@@ -74,7 +73,7 @@ item_notes_items n place value (Firing u ∷ ss) = item_notes_items n place valu
 item_notes_items n place value (Delivery m ∷ ss) = rw (noted_to n m place (Next value) (filter_map (told place value) ss)) (noted_items (m == n) (Next value) (item_notes n place value ss) refl (item_notes_items n place value ss))
 item_notes_items n place value (Projection f ∷ ss) = rw (noted_to n f place (Project value) (filter_map (told place value) ss)) (noted_items (f == n) (Project value) (item_notes n place value ss) refl (item_notes_items n place value ss))
 
--- a number of which another thing holds is another number
+-- numbers that a test tells apart differ
 differ : (p : ℕ → Bool) (n m : ℕ) → p n ≡ false → p m ≡ true → (m == n) ≡ false
 differ p n m fails holds = by_number (cases_Bool (m == n)) where
   by_number : ((m == n) ≡ true) ⊎ ((m == n) ≡ false) → (m == n) ≡ false

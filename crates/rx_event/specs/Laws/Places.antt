@@ -1,5 +1,5 @@
 -- What stands at a place of a longer history.
-use Rattle.std.proofs.Common.{◌≡◌, ℕ, zero, suc, ◌+◌, ◌<◌, ◌≤◌, Bool, true, false, List, [], ◌∷◌, ◌++◌, length, take, drop, Option, Some, None, refl, sym, ap, ◌∙◌, arith, inl, inr, ◌⊎◌, slice_get, length-append, take-append-drop}
+use Rattle.std.proofs.Common.{◌≡◌, ℕ, zero, suc, ◌<◌, Bool, true, false, List, [], ◌∷◌, ◌++◌, length, take, drop, Option, Some, None, refl, sym, ap, ◌∙◌, arith, inl, inr, ◌⊎◌, slice_get, length-append, take-append-drop}
 use Rattle.std.specs.Option.{option_map_or}
 use Rattle.std.proofs.lemmas.Grind.{common_steps}
 use Rattle.std.proofs.lemmas.Bool.{cases_order, false≢true}
@@ -40,4 +40,3 @@ cases_push h e x i at_i = by_place (cases_order i (length h)) where
   by_place (inr (inl l)) = inl (sym (slice_get-append h (e ∷ []) i l) ∙ at_i)
   by_place (inl same) = inr (same_Some e x (sym (slice_get_last h e) ∙ ap (slice_get (h ++ e ∷ [])) (sym same) ∙ at_i))
   by_place (inr (inr g)) = let l = slice_get_within (h ++ e ∷ []) i x at_i in absurd (omega (arith, length-append {A = Event}))
-

@@ -78,14 +78,18 @@ sum_by_none f (suc n) each =
     let last = each n (omega arith) in
     omega (arith, sum_below-suc f n)
 
--- one number is counted once
-pub count_by_one : (c n : ℕ) → c < n → count_by (λ k. c == k) (range_with_len 0 n) ≡ 1
-count_by_one c zero l = absurd (omega arith)
-count_by_one c (suc n) l = sum_below-suc (λ k. cond (c == k) 1 0) n ∙ by_place (count_by_one c n) (cases_order c n) where
-  by_place : (c < n → count_by (λ k. c == k) (range_with_len 0 n) ≡ 1) → (c ≡ n) ⊎ ((c < n) ⊎ (n < c)) → count_by (λ k. c == k) (range_with_len 0 n) + cond (c == n) 1 0 ≡ 1
-  by_place before (inl same) = rw (eq-eqb c n same) (let r = sum_by_none (λ k. cond (c == k) 1 0) n (λ k m. rw (ne_eqb c k (omega arith)) refl) in omega arith)
+-- one term alone is not 0
+pub sum_by_one : (f : ℕ → ℕ) (c n : ℕ) → c < n → sum_by (λ k. cond (c == k) (f k) 0) (range_with_len 0 n) ≡ f c
+sum_by_one f c zero l = absurd (omega arith)
+sum_by_one f c (suc n) l = sum_below-suc (λ k. cond (c == k) (f k) 0) n ∙ by_place (sum_by_one f c n) (cases_order c n) where
+  by_place : (c < n → sum_by (λ k. cond (c == k) (f k) 0) (range_with_len 0 n) ≡ f c) → (c ≡ n) ⊎ ((c < n) ⊎ (n < c)) → sum_by (λ k. cond (c == k) (f k) 0) (range_with_len 0 n) + cond (c == n) (f n) 0 ≡ f c
+  by_place before (inl same) = rw (eq-eqb c n same) (let r = sum_by_none (λ k. cond (c == k) (f k) 0) n (λ k m. rw (ne_eqb c k (omega arith)) refl) in let e : f c ≡ f n = ap f same in omega arith)
   by_place before (inr (inl m)) = rw (ne_eqb c n (omega arith)) (let r = before m in omega arith)
   by_place before (inr (inr m)) = absurd (omega arith)
+
+-- one number is counted once
+pub count_by_one : (c n : ℕ) → c < n → count_by (λ k. c == k) (range_with_len 0 n) ≡ 1
+count_by_one c n l = sum_by_one (λ k. 1) c n l
 
 -- a count of events by their places
 pub count_by-places : (p : Event → Bool) (h : List Event) → count_by p h ≡ count_by (at p h) (places h)

@@ -1,7 +1,6 @@
 -- What is promised of notes.
 use Rattle.std.specs.Prelude.{◌≡◌, ℕ, ℤ, false, List, [], ◌∷◌, ◌++◌}
 use Rattle.std.specs.List.{AllByRecursion}
-use Rattle.rx_note.specs.declared.note.Note.{Note}
 use Rattle.rx_note.specs.declared.note.Note.TheVariants.{Project}
 use Rattle.rx_note.specs.Notes.{IsGrammatical}
 use Rattle.rx_event.specs.declared.event.Event.{Event}
