@@ -14,7 +14,7 @@ returns-in-Ok-clause-added g c =
 pub returns-in-Err-clause-succeeds_inline : goal.returns-in-Err-clause-succeeds_inline
 returns-in-Err-clause-succeeds_inline g c usable left short =
     let few = rw (← c.self.view_is) at short in
-    c.in-Err.ensures.succeeds (omega (arith, few, c.self.invariant.inline, length-entries_of _ c.self.invariant.filled))
+    rw c.refuse-in-Err.ensures (c.in-Err.ensures.succeeds (omega (arith, few, c.self.invariant.inline, length-entries_of _ c.self.invariant.filled)))
 
 pub returns-in-Ok-clause-fresh : goal.returns-in-Ok-clause-fresh
 returns-in-Ok-clause-fresh g c =
