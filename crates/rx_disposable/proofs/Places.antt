@@ -6,6 +6,8 @@ use Rattle.std.proofs.lemmas.Bool.Decides.{nat_tests}
 use Rattle.std.proofs.lemmas.List.{length-map, map-append, set-get_or}
 use Rattle.std.proofs.lemmas.List.Elements.{All-head, All-tail}
 use Rattle.rx_disposable.specs.declared.members.Member.{Member}
+use Rattle.rx_disposable.specs.declared.members.TheConstants.{INLINE_LEN}
+use Rattle.rx_disposable.specs.declared.group.TheConstants.{MAX_TICKETS}
 use Rattle.rx_disposable.specs.Group.{TicketsRise, IsSound}
 use Rattle.rx_disposable.proofs.Tickets.{rise-append, rise-remove_entry, rise-set_value}
 use Rattle.rx_disposable.specs.Members.{entries_of, member_of, AreFilled, AreInOrder, IsKept}
@@ -22,7 +24,7 @@ module _ {T : Type 0} where
   pub filled_made : (ms : List (Member T)) (es : List (ℕ × T)) → ms ≡ map member_of es → AreFilled ms
   filled_made ms es made = rw (entries_made ms es made) made
 
-  pub kept_made : (ms : List (Member T)) (es : List (ℕ × T)) (capacity given : ℕ) (disposed : Bool) → ms ≡ map member_of es → IsSound (record { members = es; given = given; disposed = disposed }) → 4 ≤ capacity → IsKept ms capacity given disposed
+  pub kept_made : (ms : List (Member T)) (es : List (ℕ × T)) (capacity given : ℕ) (disposed : Bool) → ms ≡ map member_of es → IsSound (record { members = es; given = given; disposed = disposed }) → INLINE_LEN ≤ capacity → IsKept ms capacity given disposed
   kept_made ms es capacity given disposed made sound inline =
       record { filled = filled_made ms es made; sound = rw (entries_made ms es made) sound; inline = inline }
 
@@ -100,18 +102,18 @@ filled_at m (e ∷ es) zero within at = rw at refl
 filled_at m (e ∷ es) (suc i) within at = filled_at m es i (omega arith) at
 
 -- a list with no member
-pub kept_none : {T : Type 0} (given : ℕ) (disposed : Bool) → IsKept {T = T} [] 4 given disposed
-kept_none given disposed = record { filled = refl; sound = record { tickets = omega arith; emptied = λ over. refl }; inline = omega arith }
+pub kept_none : {T : Type 0} (given : ℕ) (disposed : Bool) → given ≤ MAX_TICKETS → IsKept {T = T} [] INLINE_LEN given disposed
+kept_none given disposed limit = record { filled = refl; sound = record { tickets = omega arith; limit = limit; emptied = λ over. refl }; inline = omega arith }
 
 module _ {T : Type 0} (ms : List (Member T)) (capacity given : ℕ) (disposed : Bool) (kept : IsKept ms capacity given disposed) where
   pub kept_in_order : AreInOrder ms
   kept_in_order = in_order 0 given ms kept.filled kept.sound.tickets
 
   -- the next ticket's value goes in
-  pub kept_added : (value : T) (room : ℕ) → disposed ≡ false → capacity ≤ room → IsKept (ms ++ member_of (given, value) ∷ []) room (given + 1) disposed
-  kept_added value room usable more =
+  pub kept_added : (value : T) (room : ℕ) → disposed ≡ false → given < MAX_TICKETS → capacity ≤ room → IsKept (ms ++ member_of (given, value) ∷ []) room (given + 1) disposed
+  kept_added value room usable left more =
       kept_made _ _ room (given + 1) disposed (made-append ms (entries_of ms) (given, value) kept.filled)
-      (record { tickets = rise-append 0 given (entries_of ms) value kept.sound.tickets; emptied = λ over. cc })
+      (record { tickets = rise-append 0 given (entries_of ms) value kept.sound.tickets; limit = omega arith; emptied = λ over. cc })
       (omega (arith, kept.inline))
 
   pub entries_added : (value : T) → entries_of (ms ++ member_of (given, value) ∷ []) ≡ entries_of ms ++ (given, value) ∷ []
@@ -120,7 +122,7 @@ module _ {T : Type 0} (ms : List (Member T)) (capacity given : ℕ) (disposed : 
   -- where none is left, the group may be marked
   pub kept_disposed : entries_of ms ≡ [] → IsKept ms capacity given true
   kept_disposed none =
-      record { filled = kept.filled; sound = record { tickets = kept.sound.tickets; emptied = λ over. none }; inline = kept.inline }
+      record { filled = kept.filled; sound = record { tickets = kept.sound.tickets; limit = kept.sound.limit; emptied = λ over. none }; inline = kept.inline }
 
   -- a ticket that no member has
   pub kept_absent : (ticket : ℕ) → All (λ m. m.ticket ≢ ticket) ms → lookup (nat_eq ticket) (entries_of ms) ≡ None
@@ -151,7 +153,7 @@ module _ {T : Type 0} (ms : List (Member T)) (capacity given : ℕ) (disposed : 
     pub kept_removed : IsKept (remove ms i) capacity given disposed
     kept_removed =
         kept_made _ _ capacity given disposed made_removed
-        (record { tickets = rise-remove_entry 0 given ticket (entries_of ms) kept.sound.tickets; emptied = λ over. rw (kept.sound.emptied over) refl })
+        (record { tickets = rise-remove_entry 0 given ticket (entries_of ms) kept.sound.tickets; limit = kept.sound.limit; emptied = λ over. rw (kept.sound.emptied over) refl })
         kept.inline
 
     pub entries_removed : entries_of (remove ms i) ≡ remove_entry (nat_eq ticket) (entries_of ms)
@@ -164,7 +166,7 @@ module _ {T : Type 0} (ms : List (Member T)) (capacity given : ℕ) (disposed : 
     pub kept_set : (w : T) → IsKept (slice_set ms i (record m { value = Some w })) capacity given disposed
     kept_set w =
         kept_made _ _ capacity given disposed (made_set w)
-        (record { tickets = rise-set_value 0 given ticket (entries_of ms) w kept.sound.tickets; emptied = λ over. rw (kept.sound.emptied over) refl })
+        (record { tickets = rise-set_value 0 given ticket (entries_of ms) w kept.sound.tickets; limit = kept.sound.limit; emptied = λ over. rw (kept.sound.emptied over) refl })
         kept.inline
 
     pub entries_set : (w : T) → entries_of (slice_set ms i (record m { value = Some w })) ≡ set_value (nat_eq ticket) (entries_of ms) w

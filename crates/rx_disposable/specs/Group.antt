@@ -1,5 +1,6 @@
 -- What a group holds, and what a ticket stands for.
 use Rattle.std.specs.Prelude.{◌≡◌, ◌≢◌, ℕ, ◌+◌, ◌≤◌, Bool, true, List, [], ◌∷◌, ◌++◌, Option, nat_eq}
+use Rattle.rx_disposable.specs.declared.group.TheConstants.{MAX_TICKETS}
 use Rattle.std.specs.Map.{lookup, remove_entry, set_value}
 
 -- the values inside with their tickets, in order of adding; how many tickets were given; and whether
@@ -39,7 +40,9 @@ module _ {T : Type 0} where
   TicketsRise first next (member ∷ later) =
       (first ≤ member.0) × TicketsRise (member.0 + 1) next later
 
-  -- what holds of each group: no ticket stands twice, each was given, and a disposed group is empty
+  -- what holds of each group: no ticket stands twice, each was given, no more were given than there
+  -- are, and a disposed group is empty
   pub record IsSound (group : Group T) : Type 0 where
     pub tickets : TicketsRise 0 group.given group.members
+    pub limit : group.given ≤ MAX_TICKETS
     pub emptied : group.disposed ≡ true → group.members ≡ []

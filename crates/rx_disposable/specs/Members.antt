@@ -2,6 +2,7 @@
 use Rattle.std.specs.Prelude.{◌≡◌, ℕ, ◌<◌, ◌≤◌, Bool, List, length, slice_index_or, map, filter_map, Option, Some, option_map}
 use Rattle.rx_disposable.specs.Group.{IsSound}
 use Rattle.rx_disposable.specs.declared.members.Member.{Member}
+use Rattle.rx_disposable.specs.declared.members.TheConstants.{INLINE_LEN}
 
 module _ {T : Type 0} where
   -- the ticket and the value of a member, where it has one
@@ -30,4 +31,4 @@ module _ {T : Type 0} where
   pub record IsKept (members : List (Member T)) (capacity given : ℕ) (disposed : Bool) : Type 0 where
     pub filled : AreFilled members
     pub sound : IsSound (record { members = entries_of members; given = given; disposed = disposed })
-    pub inline : 4 ≤ capacity
+    pub inline : INLINE_LEN ≤ capacity

@@ -1,3 +1,5 @@
+ghost use Rattle.std.specs.Prelude.{◌≡◌, Err};
+
 /// Why a value was not taken in.
 #[derive(Clone, Copy, Debug, PartialEq, Eq)]
 pub enum Why {
@@ -19,4 +21,15 @@ pub struct Back<T> {
     pub why: Why,
     /// The value that was handed in.
     pub value: T,
+}
+
+impl<T> Back<T> {
+    ghost use Rattle.rx_disposable.specs.Back.{refusal};
+
+    // The answer of a call that does not take the value in.
+    pub(crate) fn refuse<U>(why: Why, value: T) -> Result<U, Self>
+        ensures { result ≡ Err (refusal why value) }
+    {
+        Err(Back { why, value })
+    }
 }

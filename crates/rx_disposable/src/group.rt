@@ -1,4 +1,4 @@
-ghost use Rattle.std.specs.Prelude.{◌≡◌, ◌↔◌, ℕ, ◌+◌, ◌<◌, ◌≤◌, [], length, Some, None, Err, true, false, IsOk, IfOk, IfErr, OnOk, OnErr, MatchOption, IsTrue};
+ghost use Rattle.std.specs.Prelude.{◌≡◌, ◌↔◌, ℕ, ◌+◌, ◌<◌, [], length, Some, None, Err, true, false, IsOk, IfOk, IfErr, OnOk, OnErr, IsTrue};
 ghost use Rattle.std.specs.Option.{option_copied_mut};
 ghost use Rattle.std.specs.Borrow.{sem};
 ghost use Rattle.std.specs.Iterator.{YieldsFirst};
@@ -99,16 +99,10 @@ impl<T: Drop> Group<T> {
         ensures err { OnErr result (self.new ≡ self.old) }
     {
         if self.disposed {
-            return Err(Back {
-                why: Why::Disposed,
-                value,
-            });
+            return Back::refuse(Why::Disposed, value);
         }
         if self.given == MAX_TICKETS {
-            return Err(Back {
-                why: Why::TooMany,
-                value,
-            });
+            return Back::refuse(Why::TooMany, value);
         }
         let ticket = u64::from(self.given);
         match self.members.push(Member::new(ticket, value)) {
@@ -116,10 +110,7 @@ impl<T: Drop> Group<T> {
                 self.given += 1;
                 Ok(ticket)
             }
-            Err(failed) => Err(Back {
-                why: Why::NoMemory,
-                value: failed.value.into_value(),
-            }),
+            Err(failed) => Back::refuse(Why::NoMemory, failed.value.into_value()),
         }
     }
 

@@ -33,6 +33,13 @@
 //! That what comes out is released, or that a lease is given back: both are the caller's. A place that
 //! is dropped drops what is inside; where values may not be dropped, neither may the place, and
 //! `into_inner` ends it.
+//!
+//! # For a caller that is generic in the values
+//!
+//! A [`Group`] and [`Members`] have places for [`INLINE_LEN`] values in themselves. Where `T` is a type
+//! parameter, nothing bounds their size, and a call on one is proved only where a parameter or the
+//! result says so: as a `&mut Group<T>` does for the group, or a
+//! `requires { FitsInMemory (the_row T.row) }`, which holds at each type of the program.
 #![tactic(auto)]
 
 mod back;
@@ -43,6 +50,8 @@ mod serial;
 mod single;
 #[cfg(test)]
 mod tests;
+#[cfg(test)]
+mod uses;
 
 pub use back::{Back, Why};
 pub use counted::{Counted, Denied, MAX_LEASES, NoLease};

@@ -1,6 +1,7 @@
 ghost use Rattle.std.specs.Prelude.{◌≡◌, ◌≢◌, ◌<◌, length, Some, None, IsSome, IfSome, IfNone, All};
 ghost use Rattle.std.specs.List.{HoldsAt};
-ghost use Rattle.std.specs.Iterator.{YieldsFirst, item_count};
+ghost use Rattle.std.specs.Iterator.{YieldsFirst, UpTo, item_count, at_most};
+ghost use Rattle.std.specs.Iterator.SizeHint.{IsWithinCount};
 ghost use Rattle.rx_disposable.specs.Members.{AreInOrder};
 
 use smallvec::{IntoIter, SmallVec};
@@ -96,7 +97,11 @@ impl<T: Drop> Iterator for Members<T> {
         Some((member.ticket, member.into_value()))
     }
 
-    fn size_hint(&self) -> (usize, Option<usize>) {
+    fn size_hint(&self) -> (usize, Option<usize>)
+        ensures exact { result ≡ (length self.now, Some (length self.now)) }
+        ensures lower { IsWithinCount result.0 (at_most (length self.now)) }
+        ensures upper { IfSome result.1 (UpTo (at_most (length self.now))) }
+    {
         let len = self.len();
         (len, Some(len))
     }

@@ -52,16 +52,10 @@ impl<T> Single<T> {
         ensures err { OnErr result (self.new ≡ self.old) }
     {
         if self.disposed {
-            return Err(Back {
-                why: Why::Disposed,
-                value,
-            });
+            return Back::refuse(Why::Disposed, value);
         }
         if self.value.is_some() {
-            return Err(Back {
-                why: Why::Already,
-                value,
-            });
+            return Back::refuse(Why::Already, value);
         }
         match self.value.replace(value) {
             None => Ok(()),

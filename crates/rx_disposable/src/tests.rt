@@ -1,4 +1,5 @@
 //! Worked examples, and calls in want of memory.
+use crate::uses::{moved_out, there_and_back};
 use crate::{Back, Counted, Denied, Group, INLINE_LEN, NoLease, Serial, Single, Why};
 use rx_scarce::{MOST_BLOCKS, Scarce};
 use std::test::Fail;
@@ -157,6 +158,18 @@ fn a_write_to_a_ticket_changes_that_value_alone(rt: HostRuntime) -> Result<(), F
         assert_eq!(rt; value, if ticket == 41 { 1000 } else { ticket });
     }
     assert!(rt; group.is_empty());
+    Ok(())
+}
+
+#[test]
+fn a_group_serves_generic_callers(rt: HostRuntime) -> Result<(), Fail> {
+    let mut group = Group::new(rt.alloc());
+    let mut list = Vec::new(rt.alloc());
+    assert_eq!(rt; told(there_and_back(&mut group, 'x')), Ok('x'));
+    assert_eq!(rt; told(group.add('y')), Ok(1));
+    assert_eq!(rt; told(group.add('z')), Ok(2));
+    moved_out(&mut group, &mut list)?;
+    assert_eq!(rt; list.as_slice(), [(1, 'y'), (2, 'z')].as_slice());
     Ok(())
 }
 

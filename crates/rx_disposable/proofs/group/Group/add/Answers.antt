@@ -5,7 +5,7 @@ use Rattle.rx_disposable.proofs.group.Group.add.Goals as goal
 
 pub invariant_of-self : goal.invariant_of-self
 invariant_of-self g c =
-    rw (c.in-Ok.ensures.ok, c.new.ensures, c.from-ticket.ensures) (kept_added _ _ _ _ c.self.invariant c.args.value _ c.if-self.false c.push.ensures.capacity)
+    rw (c.in-Ok.ensures.ok, c.new.ensures, c.from-ticket.ensures) (kept_added _ _ _ _ c.self.invariant c.args.value _ c.if-self.false (omega (arith, c.if-self-2.false, c.self.ranges)) c.push.ensures.capacity)
 
 pub returns-in-Ok-clause-added : goal.returns-in-Ok-clause-added
 returns-in-Ok-clause-added g c =
@@ -14,7 +14,7 @@ returns-in-Ok-clause-added g c =
 pub returns-in-Err-clause-succeeds_inline : goal.returns-in-Err-clause-succeeds_inline
 returns-in-Err-clause-succeeds_inline g c usable left short =
     let few = rw (← c.self.view_is) at short in
-    c.in-Err.ensures.succeeds (omega (arith, few, c.self.invariant.inline, length-entries_of _ c.self.invariant.filled))
+    rw c.refuse-in-Err.ensures (c.in-Err.ensures.succeeds (omega (arith, few, c.self.invariant.inline, length-entries_of _ c.self.invariant.filled)))
 
 pub returns-in-Ok-clause-fresh : goal.returns-in-Ok-clause-fresh
 returns-in-Ok-clause-fresh g c =
