@@ -22,7 +22,7 @@
 //! is `Drop` only where its values are: one of other values can be emptied, but not let go.
 #![tactic(auto)]
 
-ghost use Rattle.std.specs.Prelude.{◌≡◌, ◌≢◌, ◌↔◌, IsTrue, ℕ, ◌+◌, ◌<◌, ◌≤◌, max, IsOk, IsSome, IfOk, IfErr, IfNone, IfSome, OnOk, OnErr, OnSome, option_copied, ◌==◌, is_some, count_by, [], slice_set};
+ghost use Rattle.std.specs.Prelude.{◌≡◌, ◌↔◌, IsTrue, ℕ, ◌+◌, ◌<◌, ◌≤◌, max, IsOk, IsSome, IfOk, IfErr, IfNone, IfSome, OnOk, OnErr, OnSome, option_copied, ◌==◌, is_some, count_by, [], slice_set};
 ghost use Rattle.std.specs.Option.{option_copied_mut};
 ghost use Rattle.std.specs.Borrow.{sem};
 

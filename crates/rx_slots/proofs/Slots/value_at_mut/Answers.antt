@@ -1,4 +1,7 @@
 use Rattle.std.proofs.Common.{◌≡◌, Option, Some, None, Bor, is_some, option_copied, refl, sym, ap, ◌∙◌}
+use Rattle.slab.specs.Slab.{with_value as lent}
+use Rattle.rx_slots.specs.Slots.{with_value_at}
+use Rattle.rx_slots.specs.Kept.{shown}
 use Rattle.rx_slots.proofs.KeptLemmas.{get_or-table, entry_at-stored, shown-with_value_at, same_loan}
 use Rattle.rx_slots.proofs.Slots.value_at_mut.Goals as goal
 
@@ -15,9 +18,12 @@ pub returns-then-is_some : goal.returns-then-is_some
 returns-then-is_some g c =
     let cells = c.self.inside.cells in
     let count = c.self.inside.slot_count in
+    let slot = c.args.slot in
+    let kept = c.self.invariant in
     let entry = c.index_mut.result.now in
     let read = c.index_mut.ensures.value in
-    let seen = entry_at-stored cells count c.args.slot entry c.self.invariant read in (
-      same_loan _ _ _ (λ w. rw (← c.self.view_is) (shown-with_value_at cells count c.args.slot entry w c.self.invariant read)),
-      record { writes_back = tt; value = rw (← c.self.view_is, seen) refl },
+    let seen = entry_at-stored cells count slot entry kept read in
+    rw (← c.self.view_is) (
+      same_loan _ (λ w. shown (lent cells slot (record entry { value = w })) count) (λ w. with_value_at (shown cells count) slot w) (λ w. shown-with_value_at cells count slot entry w kept read),
+      record { writes_back = tt; value = rw seen refl },
     )
