@@ -1,0 +1,260 @@
+//! Resources that answer faults and words, boxes of them, threads, and refused memory.
+
+ghost use Rattle.std.specs.Prelude.{◌≡◌, ℕ, ◌+◌, ◌<◌, ◌^◌};
+ghost use Rattle.rx_resource.specs.declared.Life.{Life};
+
+use crate::{Handed, Life, Released, Resource};
+use rx_scarce::Scarce;
+use std::test::Fail;
+use std::thread;
+use std::thread::Threads;
+
+// Answers each word as it came, and each release by the fault 2; counts its releases.
+#[derive(Drop)]
+struct Faulty {
+    tag: u64,
+    uses: u64,
+    life: Life,
+    releases: u32,
+}
+
+impl Resource for Faulty {
+    ghost tag_of = { λ f. f.tag };
+
+    ghost life_of = { λ f. f.life };
+
+    ghost uses_of = { λ f. f.uses };
+
+    fn tag(&self) -> u64 {
+        self.tag
+    }
+
+    fn life(&self) -> Life {
+        self.life
+    }
+
+    fn uses(&self) -> u64 {
+        self.uses
+    }
+
+    fn apply(&mut self, word: u64) -> u64 {
+        self.uses += 1;
+        word
+    }
+
+    fn release(&mut self) -> Result<(), u32> {
+        self.life = Life::Released;
+        self.releases = self.releases.wrapping_add(1);
+        Err(2)
+    }
+}
+
+fn live_faulty(tag: u64) -> Faulty
+    ensures tag { result.tag ≡ tag }
+    ensures live { result.life ≡ Life.Live }
+    ensures unused { result.uses ≡ 0 }
+{
+    Faulty {
+        tag,
+        uses: 0,
+        life: Life::Live,
+        releases: 0,
+    }
+}
+
+// Keeps the exclusive or of its words and answers it; its release meets no fault.
+#[derive(Drop)]
+struct Tally {
+    tag: u64,
+    uses: u64,
+    life: Life,
+    kept: u64,
+}
+
+impl Resource for Tally {
+    ghost tag_of = { λ t. t.tag };
+
+    ghost life_of = { λ t. t.life };
+
+    ghost uses_of = { λ t. t.uses };
+
+    fn tag(&self) -> u64 {
+        self.tag
+    }
+
+    fn life(&self) -> Life {
+        self.life
+    }
+
+    fn uses(&self) -> u64 {
+        self.uses
+    }
+
+    fn apply(&mut self, word: u64) -> u64 {
+        self.uses += 1;
+        self.kept ^= word;
+        self.kept
+    }
+
+    fn release(&mut self) -> Result<(), u32> {
+        self.life = Life::Released;
+        Ok(())
+    }
+}
+
+fn live_tally(tag: u64) -> Tally
+    ensures tag { result.tag ≡ tag }
+    ensures live { result.life ≡ Life.Live }
+    ensures unused { result.uses ≡ 0 }
+{
+    Tally {
+        tag,
+        uses: 0,
+        life: Life::Live,
+        kept: 0,
+    }
+}
+
+// What a caller sees of a resource that it used and handed back.
+#[derive(Drop)]
+struct Course<R> {
+    answered: u64,
+    tag: u64,
+    uses: u64,
+    released: Released<R>,
+}
+
+// Applies a resource to a word and hands it back, whatever kind it is.
+fn use_and_release<R: Resource>(number: u64, resource: R, word: u64) -> Course<R>
+    requires live { R.life_of resource ≡ Life.Live }
+    requires countable { R.uses_of resource + 1 < 2 ^ 64 }
+    ensures number { result.released.number ≡ number }
+    ensures tag { result.tag ≡ R.tag_of resource }
+    ensures released_tag { result.released.tag ≡ R.tag_of resource }
+    ensures uses { result.uses ≡ R.uses_of resource + 1 }
+    ensures spent_tag { R.tag_of result.released.spent ≡ R.tag_of resource }
+    ensures spent_released { R.life_of result.released.spent ≡ Life.Released }
+{
+    let mut used = resource;
+    let answered = used.apply(word);
+    let handed = Handed::new(number, used);
+    let tag = handed.tag();
+    let uses = handed.uses();
+    let released = handed.release();
+    Course {
+        answered,
+        tag,
+        uses,
+        released,
+    }
+}
+
+#[test]
+fn a_fault_is_what_the_resource_answered(rt: HostRuntime) {
+    let handed = Handed::new(9, live_faulty(3));
+    assert_eq!(rt; handed.number(), 9);
+    assert_eq!(rt; handed.tag(), 3);
+    assert_eq!(rt; handed.uses(), 0);
+    let released = handed.release();
+    assert_eq!(rt; released.number, 9);
+    assert_eq!(rt; released.tag, 3);
+    assert_eq!(rt; released.fault, Some(2));
+    assert_eq!(rt; released.spent.life, Life::Released);
+    assert_eq!(rt; released.spent.releases, 1);
+}
+
+#[test]
+fn no_fault_is_none_and_the_words_are_kept(rt: HostRuntime) {
+    let mut resource = live_tally(5);
+    assert_eq!(rt; resource.apply(12), 12);
+    assert_eq!(rt; resource.apply(10), 6);
+    let handed = Handed::new(u64::MAX, resource);
+    assert_eq!(rt; handed.uses(), 2);
+    let released = handed.release();
+    assert_eq!(rt; released.number, u64::MAX);
+    assert_eq!(rt; released.tag, 5);
+    assert_eq!(rt; released.fault, None);
+    assert_eq!(rt; released.spent.kept, 6);
+}
+
+#[test]
+fn boxes_of_two_kinds_are_resources(rt: HostRuntime) -> Result<(), Fail> {
+    let first: Box<dyn Resource> = Box::new(rt.alloc(), live_faulty(3))?;
+    let second: Box<dyn Resource> = Box::new(rt.alloc(), live_tally(5))?;
+    let course = use_and_release(7, first, 12);
+    assert_eq!(rt; course.answered, 12);
+    assert_eq!(rt; (course.tag, course.uses), (3, 1));
+    assert_eq!(rt; (course.released.number, course.released.tag), (7, 3));
+    assert_eq!(rt; course.released.fault, Some(2));
+    assert_eq!(rt; course.released.spent.tag(), 3);
+    assert_eq!(rt; course.released.spent.life(), Life::Released);
+    let course = use_and_release(8, second, 12);
+    assert_eq!(rt; course.answered, 12);
+    assert_eq!(rt; (course.tag, course.uses), (5, 1));
+    assert_eq!(rt; (course.released.number, course.released.tag), (8, 5));
+    assert_eq!(rt; course.released.fault, None);
+    assert_eq!(rt; course.released.spent.uses(), 1);
+    assert_eq!(rt; course.released.spent.life(), Life::Released);
+    Ok(())
+}
+
+// Releases the resource that is there, if one is, in the thread that runs it.
+fn release_there<R: Resource>(shelf: Option<Handed<R>>) -> Option<Released<R>> {
+    match shelf {
+        Some(handed) => Some(handed.release()),
+        None => None,
+    }
+}
+
+// What two threads released, and then what neither did.
+#[derive(Drop)]
+struct Apart<R> {
+    released: [Option<Released<R>>; 2],
+    left: [Option<Released<R>>; 2],
+}
+
+// Lets two threads release a resource each.
+fn release_apart<R: Resource, T: Threads>(rt: &T, first: R, second: R) -> Apart<R>
+    requires first { R.life_of first ≡ Life.Live }
+    requires second { R.life_of second ≡ Life.Live }
+{
+    let mut first = Some(Handed::new(1, first));
+    let mut second = Some(Handed::new(2, second));
+    let (there, here) = thread::join(
+        rt,
+        || release_there(first.take()),
+        || release_there(second.take()),
+    );
+    Apart {
+        released: [there, here],
+        left: [release_there(first), release_there(second)],
+    }
+}
+
+#[test]
+fn another_thread_releases_it(rt: HostRuntime) -> Result<(), Fail> {
+    let first: Box<dyn Resource> = Box::new(rt.alloc(), live_faulty(3))?;
+    let second: Box<dyn Resource> = Box::new(rt.alloc(), live_tally(5))?;
+    let Apart { released, left } = release_apart(&rt, first, second);
+    assert!(rt; left[0].is_none() && left[1].is_none());
+    let [there, here] = released;
+    let there = there.ok_or("the first is not released")?;
+    assert_eq!(rt; (there.number, there.tag, there.fault), (1, 3, Some(2)));
+    let here = here.ok_or("the second is not released")?;
+    assert_eq!(rt; (here.number, here.tag, here.fault), (2, 5, None));
+    Ok(())
+}
+
+#[test]
+fn a_release_takes_no_memory(rt: HostRuntime) -> Result<(), Fail> {
+    let boxed: Box<dyn Resource> = Box::new(rt.alloc(), live_faulty(3))?;
+    let _scarce = Scarce::new(rt.alloc())?;
+    assert!(rt; Box::new(rt.alloc(), live_faulty(4)).is_err());
+    let course = use_and_release(7, boxed, 12);
+    assert_eq!(rt; (course.answered, course.tag, course.uses), (12, 3, 1));
+    assert_eq!(rt;
+        (course.released.number, course.released.fault),
+        (7, Some(2))
+    );
+    Ok(())
+}

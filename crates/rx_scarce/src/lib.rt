@@ -1,0 +1,175 @@
+//! Refused memory, for tests.
+//!
+//! [`Scarce`] takes the memory that is left, block by block, until every request is refused, and
+//! gives it back one block at a time. A test holds one, makes its call, looks at the refusal, gives
+//! one block back and makes the call again, until the call succeeds: so it sees the call refused at
+//! many of the places where it asks for memory. A call that needs no memory is shown by the same
+//! means, with nothing given back.
+//!
+//! A contract sees a [`Scarce`] as the number of blocks that it holds.
+//!
+//! Proved: how that number changes, and when a block is given back. Not proved, since no contract
+//! can say what memory is left: that a request is then refused. The tests of this crate show it.
+#![tactic(auto)]
+
+ghost use Rattle.std.specs.Prelude.{◌≡◌, ℕ, ◌-◌, ◌<◌, ◌≤◌, ◌↔◌, IsTrue, IfOk, vec_len};
+ghost use Rattle.rx_scarce.specs.declared.TheConstants.{MOST_BLOCKS};
+
+use std::alloc::{AllocError, Global};
+use std::marker::Model;
+
+/// The most blocks that a [`Scarce`] holds.
+pub const MOST_BLOCKS: usize = 100_000;
+
+// The binary logarithm of the first request in bytes, half of what a process can address.
+const LARGEST_POWER: u32 = 46;
+
+// The allocator may keep freed blocks of up to 65 units of 16 bytes in a list for each of those sizes.
+const LISTED_POWER: u32 = 10;
+
+const LISTED_UNITS: usize = 65;
+
+const UNIT: usize = 16;
+
+/// Memory that was taken so that no more is left; dropping it frees all of it.
+///
+/// Its limits:
+///
+/// - It refuses by exhaustion, so it does not refuse exactly each n-th allocation in turn: two
+///   allocations that one given back block serves both are refused together.
+/// - It rests on the operating system: on the limit of a process's address space, and on large
+///   blocks that cost no memory until they are written.
+/// - It speaks of the thread that made it. A thread that runs already may keep memory of its own.
+/// - It takes what `Global` gives, so a test that has its own allocator needs another means.
+/// - It does not work under an address sanitizer, as `rt try --test` has one; run such a test by
+///   `rt test` or `rt ci`.
+#[derive(Drop)]
+pub struct Scarce {
+    blocks: Vec<Vec<u8>>,
+}
+
+impl Model for Scarce {
+    ghost Value = { ℕ };
+
+    ghost view = { λ s. vec_len s.blocks };
+
+    ghost invariant = { λ s. vec_len s.blocks ≤ MOST_BLOCKS };
+}
+
+impl Scarce {
+    /// Takes memory until every request is refused, the largest blocks first.
+    ///
+    /// Err where the list of blocks cannot be had, where no block could be taken, and where memory
+    /// is left once [`MOST_BLOCKS`] are taken; all that was taken is then free again.
+    pub fn new(alloc: Global) -> Result<Scarce, AllocError>
+        ensures ok { IfOk result (λ blocks. 0 < blocks) }
+        ensures at_most { IfOk result (λ blocks. blocks ≤ MOST_BLOCKS) }
+    {
+        let mut blocks = Vec::with_capacity(alloc, MOST_BLOCKS)?;
+        for power in (LISTED_POWER..=LARGEST_POWER).rev() {
+            take_all(alloc, &mut blocks, 1 << power)?;
+        }
+        for units in (1..=LISTED_UNITS).rev() {
+            take_all(alloc, &mut blocks, units * UNIT)?;
+        }
+        if blocks.is_empty() {
+            return Err(AllocError);
+        }
+        Ok(Scarce { blocks })
+    }
+
+    /// The number of blocks that are held.
+    pub fn block_count(&self) -> usize
+        ensures count { result ≡ self.now }
+        ensures at_most { result ≤ MOST_BLOCKS }
+    {
+        self.blocks.len()
+    }
+
+    /// Frees the block that was taken last, a small one before a large one; false where none is left.
+    pub fn give_back_one(&mut self) -> bool
+        ensures given { IsTrue result ↔ (0 < self.old) }
+        ensures fewer { self.new ≡ self.old - 1 }
+    {
+        self.blocks.pop().is_some()
+    }
+}
+
+// Takes blocks of one size until memory is refused; Err where the list has no room for a further one.
+fn take_all(alloc: Global, blocks: &mut Vec<Vec<u8>>, size: usize) -> Result<(), AllocError>
+    requires { vec_len blocks.old ≤ MOST_BLOCKS }
+    ensures { vec_len blocks.new ≤ MOST_BLOCKS }
+{
+    while blocks.len() < MOST_BLOCKS {
+        match Vec::with_capacity(alloc, size) {
+            Ok(block) => blocks.push(block)?,
+            Err(AllocError) => return Ok(()),
+        }
+    }
+    Err(AllocError)
+}
+
+#[cfg(test)]
+mod tests {
+    use super::*;
+    use std::test::Fail;
+
+    const SIZES: [usize; 6] = [1, 48, 64, 1000, 65_536, 1 << 30];
+
+    // How many of `SIZES` can be had, one after the other.
+    fn sizes_had(alloc: Global) -> u32 {
+        let mut had = 0u32;
+        for size in SIZES {
+            let block: Result<Vec<u8>, AllocError> = Vec::with_capacity(alloc, size);
+            if block.is_ok() {
+                had = had.wrapping_add(1);
+            }
+        }
+        had
+    }
+
+    #[test]
+    fn no_request_is_met_until_blocks_are_given_back(rt: HostRuntime) -> Result<(), Fail> {
+        assert_eq!(rt; sizes_had(rt.alloc()), 6);
+        let mut scarce = Scarce::new(rt.alloc())?;
+        assert_eq!(rt; sizes_had(rt.alloc()), 0);
+        let mut refused = 0u32;
+        for _ in 0..MOST_BLOCKS {
+            let block: Result<Vec<u8>, AllocError> = Vec::with_capacity(rt.alloc(), 64);
+            if block.is_ok() {
+                break;
+            }
+            refused = refused.wrapping_add(1);
+            let before = scarce.block_count();
+            assert!(rt; scarce.give_back_one());
+            assert_eq!(rt; scarce.block_count(), before.wrapping_sub(1));
+        }
+        assert!(rt; refused > 1, "refused {refused}");
+        assert!(rt; scarce.block_count() > 0);
+        Ok(())
+    }
+
+    #[test]
+    fn nothing_is_left_to_give_back_at_the_end(rt: HostRuntime) -> Result<(), Fail> {
+        let mut scarce = Scarce::new(rt.alloc())?;
+        for _ in 0..MOST_BLOCKS {
+            if !scarce.give_back_one() {
+                break;
+            }
+        }
+        assert_eq!(rt; scarce.block_count(), 0);
+        assert!(rt; !scarce.give_back_one());
+        assert_eq!(rt; sizes_had(rt.alloc()), 6);
+        Ok(())
+    }
+
+    #[test]
+    fn a_drop_frees_all_of_it(rt: HostRuntime) -> Result<(), Fail> {
+        {
+            let _scarce = Scarce::new(rt.alloc())?;
+            assert_eq!(rt; sizes_had(rt.alloc()), 0);
+        }
+        assert_eq!(rt; sizes_had(rt.alloc()), 6);
+        Ok(())
+    }
+}
