@@ -3,3 +3,5 @@ pub mod Parents
 pub mod Openness
 pub mod Lawful
 pub mod Counts
+pub mod Steps
+pub mod Resources

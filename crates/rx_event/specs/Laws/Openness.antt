@@ -132,6 +132,28 @@ and_true false = refl
 pub is_open_kept : (h : List Event) (e : Event) (n : ℕ) → n < length h → shuts_none e ≡ true → is_open (h ++ e ∷ []) n ≡ is_open h n
 is_open_kept h e n l s = rw (is_open-push h e n l, list_all_yes (λ a. not (shuts h a e)) (λ a. ap not (not_shut h a e s)) (ancestors h n)) (and_true (is_open h n))
 
+-- the event takes away n, or a node above it
+abbrev pub is_cut : List Event → Event → ℕ → Bool
+is_cut h e n = list_any (λ a. shuts h a e) (ancestors h n)
+
+list_all-not : {X : Type 0} (p : X → Bool) (xs : List X) → list_all (λ x. not (p x)) xs ≡ not (list_any p xs)
+list_all-not p [] = refl
+list_all-not p (x ∷ xs) = rw (list_all-not p xs) (shape (p x) (list_any p xs)) where
+  shape : (a b : Bool) → (not a && not b) ≡ not (a || b)
+  shape true b = refl
+  shape false b = refl
+
+-- an older node is open if it was, and the new event does not cut it. (Cut by the end or the closing of c is what is within c.)
+pub is_open_cut : (h : List Event) (e : Event) (n : ℕ) → n < length h → is_open (h ++ e ∷ []) n ≡ (is_open h n && not (is_cut h e n))
+is_open_cut h e n l = is_open-push h e n l ∙ ap (λ b. is_open h n && b) (list_all-not (λ a. shuts h a e) (ancestors h n))
+
+-- an event that shuts no node cuts none
+pub is_cut_none : (h : List Event) (e : Event) (n : ℕ) → shuts_none e ≡ true → is_cut h e n ≡ false
+is_cut_none h e n s = none (ancestors h n) where
+  none : (xs : List ℕ) → list_any (λ a. shuts h a e) xs ≡ false
+  none [] = refl
+  none (a ∷ xs) = rw (not_shut h a e s) (none xs)
+
 -- an end shuts just the nodes that it is above
 pub is_open-end : (h : List Event) (c : ℕ) (t : Terminal) (n : ℕ) → n < length h → is_open (h ++ End c t ∷ []) n ≡ (is_open h n && list_all (λ a. not (c == a)) (ancestors h n))
 is_open-end h c t n l = is_open-push h (End c t) n l
@@ -189,3 +211,10 @@ open_before_end h q u p o = (within, parts.0, λ same. both_ways _ (ap not (eq-e
   parts : (is_open h p ≡ true) × (list_all (λ a. not (q == a)) (ancestors h p) ≡ true)
   parts = and_parts _ _ (sym (is_open-push h (End q u) p within) ∙ o)
 
+-- an event that neither shuts nor makes a node leaves each number as it was
+pub is_open_unchanged : (h : List Event) (e : Event) → shuts_none e ≡ true → makes_node e ≡ false → (n : ℕ) → is_open (h ++ e ∷ []) n ≡ is_open h n
+is_open_unchanged h e s no_node n = by_place (cases_order n (length h)) where
+  by_place : (n ≡ length h) ⊎ ((n < length h) ⊎ (length h < n)) → is_open (h ++ e ∷ []) n ≡ is_open h n
+  by_place (inr (inl l)) = is_open_kept h e n l s
+  by_place (inl same) = ap (is_open (h ++ e ∷ [])) same ∙ (is_open_step (h ++ e ∷ []) (length h) ∙ rw (slice_get_last h e, no_node) refl) ∙ sym (is_open_past h n (omega arith))
+  by_place (inr (inr g)) = is_open_past (h ++ e ∷ []) n (omega (arith, length-append {A = Event})) ∙ sym (is_open_past h n (omega arith))

@@ -1,0 +1,89 @@
+-- Lawful histories, one event more at a time: a proof by their events, and what stands where an event may follow.
+use Rattle.std.proofs.Common.{◌≡◌, ℕ, ◌<◌, ◌≤◌, Bool, true, false, List, [], ◌∷◌, ◌++◌, length, take, Some, refl, sym, arith, slice_get, append_assoc, append-nil}
+use Rattle.std.specs.List.{AllByRecursion}
+use Rattle.std.proofs.lemmas.Bool.{false≢true}
+use Rattle.rx_event.specs.declared.event.Event.{Event}
+use Rattle.rx_event.specs.declared.event.Event.TheVariants.{Open, Hub, Connect, Accept, Use, Remove, Item, Decline, End, Close, Take}
+use Rattle.rx_event.specs.Tree.{is_open}
+use Rattle.rx_event.specs.Resources.{is_held, is_waiting}
+use Rattle.rx_event.specs.Moments.{Moment, moments, moments_after}
+use Rattle.rx_event.specs.Forced.{mirrored, fired, failed, completed, cut, left, connecting, due, IsDue, IsForced}
+use Rattle.rx_event.specs.Allowed.{accepted, used, removed, root_closed, disconnected, taken, IsAllowed}
+use Rattle.rx_event.specs.Lawful.{forced, allowed, opened_with, MayFollow, IsLawful}
+use Rattle.rx_event.specs.Laws.Lawful.{IsLawful-push, IsLawful_empty}
+
+by_events_after : (P : List Event → Type 0) → ((h : List Event) (e : Event) → IsLawful h → MayFollow h e → P h → P (h ++ e ∷ [])) → (b h : List Event) → IsLawful b → P b → AllByRecursion (λ (m : Moment). MayFollow m.before m.event) (moments_after b h) → P (b ++ h)
+by_events_after P step b [] law p each = rw (append-nil b) p
+by_events_after P step b (x ∷ h) law p each = rw (← append_assoc b (x ∷ []) h) (by_events_after P step (b ++ x ∷ []) h (IsLawful-push b x law each.0) (step b x law each.0 p) each.1)
+
+-- what holds of the empty history, and after each event that may follow, holds of each lawful history
+pub by_events : (P : List Event → Type 0) → P [] → ((h : List Event) (e : Event) → IsLawful h → MayFollow h e → P h → P (h ++ e ∷ [])) → (h : List Event) → IsLawful h → P h
+unfolding moments
+by_events P start step h law = by_events_after P step [] h IsLawful_empty start law.each
+
+-- what operators may have to do: a connection, an end or a closing
+abbrev pub may_be_forced : Event → Bool
+may_be_forced (Connect g) = true
+may_be_forced (End n t) = true
+may_be_forced (Close n) = true
+may_be_forced _ = false
+
+due_kind : {h : List Event} {e : Event} → IsDue h e → may_be_forced e ≡ true
+due_kind (mirrored o k e) = refl
+due_kind (fired o k e) = refl
+due_kind (failed o k e) = refl
+due_kind (completed o k n s e c w) = refl
+due_kind (cut o e) = refl
+due_kind (left o at_c a n) = refl
+
+pub forced_kind : {h : List Event} {e : Event} → IsForced h e → may_be_forced e ≡ true
+forced_kind (connecting d) = refl
+forced_kind (due n d) = due_kind d
+
+allowed_accept : {h : List Event} {n tag : ℕ} → IsAllowed h (Accept n tag) → is_open h n ≡ true
+allowed_accept (accepted o) = o
+
+-- what is accepted is accepted at an open node
+pub may_accept : {h : List Event} {n tag : ℕ} → MayFollow h (Accept n tag) → is_open h n ≡ true
+may_accept (forced f) = absurd (false≢true (forced_kind f))
+may_accept (allowed s a) = allowed_accept a
+may_accept (opened_with at_n l o) = o
+
+allowed_use : {h : List Event} {r : ℕ} → IsAllowed h (Use r) → is_held h r ≡ true
+allowed_use (used o) = o
+
+-- what is used is held
+pub may_use : {h : List Event} {r : ℕ} → MayFollow h (Use r) → is_held h r ≡ true
+may_use (forced f) = absurd (false≢true (forced_kind f))
+may_use (allowed s a) = allowed_use a
+
+allowed_remove : {h : List Event} {r : ℕ} → IsAllowed h (Remove r) → is_held h r ≡ true
+allowed_remove (removed o) = o
+
+-- what is removed is held
+pub may_remove : {h : List Event} {r : ℕ} → MayFollow h (Remove r) → is_held h r ≡ true
+may_remove (forced f) = absurd (false≢true (forced_kind f))
+may_remove (allowed s a) = allowed_remove a
+
+allowed_take : {h : List Event} {r : ℕ} → IsAllowed h (Take r) → is_waiting h r ≡ true
+allowed_take (taken o) = o
+
+-- what is taken waits
+pub may_take : {h : List Event} {r : ℕ} → MayFollow h (Take r) → is_waiting h r ≡ true
+may_take (forced f) = absurd (false≢true (forced_kind f))
+may_take (allowed s a) = allowed_take a
+
+due_close : {h : List Event} {c : ℕ} → IsDue h (Close c) → is_open h c ≡ true
+due_close (left o at_c a n) = o
+
+forced_close : {h : List Event} {c : ℕ} → IsForced h (Close c) → is_open h c ≡ true
+forced_close (due n d) = due_close d
+
+allowed_close : {h : List Event} {c : ℕ} → IsAllowed h (Close c) → is_open h c ≡ true
+allowed_close (root_closed o k) = o
+allowed_close (disconnected o at_c a) = o
+
+-- what is closed is open before
+pub may_close : {h : List Event} {c : ℕ} → MayFollow h (Close c) → is_open h c ≡ true
+may_close (forced f) = forced_close f
+may_close (allowed s a) = allowed_close a
