@@ -1,3 +1,6 @@
 pub mod State
 pub mod Causes
 pub mod Answers
+pub mod Plain
+pub mod Kept
+pub mod Ties

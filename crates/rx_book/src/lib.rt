@@ -3,6 +3,7 @@
 
 mod answer;
 mod key;
+mod register;
 
 pub use answer::{At, Mail, Opened, OpenedUsing, Refused};
 pub use key::{Key, ResKey};
