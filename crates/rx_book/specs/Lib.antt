@@ -4,3 +4,4 @@ pub mod Answers
 pub mod Plain
 pub mod Kept
 pub mod Ties
+pub mod Boxes
