@@ -1,5 +1,5 @@
 -- Counts over a history.
-use Rattle.std.specs.Prelude.{ℕ, ◌+◌, Bool, ◌&&◌, List, [], ◌∷◌, count_by, sum_by, if◌then◌else◌}
+use Rattle.std.specs.Prelude.{ℕ, ◌+◌, ◌&&◌, List, count_by, sum_by, if◌then◌else◌}
 use Rattle.rx_event.specs.declared.event.Event.{Event}
 use Rattle.rx_event.specs.Events.{is_item, is_take, makes_resource, is_merging}
 use Rattle.rx_event.specs.Tree.{at, places, is_open}

@@ -1,9 +1,9 @@
 -- What one more event does to the debt.
-use Rattle.std.proofs.Common.{◌≡◌, ℕ, ℤ, ◌+◌, ◌*◌, ◌<◌, ◌≤◌, Bool, true, false, List, [], ◌∷◌, ◌++◌, length, Option, Some, None, cond, refl, sym, ap, ◌∙◌, arith, inl, inr, ◌⊎◌, ◌==◌, slice_get, length-append}
+use Rattle.std.proofs.Common.{◌≡◌, ℕ, ℤ, ◌+◌, ◌*◌, ◌<◌, ◌≤◌, Bool, true, false, List, [], ◌∷◌, ◌++◌, length, Option, Some, None, cond, refl, ap, ◌∙◌, arith, ◌==◌}
 use Rattle.std.proofs.Math.Bool.{not, ◌&&◌, ◌||◌}
-use Rattle.std.specs.List.{list_any, sum_by, count_by, range_with_len}
-use Rattle.std.specs.Option.{option_and_then, option_map_or}
-use Rattle.std.proofs.lemmas.Bool.{false≢true, eq-eqb, eqb-true}
+use Rattle.std.specs.List.{sum_by, count_by, range_with_len}
+use Rattle.std.specs.Option.{option_map_or}
+use Rattle.std.proofs.lemmas.Bool.{eq-eqb, eqb-true}
 use Rattle.rx_note.specs.declared.note.Terminal.{Terminal}
 use Rattle.rx_event.specs.declared.event.Place.TheVariants.{Root, Source, Inner, Notifier}
 use Rattle.rx_event.specs.declared.event.Kind.{Kind}
@@ -20,9 +20,9 @@ use Rattle.rx_event.specs.Lawful.{MayFollow, IsLawful}
 use Rattle.rx_event.specs.Laws.Lawful.{may_end}
 use Rattle.rx_event.specs.Laws.Places.{at-append}
 use Rattle.rx_event.specs.Laws.Openness.{is_cut, is_cut_none, is_cut_inner, is_cut_inner_flat, is_open_cut, is_open_within, shuts_none}
-use Rattle.rx_event.specs.Laws.Steps.{may_open, may_accept, may_remove, may_take, may_close, may_emit, may_decline}
+use Rattle.rx_event.specs.Laws.Steps.{may_open, may_remove, may_close, may_emit, may_decline}
 use Rattle.rx_event.specs.Laws.Sums.{sum_by-places-push, sums_balance, sum_by-same, sum_by-plus, sum_by_no_rise, sum_by_falls, sum_by_none, count_by_one}
-use Rattle.rx_event.specs.Laws.Resources.{loses, node_of}
+use Rattle.rx_event.specs.Laws.Resources.{node_of}
 use Rattle.rx_event.specs.Laws.Totals.{lost_count, cut_count, held_count-push, waiting_count-push, open_count-push, is_open_new, accepts_open, within_some, lost_one, lost_none, one_if}
 use Rattle.rx_event.specs.Laws.Projections.{owed-push, owed_new, projected_open, projected_count, stops_open}
 
@@ -70,7 +70,7 @@ pub owed_count-push : (h : List Event) (e : Event) → IsLawful h → MayFollow 
 owed_count-push h e law next whole =
     let older = owed_count_older h e in
     let balance = sums_balance (owed_open (h ++ e ∷ [])) (λ n. cond ((is_open h n && at is_merging h n) && pays n e) 1 0) (owed_open h) (projected_open h (stops_of h e)) (length h) (λ n l.
-      rw (is_open_cut h e n l, whole n, at-append is_merging h (e ∷ []) n l) (shape (is_open h n) (at is_merging h n) (pays n e) _ _ _ (owed-push h e law next n))) in
+    rw (is_open_cut h e n l, whole n, at-append is_merging h (e ∷ []) n l) (shape (is_open h n) (at is_merging h n) (pays n e) _ _ _ (owed-push h e law next n))) in
     omega arith
   where
     inner : (b p : Bool) (x y z : ℕ) → x + cond p 1 0 ≡ y + z → cond b x 0 + cond (b && p) 1 0 ≡ cond b y 0 + cond b z 0

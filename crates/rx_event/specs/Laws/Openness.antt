@@ -1,5 +1,5 @@
 -- Which nodes are open after one more event.
-use Rattle.std.proofs.Common.{◌≡◌, ℕ, zero, suc, ◌+◌, ◌<◌, ◌≤◌, Bool, true, false, List, [], ◌∷◌, ◌++◌, length, drop, Option, Some, None, refl, sym, ap, ◌∙◌, arith, inl, inr, ◌⊎◌, nat_lt, ◌==◌, slice_get, length-append, append-nil, append_assoc}
+use Rattle.std.proofs.Common.{◌≡◌, ℕ, zero, suc, ◌<◌, ◌≤◌, Bool, true, false, List, [], ◌∷◌, ◌++◌, length, drop, Option, Some, None, refl, sym, ap, ◌∙◌, arith, inl, inr, ◌⊎◌, nat_lt, ◌==◌, length-append, append-nil, append_assoc}
 use Rattle.std.proofs.Math.Bool.{not, ◌&&◌, ◌||◌}
 use Rattle.std.specs.List.{list_any, list_all, AllByRecursion}
 use Rattle.std.specs.Option.{option_and_then, option_map_or}
@@ -14,7 +14,7 @@ use Rattle.rx_event.specs.declared.event.Event.{Event}
 use Rattle.rx_event.specs.declared.event.Event.TheVariants.{Open, Hub, Connect, Accept, Use, Remove, Item, Decline, End, Close, Take}
 use Rattle.rx_event.specs.Events.{makes_node, parent_named, is_switch, is_inner_of}
 use Rattle.rx_event.specs.Tree.{at, parent, if_less, ancestors, shuts, is_shut, is_open, is_standing, is_switched_inner, is_within}
-use Rattle.rx_event.specs.Laws.Places.{slice_get-append, slice_get_last, at-append}
+use Rattle.rx_event.specs.Laws.Places.{slice_get_last, at-append}
 use Rattle.rx_event.specs.Laws.Parents.{parent-lt, ancestors_step, ancestors-append, ancestors-le, option_map_or-same}
 
 -- openness ----------------------------------------------------------------------------------------

@@ -1,23 +1,21 @@
 -- Projected items: where they go, and what each FlatMap and Switch owes after one more event.
-use Rattle.std.proofs.Common.{◌≡◌, ℕ, zero, suc, ◌+◌, ◌-◌, ◌<◌, ◌≤◌, Bool, true, false, List, [], ◌∷◌, ◌++◌, length, take, Option, Some, None, cond, refl, sym, ap, ◌∙◌, arith, inl, inr, ◌⊎◌, ◌==◌, slice_get, length-append, filter}
-use Rattle.std.proofs.Math.Bool.{not, ◌&&◌, ◌||◌}
+use Rattle.std.proofs.Common.{◌≡◌, ℕ, zero, suc, ◌+◌, ◌-◌, ◌<◌, ◌≤◌, Bool, true, false, List, [], ◌∷◌, ◌++◌, length, Option, Some, None, cond, refl, sym, ap, ◌∙◌, arith, inl, inr, ◌⊎◌, ◌==◌, slice_get, length-append, filter}
+use Rattle.std.proofs.Math.Bool.{◌&&◌}
 use Rattle.std.specs.List.{AllByRecursion, sum_by, count_by, range_with_len, filter_map}
 use Rattle.std.specs.Option.{option_and_then, option_map_or, option_to_list}
-use Rattle.std.proofs.lemmas.Grind.{common_steps}
-use Rattle.std.proofs.lemmas.Bool.{cases_Bool, both_ways, false≢true, and_parts, eq-eqb, eqb-true, ne_eqb, lt-ltb}
+use Rattle.std.proofs.lemmas.Bool.{cases_Bool, both_ways, false≢true, and_parts, eqb-true}
 use Rattle.std.proofs.lemmas.List.Sums.{sum_by_push, sum_by-cons}
-use Rattle.std.proofs.lemmas.Option.{slice_get_past, slice_get_within, option_and_then_some}
+use Rattle.std.proofs.lemmas.Option.{slice_get_past}
 use Rattle.rx_event.specs.declared.event.Place.TheVariants.{Root, Source, Inner, Notifier}
 use Rattle.rx_event.specs.declared.event.Kind.{Kind}
 use Rattle.rx_event.specs.declared.event.Event.{Event}
-use Rattle.rx_event.specs.declared.event.Event.TheVariants.{Open, Hub, Connect, Accept, Use, Remove, Item, Decline, End, Close, Take}
+use Rattle.rx_event.specs.declared.event.Event.TheVariants.{Open, Connect, Item, Decline}
 use Rattle.rx_event.specs.Events.{is_merging, pays}
-use Rattle.rx_event.specs.Tree.{at, places, parent, if_less, is_open, open_subscribers}
+use Rattle.rx_event.specs.Tree.{at, places, parent, is_open}
 use Rattle.rx_event.specs.Climb.{Stop, Delivery, Projection, Firing, stop_made, stop_at, onward_from, onward, onward_unless, visited, climb, stops, most_visits}
 use Rattle.rx_event.specs.Moments.{moments, projections, owed, is_projection, is_projection_to, stops_of}
 use Rattle.rx_event.specs.Lawful.{MayFollow, IsLawful}
 use Rattle.rx_event.specs.Laws.Openness.{is_open_within, parent_open}
-use Rattle.rx_event.specs.Laws.Lawful.{lawful_at}
 use Rattle.rx_event.specs.Laws.Counts.{projections-push}
 use Rattle.rx_event.specs.Laws.Steps.{by_pushes, by_events, may_open, may_decline, parent-named}
 use Rattle.rx_event.specs.Laws.Sums.{sum_by-same, sum_by-plus, sum_by_none, count_by_one}

@@ -1,16 +1,15 @@
 -- The inners of a Switch: at most one is open, and the opening of another closes it with all below it.
-use Rattle.std.proofs.Common.{◌≡◌, ℕ, ◌+◌, ◌<◌, ◌≤◌, Bool, true, false, List, [], ◌∷◌, ◌++◌, length, Option, Some, None, refl, sym, ap, ◌∙◌, arith, inl, inr, ◌⊎◌, nat_lt, ◌==◌, slice_get, length-append}
+use Rattle.std.proofs.Common.{◌≡◌, ℕ, ◌+◌, ◌<◌, Bool, true, false, List, [], ◌∷◌, ◌++◌, length, Option, Some, None, refl, sym, ap, ◌∙◌, arith, inl, inr, ◌⊎◌, ◌==◌, slice_get, length-append}
 use Rattle.std.proofs.Math.Bool.{not, ◌&&◌}
 use Rattle.std.specs.List.{AllByRecursion, list_any}
 use Rattle.std.specs.Option.{option_map_or}
 use Rattle.std.proofs.lemmas.Bool.{cases_Bool, cases_order, both_ways, false≢true, and_parts, and_from, eq-eqb, eqb-true, lt-ltb}
-use Rattle.std.proofs.lemmas.Option.{slice_get_past}
 use Rattle.rx_event.specs.declared.event.Place.TheVariants.{Root, Source, Inner, Notifier}
 use Rattle.rx_event.specs.declared.event.Kind.{Kind}
 use Rattle.rx_event.specs.declared.event.Event.{Event}
-use Rattle.rx_event.specs.declared.event.Event.TheVariants.{Open, Hub, Connect, Accept, Use, Remove, Item, Decline, End, Close, Take}
+use Rattle.rx_event.specs.declared.event.Event.TheVariants.{Open}
 use Rattle.rx_event.specs.Events.{is_switch, is_inner_of, parent_named}
-use Rattle.rx_event.specs.Tree.{at, ancestors, shuts, is_open, is_within, is_switched_inner}
+use Rattle.rx_event.specs.Tree.{at, ancestors, is_open, is_within, is_switched_inner}
 use Rattle.rx_event.specs.Lawful.{MayFollow, IsLawful}
 use Rattle.rx_event.specs.Laws.Places.{slice_get_last, at-append}
 use Rattle.rx_event.specs.Laws.Openness.{is_cut, is_cut_inner_flat, is_open_cut, is_open_within, is_open_past, ancestors_open, self_cut}

@@ -1,18 +1,18 @@
 -- What one more event adds to the totals.
-use Rattle.std.proofs.Common.{◌≡◌, ℕ, ◌+◌, ◌<◌, ◌≤◌, Bool, true, false, List, [], ◌∷◌, ◌++◌, length, Option, Some, None, cond, refl, sym, ap, ◌∙◌, arith, inl, inr, ◌⊎◌, ◌==◌, slice_get, length-append}
+use Rattle.std.proofs.Common.{◌≡◌, ℕ, ◌+◌, ◌≤◌, Bool, true, false, List, [], ◌∷◌, ◌++◌, length, Option, Some, None, cond, refl, sym, ap, ◌∙◌, arith, inl, inr, ◌⊎◌, ◌==◌, length-append}
 use Rattle.std.proofs.Math.Bool.{not, ◌&&◌, ◌||◌}
-use Rattle.std.specs.List.{list_any, sum_by, count_by, range_with_len}
-use Rattle.std.specs.Option.{option_and_then, option_map_or}
-use Rattle.std.proofs.lemmas.Bool.{cases_order, cases_Bool, both_ways, false≢true, and_parts, eq-eqb, eqb-true, ne_eqb, lt-ltb}
+use Rattle.std.specs.List.{sum_by, count_by}
+use Rattle.std.specs.Option.{option_map_or}
+use Rattle.std.proofs.lemmas.Bool.{cases_Bool, both_ways, false≢true, eq-eqb, eqb-true, ne_eqb}
 use Rattle.std.proofs.lemmas.List.Sums.{sum_by_push}
 use Rattle.rx_note.specs.declared.note.Terminal.{Terminal}
 use Rattle.rx_event.specs.declared.event.Place.TheVariants.{Root, Source, Inner, Notifier}
 use Rattle.rx_event.specs.declared.event.Kind.{Kind}
 use Rattle.rx_event.specs.declared.event.Event.{Event}
 use Rattle.rx_event.specs.declared.event.Event.TheVariants.{Open, Hub, Connect, Accept, Use, Remove, Item, Decline, End, Close, Take}
-use Rattle.rx_event.specs.Events.{makes_node, makes_resource, node_of_accept, parent_named, is_switch, is_inner_of, is_use_of, is_remove_of, is_take_of, is_item, is_take}
-use Rattle.rx_event.specs.Tree.{at, places, parent, if_less, ancestors, is_open, is_within}
-use Rattle.rx_event.specs.Resources.{is_held, is_taken, is_waiting, uses}
+use Rattle.rx_event.specs.Events.{makes_node, makes_resource, node_of_accept, is_switch, is_inner_of, is_use_of, is_take_of, is_item, is_take}
+use Rattle.rx_event.specs.Tree.{at, places, is_open, is_within}
+use Rattle.rx_event.specs.Resources.{is_held, is_waiting, uses}
 use Rattle.rx_event.specs.Totals.{item_count, accepted_count, taken_count, held_count, waiting_count, open_count}
 use Rattle.rx_event.specs.Lawful.{MayFollow, IsLawful}
 use Rattle.rx_event.specs.Laws.Parents.{ancestors_step}
@@ -20,7 +20,7 @@ use Rattle.rx_event.specs.Laws.Openness.{is_cut, is_cut_none, is_cut_inner, is_c
 use Rattle.rx_event.specs.Laws.Steps.{by_events, may_open, may_accept, may_use, may_remove, may_take}
 use Rattle.rx_event.specs.Laws.Sums.{sum_by-places-push, sums_balance, sum_by-same, sum_by_falls, sum_by_none, count_by_one}
 use Rattle.rx_event.specs.Laws.Switches.{is_cut-inner_switch}
-use Rattle.rx_event.specs.Laws.Resources.{loses, node_of, moves_none, is_held-push, is_held_last, is_held_within, is_held_unchanged, is_waiting-push, is_waiting_new, is_waiting_within, is_waiting_unchanged, is_waiting_past, is_held_past, waiting_parts, held_not_taken}
+use Rattle.rx_event.specs.Laws.Resources.{loses, node_of, moves_none, is_held-push, is_held_last, is_held_within, is_held_unchanged, is_waiting-push, is_waiting_new, is_waiting_within, is_waiting_unchanged, is_waiting_past, is_held_past, waiting_parts}
 
 pub one_if : {a b : Bool} → a ≡ b → cond {A = ℕ} a 1 0 ≡ cond {A = ℕ} b 1 0
 one_if same = ap (λ (b : Bool). cond {A = ℕ} b 1 0) same
@@ -68,7 +68,7 @@ lost_count h e = count_by (λ r. is_held h r && loses h e r) (places h)
 pub held_count-push : (h : List Event) (e : Event) → IsLawful h → held_count (h ++ e ∷ []) + lost_count h e ≡ held_count h + cond (option_map_or (is_open h) (node_of_accept e) false) 1 0
 held_count-push h e law =
     let older : count_by (is_held (h ++ e ∷ [])) (places h) + lost_count h e ≡ held_count h + sum_by (λ (r : ℕ). 0) (places h) =
-      sums_balance (λ r. cond (is_held (h ++ e ∷ []) r) 1 0) (λ r. cond (is_held h r && loses h e r) 1 0) (λ r. cond (is_held h r) 1 0) (λ r. 0) (length h) (λ r l. rw (is_held-push h e law r l) (shape (is_held h r) (loses h e r))) in
+    sums_balance (λ r. cond (is_held (h ++ e ∷ []) r) 1 0) (λ r. cond (is_held h r && loses h e r) 1 0) (λ r. cond (is_held h r) 1 0) (λ r. 0) (length h) (λ r l. rw (is_held-push h e law r l) (shape (is_held h r) (loses h e r))) in
     let none = sum_by_none (λ r. 0) (length h) (λ r l. refl) in
     let last = sum_by-places-push (λ r. cond (is_held (h ++ e ∷ []) r) 1 0) h e in
     let new = one_if (is_held_last h e law) in
@@ -91,7 +91,7 @@ taken_waited h _ next r same = absurd (false≢true same)
 pub waiting_count-push : (h : List Event) (e : Event) → IsLawful h → MayFollow h e → waiting_count (h ++ e ∷ []) + cond (is_take e) 1 0 ≡ waiting_count h + lost_count h e
 waiting_count-push h e law next =
     let older : count_by (is_waiting (h ++ e ∷ [])) (places h) + count_by (λ r. is_take_of r e) (places h) ≡ waiting_count h + lost_count h e =
-      sums_balance (λ r. cond (is_waiting (h ++ e ∷ []) r) 1 0) (λ r. cond (is_take_of r e) 1 0) (λ r. cond (is_waiting h r) 1 0) (λ r. cond (is_held h r && loses h e r) 1 0) (length h) (λ r l. rw (is_waiting-push h e law r l) (shape (is_waiting h r) (is_held h r) (loses h e r) (is_take_of r e) (λ w. (waiting_parts h r w).1) (taken_waited h e next r))) in
+    sums_balance (λ r. cond (is_waiting (h ++ e ∷ []) r) 1 0) (λ r. cond (is_take_of r e) 1 0) (λ r. cond (is_waiting h r) 1 0) (λ r. cond (is_held h r && loses h e r) 1 0) (length h) (λ r l. rw (is_waiting-push h e law r l) (shape (is_waiting h r) (is_held h r) (loses h e r) (is_take_of r e) (λ w. (waiting_parts h r w).1) (taken_waited h e next r))) in
     let once = takes_once h e next in
     let last = sum_by-places-push (λ r. cond (is_waiting (h ++ e ∷ []) r) 1 0) h e in
     let new = one_if (is_waiting_new h e law next) in
@@ -232,7 +232,7 @@ cut_count h e = count_by (λ n. is_open h n && is_cut h e n) (places h)
 pub open_count-push : (h : List Event) (e : Event) → open_count (h ++ e ∷ []) + cut_count h e ≡ open_count h + cond (is_open (h ++ e ∷ []) (length h)) 1 0
 open_count-push h e =
     let older : count_by (is_open (h ++ e ∷ [])) (places h) + cut_count h e ≡ open_count h + sum_by (λ (n : ℕ). 0) (places h) =
-      sums_balance (λ n. cond (is_open (h ++ e ∷ []) n) 1 0) (λ n. cond (is_open h n && is_cut h e n) 1 0) (λ n. cond (is_open h n) 1 0) (λ n. 0) (length h) (λ n l. rw (is_open_cut h e n l) (shape (is_open h n) (is_cut h e n))) in
+    sums_balance (λ n. cond (is_open (h ++ e ∷ []) n) 1 0) (λ n. cond (is_open h n && is_cut h e n) 1 0) (λ n. cond (is_open h n) 1 0) (λ n. 0) (length h) (λ n l. rw (is_open_cut h e n l) (shape (is_open h n) (is_cut h e n))) in
     let none = sum_by_none (λ n. 0) (length h) (λ n l. refl) in
     let last = sum_by-places-push (λ n. cond (is_open (h ++ e ∷ []) n) 1 0) h e in
     omega arith

@@ -1,5 +1,5 @@
 -- What is promised of totals.
-use Rattle.std.specs.Prelude.{◌≡◌, ℕ, ◌+◌, ◌<◌, ◌≤◌, false, ◌&&◌, List, [], ◌∷◌, ◌++◌, length, count_by, if◌then◌else◌, IsTrue}
+use Rattle.std.specs.Prelude.{◌≡◌, ℕ, ◌+◌, ◌≤◌, false, ◌&&◌, List, [], ◌∷◌, ◌++◌, length, count_by, if◌then◌else◌, IsTrue}
 use Rattle.rx_note.specs.declared.note.Terminal.{Terminal}
 use Rattle.rx_event.specs.declared.event.Place.TheVariants.{Inner}
 use Rattle.rx_event.specs.declared.event.Kind.{Kind}
@@ -8,7 +8,7 @@ use Rattle.rx_event.specs.declared.event.Event.TheVariants.{Open, Accept, Remove
 use Rattle.rx_event.specs.Events.{makes_node, makes_resource, is_switch, is_inner_of, is_item, is_take, is_use_of, pays}
 use Rattle.rx_event.specs.Tree.{at, places, is_within, is_open, shuts}
 use Rattle.rx_event.specs.Resources.{uses}
-use Rattle.rx_event.specs.Moments.{projections, owed, is_projection_to, stops_of}
+use Rattle.rx_event.specs.Moments.{owed, is_projection_to, stops_of}
 use Rattle.rx_event.specs.Totals.{item_count, accepted_count, taken_count, held_count, waiting_count, open_count}
 use Rattle.rx_event.specs.Lawful.{MayFollow, IsLawful}
 
