@@ -1,0 +1,4 @@
+pub mod Just
+pub mod Named
+pub mod Stocked
+pub mod Steps
