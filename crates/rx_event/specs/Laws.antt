@@ -3,5 +3,9 @@ pub mod Parents
 pub mod Openness
 pub mod Lawful
 pub mod Counts
+pub mod Sums
 pub mod Steps
 pub mod Resources
+pub mod Totals
+pub mod Projections
+pub mod Debt

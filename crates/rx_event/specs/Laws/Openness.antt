@@ -3,11 +3,12 @@ use Rattle.std.proofs.Common.{◌≡◌, ℕ, zero, suc, ◌+◌, ◌<◌, ◌�
 use Rattle.std.proofs.Math.Bool.{not, ◌&&◌, ◌||◌}
 use Rattle.std.specs.List.{list_any, list_all, AllByRecursion}
 use Rattle.std.specs.Option.{option_and_then, option_map_or}
-use Rattle.std.proofs.lemmas.Bool.{cases_Bool, cases_lt, cases_order, ltb-true, and_parts, both_ways, eq-eqb}
+use Rattle.std.proofs.lemmas.Bool.{cases_Bool, cases_lt, cases_order, ltb-true, lt-ltb, le-ltb, and_parts, both_ways, eq-eqb}
 use Rattle.std.proofs.lemmas.Option.{cond_some, option_and_then_some, slice_get_past}
 use Rattle.std.proofs.lemmas.List.{drop-append-le}
 use Rattle.std.proofs.lemmas.List.Folds.{list_any-append}
 use Rattle.rx_note.specs.declared.note.Terminal.{Terminal}
+use Rattle.rx_event.specs.declared.event.Kind.{Kind}
 use Rattle.rx_event.specs.declared.event.Place.TheVariants.{Root, Source, Inner, Notifier}
 use Rattle.rx_event.specs.declared.event.Event.{Event}
 use Rattle.rx_event.specs.declared.event.Event.TheVariants.{Open, Hub, Connect, Accept, Use, Remove, Item, Decline, End, Close, Take}
@@ -218,3 +219,39 @@ is_open_unchanged h e s no_node n = by_place (cases_order n (length h)) where
   by_place (inr (inl l)) = is_open_kept h e n l s
   by_place (inl same) = ap (is_open (h ++ e ∷ [])) same ∙ (is_open_step (h ++ e ∷ []) (length h) ∙ rw (slice_get_last h e, no_node) refl) ∙ sym (is_open_past h n (omega arith))
   by_place (inr (inr g)) = is_open_past (h ++ e ∷ []) n (omega (arith, length-append {A = Event})) ∙ sym (is_open_past h n (omega arith))
+
+list_any_never : {X : Type 0} (P : X → Type 0) (p : X → Bool) → ((x : X) → P x → p x ≡ false) → (xs : List X) → AllByRecursion P xs → list_any p xs ≡ false
+list_any_never P p never [] a = refl
+list_any_never P p never (x ∷ xs) a = rw (never x a.0) (list_any_never P p never xs a.1)
+
+-- the opening of an inner cuts nothing at or above its parent
+pub is_cut_inner : (h : List Event) (f : ℕ) (kind : Kind) (n : ℕ) → n ≤ f → is_cut h (Open (Inner f) kind) n ≡ false
+is_cut_inner h f kind n l = list_any_never (λ a. a ≤ n) (λ a. is_switched_inner h f a) (λ a b. let above : nat_lt f a ≡ false = ltb_not f a (omega arith) in rw above refl) (ancestors h n) (ancestors-le h n) where
+  ltb_not : (m n : ℕ) → n ≤ m → nat_lt m n ≡ false
+  ltb_not m n le = le-ltb m n le
+
+-- nor does that of a FlatMap cut anything
+pub is_cut_inner_flat : (h : List Event) (f : ℕ) (kind : Kind) → at is_switch h f ≡ false → (n : ℕ) → is_cut h (Open (Inner f) kind) n ≡ false
+is_cut_inner_flat h f kind flat n = none (ancestors h n) where
+  no_switch : (b c : Bool) → ((b && false) && c) ≡ false
+  no_switch true c = refl
+  no_switch false c = refl
+
+  none : (xs : List ℕ) → list_any (λ a. is_switched_inner h f a) xs ≡ false
+  none [] = refl
+  none (a ∷ xs) = rw (flat, no_switch (nat_lt f a) (at (is_inner_of f) h a)) (none xs)
+
+-- a new node below an open one is open, where it does not cut it
+pub is_open_made : (h : List Event) (e : Event) (p : ℕ) → makes_node e ≡ true → parent_named e ≡ Some p → is_open h p ≡ true → is_cut h e p ≡ false → is_open (h ++ e ∷ []) (length h) ≡ true
+unfolding parent
+is_open_made h e p node named o kept = is_open_step (h ++ e ∷ []) (length h) ∙ rw (is_shut_last h e, slice_get_last h e, node, named, lt-ltb p (length h) l) (is_open_cut h e p l ∙ rw (o, kept) refl) where
+  l : p < length h
+  l = is_open_within h p o
+
+-- an event that makes no node opens none
+pub is_open_last_none : (h : List Event) (e : Event) → makes_node e ≡ false → is_open (h ++ e ∷ []) (length h) ≡ false
+is_open_last_none h e no_node = is_open_step (h ++ e ∷ []) (length h) ∙ rw (slice_get_last h e, no_node) refl
+
+-- the parent of an open node is open
+pub parent_open : (h : List Event) (n p : ℕ) → is_open h n ≡ true → parent h n ≡ Some p → is_open h p ≡ true
+parent_open h n p o below = (and_parts _ _ (sym (is_open_step h n ∙ ap (λ q. is_standing h n && option_map_or (is_open h) q true) below) ∙ o)).1

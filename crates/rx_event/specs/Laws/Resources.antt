@@ -1,5 +1,5 @@
 -- Where each resource is after one more event.
-use Rattle.std.proofs.Common.{◌≡◌, ℕ, ◌+◌, ◌<◌, ◌≤◌, Bool, true, false, List, [], ◌∷◌, ◌++◌, length, take, Option, Some, None, refl, sym, ap, ◌∙◌, arith, inl, inr, ◌⊎◌, ◌==◌, slice_get, length-append}
+use Rattle.std.proofs.Common.{◌≡◌, ℕ, ◌+◌, ◌<◌, ◌≤◌, Bool, true, false, List, [], ◌∷◌, ◌++◌, length, take, Option, Some, None, cond, refl, sym, ap, ◌∙◌, arith, inl, inr, ◌⊎◌, ◌==◌, slice_get, length-append}
 use Rattle.std.proofs.Math.Bool.{not, ◌&&◌, ◌||◌}
 use Rattle.std.specs.List.{list_any}
 use Rattle.std.specs.Option.{option_and_then, option_map_or}
@@ -8,6 +8,7 @@ use Rattle.std.proofs.lemmas.Bool.{cases_order, cases_Bool, both_ways, false≢t
 use Rattle.std.proofs.lemmas.Option.{option_and_then_some, slice_get_past, slice_get_within, none-some, same_Some}
 use Rattle.std.proofs.lemmas.List.Folds.{list_any-append}
 use Rattle.rx_note.specs.declared.note.Terminal.{Terminal}
+use Rattle.rx_event.specs.declared.event.Place.TheVariants.{Root, Source, Inner, Notifier}
 use Rattle.rx_event.specs.declared.event.Event.{Event}
 use Rattle.rx_event.specs.declared.event.Event.TheVariants.{Open, Hub, Connect, Accept, Use, Remove, Item, Decline, End, Close, Take}
 use Rattle.rx_event.specs.Events.{makes_resource, node_of_accept, is_remove_of, is_take_of}
@@ -155,6 +156,11 @@ is_taken-push h e r l = rw (at-append makes_resource h (e ∷ []) r l, list_any-
   shape true false true = refl
   shape true false false = refl
 
+-- what is taken is a resource
+pub taken_resource : (h : List Event) (r : ℕ) → is_taken h r ≡ true → at makes_resource h r ≡ true
+unfolding is_taken
+taken_resource h r taken = (and_parts _ _ taken).0
+
 -- beyond the end nothing is taken
 pub is_taken_past : (h : List Event) (r : ℕ) → length h ≤ r → is_taken h r ≡ false
 unfolding is_taken
@@ -297,3 +303,74 @@ is_waiting-remove h q law r l = rw (is_waiting-push h (Remove q) law r l) (shape
 
   shape : (w b k s : Bool) → k ≡ false → ((w || (b && (k || s))) && true) ≡ (w || (b && s))
   shape w b k s none = rw none (and_true (w || (b && s)))
+
+-- each resource is in exactly one place: held, waiting or taken
+pub in_one_place : (h : List Event) → IsLawful h → (r : ℕ) → cond (is_held h r) 1 0 + cond (is_waiting h r) 1 0 + cond (is_taken h r) 1 0 ≡ cond (at makes_resource h r) 1 0
+unfolding is_waiting
+in_one_place h law r = shape (at makes_resource h r) (is_held h r) (is_taken h r) (held_resource h r) (held_not_taken h law r) (taken_resource h r) where
+  shape : (a held taken : Bool) → (held ≡ true → a ≡ true) → (held ≡ true → taken ≡ false) → (taken ≡ true → a ≡ true) → cond held 1 0 + cond ((a && not held) && not taken) 1 0 + cond taken 1 0 ≡ cond a 1 0
+  shape true true true made untaken given = absurd (both_ways _ (untaken refl) refl)
+  shape true true false made untaken given = refl
+  shape true false true made untaken given = refl
+  shape true false false made untaken given = refl
+  shape false true taken made untaken given = absurd (false≢true (made refl))
+  shape false false true made untaken given = absurd (false≢true (given refl))
+  shape false false false made untaken given = refl
+
+-- what neither shuts a node nor moves a resource --------------------------------------------------
+
+-- the event shuts no node, and accepts, removes and takes no resource
+abbrev pub moves_none : Event → Bool
+moves_none (Open (Inner f) kind) = false
+moves_none (Open place kind) = true
+moves_none (Hub mode) = true
+moves_none (Connect g) = true
+moves_none (Use r) = true
+moves_none (Item l v) = true
+moves_none (Decline f) = true
+moves_none _ = false
+
+pub record MovesNone (e : Event) : Type 0 where
+  pub shuts : shuts_none e ≡ true
+  pub accepts : makes_resource e ≡ false
+  pub named : node_of_accept e ≡ None
+  pub removes : (r : ℕ) → is_remove_of r e ≡ false
+  pub takes : (r : ℕ) → is_take_of r e ≡ false
+
+moves_parts : (e : Event) → moves_none e ≡ true → MovesNone e
+moves_parts (Open (Inner f) kind) m = absurd (false≢true m)
+moves_parts (Open Root kind) m = record { shuts = refl; accepts = refl; named = refl; removes = λ r. refl; takes = λ r. refl }
+moves_parts (Open (Source f) kind) m = record { shuts = refl; accepts = refl; named = refl; removes = λ r. refl; takes = λ r. refl }
+moves_parts (Open (Notifier f) kind) m = record { shuts = refl; accepts = refl; named = refl; removes = λ r. refl; takes = λ r. refl }
+moves_parts (Hub mode) m = record { shuts = refl; accepts = refl; named = refl; removes = λ r. refl; takes = λ r. refl }
+moves_parts (Connect g) m = record { shuts = refl; accepts = refl; named = refl; removes = λ r. refl; takes = λ r. refl }
+moves_parts (Use q) m = record { shuts = refl; accepts = refl; named = refl; removes = λ r. refl; takes = λ r. refl }
+moves_parts (Item l v) m = record { shuts = refl; accepts = refl; named = refl; removes = λ r. refl; takes = λ r. refl }
+moves_parts (Decline f) m = record { shuts = refl; accepts = refl; named = refl; removes = λ r. refl; takes = λ r. refl }
+moves_parts (Accept n tag) m = absurd (false≢true m)
+moves_parts (Remove q) m = absurd (false≢true m)
+moves_parts (Take q) m = absurd (false≢true m)
+moves_parts (End n t) m = absurd (false≢true m)
+moves_parts (Close n) m = absurd (false≢true m)
+
+-- it leaves held what is held, and nothing more
+pub is_held_unchanged : (h : List Event) (e : Event) → IsLawful h → moves_none e ≡ true → (r : ℕ) → is_held (h ++ e ∷ []) r ≡ is_held h r
+is_held_unchanged h e law m r = by_place (cases_order r (length h)) where
+  parts : MovesNone e
+  parts = moves_parts e m
+
+  by_place : (r ≡ length h) ⊎ ((r < length h) ⊎ (length h < r)) → is_held (h ++ e ∷ []) r ≡ is_held h r
+  by_place (inr (inl l)) = is_held_kept h e law r l parts.shuts (parts.removes r)
+  by_place (inl same) = ap (is_held (h ++ e ∷ [])) same ∙ is_held_last h e law ∙ ap (λ o. option_map_or (is_open h) o false) parts.named ∙ sym (is_held_past h r (omega arith))
+  by_place (inr (inr g)) = is_held_past (h ++ e ∷ []) r (omega (arith, length-append {A = Event})) ∙ sym (is_held_past h r (omega arith))
+
+-- and waiting what waits
+pub is_waiting_unchanged : (h : List Event) (e : Event) → IsLawful h → moves_none e ≡ true → (r : ℕ) → is_waiting (h ++ e ∷ []) r ≡ is_waiting h r
+is_waiting_unchanged h e law m r = by_place (cases_order r (length h)) where
+  parts : MovesNone e
+  parts = moves_parts e m
+
+  by_place : (r ≡ length h) ⊎ ((r < length h) ⊎ (length h < r)) → is_waiting (h ++ e ∷ []) r ≡ is_waiting h r
+  by_place (inr (inl l)) = is_waiting_kept h e law r l parts.shuts (parts.removes r) (parts.takes r)
+  by_place (inl same) = ap (is_waiting (h ++ e ∷ [])) same ∙ is_waiting_last h e law ∙ ap (λ b. b && not (option_map_or (is_open h) (node_of_accept e) false)) parts.accepts ∙ sym (is_waiting_past h r (omega arith))
+  by_place (inr (inr g)) = is_waiting_past (h ++ e ∷ []) r (omega (arith, length-append {A = Event})) ∙ sym (is_waiting_past h r (omega arith))

@@ -1,16 +1,27 @@
--- Lawful histories, one event more at a time: a proof by their events, and what stands where an event may follow.
-use Rattle.std.proofs.Common.{◌≡◌, ℕ, ◌<◌, ◌≤◌, Bool, true, false, List, [], ◌∷◌, ◌++◌, length, take, Some, refl, sym, arith, slice_get, append_assoc, append-nil}
+-- Histories, one event more at a time: proofs by their events, and what stands where an event may follow.
+use Rattle.std.proofs.Common.{◌≡◌, ℕ, ℤ, ◌<◌, ◌≤◌, Bool, true, false, List, [], ◌∷◌, ◌++◌, length, take, Some, refl, sym, arith, slice_get, append_assoc, append-nil}
 use Rattle.std.specs.List.{AllByRecursion}
 use Rattle.std.proofs.lemmas.Bool.{false≢true}
+use Rattle.rx_event.specs.declared.event.Place.{Place}
+use Rattle.rx_event.specs.declared.event.Kind.{Kind}
 use Rattle.rx_event.specs.declared.event.Event.{Event}
 use Rattle.rx_event.specs.declared.event.Event.TheVariants.{Open, Hub, Connect, Accept, Use, Remove, Item, Decline, End, Close, Take}
-use Rattle.rx_event.specs.Tree.{is_open}
+use Rattle.rx_event.specs.Events.{is_merging}
+use Rattle.rx_event.specs.Tree.{at, is_open}
 use Rattle.rx_event.specs.Resources.{is_held, is_waiting}
-use Rattle.rx_event.specs.Moments.{Moment, moments, moments_after}
+use Rattle.rx_event.specs.Moments.{Moment, moments, moments_after, owed}
 use Rattle.rx_event.specs.Forced.{mirrored, fired, failed, completed, cut, left, connecting, due, IsDue, IsForced}
-use Rattle.rx_event.specs.Allowed.{accepted, used, removed, root_closed, disconnected, taken, IsAllowed}
+use Rattle.rx_event.specs.Allowed.{opened, accepted, used, removed, emitted, declined, root_closed, disconnected, taken, IsFree, IsAllowed}
 use Rattle.rx_event.specs.Lawful.{forced, allowed, opened_with, MayFollow, IsLawful}
 use Rattle.rx_event.specs.Laws.Lawful.{IsLawful-push, IsLawful_empty}
+
+by_pushes_after : (P : List Event → Type 0) → ((h : List Event) (e : Event) → P h → P (h ++ e ∷ [])) → (b h : List Event) → P b → P (b ++ h)
+by_pushes_after P step b [] p = rw (append-nil b) p
+by_pushes_after P step b (x ∷ h) p = rw (← append_assoc b (x ∷ []) h) (by_pushes_after P step (b ++ x ∷ []) h (step b x p))
+
+-- what holds of the empty history, and after each event, holds of each history
+pub by_pushes : (P : List Event → Type 0) → P [] → ((h : List Event) (e : Event) → P h → P (h ++ e ∷ [])) → (h : List Event) → P h
+by_pushes P start step h = by_pushes_after P step [] h start
 
 by_events_after : (P : List Event → Type 0) → ((h : List Event) (e : Event) → IsLawful h → MayFollow h e → P h → P (h ++ e ∷ [])) → (b h : List Event) → IsLawful b → P b → AllByRecursion (λ (m : Moment). MayFollow m.before m.event) (moments_after b h) → P (b ++ h)
 by_events_after P step b [] law p each = rw (append-nil b) p
@@ -87,3 +98,27 @@ allowed_close (disconnected o at_c a) = o
 pub may_close : {h : List Event} {c : ℕ} → MayFollow h (Close c) → is_open h c ≡ true
 may_close (forced f) = forced_close f
 may_close (allowed s a) = allowed_close a
+
+allowed_open_place : {h : List Event} {place : Place} {kind : Kind} → IsAllowed h (Open place kind) → IsFree h place
+allowed_open_place (opened free hub few room) = free
+
+-- what is opened is opened at a free place
+pub may_open : {h : List Event} {place : Place} {kind : Kind} → MayFollow h (Open place kind) → IsFree h place
+may_open (forced f) = absurd (false≢true (forced_kind f))
+may_open (allowed s a) = allowed_open_place a
+
+allowed_item : {h : List Event} {l : ℕ} {value : ℤ} → IsAllowed h (Item l value) → is_open h l ≡ true
+allowed_item (emitted o k v) = o
+
+-- what emits is open
+pub may_emit : {h : List Event} {l : ℕ} {value : ℤ} → MayFollow h (Item l value) → is_open h l ≡ true
+may_emit (forced f) = absurd (false≢true (forced_kind f))
+may_emit (allowed s a) = allowed_item a
+
+allowed_decline : {h : List Event} {f : ℕ} → IsAllowed h (Decline f) → (is_open h f ≡ true) × (at is_merging h f ≡ true) × (0 < owed h f)
+allowed_decline (declined o m some) = (o, m, some)
+
+-- what declines is an open FlatMap or Switch that owes
+pub may_decline : {h : List Event} {f : ℕ} → MayFollow h (Decline f) → (is_open h f ≡ true) × (at is_merging h f ≡ true) × (0 < owed h f)
+may_decline (forced f) = absurd (false≢true (forced_kind f))
+may_decline (allowed s a) = allowed_decline a
