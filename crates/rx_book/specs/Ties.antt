@@ -1,6 +1,6 @@
 -- How what a register keeps beside its history is tied to it.
 use Rattle.std.specs.Prelude.{◌≡◌, ℕ, ◌+◌, ◌≤◌, Bool, true, false, ◌&&◌, ◌==◌, Option, Some, None, List, length, map, take, slice_get, slice_index_or, vec_len, vec_capacity, if◌then◌else◌}
-use Rattle.std.specs.List.{All, list_all}
+use Rattle.std.specs.List.{AllByRecursion, list_all}
 use Rattle.std.specs.Option.{option_and_then}
 use Rattle.std.proofs.Math.Bool.{not}
 use Rattle.rx_event.specs.declared.event.Event.{Event}
@@ -32,7 +32,7 @@ pub record IsRegistered (a : Inside) : Type 0 where
   pub upheld : IsUpheld (kept_of a)
   pub limit : a.limit ≡ a.history.limit
   pub marks : IsTied a.history.events a.marks.items
-  pub nodes : All (IsAtNode a.history.events) a.untaken.items
+  pub nodes : AllByRecursion (IsAtNode a.history.events) a.untaken.items
   pub open_total : a.open_total ≡ open_count a.history.events
   pub held_total : a.held_total ≡ held_count a.history.events
   pub item_total : a.item_total ≡ item_count a.history.events

@@ -1,6 +1,7 @@
 //! What stands against a call, in the order of the refusals.
 
-ghost use Rattle.std.specs.Prelude.{◌≡◌, ◌+◌, ◌<◌, ◌≤◌, true};
+ghost use Rattle.std.specs.Prelude.{◌≡◌, ◌+◌, ◌<◌, ◌≤◌, true, nat_lt};
+ghost use Rattle.rx_event.specs.Climb.{most_visits, visits};
 ghost use Rattle.rx_event.specs.Totals.{debt as debt_in};
 ghost use Rattle.rx_event.specs.Calls.{Opening, OpeningUsing, Holding, Emitting, Ending, Disposing};
 ghost use Rattle.rx_event.specs.Refusals.{first_cause};
@@ -68,6 +69,13 @@ impl Register {
         ensures { result ≡ is_crowded_in self.now.history }
     {
         MOST_NODES <= self.open_total
+    }
+
+    /// Whether an item of the leaf would visit too many nodes.
+    fn is_far(&self, leaf: u64) -> bool
+        ensures { result ≡ nat_lt most_visits (visits self.now.history leaf) }
+    {
+        MOST_VISITS < count_visits(&self.history, leaf)
     }
 
     fn is_over(&self, more: u64) -> bool
@@ -153,7 +161,7 @@ impl Register {
         if !is_leaf(&self.history, leaf) {
             return Some(Refusal::WrongKind);
         }
-        if MOST_VISITS < count_visits(&self.history, leaf) {
+        if self.is_far(leaf) {
             return Some(Refusal::TooMany);
         }
         if self.is_over(1) {

@@ -1,14 +1,27 @@
 //! What a register answers, and changes nothing.
 
-ghost use Rattle.std.specs.Prelude.{◌≡◌, length, slice_get};
+ghost use Rattle.std.specs.Prelude.{◌≡◌, ◌==◌, length, slice_get};
 ghost use Rattle.std.specs.List.{find};
 ghost use Rattle.rx_event.specs.Tree.{is_open as is_open_in, places};
 ghost use Rattle.rx_event.specs.Resources.{is_held as is_held_in};
 ghost use Rattle.rx_event.specs.Totals.{held_count, waiting_count, accepted_count, taken_count, item_count};
-ghost use Rattle.rx_book.specs.Kept.{is_open_root};
+ghost use Rattle.rx_book.specs.Kept.{is_open_root as is_open_root_in};
 
-use super::Register;
-use rx_event::{Event, Place};
+use super::nodes::is_root;
+use super::{Register, Untaken};
+use rx_event::Event;
+
+/// The entry of this resource.
+fn entry_of(untaken: &[Untaken], resource: u64) -> Option<Untaken>
+    ensures { result ≡ find (λ u. u.number == resource) untaken.now }
+{
+    for entry in untaken {
+        if entry.number == resource {
+            return Some(*entry);
+        }
+    }
+    None
+}
 
 impl Register {
     /// How many resources are held.
@@ -71,29 +84,26 @@ impl Register {
     pub(crate) fn is_held(&self, resource: u64) -> bool
         ensures { result ≡ is_held_in self.now.history resource }
     {
-        for entry in &self.untaken {
-            if entry.number == resource {
-                return self.is_open(entry.node);
-            }
+        match entry_of(&self.untaken, resource) {
+            Some(entry) => self.is_open(entry.node),
+            None => false,
         }
-        false
+    }
+
+    /// Whether the number is an open root's.
+    fn is_open_root(&self, node: u64) -> bool
+        ensures { result ≡ is_open_root_in self.now.history node }
+    {
+        self.is_open(node) && is_root(&self.history, node)
     }
 
     /// The open root of least number.
     pub(crate) fn open_root(&self) -> Option<u64>
-        ensures { result ≡ find (is_open_root self.now.history) (places self.now.history) }
+        ensures { result ≡ find (is_open_root_in self.now.history) (places self.now.history) }
     {
-        for i in 0..self.marks.len() {
-            if self.marks[i] {
-                if let Some(
-                    Event::Open {
-                        place: Place::Root,
-                        ..
-                    },
-                ) = self.history.get(i as u64)
-                {
-                    return Some(i as u64);
-                }
+        for i in 0..self.history.len() {
+            if self.is_open_root(i) {
+                return Some(i);
             }
         }
         None
