@@ -10,3 +10,4 @@ pub mod Tallies
 pub mod Empty
 pub mod Searches
 pub mod Held
+pub mod Given

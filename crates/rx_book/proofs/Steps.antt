@@ -103,11 +103,11 @@ no_forced_use : (e : Event) (r : ℕ) → may_be_forced e ≡ true → is_use_of
 no_forced_use (Use q) r f = absurd (false≢true f)
 no_forced_use _ r f = refl
 
-uses_forced : {h k : List Event} → IsForcedOn h k → (r : ℕ) → uses k r ≡ uses h r
+pub uses_forced : {h k : List Event} → IsForcedOn h k → (r : ℕ) → uses k r ≡ uses h r
 uses_forced stays r = refl
 uses_forced (more {h} {k} {e} before next) r = uses-push k e r ∙ rw (no_forced_use e r (forced_kind next)) (add-zero (uses k r)) ∙ uses_forced before r
 
-uses_outside : (h outside : List Event) (r : ℕ) → count_by (is_use_of r) outside ≡ 0 → uses (h ++ outside) r ≡ uses h r
+pub uses_outside : (h outside : List Event) (r : ℕ) → count_by (is_use_of r) outside ≡ 0 → uses (h ++ outside) r ≡ uses h r
 unfolding uses
 uses_outside h outside r none = sum_by-append (λ (e : Event). cond (is_use_of r e) 1 0) h outside ∙ ap (λ n. count_by (is_use_of r) h + n) none ∙ add-zero (count_by (is_use_of r) h)
 
