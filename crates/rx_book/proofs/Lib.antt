@@ -11,3 +11,4 @@ pub mod Empty
 pub mod Searches
 pub mod Held
 pub mod Given
+pub mod Taken

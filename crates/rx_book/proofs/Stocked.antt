@@ -45,7 +45,7 @@ filter-filter p q wider (n ∷ ns) = at_first (filter-filter p q wider ns) (case
 held_untaken : (h : List Event) → IsLawful h → (r : ℕ) → is_held h r ≡ true → is_untaken h r ≡ true
 held_untaken h law r held = and_from _ _ (held_resource h r held) (ap not (held_not_taken h law r held))
 
-waiting_untaken : (h : List Event) (r : ℕ) → is_waiting h r ≡ true → is_untaken h r ≡ true
+pub waiting_untaken : (h : List Event) (r : ℕ) → is_waiting h r ≡ true → is_untaken h r ≡ true
 waiting_untaken h r waits = let parts = waiting_parts h r waits in and_from _ _ parts.0 (ap not parts.2)
 
 -- the boxes of the resources that pass a test, which only resources that are not taken do
