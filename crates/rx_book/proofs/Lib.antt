@@ -6,3 +6,7 @@ pub mod Tallies
 pub mod Empty
 pub mod Searches
 pub mod Held
+pub mod Clear
+pub mod After
+pub mod Openings
+pub mod Items

@@ -139,7 +139,7 @@ free_opens h (Source x) kind p free = rw (lt-ltb x (length h) (is_open_within h 
 free_opens h (Inner x) kind p free = absurd (false≢true p)
 free_opens h (Notifier x) kind p free = absurd (false≢true p)
 
-shuts_no_node : (place : Place) (kind : Kind) → is_plain (Open place kind) ≡ true → shuts_none (Open place kind) ≡ true
+pub shuts_no_node : (place : Place) (kind : Kind) → is_plain (Open place kind) ≡ true → shuts_none (Open place kind) ≡ true
 shuts_no_node Root kind p = refl
 shuts_no_node (Source x) kind p = refl
 shuts_no_node (Inner x) kind p = absurd (false≢true p)
