@@ -10,3 +10,5 @@ pub mod Clear
 pub mod After
 pub mod Openings
 pub mod Items
+pub mod Tops
+pub mod Closings
