@@ -12,3 +12,9 @@ pub mod Searches
 pub mod Held
 pub mod Given
 pub mod Taken
+pub mod Clear
+pub mod After
+pub mod Openings
+pub mod Items
+pub mod Tops
+pub mod Closings
