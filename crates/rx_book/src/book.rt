@@ -4,7 +4,7 @@ ghost use Rattle.std.specs.Prelude.{◌≡◌, ◌+◌, ◌<◌, ◌≤◌, true
 ghost use Rattle.std.specs.List.{Contains, find};
 ghost use Rattle.rx_event.specs.Tree.{places};
 ghost use Rattle.rx_event.specs.Notes.{notes};
-ghost use Rattle.rx_event.specs.Totals.{held_count, waiting_count, accepted_count, taken_count, item_count};
+ghost use Rattle.rx_event.specs.Totals.{open_count as open_count_in, held_count, waiting_count, accepted_count, taken_count, item_count};
 ghost use Rattle.rx_event.specs.Calls.{Opening, OpeningUsing, Holding, Emitting, Ending, Disposing, Taking};
 ghost use Rattle.rx_event.specs.Refusals.{IsRefusal, first_cause};
 ghost use Rattle.rx_resource.specs.declared.Life.{Life};
@@ -281,6 +281,13 @@ impl<R: Resource> Book<R> {
         ensures given { self.new ≡ record self.old { given = if is_some result then self.old.given + 1 else self.old.given } }
     {
         self.register.take_mail()
+    }
+
+    /// How many nodes are open.
+    pub fn open_count(&self) -> u64
+        ensures { result ≡ open_count_in self.now.history }
+    {
+        self.register.open_count()
     }
 
     /// How many resources are held.
