@@ -5,6 +5,8 @@ mod answer;
 mod book;
 mod key;
 mod register;
+#[cfg(test)]
+mod tests;
 
 pub use answer::{At, Mail, Opened, OpenedUsing, Refused};
 pub use book::Book;

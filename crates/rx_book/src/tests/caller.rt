@@ -1,0 +1,1 @@
+//! A caller of the book that is proved.
