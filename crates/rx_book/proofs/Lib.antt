@@ -12,3 +12,4 @@ pub mod Openings
 pub mod Items
 pub mod Tops
 pub mod Closings
+pub mod Holdings
