@@ -13,3 +13,4 @@ pub mod Items
 pub mod Tops
 pub mod Closings
 pub mod Holdings
+pub mod Takings
