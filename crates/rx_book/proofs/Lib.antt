@@ -14,3 +14,4 @@ pub mod Tops
 pub mod Closings
 pub mod Holdings
 pub mod Takings
+pub mod Letters
