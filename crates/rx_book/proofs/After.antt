@@ -115,3 +115,29 @@ follows_after a b t s stands call f shown o cause none forced = record {
   limit = f.stored_limit ∙ ap (λ (x : Kept). x.limit) shown;
   given = f.given ∙ ap (λ (x : Kept). x.given) shown;
 }
+
+-- more events, and then more
+pub after_both : (a m b : Inside) (t u : List Event) → IsAfter a m t → IsAfter m b u → IsAfter a b (t ++ u)
+after_both a m b t u f g = record {
+  events = g.events ∙ is;
+  stored_limit = g.stored_limit ∙ f.stored_limit;
+  limit = g.limit ∙ f.limit;
+  given = g.given ∙ f.given;
+  cursor = g.cursor ∙ f.cursor;
+  lawful = rw (← is) g.lawful;
+  settled = rw (← is) g.settled;
+  plain = rw (← is) g.plain;
+  marks = rw (← is) g.marks;
+  untaken = rw (← is) g.untaken;
+  nodes = rw (← is) g.nodes;
+  open_total = rw (← is) g.open_total;
+  held_total = rw (← is) g.held_total;
+  item_total = rw (← is) g.item_total;
+  accepted_total = rw (← is) g.accepted_total;
+  within = rw (← is, ← f.limit) g.within;
+  room = rw (← is) g.room;
+  mark_room = rw (← is) g.mark_room;
+}
+  where
+    is : m.history.events ++ u ≡ a.history.events ++ (t ++ u)
+    is = ap (λ (x : List Event). x ++ u) f.events ∙ append_assoc a.history.events t u

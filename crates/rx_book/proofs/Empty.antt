@@ -35,7 +35,7 @@ upheld_empty limit few = record {
   given = omega arith;
 }
 
-no_notes : length (notes []) ≡ 0
+pub no_notes : length (notes []) ≡ 0
 unfolding notes moments
 no_notes = refl
 
