@@ -1,5 +1,5 @@
 -- What the answers of calls say.
-use Rattle.std.specs.Prelude.{◌≡◌, ℕ, ◌<◌, Bool, true, None, List, length}
+use Rattle.std.specs.Prelude.{◌≡◌, ◌<◌, Bool, true, None, List, length}
 use Rattle.std.specs.List.{Contains}
 use Rattle.rx_event.specs.declared.event.Place.{Place}
 use Rattle.rx_event.specs.declared.event.Place.TheVariants.{Root, Source, Inner, Notifier}
