@@ -1,27 +1,26 @@
 -- The notes of a history, one event after another.
-use Rattle.std.proofs.Common.{◌≡◌, ℕ, ℤ, zero, suc, ◌+◌, ◌<◌, ◌≤◌, Bool, true, false, List, [], ◌∷◌, ◌++◌, length, map, take, drop, min, Option, Some, None, cond, refl, sym, ap, subst, ◌∙◌, arith, inl, inr, ◌⊎◌, slice_get, get_or, length-append, append_assoc, append-nil, add-zero, take-append-drop, length-take, is_some, add-one}
-use Rattle.std.proofs.Math.Bool.{not, ◌&&◌}
+use Rattle.std.proofs.Common.{◌≡◌, ℕ, ℤ, zero, suc, ◌+◌, ◌<◌, ◌≤◌, Bool, true, false, List, [], ◌∷◌, ◌++◌, length, map, take, drop, Option, Some, None, cond, refl, sym, ap, ◌∙◌, arith, inl, inr, ◌⊎◌, slice_get, length-append, append_assoc, append-nil, take-append-drop, length-take, is_some, add-one}
 use Rattle.std.specs.List.{filter_map, cons_option, list_all}
 use Rattle.std.specs.Option.{option_and_then, option_map_or, option_to_list, option_map}
-use Rattle.std.proofs.lemmas.Bool.{and_parts, and_from, false≢true, cases_lt, lt-ltb, both_ways}
-use Rattle.std.proofs.lemmas.Option.{none-some, same_Some, slice_get_within, slice_get-get_or, slice_get_past, get_or_from_slice_get}
+use Rattle.std.proofs.lemmas.Bool.{and_parts, and_from, false≢true, cases_lt, lt-ltb}
+use Rattle.std.proofs.lemmas.Option.{slice_get_within, slice_get_past, get_or_from_slice_get}
 use Rattle.std.proofs.lemmas.List.{take-append-le, take_all, take_more}
 use Rattle.rx_note.specs.declared.note.Terminal.{Terminal}
 use Rattle.rx_note.specs.declared.note.Note.TheVariants.{Next, End as NoteEnd}
 use Rattle.rx_event.specs.declared.event.Place.TheVariants.{Root, Source, Inner, Notifier}
 use Rattle.rx_event.specs.declared.event.Kind.{Kind}
 use Rattle.rx_event.specs.declared.event.Event.{Event}
-use Rattle.rx_event.specs.declared.event.Event.TheVariants.{Open, Hub, Connect, Accept, Use, Remove, Item, Decline, End, Close, Take}
+use Rattle.rx_event.specs.declared.event.Event.TheVariants.{Open, Connect, Item, End}
 use Rattle.rx_event.specs.Events.{makes_node, parent_named, is_root, is_merging}
-use Rattle.rx_event.specs.Tree.{at, parent, if_less, ancestors, is_open, is_standing, is_shut}
-use Rattle.rx_event.specs.Climb.{Stop, Delivery, stops, stop_at, stop_made, climb, visits, most_visits}
+use Rattle.rx_event.specs.Tree.{at, parent, if_less, ancestors, is_open, is_standing}
+use Rattle.rx_event.specs.Climb.{Stop, Delivery, stops, stop_at, stop_made, visits, most_visits}
 use Rattle.rx_event.specs.Notes.{Mail, notes, mail_of, told}
 use Rattle.rx_event.specs.Lawful.{forced, allowed, MayFollow, IsLawful}
 use Rattle.rx_event.specs.Allowed.{emitted, IsAllowed}
 use Rattle.rx_event.specs.Laws.Places.{at-take}
 use Rattle.rx_event.specs.Laws.Parents.{ancestors_step, ancestors-append, parent-lt}
 use Rattle.rx_event.specs.Laws.Openness.{is_open_step, is_open_within}
-use Rattle.rx_event.specs.Laws.Lawful.{IsLawful-push, IsLawful_empty, lawful_at, may_end, ended_after}
+use Rattle.rx_event.specs.Laws.Lawful.{IsLawful-push, IsLawful_empty, lawful_at, ended_after}
 use Rattle.rx_event.specs.Laws.Steps.{by_events, may_open, may_emit, forced_kind}
 use Rattle.rx_event.specs.Laws.Counts.{notes-push}
 use Rattle.rx_book.specs.declared.answer.Mail.{Mail as Letter}

@@ -1,20 +1,18 @@
 -- A register after a resource is handed out.
-use Rattle.std.proofs.Common.{◌≡◌, ℕ, zero, suc, ◌+◌, ◌<◌, ◌≤◌, Bool, true, false, List, [], ◌∷◌, ◌++◌, length, map, take, drop, Option, Some, None, cond, refl, sym, ap, ◌∙◌, arith, slice_get, get_or, vec_len, vec_capacity, length-append, count_by, IsTrue}
-use Rattle.std.proofs.Math.Bool.{not, ◌&&◌}
+use Rattle.std.proofs.Common.{◌≡◌, ℕ, zero, suc, ◌+◌, ◌<◌, ◌≤◌, Bool, true, false, List, [], ◌∷◌, ◌++◌, length, Some, cond, refl, sym, ap, ◌∙◌, arith, slice_get, get_or, vec_len, vec_capacity, length-append, count_by}
 use Rattle.std.specs.List.{list_all, filter, remove, AllByRecursion}
 use Rattle.std.specs.Option.{option_map}
-use Rattle.std.proofs.lemmas.Bool.{and_parts, and_from, not_from_false, cases_Bool}
+use Rattle.std.proofs.lemmas.Bool.{and_parts, and_from, not_from_false}
 use Rattle.std.proofs.lemmas.Option.{none-some, same_Some, slice_get-map, slice_get-get_or, get_or_from_slice_get}
-use Rattle.std.proofs.lemmas.List.{map-append, nil_from_length}
+use Rattle.std.proofs.lemmas.List.{nil_from_length}
 use Rattle.std.proofs.lemmas.List.Sums.{length-filter, sum_by-cons}
 use Rattle.rx_event.specs.declared.event.Event.{Event}
 use Rattle.rx_event.specs.declared.event.Event.TheVariants.{Take}
-use Rattle.rx_event.specs.Events.{makes_resource}
-use Rattle.rx_event.specs.Tree.{at, places}
-use Rattle.rx_event.specs.Resources.{is_held, is_taken, is_waiting, waiting_resources}
+use Rattle.rx_event.specs.Tree.{places}
+use Rattle.rx_event.specs.Resources.{is_held, is_waiting, waiting_resources}
 use Rattle.rx_event.specs.Allowed.{taken}
-use Rattle.rx_event.specs.Totals.{debt, held_count}
-use Rattle.rx_event.specs.Lawful.{allowed, MayFollow, IsLawful}
+use Rattle.rx_event.specs.Totals.{debt}
+use Rattle.rx_event.specs.Lawful.{allowed, MayFollow}
 use Rattle.rx_event.specs.Laws.Lawful.{IsLawful-push}
 use Rattle.rx_event.specs.Laws.Totals.{open_count_made, held_count-take, item_count-push, accepted_count-push}
 use Rattle.rx_event.specs.Laws.Debt.{debt-take}
@@ -27,8 +25,8 @@ use Rattle.rx_book.proofs.Marks.{tied_after_quiet}
 use Rattle.rx_book.proofs.Searches.{each_at}
 use Rattle.rx_book.proofs.Held.{held_at, held_total_is}
 use Rattle.rx_book.proofs.Untaken.{untaken-take, map-remove}
-use Rattle.rx_book.proofs.Tallies.{waiting_is, length_of_untaken}
-use Rattle.rx_book.proofs.After.{IsAfter, nodes-append, untaken_length}
+use Rattle.rx_book.proofs.Tallies.{waiting_is}
+use Rattle.rx_book.proofs.After.{IsAfter, nodes-append}
 
 -- what is in a filter passes
 filter_at : {X : Type 0} (p : X → Bool) (xs : List X) (i : ℕ) (x : X) → slice_get (filter p xs) i ≡ Some x → p x ≡ true

@@ -9,8 +9,8 @@ ghost use Rattle.rx_book.specs.Plain.{is_plain};
 ghost use Rattle.rx_book.specs.Kept.{letter};
 ghost use Rattle.rx_book.specs.Ties.{told_at};
 
-use super::nodes::{is_root, top_of};
 use super::Register;
+use super::nodes::{is_root, top_of};
 use crate::answer::Mail;
 use rx_event::{Event, History};
 use rx_note::Note;
@@ -24,23 +24,19 @@ fn mail_at(history: &History, place: u64) -> Option<Mail>
 {
     match history.get(place) {
         Some(Event::Item(leaf, value)) => {
-            Some(
-                Mail {
-                    place,
-                    to: top_of(history, leaf),
-                    note: Note::Next(value),
-                },
-            )
+            Some(Mail {
+                place,
+                to: top_of(history, leaf),
+                note: Note::Next(value),
+            })
         }
         Some(Event::End(node, terminal)) => {
             if is_root(history, node) {
-                Some(
-                    Mail {
-                        place,
-                        to: node,
-                        note: Note::End(terminal),
-                    },
-                )
+                Some(Mail {
+                    place,
+                    to: node,
+                    note: Note::End(terminal),
+                })
             } else {
                 None
             }

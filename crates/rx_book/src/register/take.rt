@@ -45,12 +45,10 @@ impl Register {
                     Event::Take(entry.number),
                     false,
                 );
-                Some(
-                    Taken {
-                        index,
-                        number: entry.number,
-                    },
-                )
+                Some(Taken {
+                    index,
+                    number: entry.number,
+                })
             }
             None => None,
         }

@@ -1,8 +1,7 @@
-use Rattle.std.proofs.Common.{◌≡◌, ◌+◌, Bool, true, false, ◌∷◌, [], ◌++◌, List, ℕ, refl, sym, ap, ◌∙◌, arith, length}
+use Rattle.std.proofs.Common.{◌≡◌, ◌+◌, Bool, true, ◌∷◌, [], ◌++◌, List, ℕ, refl, sym, ap, ◌∙◌, arith, length}
 use Rattle.rx_event.specs.declared.event.Kind.TheVariants.{Pass}
 use Rattle.rx_event.specs.declared.event.Event.{Event}
 use Rattle.rx_event.specs.declared.event.Event.TheVariants.{Open, Accept}
-use Rattle.rx_event.specs.Allowed.{most_nodes}
 use Rattle.rx_event.specs.Totals.{debt}
 use Rattle.rx_event.specs.Calls.{OpeningUsing}
 use Rattle.rx_event.specs.Lawful.{stays}

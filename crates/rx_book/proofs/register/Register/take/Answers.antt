@@ -1,13 +1,9 @@
-use Rattle.std.proofs.Common.{◌≡◌, ◌+◌, Bool, true, false, List, [], ◌∷◌, ◌++◌, Some, None, slice_get, get_or, length, refl, sym, ap, ◌∙◌, arith}
-use Rattle.std.specs.List.{list_all, remove}
+use Rattle.std.proofs.Common.{[], ◌∷◌, None, refl, ap, ◌∙◌, arith}
 use Rattle.std.specs.Option.{option_map}
 use Rattle.std.proofs.lemmas.Option.{slice_get-map}
-use Rattle.rx_event.specs.declared.event.Event.{Event}
 use Rattle.rx_event.specs.declared.event.Event.TheVariants.{Take}
 use Rattle.rx_event.specs.Calls.{Taking}
 use Rattle.rx_event.specs.Lawful.{stays}
-use Rattle.rx_book.specs.declared.register.Untaken.{Untaken}
-use Rattle.rx_book.specs.Kept.{Kept}
 use Rattle.rx_book.specs.Ties.{number_of}
 use Rattle.rx_book.proofs.Untaken.{map-remove}
 use Rattle.rx_book.proofs.Takings.{taken_after, entry_found, entry_pays, entry_waits, none_waits, all_marked}

@@ -1,7 +1,6 @@
-use Rattle.std.proofs.Common.{rules, SFits, ◌≡◌, Some, sym, refl, ap, subst, ◌∙◌, w64, map, false, Option}
+use Rattle.std.proofs.Common.{rules, SFits, Some, sym, refl, ap, ◌∙◌, w64}
 use Rattle.std.proofs.lemmas.Int.{to_z-of_z}
 use Rattle.rx_event.specs.declared.event.Event.{Event}
-use Rattle.rx_book.specs.Kept.{letter}
 use Rattle.rx_book.proofs.Letters.{told_item, told_end}
 use Rattle.rx_book.proofs.register.mail.mail_at.Goals as goal
 

@@ -1,4 +1,4 @@
-use Rattle.std.proofs.Common.{◌≡◌, ◌<◌, ◌+◌, ℕ, Bool, sym, ap, refl, ◌∙◌, arith, length, take, slice_get, is_some, None, true, false, cond}
+use Rattle.std.proofs.Common.{◌≡◌, ◌<◌, ◌+◌, ℕ, Bool, sym, ap, ◌∙◌, arith, length, take, slice_get, is_some, true, cond}
 use Rattle.std.specs.Option.{option_map}
 use Rattle.rx_event.specs.Notes.{notes}
 use Rattle.rx_book.specs.Kept.{letter}
