@@ -14,6 +14,7 @@ use Rattle.rx_event.specs.Events.{makes_hub}
 use Rattle.rx_event.specs.Lawful.{IsLawful}
 use Rattle.rx_event.specs.Laws.Openness.{is_open_within}
 use Rattle.rx_event.specs.Laws.Resources.{is_held_within, held_resource, held_not_taken, is_waiting_within, waiting_parts}
+use Rattle.rx_event.specs.Laws.Notes.{notes_grammatical}
 use Rattle.rx_event.specs.Laws.Totals.{accepted_count-parts}
 use Rattle.rx_book.specs.declared.key.Key.{Key}
 use Rattle.rx_book.specs.declared.key.ResKey.{ResKey}
@@ -82,6 +83,7 @@ kept_state s boxes up stocked = record {
   in_one_place = omega (arith, accepted_count-parts s.history up.lawful, held_length, waiting_length);
   room = up.room;
   given = up.given;
+  in_order = notes_grammatical s.history up.lawful;
 }
   where
     open_numbers : map (λ k. k.number) (map key_at (open_nodes s.history)) ≡ open_nodes s.history

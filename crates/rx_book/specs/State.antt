@@ -2,11 +2,12 @@
 use Rattle.std.specs.Prelude.{◌≡◌, ◌≢◌, ℕ, ◌+◌, ◌≤◌, Bool, [], ◌&&◌, ◌==◌, Option, Some, None, List, length, map, slice_get, IsTrue}
 use Rattle.std.specs.List.{All, AllPairs, Contains, list_any}
 use Rattle.std.specs.Option.{option_and_then}
+use Rattle.rx_note.specs.Notes.{IsGrammatical}
 use Rattle.rx_event.specs.declared.event.Event.{Event}
 use Rattle.rx_event.specs.declared.event.Event.TheVariants.{Accept}
 use Rattle.rx_event.specs.Tree.{is_open, hubs}
 use Rattle.rx_event.specs.Resources.{is_held, is_waiting, uses}
-use Rattle.rx_event.specs.Notes.{notes}
+use Rattle.rx_event.specs.Notes.{notes, notes_to}
 use Rattle.rx_event.specs.Totals.{debt, accepted_count, taken_count}
 use Rattle.rx_event.specs.Lawful.{IsLawful}
 use Rattle.rx_event.specs.Forced.{IsSettled}
@@ -53,7 +54,8 @@ pub record IsBoxOf (h : List Event) (b : Box) : Type 0 where
   pub uses : b.uses ≡ uses h b.number
 
 -- what every book keeps: the boxes that it holds are exactly the resources that its stored lawful history leaves open, those
--- waiting are exactly the ones closed and not yet taken, each in one place, and no operator's rule is left undone
+-- waiting are exactly the ones closed and not yet taken, each in one place, no operator's rule is left undone,
+-- and what each observer is told obeys the Observable Contract's grammar. Hubs are not there yet
 pub record IsKept (s : State) : Type 0 where
   pub lawful : IsLawful s.history
   pub settled : IsSettled s.history
@@ -67,3 +69,4 @@ pub record IsKept (s : State) : Type 0 where
   pub in_one_place : accepted_count s.history ≡ length s.held + length s.waiting + taken_count s.history
   pub room : length s.history + debt s.history ≤ s.limit
   pub given : s.given ≤ length (notes s.history)
+  pub in_order : (n : ℕ) → IsGrammatical (notes_to s.history n)
