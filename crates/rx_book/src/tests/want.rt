@@ -71,6 +71,7 @@ fn assert_same_rest(rt: &impl Abort, pair: &mut Pair) {
     }
     let closed = pair.twin.dispose(pair.leaf);
     assert_eq!(rt; pair.book.dispose(pair.leaf), closed);
+    assert_eq!(rt; pair.book.open_root(), None);
     for _ in 0..pair.twin.accepted() {
         let given = take_and_release(&mut pair.twin);
         assert_eq!(rt; take_and_release(&mut pair.book), given);
