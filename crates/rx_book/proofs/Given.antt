@@ -1,11 +1,10 @@
 -- What the calls that open and hold give out.
-use Rattle.std.proofs.Common.{◌≡◌, ℕ, zero, suc, ◌+◌, ◌<◌, ◌≤◌, Bool, true, false, List, [], ◌∷◌, ◌++◌, length, take, map, cond, Option, Some, None, refl, sym, ap, ◌∙◌, arith, inl, inr, ◌⊎◌, nat_eq, eq-eqb, get_or, slice_get, subst, append_assoc, length-append, add-zero}
-use Rattle.std.proofs.Math.Bool.{not, ◌&&◌, ◌||◌}
-use Rattle.std.specs.List.{All, count_by, list_all, find}
+use Rattle.std.proofs.Common.{◌≡◌, ℕ, suc, ◌+◌, ◌≤◌, Bool, true, false, List, [], ◌∷◌, ◌++◌, length, take, map, cond, Option, Some, None, refl, sym, ap, ◌∙◌, arith, inl, inr, ◌⊎◌, nat_eq, eq-eqb, slice_get, subst, append_assoc, length-append}
+use Rattle.std.proofs.Math.Bool.{not}
+use Rattle.std.specs.List.{count_by, list_all, find}
 use Rattle.std.specs.Option.{option_and_then}
-use Rattle.std.proofs.lemmas.Bool.{cases_Bool, and_parts, and_from, both_ways, false≢true, eqb-true}
+use Rattle.std.proofs.lemmas.Bool.{cases_Bool, and_parts, and_from, false≢true, eqb-true}
 use Rattle.std.proofs.lemmas.List.Elements.{All-push}
-use Rattle.std.proofs.lemmas.List.{take-append-le}
 use Rattle.std.proofs.lemmas.Option.{none-some, same_Some}
 use Rattle.rx_resource.specs.declared.Life.{Life}
 use Rattle.rx_resource.specs.declared.Life.TheVariants.{Live, Released}
@@ -16,22 +15,22 @@ use Rattle.rx_event.specs.declared.event.Event.{Event}
 use Rattle.rx_event.specs.declared.event.Event.TheVariants.{Open, Accept, Connect}
 use Rattle.rx_event.specs.declared.refusal.Refusal.{Refusal}
 use Rattle.rx_event.specs.declared.refusal.Refusal.TheVariants.{Gone, WrongKind, PlaceTaken, NotFresh}
-use Rattle.rx_event.specs.Events.{is_use_of, makes_node, is_root}
+use Rattle.rx_event.specs.Events.{is_use_of, is_root}
 use Rattle.rx_event.specs.Tree.{is_open, at, open_nodes, places}
-use Rattle.rx_event.specs.Resources.{is_held, uses, held_resources}
+use Rattle.rx_event.specs.Resources.{is_held, held_resources}
 use Rattle.rx_event.specs.Forced.{IsForced, IsSettled}
 use Rattle.rx_event.specs.Lawful.{IsForcedOn, stays, more, MayFollow, IsLawful}
 use Rattle.rx_event.specs.Calls.{Call, Opening, OpeningUsing, Holding, outside_of, IsStepOf}
 use Rattle.rx_event.specs.Refusals.{first_cause}
-use Rattle.rx_event.specs.Laws.Places.{slice_get-append, slice_get_last}
-use Rattle.rx_event.specs.Laws.Openness.{is_open_kept, is_open_within}
+use Rattle.rx_event.specs.Laws.Places.{slice_get_last}
+use Rattle.rx_event.specs.Laws.Openness.{is_open_kept}
 use Rattle.rx_event.specs.Laws.Lawful.{lawful_at}
 use Rattle.rx_event.specs.Laws.Steps.{may_accept}
 use Rattle.rx_event.specs.Laws.Resources.{is_held_last}
 use Rattle.rx_event.specs.Laws.Totals.{is_open_new, uses_past}
 use Rattle.rx_book.specs.State.{Box, IsBoxOf, accepted_tag, has_key, has_res_key}
 use Rattle.rx_book.specs.Plain.{is_plain}
-use Rattle.rx_book.specs.Kept.{Kept, IsUpheld, Follows, is_open_root}
+use Rattle.rx_book.specs.Kept.{Kept, Follows, is_open_root}
 use Rattle.rx_book.specs.Boxes.{box_of, is_fresh_box, is_live, key_at, res_key_at, IsStocked}
 use Rattle.rx_book.specs.Causes.{causes, is_gone, is_wrong_place, is_taken_place}
 use Rattle.rx_book.proofs.Plain.{never_at, plain_at, plain-push, settled-push, settled_after_open}

@@ -1,5 +1,5 @@
 -- Lists of the numbers that pass a test.
-use Rattle.std.proofs.Common.{◌≡◌, ◌≢◌, ℕ, zero, suc, ◌+◌, ◌<◌, ◌≤◌, Bool, true, false, List, [], ◌∷◌, length, map, cond, refl, sym, ap, ◌∙◌, arith, inl, inr, ◌⊎◌, get_or}
+use Rattle.std.proofs.Common.{◌≡◌, ℕ, zero, suc, ◌+◌, ◌<◌, Bool, true, false, List, [], ◌∷◌, length, cond, ap, ◌∙◌, arith, inl, inr, ◌⊎◌, get_or}
 use Rattle.std.specs.List.{All, AllPairs, Contains, filter, range_with_len}
 use Rattle.std.proofs.lemmas.Bool.{cases_Bool}
 use Rattle.std.proofs.lemmas.List.Elements.{filter_passes}

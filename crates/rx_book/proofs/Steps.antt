@@ -1,7 +1,5 @@
 -- What a register's step is to a book.
-use Rattle.std.proofs.Common.{◌≡◌, ℕ, ◌+◌, ◌<◌, Bool, true, false, List, [], ◌∷◌, ◌++◌, length, map, refl, sym, ap, ◌∙◌, arith, inl, inr, ◌⊎◌, nat_eq, append_assoc, append-nil, length-append}
-use Rattle.std.proofs.Math.Bool.{◌&&◌}
-use Rattle.std.specs.List.{Contains}
+use Rattle.std.proofs.Common.{◌≡◌, ℕ, ◌+◌, ◌<◌, Bool, true, false, List, [], ◌∷◌, ◌++◌, length, map, refl, sym, ap, ◌∙◌, arith, inl, inr, ◌⊎◌, append_assoc, append-nil}
 use Rattle.std.proofs.lemmas.Bool.{cases_Bool, and_parts, and_from, both_ways}
 use Rattle.rx_event.specs.declared.event.Event.{Event}
 use Rattle.rx_event.specs.declared.refusal.Refusal.{Refusal}
@@ -12,7 +10,7 @@ use Rattle.rx_event.specs.Moments.{Moment, moments, moments_after}
 use Rattle.rx_event.specs.Resources.{uses}
 use Rattle.rx_event.specs.Laws.Totals.{uses-push}
 use Rattle.rx_event.specs.Laws.Steps.{may_be_forced, forced_kind}
-use Rattle.rx_event.specs.Lawful.{MayFollow, IsForcedOn, stays, more, IsLawful, IsStep}
+use Rattle.rx_event.specs.Lawful.{MayFollow, IsForcedOn, stays, more, IsLawful}
 use Rattle.rx_event.specs.Calls.{Call, outside_of, IsStepOf}
 use Rattle.rx_event.specs.Events.{is_remove_of, is_use_of, node_of_accept}
 use Rattle.rx_event.specs.Laws.Places.{slice_get-append}
@@ -25,11 +23,11 @@ use Rattle.std.specs.Prelude.{OnOk, OnErr}
 use Rattle.std.proofs.lemmas.List.Sums.{sum_by-append}
 use Rattle.std.proofs.lemmas.Option.{option_and_then_some, slice_get_within}
 use Rattle.std.proofs.Math.Bool.{not, ◌||◌}
-use Rattle.std.proofs.lemmas.Bool.{false≢true, not-true, not_from_false}
+use Rattle.std.proofs.lemmas.Bool.{false≢true}
 use Rattle.std.proofs.lemmas.List.Folds.{list_any-append}
 use Rattle.rx_book.specs.declared.key.Key.{Key}
 use Rattle.rx_book.specs.declared.key.ResKey.{ResKey}
-use Rattle.rx_book.specs.State.{Box, State, has_key, has_res_key, IsBoxOf, accepted_tag}
+use Rattle.rx_book.specs.State.{Box, has_key, has_res_key, IsBoxOf, accepted_tag}
 use Rattle.rx_book.specs.Kept.{Kept, Follows}
 use Rattle.rx_book.specs.Boxes.{state_of, key_at, res_key_at, IsStocked}
 use Rattle.rx_book.specs.Answers.{Accepts}

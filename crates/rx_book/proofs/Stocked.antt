@@ -1,6 +1,6 @@
 -- A register with the boxes of its resources beside it keeps what a book promises.
-use Rattle.std.proofs.Common.{◌≡◌, ℕ, ◌+◌, ◌<◌, Bool, true, false, List, [], ◌∷◌, length, map, cond, refl, sym, ap, ◌∙◌, arith, inl, inr, ◌⊎◌}
-use Rattle.std.proofs.Math.Bool.{not, ◌&&◌}
+use Rattle.std.proofs.Common.{◌≡◌, ℕ, Bool, true, false, List, [], ◌∷◌, length, map, cond, refl, sym, ap, ◌∙◌, arith, inl, inr, ◌⊎◌}
+use Rattle.std.proofs.Math.Bool.{not}
 use Rattle.std.specs.List.{filter, list_all}
 use Rattle.std.proofs.lemmas.Bool.{cases_Bool, and_from, both_ways, false≢true}
 use Rattle.std.proofs.lemmas.List.{length-map}
@@ -8,7 +8,7 @@ use Rattle.std.proofs.lemmas.List.Elements.{All-filter}
 use Rattle.std.proofs.lemmas.List.Sums.{length-filter}
 use Rattle.rx_event.specs.declared.event.Event.{Event}
 use Rattle.rx_event.specs.Tree.{at, is_open, places, open_nodes, hubs}
-use Rattle.rx_event.specs.Resources.{is_held, is_taken, is_waiting, held_resources}
+use Rattle.rx_event.specs.Resources.{is_held, is_waiting, held_resources}
 use Rattle.rx_event.specs.declared.event.Event.TheVariants.{Hub}
 use Rattle.rx_event.specs.Events.{makes_hub}
 use Rattle.rx_event.specs.Lawful.{IsLawful}
@@ -18,7 +18,7 @@ use Rattle.rx_event.specs.Laws.Notes.{notes_grammatical}
 use Rattle.rx_event.specs.Laws.Totals.{accepted_count-parts}
 use Rattle.rx_book.specs.declared.key.Key.{Key}
 use Rattle.rx_book.specs.declared.key.ResKey.{ResKey}
-use Rattle.rx_book.specs.State.{Box, State, AreJust, IsBoxOf, IsKept}
+use Rattle.rx_book.specs.State.{Box, IsBoxOf, IsKept}
 use Rattle.rx_book.specs.Plain.{is_plain}
 use Rattle.rx_book.proofs.Plain.{never_at}
 use Rattle.rx_book.specs.Kept.{Kept, IsUpheld, is_untaken, untaken_resources}

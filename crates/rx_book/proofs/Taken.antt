@@ -1,15 +1,15 @@
 -- What taking a resource does to the boxes.
-use Rattle.std.proofs.Common.{◌≡◌, ℕ, zero, suc, ◌+◌, ◌<◌, Bool, true, false, List, [], ◌∷◌, ◌++◌, length, take, drop, map, Some, refl, sym, ap, ◌∙◌, arith, get_or, slice_get}
+use Rattle.std.proofs.Common.{◌≡◌, ℕ, suc, ◌<◌, Bool, true, List, [], ◌∷◌, length, take, drop, map, Some, refl, sym, ap, ◌∙◌, arith, get_or, slice_get}
 use Rattle.std.specs.List.{All, Contains, filter, remove}
 use Rattle.std.proofs.lemmas.List.{length-map, take-map, drop-map, map-append}
 use Rattle.std.proofs.lemmas.List.Elements.{All-append, All-take, All-drop}
 use Rattle.std.proofs.lemmas.Option.{slice_get_within, slice_get-get_or, slice_get-map, same_Some}
 use Rattle.rx_event.specs.Resources.{is_waiting, waiting_resources}
-use Rattle.rx_event.specs.Calls.{Call, Taking, IsStepOf}
+use Rattle.rx_event.specs.Calls.{Taking}
 use Rattle.rx_event.specs.declared.refusal.Refusal.{Refusal}
-use Rattle.rx_book.specs.State.{Box, State, IsBoxOf}
+use Rattle.rx_book.specs.State.{Box, IsBoxOf}
 use Rattle.rx_book.specs.Kept.{Kept, IsUpheld, Follows}
-use Rattle.rx_book.specs.Boxes.{state_of, box_of, IsStocked}
+use Rattle.rx_book.specs.Boxes.{state_of, IsStocked}
 use Rattle.rx_book.proofs.Just.{Contains-filter}
 use Rattle.rx_book.proofs.Stocked.{boxes_where, waiting_untaken}
 use Rattle.rx_book.proofs.Steps.{boxes_kept}
@@ -57,5 +57,5 @@ box_waits s view entries i r x stocked at_i waits is =
 
     there : get_or (map view entries) i (view x) ≡ view x
     there =
-      let a = within_boxes s view entries i r stocked at_i in
-      same_Some _ _ (sym (slice_get-get_or (map view entries) i (view x) within) ∙ rw (slice_get-map, slice_get-get_or entries i x a, ← is) refl)
+        let a = within_boxes s view entries i r stocked at_i in
+        same_Some _ _ (sym (slice_get-get_or (map view entries) i (view x) within) ∙ rw (slice_get-map, slice_get-get_or entries i x a, ← is) refl)

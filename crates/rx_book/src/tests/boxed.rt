@@ -3,7 +3,9 @@
 ghost use Rattle.std.specs.Prelude.{◌≡◌};
 
 use super::lamps::{new_faulty, new_lamp};
-use super::sights::{Back, Counts, Given, counts_of, hold_at, open_with, take_and_release, unused};
+use super::sights::{
+    Back, Given, Totals, counts, hold_at, open_with, take_and_release, totals_of, unused,
+};
 use crate::{At, Book};
 use rx_event::Refusal;
 use rx_resource::{Life, Resource};
@@ -13,7 +15,7 @@ use std::test::Fail;
 // What came of three resources, of which the first two go in and the third comes back.
 #[derive(Clone, Copy, Debug, PartialEq, Eq)]
 struct Course {
-    counts: Counts,
+    totals: Totals,
     given: [Option<Given>; 3],
     back: Option<Back>,
 }
@@ -32,7 +34,7 @@ fn course_of<R: Resource>(alloc: Global, first: R, second: R, third: R) -> Resul
     ];
     let back = hold_at(&mut book, root, third).err();
     Ok(Course {
-        counts: counts_of(&book),
+        totals: totals_of(&book),
         given,
         back,
     })
@@ -48,17 +50,7 @@ fn boxes_of_two_kinds_stand_in_one_book(rt: HostRuntime) -> Result<(), Fail> {
     let second: Box<dyn Resource> = Box::new(rt.alloc(), new_faulty(6))?;
     let third: Box<dyn Resource> = Box::new(rt.alloc(), new_lamp(7))?;
     let course = course_of(rt.alloc(), first, second, third)?;
-    assert_eq!(rt;
-        course.counts,
-        Counts {
-            len: 6,
-            items: 0,
-            accepted: 2,
-            held: 0,
-            waiting: 0,
-            taken: 2
-        }
-    );
+    assert_eq!(rt; course.totals, counts(6, 0, [2, 0, 0, 2]));
     let faulty = Given {
         number: 2,
         tag: 6,

@@ -2,9 +2,10 @@
 
 use super::lamps::new_lamp;
 use super::sights::{
-    Back, assert_events, assert_mail, hold_at, open_with, take_and_release, untouched, unused,
+    Back, assert_events, assert_mail, hold_at, mail, open_with, opening, take_and_release,
+    untouched, unused,
 };
-use crate::{At, Book, Key, Mail, ResKey};
+use crate::{At, Book, Key, ResKey};
 use rx_event::{Event, Kind, Place, Refusal, Terminal};
 use rx_note::Note;
 use rx_resource::{Life, Resource};
@@ -29,12 +30,8 @@ fn an_error_ends_every_node_above_and_hands_back_all_resources(
         "{given:?}"
     );
     assert_eq!(rt; (book.waiting(), book.taken()), (0, 2));
-    let pass = |place| Event::Open {
-        place,
-        kind: Kind::Pass,
-    };
-    assert_eq!(rt; book.event(0), Some(pass(Place::Root)));
-    assert_eq!(rt; book.event(2), Some(pass(Place::Source(0))));
+    assert_eq!(rt; book.event(0), Some(opening(Place::Root, Kind::Pass)));
+    assert_eq!(rt; book.event(2), Some(opening(Place::Source(0), Kind::Pass)));
     for (place, node) in [(6, 4), (7, 2), (8, 0)] {
         assert_eq!(rt;
             book.event(place),
@@ -46,16 +43,8 @@ fn an_error_ends_every_node_above_and_hands_back_all_resources(
         &rt,
         &mut book,
         &[
-            Mail {
-                place: 5,
-                to: 0,
-                note: Note::Next(i64::MIN),
-            },
-            Mail {
-                place: 8,
-                to: 0,
-                note: Note::End(Terminal::Error(9)),
-            },
+            mail(5, 0, Note::Next(i64::MIN)),
+            mail(8, 0, Note::End(Terminal::Error(9))),
         ],
     );
     Ok(())
@@ -93,14 +82,8 @@ fn a_node_takes_no_call_that_its_kind_or_place_has_not(rt: HostRuntime) -> Resul
         &rt,
         &book,
         &[
-            Event::Open {
-                place: Place::Root,
-                kind: Kind::Pass,
-            },
-            Event::Open {
-                place: Place::Source(0),
-                kind: Kind::Leaf,
-            },
+            opening(Place::Root, Kind::Pass),
+            opening(Place::Source(0), Kind::Leaf),
         ],
     );
     Ok(())

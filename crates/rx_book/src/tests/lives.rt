@@ -2,18 +2,13 @@
 
 use super::lamps::{Lamp, new_lamp};
 use super::sights::{
-    Counts, assert_events, assert_mail, counts_of, hold_at, open_with, take_and_release, untouched,
-    unused,
+    assert_events, assert_mail, counts, hold_at, mail, open_with, opening, take_and_release,
+    totals_of, untouched, unused,
 };
-use crate::{At, Book, Mail};
+use crate::{At, Book};
 use rx_event::{Event, Kind, Place, Refusal, Terminal};
 use rx_note::Note;
 use std::test::Fail;
-
-const USED: Event = Event::Open {
-    place: Place::Root,
-    kind: Kind::Pass,
-};
 
 #[test]
 fn disposing_of_a_using_subscription_hands_its_resource_back(rt: HostRuntime) -> Result<(), Fail> {
@@ -23,49 +18,24 @@ fn disposing_of_a_using_subscription_hands_its_resource_back(rt: HostRuntime) ->
     assert!(rt; book.is_open(opened.key));
     assert!(rt; book.is_held(opened.res));
     assert_eq!(rt; book.open_root(), Some(opened.key));
-    assert_eq!(rt;
-        counts_of(&book),
-        Counts {
-            len: 2,
-            items: 0,
-            accepted: 1,
-            held: 1,
-            waiting: 0,
-            taken: 0
-        }
-    );
+    assert_eq!(rt; totals_of(&book), counts(2, 0, [1, 1, 0, 0]));
     assert_eq!(rt; book.dispose(opened.key), Ok(2));
     assert!(rt; !book.is_open(opened.key));
     assert!(rt; !book.is_held(opened.res));
     assert_eq!(rt; book.open_root(), None);
-    assert_eq!(rt;
-        counts_of(&book),
-        Counts {
-            len: 3,
-            items: 0,
-            accepted: 1,
-            held: 0,
-            waiting: 1,
-            taken: 0
-        }
-    );
+    assert_eq!(rt; totals_of(&book), counts(3, 0, [1, 0, 1, 0]));
     assert_eq!(rt; take_and_release(&mut book), Some(unused(1, 7)));
     assert_eq!(rt; take_and_release(&mut book), None);
-    assert_eq!(rt;
-        counts_of(&book),
-        Counts {
-            len: 4,
-            items: 0,
-            accepted: 1,
-            held: 0,
-            waiting: 0,
-            taken: 1
-        }
-    );
+    assert_eq!(rt; totals_of(&book), counts(4, 0, [1, 0, 0, 1]));
     assert_events(
         &rt,
         &book,
-        &[USED, Event::Accept(0, 7), Event::Close(0), Event::Take(1)],
+        &[
+            opening(Place::Root, Kind::Pass),
+            Event::Accept(0, 7),
+            Event::Close(0),
+            Event::Take(1),
+        ],
     );
     assert_mail(&rt, &mut book, &[]);
     Ok(())
@@ -82,21 +52,16 @@ fn a_closed_subscription_gives_a_resource_back_as_it_came(rt: HostRuntime) -> Re
         hold_at(&mut book, opened.key, new_lamp(8)),
         Err(untouched(Refusal::Gone, 8))
     );
-    assert_eq!(rt;
-        counts_of(&book),
-        Counts {
-            len: 4,
-            items: 0,
-            accepted: 1,
-            held: 0,
-            waiting: 0,
-            taken: 1
-        }
-    );
+    assert_eq!(rt; totals_of(&book), counts(4, 0, [1, 0, 0, 1]));
     assert_events(
         &rt,
         &book,
-        &[USED, Event::Accept(0, 7), Event::Close(0), Event::Take(1)],
+        &[
+            opening(Place::Root, Kind::Pass),
+            Event::Accept(0, 7),
+            Event::Close(0),
+            Event::Take(1),
+        ],
     );
     assert_mail(&rt, &mut book, &[]);
     Ok(())
@@ -112,42 +77,19 @@ fn the_end_of_a_source_ends_the_node_that_mirrors_it(rt: HostRuntime) -> Result<
     let held = hold_at(&mut book, root.key, new_lamp(4))?;
     assert_eq!(rt; held.number, 2);
     assert_eq!(rt; book.next(leaf.key, 5), Ok(3));
-    assert_eq!(rt;
-        counts_of(&book),
-        Counts {
-            len: 4,
-            items: 1,
-            accepted: 1,
-            held: 1,
-            waiting: 0,
-            taken: 0
-        }
-    );
+    assert_eq!(rt; totals_of(&book), counts(4, 1, [1, 1, 0, 0]));
     assert_eq!(rt; book.end(leaf.key, Terminal::Completed), Ok(4));
     assert!(rt; !book.is_open(root.key));
     assert!(rt; !book.is_open(leaf.key));
     assert!(rt; !book.is_held(held));
-    assert_eq!(rt;
-        counts_of(&book),
-        Counts {
-            len: 6,
-            items: 1,
-            accepted: 1,
-            held: 0,
-            waiting: 1,
-            taken: 0
-        }
-    );
+    assert_eq!(rt; totals_of(&book), counts(6, 1, [1, 0, 1, 0]));
     assert_eq!(rt; book.next(leaf.key, 6), Err(Refusal::Gone));
     assert_events(
         &rt,
         &book,
         &[
-            USED,
-            Event::Open {
-                place: Place::Source(0),
-                kind: Kind::Leaf,
-            },
+            opening(Place::Root, Kind::Pass),
+            opening(Place::Source(0), Kind::Leaf),
             Event::Accept(0, 4),
             Event::Item(1, 5),
             Event::End(1, Terminal::Completed),
@@ -158,16 +100,8 @@ fn the_end_of_a_source_ends_the_node_that_mirrors_it(rt: HostRuntime) -> Result<
         &rt,
         &mut book,
         &[
-            Mail {
-                place: 3,
-                to: 0,
-                note: Note::Next(5),
-            },
-            Mail {
-                place: 5,
-                to: 0,
-                note: Note::End(Terminal::Completed),
-            },
+            mail(3, 0, Note::Next(5)),
+            mail(5, 0, Note::End(Terminal::Completed)),
         ],
     );
     assert_eq!(rt; take_and_release(&mut book), Some(unused(2, 4)));
@@ -187,35 +121,14 @@ fn the_key_of_a_closed_node_is_nobodys(rt: HostRuntime) -> Result<(), Fail> {
     assert!(rt; book.is_open(second.key));
     assert_eq!(rt; book.open_root(), Some(second.key));
     assert_eq!(rt; book.next(second.key, 1), Ok(3));
-    let leaf = Event::Open {
-        place: Place::Root,
-        kind: Kind::Leaf,
-    };
+    let leaf = opening(Place::Root, Kind::Leaf);
     assert_events(
         &rt,
         &book,
         &[leaf, Event::Close(0), leaf, Event::Item(2, 1)],
     );
-    assert_mail(
-        &rt,
-        &mut book,
-        &[Mail {
-            place: 3,
-            to: 2,
-            note: Note::Next(1),
-        }],
-    );
-    assert_eq!(rt;
-        counts_of(&book),
-        Counts {
-            len: 4,
-            items: 1,
-            accepted: 0,
-            held: 0,
-            waiting: 0,
-            taken: 0
-        }
-    );
+    assert_mail(&rt, &mut book, &[mail(3, 2, Note::Next(1))]);
+    assert_eq!(rt; totals_of(&book), counts(4, 1, [0, 0, 0, 0]));
     Ok(())
 }
 
@@ -225,35 +138,20 @@ fn a_full_book_opens_nothing_and_closes_and_hands_back(rt: HostRuntime) -> Resul
     let opened = open_with(&mut book, At::Root, new_lamp(1))?;
     assert_eq!(rt; (opened.key.number, opened.res.number), (0, 1));
     assert_eq!(rt; book.open(At::Root, Kind::Leaf), Err(Refusal::Full));
-    assert_eq!(rt;
-        counts_of(&book),
-        Counts {
-            len: 2,
-            items: 0,
-            accepted: 1,
-            held: 1,
-            waiting: 0,
-            taken: 0
-        }
-    );
+    assert_eq!(rt; totals_of(&book), counts(2, 0, [1, 1, 0, 0]));
     assert_eq!(rt; book.dispose(opened.key), Ok(2));
     assert_eq!(rt; take_and_release(&mut book), Some(unused(1, 1)));
     assert_events(
         &rt,
         &book,
-        &[USED, Event::Accept(0, 1), Event::Close(0), Event::Take(1)],
+        &[
+            opening(Place::Root, Kind::Pass),
+            Event::Accept(0, 1),
+            Event::Close(0),
+            Event::Take(1),
+        ],
     );
-    assert_eq!(rt;
-        counts_of(&book),
-        Counts {
-            len: 4,
-            items: 0,
-            accepted: 1,
-            held: 0,
-            waiting: 0,
-            taken: 1
-        }
-    );
+    assert_eq!(rt; totals_of(&book), counts(4, 0, [1, 0, 0, 1]));
     Ok(())
 }
 
@@ -272,12 +170,9 @@ fn with_room_for_one_event_more_that_node_is_opened(rt: HostRuntime) -> Result<(
         &rt,
         &book,
         &[
-            USED,
+            opening(Place::Root, Kind::Pass),
             Event::Accept(0, 1),
-            Event::Open {
-                place: Place::Root,
-                kind: Kind::Leaf,
-            },
+            opening(Place::Root, Kind::Leaf),
             Event::Close(0),
             Event::Close(2),
             Event::Take(1),

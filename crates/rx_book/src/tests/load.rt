@@ -1,8 +1,8 @@
 //! Many items: none of the calls searches the history.
 
 use super::lamps::Lamp;
-use super::sights::{Counts, counts_of};
-use crate::{At, Book, Mail};
+use super::sights::{counts, mail, totals_of};
+use crate::{At, Book};
 use rx_event::{Event, Kind, Refusal, Terminal};
 use rx_note::Note;
 use std::test::Fail;
@@ -23,33 +23,15 @@ fn many_items_of_one_leaf_are_emitted_and_read(rt: HostRuntime) -> Result<(), Fa
     for i in 0..ITEMS {
         assert_eq!(rt;
             book.take_mail(),
-            Some(Mail {
-                place: i + 2,
-                to: 0,
-                note: Note::Next(i as i64)
-            })
+            Some(mail(i + 2, 0, Note::Next(i as i64)))
         );
     }
     assert_eq!(rt;
         book.take_mail(),
-        Some(Mail {
-            place: ITEMS + 3,
-            to: 0,
-            note: Note::End(Terminal::Completed)
-        })
+        Some(mail(ITEMS + 3, 0, Note::End(Terminal::Completed)))
     );
     assert_eq!(rt; book.take_mail(), None);
-    assert_eq!(rt;
-        counts_of(&book),
-        Counts {
-            len: ITEMS + 4,
-            items: ITEMS,
-            accepted: 0,
-            held: 0,
-            waiting: 0,
-            taken: 0
-        }
-    );
+    assert_eq!(rt; totals_of(&book), counts(ITEMS + 4, ITEMS, [0, 0, 0, 0]));
     Ok(())
 }
 

@@ -1,13 +1,14 @@
 //! What a caller sees of a book, and calls whose answers can be compared.
 
 use crate::{At, Book, Key, Mail, OpenedUsing, Refused, ResKey};
-use rx_event::{Event, Refusal};
+use rx_event::{Event, Kind, Place, Refusal};
+use rx_note::Note;
 use rx_resource::{Life, Resource};
 use std::process::Abort;
 
-// The counts that a book answers.
+// The numbers that a book answers.
 #[derive(Clone, Copy, Debug, PartialEq, Eq)]
-pub(super) struct Counts {
+pub(super) struct Totals {
     pub len: u64,
     pub items: u64,
     pub accepted: u64,
@@ -16,8 +17,8 @@ pub(super) struct Counts {
     pub taken: u64,
 }
 
-pub(super) fn counts_of<R: Resource>(book: &Book<R>) -> Counts {
-    Counts {
+pub(super) fn totals_of<R: Resource>(book: &Book<R>) -> Totals {
+    Totals {
         len: book.len(),
         items: book.items(),
         accepted: book.accepted(),
@@ -25,6 +26,27 @@ pub(super) fn counts_of<R: Resource>(book: &Book<R>) -> Counts {
         waiting: book.waiting(),
         taken: book.taken(),
     }
+}
+
+// The numbers of events and of items, and of the resources that were accepted, are held, wait and
+// were taken.
+pub(super) fn counts(len: u64, items: u64, [accepted, held, waiting, taken]: [u64; 4]) -> Totals {
+    Totals {
+        len,
+        items,
+        accepted,
+        held,
+        waiting,
+        taken,
+    }
+}
+
+pub(super) fn opening(place: Place, kind: Kind) -> Event {
+    Event::Open { place, kind }
+}
+
+pub(super) fn mail(place: u64, to: u64, note: Note) -> Mail {
+    Mail { place, to, note }
 }
 
 // The book has these events, and no others.
@@ -46,7 +68,7 @@ pub(super) fn assert_mail<R: Resource>(rt: &impl Abort, book: &mut Book<R>, expe
 
 // Two books have the same counts, events and open root.
 pub(super) fn assert_alike<R: Resource>(rt: &impl Abort, book: &Book<R>, twin: &Book<R>) {
-    assert_eq!(rt; counts_of(book), counts_of(twin));
+    assert_eq!(rt; totals_of(book), totals_of(twin));
     assert_eq!(rt; book.open_root(), twin.open_root());
     for place in 0..twin.len() {
         assert_eq!(rt; book.event(place), twin.event(place), "at {place}");

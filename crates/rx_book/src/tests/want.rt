@@ -2,10 +2,10 @@
 
 use super::lamps::{Lamp, new_lamp};
 use super::sights::{
-    Counts, assert_alike, assert_mail, counts_of, hold_at, open_with, take_and_release, untouched,
-    unused,
+    assert_alike, assert_mail, counts, hold_at, mail, open_with, take_and_release, totals_of,
+    untouched, unused,
 };
-use crate::{At, Book, Key, Mail, Opened, OpenedUsing, ResKey};
+use crate::{At, Book, Key, Opened, OpenedUsing, ResKey};
 use rx_event::{Kind, Refusal, Terminal};
 use rx_note::Note;
 use rx_scarce::{MOST_BLOCKS, Scarce};
@@ -71,6 +71,7 @@ fn assert_same_rest(rt: &impl Abort, pair: &mut Pair) {
     }
     let closed = pair.twin.dispose(pair.leaf);
     assert_eq!(rt; pair.book.dispose(pair.leaf), closed);
+    assert_eq!(rt; pair.book.open_root(), None);
     for _ in 0..pair.twin.accepted() {
         let given = take_and_release(&mut pair.twin);
         assert_eq!(rt; take_and_release(&mut pair.book), given);
@@ -278,29 +279,11 @@ fn closing_and_handing_out_take_no_memory(rt: HostRuntime) -> Result<(), Fail> {
         &rt,
         &mut book,
         &[
-            Mail {
-                place: 7,
-                to: 0,
-                note: Note::Next(8),
-            },
-            Mail {
-                place: 9,
-                to: 0,
-                note: Note::End(Terminal::Completed),
-            },
+            mail(7, 0, Note::Next(8)),
+            mail(9, 0, Note::End(Terminal::Completed)),
         ],
     );
-    assert_eq!(rt;
-        counts_of(&book),
-        Counts {
-            len: 14,
-            items: 1,
-            accepted: 3,
-            held: 0,
-            waiting: 0,
-            taken: 3
-        }
-    );
+    assert_eq!(rt; totals_of(&book), counts(14, 1, [3, 0, 0, 3]));
     assert!(rt; !has_memory(rt.alloc()));
     Ok(())
 }

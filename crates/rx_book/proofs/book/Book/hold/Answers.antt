@@ -1,8 +1,7 @@
-use Rattle.std.proofs.Common.{◌≡◌, ◌∙◌, sym, refl, true, ap}
+use Rattle.std.proofs.Common.{◌≡◌, ◌∙◌, sym, true, ap}
 use Rattle.std.proofs.lemmas.List.Elements.{All-push}
 use Rattle.rx_resource.specs.declared.Life.TheVariants.{Live}
 use Rattle.rx_event.specs.Resources.{is_held}
-use Rattle.rx_event.specs.Calls.{Holding}
 use Rattle.rx_book.specs.State.{State, has_key}
 use Rattle.rx_book.specs.Boxes.{is_fresh_box}
 use Rattle.rx_book.proofs.Steps.{accepts}

@@ -1,4 +1,4 @@
-use Rattle.std.proofs.Common.{◌≡◌, ◌∙◌, true, sym, ap, nat_eq, eq-eqb}
+use Rattle.std.proofs.Common.{◌∙◌, sym, ap, eq-eqb}
 use Rattle.std.proofs.Math.Bool.{◌&&◌}
 use Rattle.rx_event.specs.Tree.{is_open}
 use Rattle.rx_book.specs.State.{State, has_key}

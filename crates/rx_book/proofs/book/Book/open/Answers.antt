@@ -1,9 +1,7 @@
-use Rattle.std.proofs.Common.{◌≡◌, ◌∙◌, sym, refl, true, ap}
-use Rattle.std.specs.Prelude.{length}
-use Rattle.rx_event.specs.declared.event.Place.{Place}
+use Rattle.std.proofs.Common.{◌≡◌, ◌∙◌, refl, true, ap}
 use Rattle.rx_event.specs.Tree.{is_open}
 use Rattle.rx_event.specs.Calls.{Opening}
-use Rattle.rx_book.specs.State.{State, has_key}
+use Rattle.rx_book.specs.State.{State}
 use Rattle.rx_book.specs.Answers.{is_known}
 use Rattle.rx_book.proofs.Steps.{stocked_after, accepts}
 use Rattle.rx_book.proofs.Given.{opened_node, key_given, unconnected}

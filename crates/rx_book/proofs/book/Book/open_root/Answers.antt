@@ -1,5 +1,3 @@
-use Rattle.std.proofs.Common.{◌∙◌, ap}
-use Rattle.rx_book.specs.State.{State, has_key}
 use Rattle.rx_book.proofs.Given.{root_key}
 use Rattle.rx_book.proofs.book.Book.open_root.Goals as goal
 

@@ -1,10 +1,9 @@
-use Rattle.std.proofs.Common.{◌≡◌, ◌+◌, ◌∙◌, sym, refl, true, ap, arith}
+use Rattle.std.proofs.Common.{◌≡◌, ◌+◌, ◌∙◌, true, ap, arith}
 use Rattle.std.proofs.lemmas.List.Elements.{All-push}
 use Rattle.rx_resource.specs.declared.Life.TheVariants.{Live}
 use Rattle.rx_event.specs.Tree.{is_open}
 use Rattle.rx_event.specs.Resources.{is_held}
-use Rattle.rx_event.specs.Calls.{OpeningUsing}
-use Rattle.rx_book.specs.State.{State, has_key}
+use Rattle.rx_book.specs.State.{State}
 use Rattle.rx_book.specs.Answers.{is_known}
 use Rattle.rx_book.specs.Boxes.{is_fresh_box}
 use Rattle.rx_book.proofs.Steps.{accepts}

@@ -1,4 +1,4 @@
-use Rattle.std.proofs.Common.{◌≡◌, ◌∙◌, sym, refl, true, ap, arith}
+use Rattle.std.proofs.Common.{◌≡◌, refl, true, arith}
 use Rattle.rx_event.specs.Calls.{Taking}
 use Rattle.rx_book.proofs.Steps.{accepts}
 use Rattle.rx_book.proofs.Taken.{none_waiting, within_boxes, stocked_taken, number_taken, box_waits, All-remove}
