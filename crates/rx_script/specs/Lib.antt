@@ -1,0 +1,4 @@
+pub mod Device
+pub mod Scenario
+pub mod Reading
+pub mod Gives

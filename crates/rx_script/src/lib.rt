@@ -1,0 +1,11 @@
+//! Scenarios of subscriptions, and their reports.
+//!
+//! A scenario is a JSON text that says what to do with a book: open nodes, hold resources, emit
+//! items, end and dispose.
+#![tactic(auto)]
+
+mod decode;
+mod device;
+mod scenario;
+
+pub use device::Watched;
