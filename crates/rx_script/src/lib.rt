@@ -4,8 +4,10 @@
 //! items, end and dispose.
 #![tactic(auto)]
 
+mod answer;
 mod decode;
 mod device;
+mod line;
 mod scenario;
 
 pub use device::Watched;
