@@ -1,3 +1,4 @@
 pub mod Written
 pub mod Lists
 pub mod Steps
+pub mod Texts

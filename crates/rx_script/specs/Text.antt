@@ -56,11 +56,11 @@ note_text (End Completed) = codes " completed"
 note_text (End (Error code)) = codes " error=" ++ decimal code
 
 abbrev pub openness_text : Bool → List ℕ
-openness_text is_open = if is_open then codes " open:" else codes " closed:"
+openness_text is_open = if is_open then codes "open" else codes "closed"
 
 -- a node: its name, whether it is open, and its notes
 unfoldable pub node_line : Name → Bool → List Note → List ℕ
-node_line name is_open notes = codes "node " ++ name ++ openness_text is_open ++ flat_map note_text notes ++ codes "\n"
+node_line name is_open notes = codes "node " ++ name ++ codes " " ++ openness_text is_open ++ codes ":" ++ flat_map note_text notes ++ codes "\n"
 
 -- resources ----------------------------------------------------------------------------------------
 

@@ -9,5 +9,6 @@ mod decode;
 mod device;
 mod line;
 mod scenario;
+mod text;
 
 pub use device::Watched;
