@@ -1,9 +1,12 @@
 -- What the answers of calls say.
-use Rattle.std.specs.Prelude.{◌≡◌, ℕ, ◌<◌, Bool, true, None, List, length}
+use Rattle.std.specs.Prelude.{◌≡◌, ℕ, ◌+◌, ◌<◌, Bool, true, false, Option, Some, None, List, length, if◌then◌else◌}
 use Rattle.std.specs.List.{Contains}
 use Rattle.rx_event.specs.declared.event.Place.{Place}
 use Rattle.rx_event.specs.declared.event.Place.TheVariants.{Root, Source, Inner, Notifier}
 use Rattle.rx_event.specs.declared.refusal.Refusal.{Refusal}
+use Rattle.rx_event.specs.declared.event.Event.{Event}
+use Rattle.rx_event.specs.declared.event.Event.TheVariants.{Connect}
+use Rattle.rx_event.specs.Tree.{at}
 use Rattle.rx_event.specs.Calls.{Call, IsStepOf}
 use Rattle.rx_event.specs.Refusals.{first_cause}
 use Rattle.rx_book.specs.declared.key.Key.{Key}
@@ -31,6 +34,14 @@ is_known keys (AtNotifier k) = has_key keys k
 -- in is fresh
 abbrev pub against : State → Bool → Bool → Call → Refusal → Bool
 against s known is_fresh call = by_key known (causes s.history s.limit is_fresh call)
+
+abbrev pub makes_connection : Event → Bool
+makes_connection (Connect hub) = true
+makes_connection _ = false
+
+-- the connection that a call made, whose Connect comes directly after its own event
+abbrev pub connection_made : List Event → List Event → Option ℕ
+connection_made old new = if at makes_connection new (length old + 1) then Some (length old + 1) else None
 
 -- an accepted call: no cause stood against it, the history goes on by a step of that call, and the limit, the notes handed out
 -- and the keys of all that is still there are as before

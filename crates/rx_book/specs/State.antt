@@ -1,6 +1,6 @@
 -- What a book is to its callers.
-use Rattle.std.specs.Prelude.{◌≡◌, ℕ, ◌+◌, ◌≤◌, Bool, ◌&&◌, ◌==◌, Option, Some, None, List, length, map, slice_get, IsTrue}
-use Rattle.std.specs.List.{All, Contains, list_any}
+use Rattle.std.specs.Prelude.{◌≡◌, ◌≢◌, ℕ, ◌+◌, ◌≤◌, Bool, ◌&&◌, ◌==◌, Option, Some, None, List, length, map, slice_get, IsTrue}
+use Rattle.std.specs.List.{All, AllPairs, Contains, list_any}
 use Rattle.std.specs.Option.{option_and_then}
 use Rattle.rx_event.specs.declared.event.Event.{Event}
 use Rattle.rx_event.specs.declared.event.Event.TheVariants.{Accept}
@@ -40,7 +40,7 @@ has_res_key keys k = list_any (λ j. j.slot == k.slot && j.number == k.number) k
 pub record AreJust (test : ℕ → Bool) (numbers : List ℕ) : Type 0 where
   pub each : All (λ n. IsTrue (test n)) numbers
   pub every : (n : ℕ) → IsTrue (test n) → Contains numbers n
-  pub once : (i j n : ℕ) → slice_get numbers i ≡ Some n → slice_get numbers j ≡ Some n → i ≡ j
+  pub once : AllPairs (λ m n. m ≢ n) numbers
 
 -- the tag that the event accepts a resource with
 abbrev pub accepted_tag : Event → Option ℕ

@@ -2,7 +2,10 @@
 #![tactic(auto)]
 
 mod answer;
+mod book;
 mod key;
+mod register;
 
 pub use answer::{At, Mail, Opened, OpenedUsing, Refused};
+pub use book::Book;
 pub use key::{Key, ResKey};

@@ -1,0 +1,13 @@
+pub mod Just
+pub mod Named
+pub mod Stocked
+pub mod Steps
+pub mod Plain
+pub mod Climbs
+pub mod Marks
+pub mod Untaken
+pub mod Tallies
+pub mod Empty
+pub mod Searches
+pub mod Held
+pub mod Given
