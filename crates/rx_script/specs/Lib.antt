@@ -6,3 +6,6 @@ pub mod Stage
 pub mod Course
 pub mod Text
 pub mod Report
+pub mod Shelf
+pub mod Engine
+pub mod Outcome

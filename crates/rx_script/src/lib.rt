@@ -6,9 +6,14 @@
 
 mod answer;
 mod decode;
+mod closing;
 mod device;
+mod engine;
+mod gather;
 mod line;
+mod run;
 mod scenario;
+mod stock;
 mod text;
 
 pub use device::Watched;
