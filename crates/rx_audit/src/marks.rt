@@ -1,0 +1,32 @@
+//! Lists of marks and of counts, by number.
+
+ghost use Rattle.std.specs.Prelude.{◌≡◌, ℕ, ◌+◌, ◌<◌, ◌≤◌, false, true, Some, None, length, slice_index_or, slice_set, replicate};
+ghost use Rattle.std.specs.Option.{option_map_or};
+ghost use Rattle.rx_audit.specs.Tables.{marks_with, counts_with};
+
+/// Whether the mark of number `n` is set.
+pub fn is_marked(marks: &[bool], n: u64) -> bool
+    ensures { result ≡ slice_index_or marks.now n false }
+{
+    let n = n as usize;
+    n < marks.len() && marks[n]
+}
+
+/// Sets the mark of the number, if there is one and the list has it.
+pub fn mark(marks: &mut [bool], key: Option<u64>)
+    ensures { marks.new ≡ marks_with marks.old key }
+{
+    if let Some(n) = key {
+        let n = n as usize;
+        if n < marks.len() {
+            marks[n] = true;
+        }
+    }
+}
+
+/// Takes all marks away.
+pub fn clear(marks: &mut [bool])
+    ensures { marks.new ≡ replicate (length marks.old) false }
+{
+    marks.fill(false);
+}
