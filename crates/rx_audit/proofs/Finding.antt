@@ -1,21 +1,25 @@
 -- What one event adds to what was found.
-use Rattle.std.proofs.Common.{◌≡◌, ℕ, zero, suc, ◌+◌, ◌*◌, ◌<◌, ◌≤◌, Bool, true, false, List, [], ◌∷◌, ◌++◌, length, Option, Some, None, refl, sym, ap, ◌∙◌, arith, ◌==◌, get_or, cond, count_by, add-zero, replicate, Result, Ok, Err, OnOk, ℤ, take, drop, length-append}
+use Rattle.std.proofs.Common.{◌≡◌, ℕ, zero, suc, ◌+◌, ◌*◌, ◌-◌, nat_lt, ◌⊎◌, inl, inr, ◌<◌, ◌≤◌, Bool, true, false, List, [], ◌∷◌, ◌++◌, length, Option, Some, None, refl, sym, ap, ◌∙◌, arith, ◌==◌, get_or, cond, count_by, add-zero, replicate, Result, Ok, Err, OnOk, ℤ, take, drop, length-append}
 use Rattle.std.proofs.Math.Seq.{take-append_seam}
 use Rattle.std.proofs.Math.Bool.{◌||◌}
 use Rattle.std.specs.List.{list_any, filter_map, sum_by, cons_option}
 use Rattle.std.specs.Option.{option_and_then}
 use Rattle.std.proofs.lemmas.List.Folds.{list_any-append}
 use Rattle.std.proofs.lemmas.List.Sums.{sum_by-append, sum_by-cons}
+use Rattle.rx_event.specs.declared.event.Place.TheVariants.{Root, Source, Inner, Notifier}
 use Rattle.rx_event.specs.declared.event.Event.{Event}
 use Rattle.rx_event.specs.declared.event.Event.TheVariants.{Open, Hub, Connect, Accept, Use, Remove, Item, Decline, End, Close, Take}
 use Rattle.rx_event.specs.Climb.{Stop, Delivery, Projection, Firing, stop_at, climb, visited, onward, stops, most_visits}
-use Rattle.rx_event.specs.Moments.{Moment, moments, is_fired, projections, stops_of, is_firing_of, is_projection_to}
+use Rattle.rx_event.specs.Moments.{Moment, moments, is_fired, projections, owed, stops_of, is_firing_of, is_projection_to}
 use Rattle.rx_event.specs.Laws.Lawful.{moments-push}
 use Rattle.rx_event.specs.Laws.Counts.{projections-push}
 use Rattle.rx_event.specs.Tree.{is_open}
 use Rattle.rx_event.specs.Laws.Openness.{is_open_past}
 use Rattle.rx_audit.specs.Tables.{IsMarked, IsTable, IsTally, IsTold, IsCounted, marks_with, counts_with}
-use Rattle.rx_audit.specs.Rules.{is_key, fired_by, projected_by}
+use Rattle.rx_audit.specs.Rules.{is_key, fired_by, projected_by, paid_of, is_owing}
+use Rattle.rx_audit.specs.Found.{payments}
+use Rattle.rx_event.specs.Events.{pays}
+use Rattle.std.proofs.lemmas.Bool.{cases_lt, lt-ltb, le-ltb}
 use Rattle.rx_audit.proofs.Keys.{length-marks_with, length-counts_with, marks_with_at, counts_with_at, counts_few}
 
 -- the climb ----------------------------------------------------------------------------------------
@@ -148,3 +152,34 @@ nothing_projected n = refl
 
 pub nothing_live : (n : ℕ) → is_open [] n ≡ false
 nothing_live n = is_open_past [] n (omega arith)
+
+-- what is owed ----------------------------------------------------------------------------------------
+
+pays_key : (f : ℕ) (e : Event) → is_key (paid_of e) f ≡ pays f e
+pays_key f (Open (Inner g) kind) = refl
+pays_key f (Open Root kind) = refl
+pays_key f (Open (Source g) kind) = refl
+pays_key f (Open (Notifier g) kind) = refl
+pays_key f (Decline g) = refl
+pays_key f (Hub mode) = refl
+pays_key f (Connect g) = refl
+pays_key f (Accept m tag) = refl
+pays_key f (Use r) = refl
+pays_key f (Remove r) = refl
+pays_key f (Item m v) = refl
+pays_key f (End m t) = refl
+pays_key f (Close m) = refl
+pays_key f (Take r) = refl
+
+count_by-same : {X : Type 0} (p q : X → Bool) → ((x : X) → p x ≡ q x) → (xs : List X) → count_by p xs ≡ count_by q xs
+count_by-same p q same [] = refl
+count_by-same p q same (x ∷ xs) = sum_by-cons (λ y. cond (p y) 1 0) x xs ∙ ap (λ b. cond b 1 0 + count_by p xs) (same x) ∙ ap (λ (k : ℕ). cond (q x) 1 0 + k) (count_by-same p q same xs) ∙ sym (sum_by-cons (λ y. cond (q y) 1 0) x xs)
+
+pub owing_by_counts : (h : List Event) (f paid projected : ℕ) → paid ≡ payments h f → projected ≡ projections h f → nat_lt paid projected ≡ is_owing h f
+unfolding is_owing owed
+owing_by_counts h f paid projected e p = ap (λ k. nat_lt k projected) (e ∙ count_by-same (λ x. is_key (paid_of x) f) (pays f) (pays_key f) h) ∙ ap (λ k. nat_lt (count_by (pays f) h) k) p ∙ less (count_by (pays f) h) (projections h f) where
+  less : (a b : ℕ) → nat_lt a b ≡ nat_lt 0 (b - a)
+  less a b = by_order (cases_lt a b) where
+    by_order : (a < b) ⊎ (b ≤ a) → nat_lt a b ≡ nat_lt 0 (b - a)
+    by_order (inl l) = lt-ltb a b l ∙ sym (lt-ltb 0 (b - a) (omega arith))
+    by_order (inr g) = let z : b - a ≡ 0 = omega arith in le-ltb a b g ∙ sym (ap (nat_lt 0) z)

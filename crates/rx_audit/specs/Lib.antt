@@ -1,3 +1,4 @@
 pub mod Tables
 pub mod Rules
 pub mod Found
+pub mod Survey

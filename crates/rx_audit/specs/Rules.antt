@@ -1,5 +1,5 @@
 -- The rules of histories as tests that compute.
-use Rattle.std.specs.Prelude.{ℕ, Bool, true, false, ◌==◌, ◌&&◌, ◌||◌, Option, Some, None, List, length, slice_get, drop, suc, if◌then◌else◌}
+use Rattle.std.specs.Prelude.{ℕ, Bool, true, false, ◌==◌, ◌&&◌, ◌||◌, Option, Some, None, List, length, slice_get, drop, suc, nat_lt, if◌then◌else◌}
 use Rattle.std.proofs.Math.Bool.{not}
 use Rattle.std.specs.List.{list_all, list_any}
 use Rattle.std.specs.Option.{option_and_then, option_map_or}
@@ -94,6 +94,10 @@ stays_open h e n = is_open h n && list_all (λ a. not (shuts h a e)) (ancestors 
 abbrev pub opens : List Event → Event → Bool
 opens h e = makes_node e && option_map_or (stays_open h e) (option_and_then (if_less (length h)) (parent_named e)) true
 
+-- something is owed at f
+unfoldable pub is_owing : List Event → ℕ → Bool
+is_owing h f = nat_lt 0 (owed h f)
+
 -- the same end
 abbrev pub same_terminal : Terminal → Terminal → Bool
 same_terminal Completed Completed = true
@@ -129,10 +133,17 @@ abbrev pub joins : Option ℕ → Option ℕ → Bool
 joins None o = false
 joins (Some g) o = is_key o g
 
+-- the hub whose connection the event ends
+abbrev pub hub_ended : List Event → Event → Option ℕ
+hub_ended h (End c t) = hub_connected_at h c
+hub_ended h _ = None
+
+abbrev pub hub_ended_at : List Event → ℕ → Option ℕ
+hub_ended_at h k = option_and_then (hub_ended h) (slice_get h k)
+
 -- the event ends a connection of the hub that s subscribes to
 abbrev pub ends_source : List Event → ℕ → Event → Bool
-ends_source h s (End c t) = joins (hub_subscribed_at h s) (hub_connected_at h c)
-ends_source h s _ = false
+ends_source h s e = joins (hub_subscribed_at h s) (hub_ended h e)
 
 abbrev pub ends_source_so : List Event → ℕ → Terminal → Event → Bool
 ends_source_so h s t (End c u) = joins (hub_subscribed_at h s) (hub_connected_at h c) && same_terminal u t
@@ -164,7 +175,7 @@ passes_on h k p = is_open h p && ((at is_mirroring h p && has_ended h k) || (at 
 
 -- f completes now that its source k has
 abbrev pub completes : List Event → ℕ → ℕ → Bool
-completes h k f = has_completed h k && is_open h f && at is_merging h f && not (has_open_child h f) && owed h f == 0
+completes h k f = has_completed h k && is_open h f && at is_merging h f && not (has_open_child h f) && not (is_owing h f)
 
 -- hub g has lost its subscribers
 abbrev pub is_left : List Event → ℕ → Bool
@@ -201,7 +212,7 @@ completes_source h f _ = false
 
 -- what the rules ask of an open node beside its openness, for each kind of end
 abbrev pub completion_due : List Event → ℕ → Bool
-completion_due h n = (at is_until h n && is_fired h n) || (at is_merging h n && not (list_any (fails_child h n) h) && list_any (completes_source h n) h && not (has_open_child h n) && owed h n == 0)
+completion_due h n = (at is_until h n && is_fired h n) || (at is_merging h n && not (list_any (fails_child h n) h) && list_any (completes_source h n) h && not (has_open_child h n) && not (is_owing h n))
 
 abbrev pub failure_due : List Event → ℕ → ℕ → Bool
 failure_due h n code = at is_merging h n && list_any (ends_child_so h n (Error code)) h

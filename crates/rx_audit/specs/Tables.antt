@@ -10,6 +10,10 @@ IsMarked marks test = (n : ℕ) → slice_index_or marks n false ≡ test n
 abbrev pub IsTable : List Bool → (ℕ → Bool) → Type 0
 IsTable marks test = (n : ℕ) → n < length marks → slice_index_or marks n false ≡ test n
 
+-- the list says the test of each number below the bound
+abbrev pub IsTableBelow : ℕ → List Bool → (ℕ → Bool) → Type 0
+IsTableBelow bound marks test = (n : ℕ) → n < bound → slice_index_or marks n false ≡ test n
+
 -- the list says the count of each number that it has
 abbrev pub IsTally : List ℕ → (ℕ → ℕ) → Type 0
 IsTally counts amount = (n : ℕ) → n < length counts → slice_index_or counts n 0 ≡ amount n

@@ -7,11 +7,11 @@ ghost use Rattle.rx_event.specs.Tree.{is_open};
 ghost use Rattle.rx_event.specs.Climb.{stop_at, climb};
 ghost use Rattle.rx_event.specs.Moments.{is_fired, projections};
 ghost use Rattle.rx_audit.specs.Found.{IsFound};
-ghost use Rattle.rx_audit.specs.Rules.{fired_by, projected_by, is_key};
+ghost use Rattle.rx_audit.specs.Rules.{fired_by, projected_by, is_key, has_ended, has_failed, has_completed, was_removed, was_taken, is_owing};
 ghost use Rattle.rx_audit.specs.Tables.{IsMarked, IsTable, IsTally, IsTold, IsCounted};
 
 use crate::climb::{fired_at, projected_at};
-use crate::marks::{count, mark};
+use crate::marks::{count, count_of, is_marked, mark};
 use crate::climb::climb;
 use crate::event_tests::{completed_of, ended_of, failed_of, paid_of, removed_of, taken_of};
 use crate::openness::mark_open;
@@ -153,10 +153,9 @@ pub fn follow(
     event: Event,
     found: &mut Found,
 ) -> Result<(), AllocError>
-    ghost size: { ℕ }
-    requires found { IsFound past.now size found.old }
-    requires room { length past.now < size }
-    ensures { OnOk result (IsFound (past.now ++ event ∷ []) size found.new) }
+    requires found { IsFound past.now (length found.old.live.items) found.old }
+    requires room { length past.now < length found.old.live.items }
+    ensures { OnOk result (IsFound (past.now ++ event ∷ []) (length found.old.live.items) found.new) }
 {
     find_item(
         alloc,
@@ -174,4 +173,74 @@ pub fn follow(
     mark(found.taken.as_mut_slice(), taken_of(event));
     count(found.paid.as_mut_slice(), paid_of(event));
     Ok(())
+}
+
+/// Whether node `k` ended.
+pub fn has_ended(past: &[Event], found: &Found, k: u64) -> bool
+    requires found { IsFound past.now (length found.now.live.items) found.now }
+    requires within { k < length found.now.live.items }
+    ensures { result ≡ has_ended past.now k }
+{
+    let _ = past;
+    is_marked(found.ended.as_slice(), k)
+}
+
+/// Whether node `k` ended with an error.
+pub fn has_failed(past: &[Event], found: &Found, k: u64) -> bool
+    requires found { IsFound past.now (length found.now.live.items) found.now }
+    requires within { k < length found.now.live.items }
+    ensures { result ≡ has_failed past.now k }
+{
+    let _ = past;
+    is_marked(found.failed.as_slice(), k)
+}
+
+/// Whether node `k` ended without an error.
+pub fn has_completed(past: &[Event], found: &Found, k: u64) -> bool
+    requires found { IsFound past.now (length found.now.live.items) found.now }
+    requires within { k < length found.now.live.items }
+    ensures { result ≡ has_completed past.now k }
+{
+    let _ = past;
+    is_marked(found.completed.as_slice(), k)
+}
+
+/// Whether resource `r` was removed.
+pub fn was_removed(past: &[Event], found: &Found, r: u64) -> bool
+    requires found { IsFound past.now (length found.now.live.items) found.now }
+    requires within { r < length found.now.live.items }
+    ensures { result ≡ was_removed past.now r }
+{
+    let _ = past;
+    is_marked(found.removed.as_slice(), r)
+}
+
+/// Whether resource `r` was handed out.
+pub fn was_taken(past: &[Event], found: &Found, r: u64) -> bool
+    requires found { IsFound past.now (length found.now.live.items) found.now }
+    requires within { r < length found.now.live.items }
+    ensures { result ≡ was_taken past.now r }
+{
+    let _ = past;
+    is_marked(found.taken.as_slice(), r)
+}
+
+/// Whether an item fired the TakeUntil `k`.
+pub fn is_fired(past: &[Event], found: &Found, k: u64) -> bool
+    requires found { IsFound past.now (length found.now.live.items) found.now }
+    requires within { k < length found.now.live.items }
+    ensures { result ≡ is_fired past.now k }
+{
+    let _ = past;
+    is_marked(found.fired.as_slice(), k)
+}
+
+/// Whether something is owed at the FlatMap or Switch `f`.
+pub fn is_owing(past: &[Event], found: &Found, f: u64) -> bool
+    requires found { IsFound past.now (length found.now.live.items) found.now }
+    requires within { f < length found.now.live.items }
+    ensures { result ≡ is_owing past.now f }
+{
+    let _ = past;
+    count_of(found.paid.as_slice(), f) < count_of(found.projected.as_slice(), f)
 }

@@ -6,3 +6,4 @@ mod event_tests;
 mod found;
 mod marks;
 mod openness;
+mod survey;
