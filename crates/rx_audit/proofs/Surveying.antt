@@ -4,6 +4,8 @@ use Rattle.std.proofs.lemmas.Bool.{cases_lt, cases_order, ne_eqb, false≢true}
 use Rattle.std.proofs.lemmas.List.{get_or_past}
 use Rattle.std.proofs.lemmas.Option.{slice_get_past, option_and_then_some}
 use Rattle.std.proofs.Math.Seq.{drop-length}
+use Rattle.std.proofs.lemmas.List.Folds.{list_any_at}
+use Rattle.std.proofs.lemmas.List.FromFn.{length-range_with_len, get_or-range_with_len}
 use Rattle.std.specs.Option.{option_map_or, option_and_then}
 use Rattle.std.proofs.Math.Bool.{◌||◌, ◌&&◌}
 use Rattle.std.specs.List.{list_any, range_with_len}
@@ -165,3 +167,9 @@ open_child_key h p = list_any-same (λ k. is_key (open_parent h k) p) (is_open_c
   one true None = refl
   one true (Some q) = refl
   one false o = refl
+
+pub any_found : (q : ℕ → Bool) (n k : ℕ) → k < n → q k ≡ true → list_any q (range_with_len 0 n) ≡ true
+any_found q n k l holds = list_any_at q (range_with_len 0 n) k 0 (rw (length-range_with_len 0 n) l) (ap q (get_or-range_with_len 0 n k 0 l ∙ let z : 0 + k ≡ k = omega arith in z) ∙ holds)
+
+pub any_none : (q : ℕ → Bool) (k : ℕ) → list_any q (range_with_len 0 k) ≡ false → q k ≡ false → list_any q (range_with_len 0 (k + 1)) ≡ false
+any_none q k none not_k = any_range q k ∙ rw (none, not_k) refl

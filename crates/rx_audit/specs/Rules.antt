@@ -221,8 +221,11 @@ abbrev pub end_due_by_kind : List Event → ℕ → Terminal → Bool
 end_due_by_kind h n Completed = completion_due h n
 end_due_by_kind h n (Error code) = failure_due h n code
 
+abbrev pub open_end_due : List Event → ℕ → Terminal → Bool
+open_end_due h n t = (at is_mirroring h n && list_any (ends_child_so h n t) h) || end_due_by_kind h n t || is_cut_so h n t
+
 unfoldable pub end_due : List Event → ℕ → Terminal → Bool
-end_due h n t = is_open h n && ((at is_mirroring h n && list_any (ends_child_so h n t) h) || end_due_by_kind h n t || is_cut_so h n t)
+end_due h n t = is_open h n && open_end_due h n t
 
 unfoldable pub close_due : List Event → ℕ → Bool
 close_due h c = is_open h c && option_map_or (is_left h) (hub_connected_at h c) false

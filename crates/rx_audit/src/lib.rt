@@ -1,8 +1,10 @@
 //! Decides whether a list of events is a lawful history.
 #![tactic(auto)]
 
+mod allowed;
 mod climb;
 mod event_tests;
+mod forced;
 mod found;
 mod marks;
 mod openness;
