@@ -80,12 +80,12 @@ unfolding is_owing
 none_owed h f e = rw e refl
 
 -- some child is open
-child_closed : (h : List Event) (f : ℕ) → not (has_open_child h f) ≡ true → (c : ℕ) → parent h c ≡ Some f → is_open h c ≡ false
+pub child_closed : (h : List Event) (f : ℕ) → not (has_open_child h f) ≡ true → (c : ℕ) → parent h c ≡ Some f → is_open h c ≡ false
 child_closed h f e c below = not_true (is_open h c) (λ o. both_ways (has_open_child h f) (not_not (has_open_child h f) e) (any_found (is_open_child_of h f) (length h) c (parent_within h c f below) (both (is_open h c) (option_map_or (λ q. q == f) (parent h c) false) o (rw below (self f))))) where
   self : (n : ℕ) → (n == n) ≡ true
   self n = is_key_of (Some n) n refl
 
-no_child_open : (h : List Event) (f : ℕ) → ((c : ℕ) → parent h c ≡ Some f → is_open h c ≡ false) → not (has_open_child h f) ≡ true
+pub no_child_open : (h : List Event) (f : ℕ) → ((c : ℕ) → parent h c ≡ Some f → is_open h c ≡ false) → not (has_open_child h f) ≡ true
 no_child_open h f closed = is_false (has_open_child h f) (not_true (has_open_child h f) (λ e. open_one (find_number (is_open_child_of h f) (length h) e))) where
   below : (o : Option ℕ) → option_map_or (λ q. q == f) o false ≡ true → o ≡ Some f
   below None e = absurd (false≢true e)

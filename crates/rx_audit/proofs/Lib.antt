@@ -5,3 +5,5 @@ pub mod Finding
 pub mod Surveying
 pub mod Deciding
 pub mod Due
+pub mod Allowing
+pub mod Permitting

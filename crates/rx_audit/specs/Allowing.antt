@@ -14,7 +14,7 @@ use Rattle.rx_event.specs.declared.event.Event.TheVariants.{Open, Hub, Connect, 
 use Rattle.rx_event.specs.Events.{makes_hub, has_source, is_leaf, is_merging, is_until, is_root, is_manual_hub, is_source_of, is_notifier_of}
 use Rattle.rx_event.specs.Tree.{at, hubs, is_open, open_nodes, ancestors, has_open_child}
 use Rattle.rx_event.specs.Resources.{is_held, is_waiting}
-use Rattle.rx_event.specs.Allowed.{most_nodes, most_hubs}
+use Rattle.rx_event.specs.Climb.{visits}
 use Rattle.rx_audit.specs.Rules.{hub_connected_at, has_key, open_connected, is_owing}
 
 abbrev pub connects_later : List Event → ℕ → ℕ → Bool
@@ -51,3 +51,29 @@ end_allowed h n t = is_open h n && (at is_leaf h n || failing_allowed h n t)
 
 unfoldable pub close_allowed : List Event → ℕ → Bool
 close_allowed h n = is_open h n && (at is_root h n || option_map_or (at is_manual_hub h) (hub_connected_at h n) false)
+
+-- with the limits' numbers, so that the program's constants are what they are
+unfoldable pub connect_allowed : List Event → ℕ → Bool
+connect_allowed h g = at is_manual_hub h g && not (has_key (open_connected h) h g) && nat_lt (length (open_nodes h)) 1048576
+
+unfoldable pub decline_allowed : List Event → ℕ → Bool
+decline_allowed h f = is_open h f && at is_merging h f && is_owing h f
+
+abbrev pub allowed_simply : List Event → Event → Bool
+allowed_simply h (Hub mode) = nat_lt (length (hubs h)) 1024
+allowed_simply h (Connect g) = connect_allowed h g
+allowed_simply h (Accept n tag) = is_open h n
+allowed_simply h (Use r) = is_held h r
+allowed_simply h (Remove r) = is_held h r
+allowed_simply h (Decline f) = decline_allowed h f
+allowed_simply h (End n t) = end_allowed h n t
+allowed_simply h (Close n) = close_allowed h n
+allowed_simply h (Take r) = is_waiting h r
+allowed_simply h (Open place kind) = false
+allowed_simply h (Item l value) = false
+
+unfoldable pub item_allowed : List Event → ℕ → Bool
+item_allowed h l = is_open h l && at is_leaf h l && nat_le (visits h l) 1048576
+
+unfoldable pub open_allowed : List Event → Place → Kind → Bool
+open_allowed h place kind = is_free h place && is_hubbed h place kind && nat_lt (length (open_nodes h)) 1048576
