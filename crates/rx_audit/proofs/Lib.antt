@@ -7,3 +7,4 @@ pub mod Deciding
 pub mod Due
 pub mod Allowing
 pub mod Permitting
+pub mod Judging

@@ -17,6 +17,7 @@ use Rattle.rx_event.specs.Forced.{connecting, due}
 use Rattle.rx_event.specs.Tree.{at, places, parent, is_open, has_open_child, is_open_child_of}
 use Rattle.rx_event.specs.Laws.Lawful.{lawful_at}
 use Rattle.rx_event.specs.Allowed.{connected}
+use Rattle.rx_audit.specs.Survey.{AreHubsNamed}
 use Rattle.rx_audit.specs.Tables.{IsMarked, IsTable, marks_with}
 use Rattle.rx_audit.specs.Rules.{is_key, has_key, open_parent, hub_connected_at, hub_connected, hub_subscribed_at, hub_ended, hub_ended_at, joins, is_cut}
 use Rattle.rx_audit.proofs.Keys.{length-marks_with, marks_with_at}
@@ -84,6 +85,9 @@ pub connected_below : (h : List Event) → IsLawful h → (c g : ℕ) → hub_co
 connected_below h law c g e =
     option_and_then_some hub_connected (slice_get h c) g e (λ x a b. let l = connect_below (take c h) g (lawful_at h law c (Connect g) (a ∙ ap (λ y. Some y) (is_connect x g b))) in omega (arith, length-take {A = Event}))
 
+pub hubs_named : (h : List Event) → IsLawful h → AreHubsNamed h
+hubs_named h law = record { each = connected_below h law }
+
 -- all marks after one key more, where the key is within
 pub marked_more : (ms : List Bool) (key : Option ℕ) (n : ℕ) → ((r : ℕ) → key ≡ Some r → r < length ms) → get_or (marks_with ms key) n false ≡ (get_or ms n false || is_key key n)
 marked_more ms key n within = by_order (cases_lt n (length ms)) where
@@ -114,8 +118,8 @@ or_swap true false = refl
 or_swap false true = refl
 or_swap false false = refl
 
-pub ended_more : (h : List Event) (k : ℕ) (ms : List Bool) → IsLawful h → length h ≤ length ms → IsMarked ms (ended_from h (suc k)) → IsMarked (marks_with ms (hub_ended_at h k)) (ended_from h k)
-ended_more h k ms law room tied n =
+pub ended_more : (h : List Event) (k : ℕ) (ms : List Bool) → AreHubsNamed h → length h ≤ length ms → IsMarked ms (ended_from h (suc k)) → IsMarked (marks_with ms (hub_ended_at h k)) (ended_from h k)
+ended_more h k ms named room tied n =
     marked_more ms (hub_ended_at h k) n within ∙ ap (λ b. b || is_key (hub_ended_at h k) n) (tied n) ∙ or_swap (ended_from h (suc k) n) (is_key (hub_ended_at h k) n) ∙ ap (λ b. b || ended_from h (suc k) n) (keyed (slice_get h k)) ∙ sym (any_drop (λ e. is_key (hub_ended h e) n) h k)
   where
     keyed : (o : Option Event) → is_key (option_and_then (hub_ended h) o) n ≡ option_map_or (λ e. is_key (hub_ended h e) n) o false
@@ -123,7 +127,7 @@ ended_more h k ms law room tied n =
     keyed (Some e) = refl
 
     ended_connection : (e : Event) (r : ℕ) → hub_ended h e ≡ Some r → r < length ms
-    ended_connection (End c t) r s = let l = connected_below h law c r s in omega arith
+    ended_connection (End c t) r s = let l = named.each c r s in omega arith
     ended_connection (Open place kind) r s = cc
     ended_connection (Hub mode) r s = cc
     ended_connection (Connect g) r s = cc

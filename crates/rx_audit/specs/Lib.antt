@@ -4,3 +4,4 @@ pub mod Found
 pub mod Survey
 pub mod Known
 pub mod Allowing
+pub mod Verdict

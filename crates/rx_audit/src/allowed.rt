@@ -27,13 +27,13 @@ use rx_event::{Event, Kind, Place, Terminal};
 use std::alloc::{AllocError, Global};
 
 /// How many nodes may be open.
-const MOST_NODES: usize = 1_048_576;
+pub const MOST_NODES: usize = 1_048_576;
 
 /// How many hubs there may be.
 const MOST_HUBS: usize = 1024;
 
 /// How many nodes are open.
-fn open_count(past: &[Event], found: &Found) -> usize
+pub fn open_count(past: &[Event], found: &Found) -> usize
     requires { IsFoundHere past.now found.now }
     ensures { result ≡ length (open_nodes past.now) }
 {

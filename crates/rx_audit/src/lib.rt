@@ -9,3 +9,4 @@ mod found;
 mod marks;
 mod openness;
 mod survey;
+mod verdict;

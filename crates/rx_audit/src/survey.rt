@@ -4,8 +4,7 @@ ghost use Rattle.std.specs.Prelude.{◌≡◌, ℕ, ◌+◌, ◌<◌, ◌≤◌,
 ghost use Rattle.std.specs.List.{list_any};
 ghost use Rattle.rx_event.specs.Tree.{is_open, has_open_child, parent};
 ghost use Rattle.rx_audit.specs.Tables.{IsMarked, IsTable, IsTableBelow};
-ghost use Rattle.rx_event.specs.Lawful.{IsLawful};
-ghost use Rattle.rx_audit.specs.Survey.{IsSized, IsSurvey};
+ghost use Rattle.rx_audit.specs.Survey.{AreHubsNamed, IsSized, IsSurvey};
 ghost use Rattle.rx_audit.specs.Rules.{open_parent, hub_subscribed_at, hub_connected_at, open_subscribed, open_connected, open_waiting, has_key, is_cut, hub_ended_at};
 ghost use Rattle.std.specs.Option.{option_map_or};
 
@@ -182,7 +181,7 @@ fn has_marked_hub(past: &[Event], marks: &[bool], k: u64) -> bool
 /// Marks each subscriber whose hub's connection ended after it was opened. The hubs whose
 /// connections end are marked on the way, from the last event back.
 fn mark_cut(past: &[Event], hubs: &mut [bool], cut: &mut [bool])
-    requires lawful { IsLawful past.now }
+    requires named { AreHubsNamed past.now }
     requires hubs_room { length past.now ≤ length hubs.old }
     requires cut_room { length past.now ≤ length cut.old }
     ensures { IsTableBelow (length past.now) cut.new (is_cut past.now) }
@@ -196,7 +195,7 @@ fn mark_cut(past: &[Event], hubs: &mut [bool], cut: &mut [bool])
 
 /// Surveys the open nodes.
 pub fn look(past: &[Event], live: &[bool], survey: &mut Survey)
-    requires lawful { IsLawful past.now }
+    requires named { AreHubsNamed past.now }
     requires live { IsMarked live.now (is_open past.now) }
     requires sized { IsSized (length survey.old.parents.items) survey.old }
     requires room { length past.now ≤ length survey.old.parents.items }
