@@ -1,5 +1,5 @@
 -- From the tests to the verdict.
-use Rattle.std.proofs.Common.{◌≡◌, ℕ, ℤ, zero, suc, ◌+◌, ◌<◌, ◌≤◌, Bool, true, false, List, [], ◌∷◌, ◌++◌, length, take, Option, Some, None, refl, sym, ap, ◌∙◌, arith, ◌==◌, slice_get, inl, inr, ◌⊎◌, IsTrue, ◌↔◌, length-append}
+use Rattle.std.proofs.Common.{◌≡◌, ℕ, ℤ, zero, suc, ◌+◌, ◌<◌, ◌≤◌, Bool, true, false, List, [], ◌∷◌, ◌++◌, length, take, Option, Some, None, refl, sym, ap, ◌∙◌, arith, ◌==◌, slice_get, get_or, inl, inr, ◌⊎◌, IsTrue, ◌↔◌, length-append}
 use Rattle.std.proofs.Math.Bool.{not, ◌&&◌, ◌||◌}
 use Rattle.std.specs.Option.{option_map_or, option_and_then}
 use Rattle.std.proofs.lemmas.Bool.{cases_Bool, cases_order, and_parts, both_ways, false≢true, eqb-true, eq-eqb}
@@ -17,8 +17,12 @@ use Rattle.rx_event.specs.Lawful.{IsLawful, MayFollow, forced, allowed, opened_w
 use Rattle.rx_event.specs.Laws.Lawful.{IsLawful-push}
 use Rattle.rx_event.specs.Laws.Places.{slice_get-append, slice_get_last}
 use Rattle.rx_audit.specs.Rules.{any_connect_due, is_forced, hub_connected, hub_connected_at}
-use Rattle.rx_audit.specs.Survey.{AreHubsNamed}
-use Rattle.rx_audit.specs.Verdict.{opens_pass, opened_with}
+use Rattle.rx_audit.specs.Survey.{AreHubsNamed, IsSized}
+use Rattle.std.proofs.lemmas.List.{take_more}
+use Rattle.rx_audit.specs.declared.found.Found.{Found}
+use Rattle.rx_audit.specs.declared.survey.Survey.{Survey}
+use Rattle.rx_audit.specs.Found.{IsFound}
+use Rattle.rx_audit.specs.Verdict.{IsFoundUnlawful, opens_pass, opened_with}
 use Rattle.rx_audit.specs.Allowing.{allowed_simply, item_allowed, open_allowed}
 use Rattle.rx_audit.proofs.Deciding.{both, not_true}
 use Rattle.rx_audit.proofs.Due.{some_connect_due, no_connect_due, forced_is, is_forced_of}
@@ -122,3 +126,22 @@ unsettled_answer h e r no_force no_open unsettled w = (λ t. absurd (false≢tru
 
 pub allowed_answer : (h : List Event) (e : Event) (r b : Bool) → is_forced h e ≡ false → opened_with h e ≡ false → r ≡ true → (IsTrue r) ↔ IsSettled h → (IsTrue b) ↔ IsAllowed h e → (IsTrue b) ↔ MayFollow h e
 allowed_answer h e r b no_force no_open settled w v = (λ t. allowed (w.0 settled) (v.0 t), λ m. v.1 (follows_settled h e no_force no_open m).1)
+
+-- event by event -----------------------------------------------------------------------------------------
+
+get_at : (h : List Event) (i : ℕ) (d : Event) → i < length h → slice_get h i ≡ Some (get_or h i d)
+get_at [] i d l = absurd (omega arith)
+get_at (x ∷ h) zero d l = refl
+get_at (x ∷ h) (suc i) d l = get_at h i d (omega arith)
+
+pub unlawful_here : (h : List Event) (i : ℕ) (d : Event) (b : Bool) → i < length h → IsLawful (take i h) → b ≡ false → (IsTrue b) ↔ MayFollow (take i h) (get_or h i d) → IsFoundUnlawful h i
+unlawful_here h i d b l law refused w = record { before = law; event = get_or h i d; found = get_at h i d l; breaks = λ m. both_ways b refused (w.1 m) }
+
+pub lawful_more : (h : List Event) (i : ℕ) (d : Event) (b : Bool) → i < length h → IsLawful (take i h) → b ≡ true → (IsTrue b) ↔ MayFollow (take i h) (get_or h i d) → IsLawful (take (i + 1) h)
+lawful_more h i d b l law follows w = rw (take_more h i d l) (IsLawful-push (take i h) (get_or h i d) law (w.0 follows))
+
+pub found_more : (h : List Event) (i : ℕ) (d : Event) (size : ℕ) (found : Found) → i < length h → size ≡ length h → IsFound (take i h ++ get_or h i d ∷ []) size found → IsFound (take (i + 1) h) (length h) found
+found_more h i d size found l same f = rw (take_more h i d l, ← same) f
+
+pub sized_as : (n size : ℕ) (survey : Survey) → size ≡ n → IsSized size survey → IsSized n survey
+sized_as n size survey same s = rw (← same) s

@@ -10,3 +10,5 @@ mod marks;
 mod openness;
 mod survey;
 mod verdict;
+
+pub use verdict::{NoMemory, Verdict, audit};

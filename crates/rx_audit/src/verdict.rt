@@ -1,6 +1,6 @@
 //! The verdict on a list of events.
 
-ghost use Rattle.std.specs.Prelude.{◌≡◌, ℕ, ◌+◌, ◌<◌, ◌≤◌, ◌↔◌, IsTrue, IfOk, IsErr, [], ◌∷◌, ◌++◌, Some, None, length, slice_get};
+ghost use Rattle.std.specs.Prelude.{◌≡◌, ℕ, ◌+◌, ◌<◌, ◌≤◌, ◌↔◌, IsTrue, IfOk, IsErr, [], ◌∷◌, ◌++◌, Some, None, MatchOption, length, slice_get, take};
 ghost use Rattle.rx_event.specs.Tree.{is_open, open_nodes};
 ghost use Rattle.rx_event.specs.Resources.{held_resources, waiting_resources};
 ghost use Rattle.rx_event.specs.Allowed.{IsAllowed};
@@ -8,7 +8,8 @@ ghost use Rattle.rx_event.specs.Forced.{IsConnectDue};
 ghost use Rattle.rx_event.specs.Lawful.{IsLawful, MayFollow};
 ghost use Rattle.rx_audit.specs.Known.{IsFoundHere, IsSurveyed};
 ghost use Rattle.rx_audit.specs.Survey.{AreHubsNamed, IsSized};
-ghost use Rattle.rx_audit.specs.Verdict.{IsVerdict, opens_pass, opened_with};
+ghost use Rattle.rx_audit.specs.Found.{IsFound};
+ghost use Rattle.rx_audit.specs.Verdict.{IsVerdict, IsFoundUnlawful, IsAllFound, opens_pass, opened_with};
 
 use crate::allowed::{
     is_allowed_simply, is_held, is_item_allowed, is_open_allowed, is_waiting, open_count,
@@ -44,6 +45,10 @@ pub enum Verdict {
     /// The events are a history that may be, and operators have something left to do.
     Unsettled,
 }
+
+/// Memory was asked for and refused.
+#[derive(Clone, Copy, Debug, PartialEq, Eq, Drop)]
+pub struct NoMemory;
 
 /// Whether there is room for the connection that the opening of this node may force.
 fn leaves_room(
@@ -183,4 +188,120 @@ fn may_follow(
         return Ok(false);
     }
     is_allowed(alloc, past, next, event, found, survey)
+}
+
+/// The first place whose event may not follow those before it, if there is one. Where there is
+/// none, `found` is what was found of all events.
+fn first_unlawful(
+    alloc: Global,
+    events: &[Event],
+    found: &mut Found,
+    survey: &mut Survey,
+) -> Result<Option<u64>, AllocError>
+    requires found { IsFound [] (length events.now) found.old }
+    requires sized { IsSized (length events.now) survey.old }
+    ensures answer { IfOk result (λ place. MatchOption place (IsAllFound events.now found.new) (IsFoundUnlawful events.now)) }
+    ensures sized { IsSized (length survey.old.parents.items) survey.new }
+{
+    for i in 0..events.len() {
+        let past = &events[..i];
+        let next = &events[..i + 1];
+        let event = events[i];
+        if !may_follow(alloc, past, next, event, found, survey)? {
+            return Ok(Some(i as u64));
+        }
+        follow(alloc, past, event, found)?;
+    }
+    Ok(None)
+}
+
+/// The open nodes.
+fn open_nodes(
+    alloc: Global,
+    events: &[Event],
+    found: &Found,
+) -> Result<Vec<u64>, AllocError>
+    requires { IsFoundHere events.now found.now }
+    ensures { IfOk result (λ v. v.items ≡ open_nodes events.now) }
+{
+    (0..events.len() as u64)
+        .filter(|k| is_marked(found.live.as_slice(), *k))
+        .collect(alloc)
+}
+
+/// The held resources.
+fn held_resources(
+    alloc: Global,
+    events: &[Event],
+    found: &Found,
+) -> Result<Vec<u64>, AllocError>
+    requires { IsFoundHere events.now found.now }
+    ensures { IfOk result (λ v. v.items ≡ held_resources events.now) }
+{
+    (0..events.len() as u64)
+        .filter(|r| is_held(events, found, *r))
+        .collect(alloc)
+}
+
+/// The resources that wait.
+fn waiting_resources(
+    alloc: Global,
+    events: &[Event],
+    found: &Found,
+) -> Result<Vec<u64>, AllocError>
+    requires { IsFoundHere events.now found.now }
+    ensures { IfOk result (λ v. v.items ≡ waiting_resources events.now) }
+{
+    (0..events.len() as u64)
+        .filter(|r| is_waiting(events, found, *r))
+        .collect(alloc)
+}
+
+/// The verdict on a lawful list of events.
+fn judge_lawful(
+    alloc: Global,
+    events: &[Event],
+    found: &Found,
+    survey: &mut Survey,
+) -> Result<Verdict, AllocError>
+    requires found { IsAllFound events.now found.now }
+    requires sized { IsSized (length events.now) survey.old }
+    ensures { IfOk result (IsVerdict events.now) }
+{
+    look(events, found.live.as_slice(), survey);
+    if !is_settled(events, found, survey) {
+        return Ok(Verdict::Unsettled);
+    }
+    Ok(Verdict::Lawful {
+        live: open_nodes(alloc, events, found)?,
+        held: held_resources(alloc, events, found)?,
+        waiting: waiting_resources(alloc, events, found)?,
+    })
+}
+
+/// The verdict on a list of events.
+fn judge(alloc: Global, events: &[Event]) -> Result<Verdict, AllocError>
+    ensures { IfOk result (IsVerdict events.now) }
+{
+    let mut found = nothing_found(alloc, events.len())?;
+    let mut survey = new_survey(alloc, events.len())?;
+    match first_unlawful(alloc, events, &mut found, &mut survey)? {
+        Some(place) => Ok(Verdict::Unlawful { place }),
+        None => judge_lawful(alloc, events, &found, &mut survey),
+    }
+}
+
+/// The verdict on any list of events, oldest first: `Unlawful` with the first place whose event may
+/// not follow those before it, `Unsettled` where all may and operators have something left to do,
+/// else `Lawful` with what is open, held and waiting. The rules are those of the Observable
+/// Contract, of the operators' pages at reactivex.io and of System.Reactive's disposables.
+///
+/// Refused with `NoMemory` where memory was asked for and refused.
+pub fn audit(alloc: Global, events: &[Event]) -> Result<Verdict, NoMemory>
+    ensures { IfOk result (IsVerdict events.now) }
+{
+    match judge(alloc, events) {
+        Ok(verdict) => Ok(verdict),
+        Err(_) => Err(NoMemory),
+    }
 }
