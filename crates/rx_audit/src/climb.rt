@@ -22,10 +22,12 @@ pub fn projected_at(past: &[Event], n: u64) -> Option<u64>
     ensures { result ≡ option_and_then projected_by (stop_at past.now n) }
 {
     match past.get(n as usize).copied() {
-        Some(Event::Open {
-            place: Place::Source(f),
-            ..
-        }) => {
+        Some(
+            Event::Open {
+                place: Place::Source(f),
+                ..
+            },
+        ) => {
             if at(is_merging, past, f) {
                 Some(f)
             } else {
@@ -41,10 +43,12 @@ pub fn fired_at(past: &[Event], n: u64) -> Option<u64>
     ensures { result ≡ option_and_then fired_by (stop_at past.now n) }
 {
     match past.get(n as usize).copied() {
-        Some(Event::Open {
-            place: Place::Notifier(u),
-            ..
-        }) => Some(u),
+        Some(
+            Event::Open {
+                place: Place::Notifier(u),
+                ..
+            },
+        ) => Some(u),
         _ => None,
     }
 }

@@ -10,10 +10,9 @@ ghost use Rattle.rx_audit.specs.Found.{IsFound};
 ghost use Rattle.rx_audit.specs.Rules.{fired_by, projected_by, is_key, has_ended, has_failed, has_completed, was_removed, was_taken, is_owing};
 ghost use Rattle.rx_audit.specs.Tables.{IsMarked, IsTable, IsTally, IsTold, IsCounted};
 
-use crate::climb::{fired_at, projected_at};
-use crate::marks::{count, count_of, is_marked, mark};
-use crate::climb::climb;
+use crate::climb::{climb, fired_at, projected_at};
 use crate::event_tests::{completed_of, ended_of, failed_of, paid_of, removed_of, taken_of};
+use crate::marks::{count, count_of, is_marked, mark};
 use crate::openness::mark_open;
 use rx_event::Event;
 use std::alloc::{AllocError, Global};

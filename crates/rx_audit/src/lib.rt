@@ -9,6 +9,8 @@ mod found;
 mod marks;
 mod openness;
 mod survey;
+#[cfg(test)]
+mod tests;
 mod verdict;
 
 pub use verdict::{NoMemory, Verdict, audit};
