@@ -8,3 +8,6 @@ pub mod Due
 pub mod Allowing
 pub mod Permitting
 pub mod Judging
+pub mod Flowing
+pub mod Logging
+pub mod Counting

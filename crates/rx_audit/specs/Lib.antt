@@ -5,3 +5,4 @@ pub mod Survey
 pub mod Known
 pub mod Allowing
 pub mod Verdict
+pub mod Flow

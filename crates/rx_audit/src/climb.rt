@@ -122,7 +122,7 @@ fn onward_from(
 }
 
 /// Where an item goes on from node `n`.
-fn onward(alloc: Global, past: &[Event], live: &[bool], n: u64) -> Result<Vec<u64>, AllocError>
+pub fn onward(alloc: Global, past: &[Event], live: &[bool], n: u64) -> Result<Vec<u64>, AllocError>
     requires { IsMarked live.now (is_open past.now) }
     ensures { IfOk result (λ v. v.items ≡ onward past.now n) }
 {

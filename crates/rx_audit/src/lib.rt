@@ -8,6 +8,7 @@ mod forced;
 mod found;
 mod marks;
 mod openness;
+mod reach;
 mod survey;
 #[cfg(test)]
 mod tests;
