@@ -1,5 +1,4 @@
 pub mod StaysOpen
-pub mod Climbing
 pub mod Keys
 pub mod Finding
 pub mod Surveying

@@ -1,9 +1,9 @@
 -- The tests that compute decide which events callers may add.
-use Rattle.std.proofs.Common.{◌≡◌, ℕ, ℤ, zero, suc, ◌+◌, ◌<◌, ◌≤◌, Bool, true, false, List, [], ◌∷◌, ◌++◌, length, Option, Some, None, refl, sym, ap, ◌∙◌, arith, ◌==◌, slice_get, inl, inr, ◌⊎◌, nat_lt, nat_le, IsTrue, filter}
+use Rattle.std.proofs.Common.{◌≡◌, ℕ, ℤ, zero, suc, ◌+◌, ◌<◌, ◌≤◌, Bool, true, false, List, [], ◌∷◌, ◌++◌, length, Option, Some, None, refl, sym, ap, ◌∙◌, arith, ◌==◌, slice_get, inl, inr, ◌⊎◌, nat_lt, nat_le, IsTrue, filter, is_some, MatchOption}
 use Rattle.std.proofs.Math.Bool.{not, ◌&&◌, ◌||◌}
 use Rattle.std.specs.List.{list_any, list_all}
 use Rattle.std.specs.Option.{option_map_or, option_and_then}
-use Rattle.std.proofs.lemmas.Bool.{cases_Bool, cases_lt, and_parts, both_ways, false≢true, ltb-true, lt-ltb, eqb-true, eq-eqb, leb-true, le-leb}
+use Rattle.std.proofs.lemmas.Bool.{cases_Bool, cases_lt, and_parts, both_ways, false≢true, ltb-true, lt-ltb, eqb-true, eq-eqb, leb-true, le-leb, lt-leb}
 use Rattle.rx_note.specs.declared.note.Terminal.{Terminal}
 use Rattle.rx_note.specs.declared.note.Terminal.TheVariants.{Completed, Error}
 use Rattle.rx_event.specs.declared.event.Place.{Place}
@@ -27,9 +27,10 @@ use Rattle.rx_audit.proofs.Due.{child_closed, no_child_open}
 
 -- items ------------------------------------------------------------------------------------------------
 
-pub item_test : (h : List Event) (l n : ℕ) → n ≡ length (climb h l) → (is_open h l && at is_leaf h l) ≡ true → nat_le n 1048576 ≡ item_allowed h l
-unfolding item_allowed visits
-item_test h l n e o = rw (o, e) refl
+pub item_test : {X : Type 0} (h : List Event) (l : ℕ) (o : Option X) (P : X → Type 0) → ((x : X) → P x → visits h l ≤ 1048576) → MatchOption o (1048576 < visits h l) P → (is_open h l && at is_leaf h l) ≡ true → is_some o ≡ item_allowed h l
+unfolding item_allowed
+item_test h l None P few m leaf = rw leaf (sym (lt-leb (visits h l) 1048576 m))
+item_test h l (Some x) P few m leaf = rw leaf (sym (le-leb (visits h l) 1048576 (few x m)))
 
 pub no_item : (h : List Event) (l : ℕ) → (is_open h l && at is_leaf h l) ≡ false → false ≡ item_allowed h l
 unfolding item_allowed

@@ -1,10 +1,10 @@
 //! Where an item goes.
 
-ghost use Rattle.std.specs.Prelude.{◌≡◌, ℕ, ◌+◌, ◌-◌, ◌<◌, ◌≤◌, ◌==◌, ◌&&◌, false, true, Some, None, [], ◌∷◌, ◌++◌, IfOk, length, filter, reverse, slice_index_or, is_some};
+ghost use Rattle.std.specs.Prelude.{◌≡◌, ℕ, ◌+◌, ◌-◌, ◌<◌, ◌≤◌, ◌==◌, ◌&&◌, false, true, Some, None, [], ◌∷◌, ◌++◌, IfOk, length, filter, slice_index_or, is_some};
 ghost use Rattle.std.specs.Option.{option_and_then, option_map_or, option_to_list};
 ghost use Rattle.rx_event.specs.Events.{is_subscriber_of};
 ghost use Rattle.rx_event.specs.Tree.{at, is_open, open_subscribers, parent};
-ghost use Rattle.rx_event.specs.Climb.{stop_at, onward_from, onward, climb};
+ghost use Rattle.rx_event.specs.Climb.{stop_at, onward_from, onward};
 ghost use Rattle.rx_audit.specs.Tables.{IsMarked};
 ghost use Rattle.rx_audit.specs.Rules.{fired_by, projected_by};
 
@@ -133,36 +133,4 @@ pub fn onward(alloc: Global, past: &[Event], live: &[bool], n: u64) -> Result<Ve
         Some(event) => onward_from(alloc, past, live, n, event),
         None => Ok(Vec::new(alloc)),
     }
-}
-
-/// The list from its end.
-fn reversed(mut list: Vec<u64>) -> Vec<u64>
-    ensures { result.items ≡ reverse list.items }
-{
-    list.as_mut_slice().reverse();
-    list
-}
-
-/// The nodes that an item of this leaf visits, in order, each as often as it is reached: at most
-/// one more than it may visit.
-pub fn climb(
-    alloc: Global,
-    past: &[Event],
-    live: &[bool],
-    leaf: u64,
-) -> Result<Vec<u64>, AllocError>
-    requires { IsMarked live.now (is_open past.now) }
-    ensures { IfOk result (λ v. v.items ≡ climb past.now leaf) }
-{
-    let mut seen = Vec::new(alloc);
-    let mut todo = vec![in alloc; leaf]?;
-    for _turn in 0..MOST_VISITS + 1 {
-        let Some(n) = todo.pop() else {
-            return Ok(seen);
-        };
-        seen.push(n)?;
-        let next = reversed(onward(alloc, past, live, n)?);
-        todo.extend_from_slice(next.as_slice())?;
-    }
-    Ok(seen)
 }

@@ -5,5 +5,5 @@ use Rattle.rx_audit.specs.Tables.{IsTold}
 use Rattle.rx_audit.specs.Rules.{fired_by, is_key}
 use Rattle.rx_audit.proofs.found.mark_fired.Given as goal
 
-abbrev pub invariant-loop-n : goal.invariant-loop-n
-invariant-loop-n l = IsTold l.initial.fired l.fired (λ n u. is_key (option_and_then fired_by (stop_at l.past n)) u) (take l.n-index l.nodes)
+abbrev pub invariant-loop-visit : goal.invariant-loop-visit
+invariant-loop-visit l = IsTold l.initial.fired l.fired (λ n u. is_key (option_and_then fired_by (stop_at l.past n)) u) (take l.visit-index l.log)
