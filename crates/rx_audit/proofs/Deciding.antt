@@ -288,7 +288,7 @@ same_connected (End m t) g = refl
 same_connected (Close m) g = refl
 same_connected (Take r) g = refl
 
-same_subscribed : (e : Event) (g : ℕ) → is_key (hub_subscribed e) g ≡ is_subscriber_of g e
+pub same_subscribed : (e : Event) (g : ℕ) → is_key (hub_subscribed e) g ≡ is_subscriber_of g e
 same_subscribed (Open place (Sub k)) g = refl
 same_subscribed (Open place Leaf) g = refl
 same_subscribed (Open place Pass) g = refl
@@ -407,7 +407,7 @@ and_false : (b : Bool) → (b && false) ≡ false
 and_false true = refl
 and_false false = refl
 
-guarded : (key : Event → Option ℕ) (test : ℕ → Event → Bool) (g : ℕ) → ((e : Event) → is_key (key e) g ≡ test g e) → (b : Bool) (o : Option Event) → is_key (cond b (option_and_then key o) None) g ≡ (option_map_or (test g) o false && b)
+pub guarded : (key : Event → Option ℕ) (test : ℕ → Event → Bool) (g : ℕ) → ((e : Event) → is_key (key e) g ≡ test g e) → (b : Bool) (o : Option Event) → is_key (cond b (option_and_then key o) None) g ≡ (option_map_or (test g) o false && b)
 guarded key test g same true None = refl
 guarded key test g same true (Some e) = same e ∙ sym (and_true (test g e))
 guarded key test g same false None = refl

@@ -10,3 +10,4 @@ pub mod Judging
 pub mod Flowing
 pub mod Logging
 pub mod Counting
+pub mod Chaining

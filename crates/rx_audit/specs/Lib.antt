@@ -6,3 +6,4 @@ pub mod Known
 pub mod Allowing
 pub mod Verdict
 pub mod Flow
+pub mod Chain

@@ -9,6 +9,7 @@ mod found;
 mod marks;
 mod openness;
 mod reach;
+mod subscribers;
 mod survey;
 #[cfg(test)]
 mod tests;
