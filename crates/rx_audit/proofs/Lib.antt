@@ -1,0 +1,13 @@
+pub mod StaysOpen
+pub mod Keys
+pub mod Finding
+pub mod Surveying
+pub mod Deciding
+pub mod Due
+pub mod Allowing
+pub mod Permitting
+pub mod Judging
+pub mod Flowing
+pub mod Logging
+pub mod Counting
+pub mod Chaining
