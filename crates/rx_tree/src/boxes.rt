@@ -6,7 +6,7 @@ ghost use Rattle.std.specs.Borrow.{sem};
 ghost use Rattle.std.specs.List.{position};
 
 use rx_disposable::{Back, Group};
-use std::alloc::Global;
+use std::alloc::{AllocFailed, Global};
 use std::marker::Model;
 
 /// A resource with its number.
@@ -28,11 +28,13 @@ pub(crate) struct Ticketed {
 /// The resources of one node, each under its number, in order of holding.
 ///
 /// They stand in a `Group`, under tickets that go by order; a list beside it has the ticket of each
-/// number, by which a number is found in time that grows with the resources that are held now.
+/// number, by which a number is found in time that grows with the resources that are held now. Each
+/// is in a box of its own, so that a record has one size whatever the resources are.
 #[derive(Drop)]
 pub struct Boxes<R: Drop> {
     tickets: Vec<Ticketed>,
-    group: Group<Held<R>>,
+    group: Group<Box<Held<R>>>,
+    alloc: Global,
 }
 
 impl<R: Drop> Model for Boxes<R> {
@@ -65,6 +67,7 @@ impl<R: Drop> Boxes<R> {
         Boxes {
             tickets: Vec::new(alloc),
             group: Group::new(alloc),
+            alloc,
         }
     }
 
@@ -103,12 +106,19 @@ impl<R: Drop> Boxes<R> {
         if self.tickets.reserve(1).is_err() {
             return Err(resource);
         }
-        match self.group.add(Held { number, resource }) {
+        let held = match Box::new(self.alloc, Held { number, resource }) {
+            Ok(held) => held,
+            Err(AllocFailed { value }) => return Err(value.resource),
+        };
+        match self.group.add(held) {
             Ok(ticket) => {
                 self.tickets.push_reserved(Ticketed { number, ticket });
                 Ok(())
             }
-            Err(Back { why: _, value }) => Err(value.resource),
+            Err(Back { why: _, value }) => {
+                let held = Box::into_inner(value);
+                Err(held.resource)
+            }
         }
     }
 
@@ -120,6 +130,7 @@ impl<R: Drop> Boxes<R> {
         let place = place_of(self.tickets.as_slice(), number)?;
         let ticket = self.tickets[place].ticket;
         let held = self.group.get_mut(ticket)?;
+        let held = &mut **held;
         Some(&mut held.resource)
     }
 
@@ -131,11 +142,8 @@ impl<R: Drop> Boxes<R> {
     {
         let place = place_of(self.tickets.as_slice(), number)?;
         let Ticketed { number: _, ticket } = self.tickets.remove(place);
-        let Held {
-            number: _,
-            resource,
-        } = self.group.remove(ticket)?;
-        Some(resource)
+        let held = Box::into_inner(self.group.remove(ticket)?);
+        Some(held.resource)
     }
 
     /// Takes out the resource that was held first; None where none is left.
@@ -149,6 +157,7 @@ impl<R: Drop> Boxes<R> {
             return None;
         }
         let Ticketed { number: _, ticket } = self.tickets.remove(0);
-        self.group.remove(ticket)
+        let held = Box::into_inner(self.group.remove(ticket)?);
+        Some(held)
     }
 }
