@@ -18,8 +18,9 @@ module _ {T : Type 0} where
   abbrev pub ticketed_of : ℕ × Box (Held T) → Ticketed
   ticketed_of member = record { number = member.1.value.number; ticket = member.0 }
 
-  -- the list has the number and ticket of each member, no number stands twice, and the group takes more
+  -- the list has the number and ticket of each member, no ticket and no number stands twice, and the group takes more
   pub record IsKept (tickets : List Ticketed) (group : Group (Box (Held T))) : Type 0 where
     pub listed : tickets ≡ map ticketed_of group.members
-    pub distinct : AreDistinct (items_of group.members)
+    pub tickets_differ : AreDistinct group.members
+    pub numbers_differ : AreDistinct (items_of group.members)
     pub usable : group.disposed ≡ false

@@ -1,9 +1,9 @@
 //! The resources of one node.
 
-ghost use Rattle.std.specs.Prelude.{◌≡◌, ◌↔◌, ◌+◌, ◌<◌, [], ◌∷◌, ◌++◌, length, IsTrue, IsSome, IfErr, IfSome, IfNone, OnOk, OnErr, None, option_map, ◌==◌};
+ghost use Rattle.std.specs.Prelude.{◌≡◌, ◌↔◌, ◌+◌, ◌<◌, [], ◌∷◌, ◌++◌, length, IsTrue, IsSome, IfErr, IfSome, IfNone, OnOk, OnErr, None, All, ◌≢◌};
 ghost use Rattle.std.specs.Option.{option_copied_mut};
 ghost use Rattle.std.specs.Borrow.{sem};
-ghost use Rattle.std.specs.List.{position};
+ghost use Rattle.std.specs.List.{HoldsAt};
 
 use rx_disposable::{Back, Group};
 use std::alloc::{AllocFailed, Global};
@@ -51,7 +51,9 @@ impl<R: Drop> Model for Boxes<R> {
 
 // The place of the first of these with this number.
 fn place_of(tickets: &[Ticketed], number: u64) -> Option<usize>
-    ensures { result ≡ position (λ t. t.number == number) tickets.now }
+    ensures found { IfSome result (λ place. place < length tickets.now) }
+    ensures has_number { IfSome result (HoldsAt (λ t. t.number ≡ number) tickets.now) }
+    ensures absent { IfNone result (All (λ t. t.number ≢ number) tickets.now) }
 {
     tickets.iter().position(|t| t.number == number)
 }
@@ -142,8 +144,8 @@ impl<R: Drop> Boxes<R> {
     {
         let place = place_of(self.tickets.as_slice(), number)?;
         let Ticketed { number: _, ticket } = self.tickets.remove(place);
-        let held = Box::into_inner(self.group.remove(ticket)?);
-        Some(held.resource)
+        let held = self.group.remove(ticket).unwrap();
+        Some(Box::into_inner(held).resource)
     }
 
     /// Takes out the resource that was held first; None where none is left.
@@ -157,7 +159,7 @@ impl<R: Drop> Boxes<R> {
             return None;
         }
         let Ticketed { number: _, ticket } = self.tickets.remove(0);
-        let held = Box::into_inner(self.group.remove(ticket)?);
-        Some(held)
+        let held = self.group.remove(ticket).unwrap();
+        Some(Box::into_inner(held))
     }
 }
