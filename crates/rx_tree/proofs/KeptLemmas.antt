@@ -1,5 +1,5 @@
 -- What the fields of a node's resources keep true, call by call.
-use Rattle.std.proofs.Common.{◌≡◌, ◌≢◌, ℕ, zero, suc, ◌+◌, ◌<◌, nat_eq, Bool, List, [], ◌∷◌, ◌++◌, length, map, get_or, Option, Some, None, is_some, IsSome, All, false, refl, sym, ap, subst, ◌∙◌, arith}
+use Rattle.std.proofs.Common.{◌≡◌, ◌≢◌, ℕ, zero, suc, ◌+◌, ◌<◌, nat_eq, Bool, List, [], ◌∷◌, ◌++◌, length, map, get_or, Option, Some, None, is_some, IsSome, IfSome, IfNone, inl, ◌⊎◌, All, false, refl, sym, ap, subst, ◌∙◌, arith}
 use Rattle.std.specs.List.{remove, HoldsAt}
 use Rattle.std.specs.Map.{lookup, remove_entry, set_value}
 use Rattle.std.specs.Global.{Box}
@@ -10,7 +10,7 @@ use Rattle.rx_tree.specs.declared.boxes.Ticketed.{Ticketed}
 use Rattle.rx_tree.specs.Boxes.{AreDistinct}
 use Rattle.rx_tree.specs.Kept.{items_of, ticketed_of, IsKept}
 use Rattle.rx_tree.proofs.Entries.{lookup_at, distinct-append, distinct-remove, distinct-set}
-use Rattle.rx_tree.proofs.Members.{member_at, item_absent, item_found, items-remove, tickets-remove, items-set, tickets-set}
+use Rattle.rx_tree.proofs.Members.{member_at, item_absent, item_found, items_first, entry_at, items-remove, tickets-remove, items-set, tickets-set}
 
 module _ {T : Type 0} (tickets : List Ticketed) (group : Group (Box (Held T))) (kept : IsKept tickets group) where
   pub kept_absent : (n : ℕ) → All (λ t. t.number ≢ n) tickets → lookup (nat_eq n) (items_of group.members) ≡ None
@@ -64,6 +64,13 @@ module _ {T : Type 0} (tickets : List Ticketed) (group : Group (Box (Held T))) (
         let same : member.0.1 ≡ b = let e = kept_member in cc in
         ap (λ (x : Box (Held T)). x.value.number) (sym same) ∙ number_is
 
+    -- the first resource goes
+    pub items_first_removed : (b : Box (Held T)) → value_at group t.ticket ≡ Some b → place ≡ 0 → items_of group.members ≡ (b.value.number, b.value.resource) ∷ items_of (without group t.ticket).members
+    items_first_removed b found first =
+        let same : member.0.1 ≡ b = let e = kept_member in cc in
+        let start = items_first group.members member.0 (subst (λ k. k < length group.members) first inside) (subst (λ k. member.0 ≡ get_or group.members k member.0) first member.1) in
+        subst (λ k. items_of group.members ≡ (b.value.number, b.value.resource) ∷ items_of (remove_entry (nat_eq k) group.members)) ticket_is (subst (λ (x : Box (Held T)). items_of group.members ≡ (x.value.number, x.value.resource) ∷ items_of (remove_entry (nat_eq member.0.0) group.members)) same start)
+
     -- the member goes
     pub items_removed : items_of (without group t.ticket).members ≡ remove_entry (nat_eq n) (items_of group.members)
     items_removed =
@@ -95,3 +102,14 @@ module _ {T : Type 0} (tickets : List Ticketed) (group : Group (Box (Held T))) (
             numbers_differ = rw items_set (distinct-set n b.value.resource (items_of group.members) kept.numbers_differ);
             usable = kept.usable;
           }
+
+  -- what the search for a number found tells whether a resource is held under it
+  pub kept_found : (n : ℕ) (o : Option ℕ) → IfSome o (λ place. place < length tickets) → IfSome o (HoldsAt (λ t. t.number ≡ n) tickets) → IfNone o (All (λ t. t.number ≢ n) tickets) → is_some o ≡ is_some (lookup (nat_eq n) (items_of group.members))
+  kept_found n None within has absent = ap is_some (sym (kept_absent n absent))
+  kept_found n (Some place) within has absent =
+      let t = entry_at tickets place within in
+      ap is_some (sym (kept_value n place t.0 within has t.1 (member n place t.0 within has t.1).0.1 (kept_member n place t.0 within has t.1)))
+
+-- a `&mut` leaves what two functions that agree everywhere say alike
+pub same_loan : {G W S : Type 0} (name : G) (f g : W → S) → ((w : W) → f w ≡ g w) → ◌≡◌ {A = (G × (W → S)) ⊎ S} (inl (name, f)) (inl (name, g))
+same_loan name f g same = λ i. inl (name, λ w. same w i)
