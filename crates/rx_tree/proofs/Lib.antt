@@ -1,3 +1,4 @@
 pub mod Entries
 pub mod Members
 pub mod KeptLemmas
+pub mod Sound
