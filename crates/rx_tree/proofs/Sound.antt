@@ -1,11 +1,14 @@
 -- What keeps a tree sound.
-use Rattle.std.proofs.Common.{◌≡◌, ◌≢◌, ℕ, ◌<◌, Bool, true, false, Option, Some, None, is_some, IsSome, IfSome, option_map, refl, sym, ap, subst, ◌∙◌, inl, inr, ◌⊎◌, arith, true≢false}
+use Rattle.std.proofs.Common.{◌≡◌, ◌≢◌, ℕ, ◌<◌, Bool, true, false, Option, Some, None, is_some, IsSome, IfSome, IfOk, OnErr, Result, Ok, Err, option_map, refl, sym, ap, subst, ◌∙◌, inl, inr, ◌⊎◌, arith, true≢false}
 use Rattle.std.proofs.lemmas.Bool.{cases_eq}
 use Rattle.rx_event.specs.declared.event.Event.{Event}
 use Rattle.rx_slots.specs.declared.Key.{Key}
-use Rattle.rx_slots.specs.Slots.{Slots, find, KeepsOthers}
+use Rattle.rx_slots.specs.Slots.{Slots, entry_at, key_at, with_number, find, KeepsOthers}
 use Rattle.rx_tree.specs.declared.node.Node.{Node}
-use Rattle.rx_tree.specs.Tree.{Tree, Rewrites, IsUnused, IsPlaced, IsSound}
+use Rattle.rx_event.specs.Tree.{if_less}
+use Rattle.rx_tree.specs.Tree.{Tree, IsUnused, IsPlaced, IsSound, IsChild, named_above, parent_number}
+use Rattle.std.specs.Option.{option_and_then}
+use Rattle.std.proofs.lemmas.Bool.Decides.{nat_tests}
 
 pub same_key : (a b : Key) → a.slot ≡ b.slot → a.number ≡ b.number → a ≡ b
 same_key a b slot number = λ i. record { slot = slot i; number = number i }
@@ -51,41 +54,29 @@ module _ {T : Type 0} where
         placed = λ key node found. IsPlaced-kept s t key.number node.made node.above (λ other there. ap is_some (same other) ∙ there) (sound.placed key node (sym (same key) ∙ found));
       }
 
-  module _ (s t : Tree T) (key : Key) (change : Node T → Node T) (written : Rewrites s t key change) where
-    -- the same keys find a record
-    pub Rewrites-found : (k : Key) → is_some (find t k) ≡ is_some (find s k)
-    Rewrites-found k =
+  -- another record of the same event at a key keeps the tree sound
+  module _ (s t : Tree T) (key : Key) (before after : Node T) (was : find s key ≡ Some before) (now : find t key ≡ Some after) (kept : KeepsOthers s t key) (made : after.made ≡ before.made) (above : after.above ≡ before.above) where
+    same_found : (k : Key) → is_some (find t k) ≡ is_some (find s k)
+    same_found k =
         elim (cases_key k key) [
-          | inl same ↦ rw same (ap is_some written.changed ∙ mapped (find s key))
-          | inr other ↦ ap is_some (written.others k other)
-        ] where
-      mapped : (o : Option (Node T)) → is_some (option_map change o) ≡ is_some o
-      mapped None = refl
-      mapped (Some node) = refl
+          | inl same ↦ ap is_some (ap (find t) same ∙ now) ∙ ap is_some (sym was ∙ ap (find s) (sym same))
+          | inr other ↦ ap is_some (kept k other)
+        ]
 
-    -- and each record was one
-    pub Rewrites-was : ((node : Node T) → (change node).made ≡ node.made) → ((node : Node T) → (change node).above ≡ node.above) → (k : Key) (node : Node T) → find t k ≡ Some node → (before : Node T) × (find s k ≡ Some before) × (node.made ≡ before.made) × (node.above ≡ before.above)
-    Rewrites-was made above k node found =
-        elim (cases_key k key) [
-          | inl same ↦ mapped (find s key) (ap (find s) same) (sym written.changed ∙ ap (find t) (sym same) ∙ found)
-          | inr other ↦ (node, sym (written.others k other) ∙ found, refl, refl)
-        ] where
-      mapped : (o : Option (Node T)) → find s k ≡ o → option_map change o ≡ Some node → (before : Node T) × (find s k ≡ Some before) × (node.made ≡ before.made) × (node.above ≡ before.above)
-      mapped None was now = absurd (true≢false (ap is_some (sym now)))
-      mapped (Some before) was now =
-          let same : node ≡ change before = cc in
-          (before, was, ap (λ n. n.made) same ∙ made before, ap (λ n. n.above) same ∙ above before)
-
-    pub IsSound-rewritten : ((node : Node T) → (change node).made ≡ node.made) → ((node : Node T) → (change node).above ≡ node.above) → IsSound s → IsSound t
-    IsSound-rewritten made above sound =
+    pub IsSound-at : IsSound s → IsSound t
+    IsSound-at sound =
         record {
-          apart = λ a b found_a found_b numbers. sound.apart a b (sym (Rewrites-found a) ∙ found_a) (sym (Rewrites-found b) ∙ found_b) numbers;
-          placed = λ k node found. stays k node (Rewrites-was made above k node found);
+          apart = λ a b found_a found_b numbers. sound.apart a b (sym (same_found a) ∙ found_a) (sym (same_found b) ∙ found_b) numbers;
+          placed = λ k node found. stays k node found (cases_key k key);
         } where
-      stays : (k : Key) (node : Node T) → (before : Node T) × (find s k ≡ Some before) × (node.made ≡ before.made) × (node.above ≡ before.above) → IsPlaced t k.number node.made node.above
-      stays k node was =
-          let placed = IsPlaced-kept s t k.number was.0.made was.0.above (λ other there. Rewrites-found other ∙ there) (sound.placed k was.0 was.1) in
-          subst (λ m. IsPlaced t k.number m node.above) (sym was.2) (subst (λ a. IsPlaced t k.number was.0.made a) (sym was.3) placed)
+      more : (k : Key) → IsSome (find s k) → IsSome (find t k)
+      more k found = same_found k ∙ found
+      stays : (k : Key) (n : Node T) → find t k ≡ Some n → (k ≡ key) ⊎ (k ≢ key) → IsPlaced t k.number n.made n.above
+      stays k n found (inl at) =
+          let same : n ≡ after = let e : find t key ≡ Some n = ap (find t) (sym at) ∙ found in cc in
+          let placed : IsPlaced t k.number before.made before.above = IsPlaced-kept s t k.number before.made before.above more (sound.placed k before (ap (find s) at ∙ was)) in
+          subst (λ (m : Node T). IsPlaced t k.number m.made m.above) (sym same) (subst (λ a. IsPlaced t k.number after.made a) (sym above) (subst (λ m. IsPlaced t k.number m before.above) (sym made) placed))
+      stays k n found (inr at) = IsPlaced-kept s t k.number n.made n.above more (sound.placed k n (sym (kept k at) ∙ found))
 
   module _ (s t : Tree T) (key : Key) (node : Node T) (free : find s key ≡ None) (opened : find t key ≡ Some node) (kept : KeepsOthers s t key) where
     -- what was found still is
@@ -120,3 +111,34 @@ module _ {T : Type 0} where
           let same : n ≡ node = let e : find t key ≡ Some n = ap (find t) (sym at) ∙ found in cc in
           subst (λ (m : Node T). IsPlaced t k.number m.made m.above) (sym same) (subst (λ (j : Key). IsPlaced t j.number node.made node.above) (sym at) (IsPlaced-kept s t key.number node.made node.above more placed))
       stays k n found (inr at) = IsPlaced-kept s t k.number n.made n.above more (sound.placed k n (sym (kept k at) ∙ found))
+
+  -- what an insert leaves
+  pub IsSound-inserted : (s t : Tree T) (r : Result Key (Node T)) (number : ℕ) (node : Node T) → IfOk r (λ key. key.number ≡ number) → IfOk r (λ key. entry_at s key.slot ≡ None) → IfOk r (λ key. find t key ≡ Some node) → IfOk r (λ key. KeepsOthers s t key) → OnErr r (t ≡ record s { room = t.room }) → IsUnused s number → IsPlaced s number node.made node.above → IsSound s → IsSound t
+  IsSound-inserted s t (Ok key) number node numbered free found kept refused unused placed sound =
+      IsSound-opened s t key node (ap (with_number key.number) free) found kept (subst (λ n. IsUnused s n) (sym numbered) unused) (subst (λ n. IsPlaced s n node.made node.above) (sym numbered) placed) sound
+  IsSound-inserted s t (Err back) number node numbered free found kept refused unused placed sound =
+      IsSound-same s t (λ key. ap (λ (x : Tree T). find x key) refused) sound
+
+  -- the number of the parent's key is that which the place names
+  pub named_parent : (s : Tree T) (key : Key) (node : Node T) → find s key ≡ Some node → IsSound s → option_map (λ p. p.number) node.above ≡ parent_number s key
+  named_parent s key node found sound =
+      let placed = sound.placed key node found in
+      sym (ap (option_and_then (named_above key.number)) found ∙ ap (option_and_then (if_less key.number)) placed.named ∙ less node.above placed.lower) where
+    less : (above : Option Key) → IfSome above (λ p. p.number < key.number) → option_and_then (if_less key.number) (option_map (λ p. p.number) above) ≡ option_map (λ p. p.number) above
+    less None lower = refl
+    less (Some p) lower = grind (arith, nat_tests, lower)
+
+  -- a key that stands below one finds a record
+  pub child_found : (s : Tree T) (key : Key) (n : ℕ) → parent_number s key ≡ Some n → IsSome (find s key)
+  child_found s key n named = of (find s key) named where
+    of : (o : Option (Node T)) → option_and_then (named_above key.number) o ≡ Some n → IsSome o
+    of None e = absurd (true≢false (ap is_some (sym e)))
+    of (Some node) e = refl
+
+  -- the key of a parent is the only one of its number
+  pub parent_key : (s : Tree T) (parent child : Key) (o : Option Key) → IsSound s → IsChild s parent child → option_map (λ p. p.number) o ≡ parent_number s child → IfSome o (λ p. IsSome (find s p)) → o ≡ Some parent
+  parent_key s parent child None sound is numbers found = absurd (let e = is.named in true≢false (ap is_some (sym (numbers ∙ e))))
+  parent_key s parent child (Some p) sound is numbers found =
+      let e : Some p.number ≡ Some parent.number = numbers ∙ is.named in
+      let same : p.number ≡ parent.number = cc in
+      ap (λ k. Some k) (sound.apart p parent found is.there same)
