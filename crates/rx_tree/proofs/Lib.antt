@@ -4,3 +4,5 @@ pub mod KeptLemmas
 pub mod Sound
 pub mod Written
 pub mod Nodes
+pub mod Below
+pub mod CutLemmas

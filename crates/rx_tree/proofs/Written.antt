@@ -8,7 +8,7 @@ use Rattle.rx_slots.specs.Slots.{Slots, entry_of, entry_at, number_at, value_at,
 use Rattle.rx_tree.proofs.Sound.{same_key, cases_key}
 
 module _ {X : Type 0} where
-  same_entry : (a b : Entry X) → a.number ≡ b.number → a.value ≡ b.value → a ≡ b
+  pub same_entry : (a b : Entry X) → a.number ≡ b.number → a.value ≡ b.value → a ≡ b
   same_entry a b number value = λ i. record { number = number i; value = value i }
 
   -- the number of an entry finds its value, and no other does

@@ -2,7 +2,7 @@
 
 ghost use Rattle.std.specs.Prelude.{◌≡◌, ℕ, ◌+◌, ◌<◌, ◌≤◌, ◌∷◌, [], ◌++◌, IsSome, IsTrue, Some, None, vec_len, vec_capacity, true, false};
 ghost use Rattle.rx_slots.specs.declared.Key.{Key};
-ghost use Rattle.rx_slots.specs.Slots.{find, Changes};
+ghost use Rattle.rx_slots.specs.Slots.{find, slot_count, Changes};
 
 use crate::node::{Closed, Node};
 use rx_slots::{Key, Slots};
@@ -12,9 +12,11 @@ ghost use Rattle.rx_tree.specs.Cuts.{orphan_at, Cuts};
 // Moves one record out.
 pub(crate) fn move_out<R: Drop>(nodes: &mut Slots<Node<R>>, key: Key, closed: &mut Vec<Closed<R>>)
     requires open { IsSome (find nodes.old key) }
-    requires room { vec_len closed.old < vec_capacity closed.old }
+    requires room { vec_len closed.old + nodes.old.count ≤ vec_capacity closed.old }
     ensures found { (node : Node R) → find nodes.old key ≡ Some node → closed.new.items ≡ closed.old.items ++ record { key = key; node = node } ∷ [] }
+    ensures len { vec_len closed.new ≡ vec_len closed.old + 1 }
     ensures gone { Changes nodes.old nodes.new key.slot None }
+    ensures slots { slot_count nodes.new ≡ slot_count nodes.old }
     ensures count { nodes.new.count + 1 ≡ nodes.old.count }
     ensures room { nodes.new.room ≡ nodes.old.room + 1 }
     ensures capacity { vec_capacity closed.new ≡ vec_capacity closed.old }
