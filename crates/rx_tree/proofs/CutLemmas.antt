@@ -156,7 +156,7 @@ module _ {T : Type 0} where
         let m : Closed T = record { key = key; node = node } in
         (earlier.0 ++ m ∷ [], ap (λ (xs : List (Closed T)). xs ++ m ∷ []) earlier.1 ∙ append_assoc before earlier.0 (m ∷ []), IsPart-step left rest earlier.0 key node earlier.2 found orphan changes)
 
-    module _ (s : Tree T) (moved : List (Closed T)) (part : IsPart whole top s moved) (none : (slot : ℕ) → orphan_at s slot ≡ None) where
+    module _ (there : IsSome (find whole top)) (s : Tree T) (moved : List (Closed T)) (part : IsPart whole top s moved) (none : (slot : ℕ) → orphan_at s slot ≡ None) where
       -- what is left stands neither at the top nor below it
       left_within : (limit : ℕ) (key : Key) (node : Node T) → key.number < limit → find s key ≡ Some node → is_below whole top.number key.number ≡ false
       left_within zero key node below found = absurd (omega arith)
@@ -164,10 +164,66 @@ module _ {T : Type 0} where
           let was : find whole key ≡ Some node = sym (part.left key (ap is_some found)) ∙ found in
           let placed = sound.placed key node was in
           not_below whole sound top.number key node was (λ same. none_not_some (find s key) (ap (find s) (sym (is_top was same)) ∙ part.top_gone) (ap is_some found)) (λ p above.
-            let there = some_of (find s p) (above_found s node p (no_orphan s none key node found) above) in
+            let parent = some_of (find s p) (above_found s node p (no_orphan s none key node found) above) in
             let less : p.number < key.number = lower node.above p above placed.lower in
-            left_within limit p there.0 (omega arith) there.1) where
+            left_within limit p parent.0 (omega arith) parent.1) where
         is_top : find whole key ≡ Some node → top.number ≡ key.number → top ≡ key
-        is_top was same = ?
+        is_top was same = sound.apart top key there (ap is_some was) same
         lower : (o : Option Key) (p : Key) → o ≡ Some p → IfSome o (λ k. k.number < key.number) → p.number < key.number
         lower o p e some = subst (λ x. IfSome x (λ k. k.number < key.number)) e some
+
+      pub left_not_below : (key : Key) (node : Node T) → find s key ≡ Some node → is_below whole top.number key.number ≡ false
+      left_not_below key node found = left_within (suc key.number) key node (omega arith) found
+
+      -- what each key finds afterwards
+      pub kept_by_cuts : (other : Key) → find s other ≡ cond (is_below whole top.number other.number) None (find whole other)
+      kept_by_cuts other = of (find s other) refl where
+        both : (b : Bool) (o : Option (Node T)) → o ≡ None → None ≡ cond b None o
+        both true o e = refl
+        both false o e = sym e
+        missing : (o : Option (Node T)) → find whole other ≡ o → find s other ≡ None → None ≡ cond (is_below whole top.number other.number) None (find whole other)
+        missing None was gone = both (is_below whole top.number other.number) (find whole other) was
+        missing (Some n) was gone =
+            let inside = (part.out (record { key = other; node = n }) (part.gone other n was gone)).0 in
+            ap (λ b. cond b None (find whole other)) (sym inside.below)
+        of : (o : Option (Node T)) → find s other ≡ o → find s other ≡ cond (is_below whole top.number other.number) None (find whole other)
+        of None now = now ∙ missing (find whole other) refl now
+        of (Some n) now =
+            part.left other (ap is_some now) ∙ ap (λ b. cond b None (find whole other)) (sym (left_not_below other n now))
+
+      -- the list has the whole subtree, each record once
+      pub subtree_moved : IsSubtree whole top.number moved
+      subtree_moved =
+          record {
+            exactly = λ m. (λ has. (part.out m has).0, λ inside. found m inside (find s m.key) refl);
+            once = part.once;
+          } where
+        found : (m : Closed T) → IsInside whole top.number m → (o : Option (Node T)) → find s m.key ≡ o → Contains moved m
+        found m inside None gone = part.gone m.key m.node inside.found gone
+        found m inside (Some n) now = absurd (true≢false (sym inside.below ∙ left_not_below m.key n now))
+
+      -- what is left is a tree
+      pub sound_left : IsSound s
+      sound_left =
+          record {
+            apart = λ a b found_a found_b numbers. sound.apart a b (ap is_some (sym (part.left a found_a)) ∙ found_a) (ap is_some (sym (part.left b found_b)) ∙ found_b) numbers;
+            placed = λ key node found. stays key node found (sound.placed key node (sym (part.left key (ap is_some found)) ∙ found));
+          } where
+        stands : (key : Key) (node : Node T) → find s key ≡ Some node → (o : Option Key) → node.above ≡ o → IfSome o (λ p. IsSome (find s p))
+        stands key node found None e = tt
+        stands key node found (Some p) e = above_found s node p (no_orphan s none key node found) e
+        stays : (key : Key) (node : Node T) → find s key ≡ Some node → IsPlaced whole key.number node.made node.above → IsPlaced s key.number node.made node.above
+        stays key node found placed =
+            record {
+              makes = placed.makes;
+              named = placed.named;
+              lower = placed.lower;
+              there = stands key node found node.above refl;
+            }
+
+-- one run of cuts after another
+module _ {T : Type 0} (a : Tree T) (xs : List (Closed T)) (b : Tree T) (ys : List (Closed T)) where
+  pub Cuts-join : (c : Tree T) (zs : List (Closed T)) → Cuts a xs b ys → Cuts b ys c zs → Cuts a xs c zs
+  Cuts-join c zs first uncut = first
+  Cuts-join c zs first (cut left rest out key node cuts found orphan changes) =
+      cut left rest out key node (Cuts-join left out first cuts) found orphan changes
