@@ -1,9 +1,10 @@
 -- What is left of a tree, and what was moved out, while a subtree is cut away.
-use Rattle.std.proofs.Common.{◌≡◌, ◌≢◌, ℕ, zero, suc, ◌+◌, ◌<◌, ◌≤◌, cond, Bool, true, false, List, [], ◌∷◌, ◌++◌, length, get_or, Option, Some, None, is_some, IsSome, IfSome, IsTrue, Contains, option_map, refl, sym, ap, subst, ◌∙◌, inl, inr, ◌⊎◌, arith, true≢false}
+use Rattle.std.proofs.Common.{◌≡◌, ◌≢◌, ℕ, zero, suc, ◌+◌, ◌<◌, ◌≤◌, cond, Bool, true, false, List, [], ◌∷◌, ◌++◌, length, get_or, Option, Some, None, is_some, IsSome, IfSome, IsTrue, Contains, take, drop, option_map, refl, sym, ap, subst, ◌∙◌, inl, inr, ◌⊎◌, arith, true≢false}
 use Rattle.std.specs.List.{AllPairs}
 use Rattle.std.proofs.Math.Bool.{not}
 use Rattle.std.specs.Option.{option_and_then, option_map_or}
 use Rattle.std.proofs.lemmas.Bool.{cases_eq}
+use Rattle.std.proofs.Math.Seq.{take-append_seam, drop-append_seam}
 use Rattle.std.proofs.lemmas.List.{append_assoc}
 use Rattle.std.proofs.lemmas.List.Elements.{Contains-append_left, Contains-push, Contains-push_cases, Contains-get_or}
 use Rattle.std.proofs.lemmas.List.Quantifiers.{all_pairs_push}
@@ -227,3 +228,16 @@ module _ {T : Type 0} (a : Tree T) (xs : List (Closed T)) (b : Tree T) (ys : Lis
   Cuts-join c zs first uncut = first
   Cuts-join c zs first (cut left rest out key node cuts found orphan changes) =
       cut left rest out key node (Cuts-join left out first cuts) found orphan changes
+
+-- a closing, from the top's record on until no orphan is left
+module _ {T : Type 0} (whole : Tree T) (sound : IsSound whole) (top : Key) (there : IsSome (find whole top)) (first : Tree T) (before begun : List (Closed T)) (begins : (node : Node T) → find whole top ≡ Some node → begun ≡ before ++ record { key = top; node = node } ∷ []) (changes : Changes whole first top.slot None) (s : Tree T) (all : List (Closed T)) (cuts : Cuts first begun s all) where
+  pub closing : (moved : List (Closed T)) × (all ≡ before ++ moved) × IsPart whole top s moved
+  closing =
+      let node = some_of (find whole top) there in
+      IsPart-cuts whole sound top first begun before (record { key = top; node = node.0 } ∷ []) s all (IsPart-start whole sound top first node.0 node.1 changes) (begins node.0 node.1) cuts
+
+  pub closing_before : take (length before) all ≡ before
+  closing_before = ap (take (length before)) closing.1 ∙ take-append_seam before closing.0
+
+  pub closing_moved : drop (length before) all ≡ closing.0
+  closing_moved = ap (drop (length before)) closing.1 ∙ drop-append_seam before closing.0

@@ -1,6 +1,6 @@
 //! The tree.
 
-ghost use Rattle.std.specs.Prelude.{◌≡◌, ℕ, ◌+◌, ◌<◌, ◌≤◌, ◌↔◌, [], ◌++◌, IsOk, IsSome, IsTrue, IfOk, IfErr, IfSome, IfNone, OnOk, OnErr, OnSome, Some, None, option_map, vec_len, vec_capacity, take, drop, cond, is_some, count_by};
+ghost use Rattle.std.specs.Prelude.{◌≡◌, ℕ, ◌+◌, ◌<◌, ◌≤◌, ◌↔◌, [], ◌++◌, IsOk, IsSome, IsTrue, IfOk, IfErr, IfSome, IfNone, OnOk, OnErr, OnSome, Some, None, option_map, vec_len, vec_capacity, take, drop, length, cond, is_some, count_by};
 ghost use Rattle.std.specs.Option.{option_and_then, option_copied_mut};
 ghost use Rattle.std.specs.Borrow.{sem};
 ghost use Rattle.rx_slots.specs.declared.Key.{Key};
@@ -253,8 +253,8 @@ impl<R: Resource> Tree<R> {
         requires room { vec_len closed.old + self.old.count ≤ vec_capacity closed.old }
 
         // The list begins as it did, and goes on with the subtree.
-        ensures before { take (vec_len closed.old) closed.new.items ≡ closed.old.items }
-        ensures moved { IsSubtree self.old key.number (drop (vec_len closed.old) closed.new.items) }
+        ensures before { take (length closed.old.items) closed.new.items ≡ closed.old.items }
+        ensures moved { IsSubtree self.old key.number (drop (length closed.old.items) closed.new.items) }
         ensures kept { (other : Key) → find self.new other ≡ cond (is_below self.old key.number other.number) None (find self.old other) }
         ensures count { vec_len closed.new + self.new.count ≡ vec_len closed.old + self.old.count }
         ensures room { self.new.room + self.new.count ≡ self.old.room + self.old.count }
