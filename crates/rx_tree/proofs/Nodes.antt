@@ -47,7 +47,7 @@ module _ {T : Type 0} (s : Tree T) where
       with_value_at-key s slot key.0 before before key.1 key.3 ∙ with_value-same s key.0 before key.3
 
   pub without_absent : (number : ℕ) (boxes : Boxes T) → box_of number boxes ≡ None → without_box number boxes ≡ boxes
-  without_absent number boxes none = let e = remove_absent number boxes.items none in λ i. record boxes { items = e i }
+  without_absent number boxes none = remove_absent number boxes none
 
   -- what a resource's removal leaves, where it was held and where it was not
   pub unheld : (slot number : ℕ) (before : Node T) (left : Boxes T) (o : Option T) → value_at s slot ≡ Some before → left ≡ without_box number before.boxes → OnSome o (IfSome (key_at s slot) (λ key. Rewrites s (with_value_at s slot (record before { boxes = left })) key (on_boxes (without_box number))))

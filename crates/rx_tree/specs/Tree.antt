@@ -25,7 +25,7 @@ module _ {T : Type 0} where
         made = made;
         above = above;
         marks = blank_marks;
-        boxes = record { items = []; given = 0 };
+        boxes = [];
       }
 
   -- the number of the node that this one's place names. It is followed only where it is less

@@ -38,13 +38,13 @@ pub struct Boxes<R: Drop> {
 }
 
 impl<R: Drop> Model for Boxes<R> {
-    ghost use Rattle.rx_tree.specs.Boxes.{Boxes as Items};
+    ghost use Rattle.std.specs.Prelude.{ℕ, List};
 
-    ghost Value = { Items R };
+    ghost Value = { List (ℕ × R) };
 
     ghost use Rattle.rx_tree.specs.Kept.{items_of, IsKept};
 
-    ghost view = { λ b. record { items = items_of b.group.members; given = b.group.given } };
+    ghost view = { λ b. items_of b.group.members };
 
     ghost invariant = { λ b. IsKept b.tickets.items b.group };
 }
@@ -63,8 +63,8 @@ impl<R: Drop> Boxes<R> {
     ghost use Rattle.rx_tree.specs.Lends.{LendsBox};
 
     /// No resources. It takes no memory until the first is added.
-    pub fn new(alloc: Global) -> Self
-        ensures { result ≡ record { items = []; given = 0 } }
+    pub(crate) fn new(alloc: Global) -> Self
+        ensures { result ≡ [] }
     {
         Boxes {
             tickets: Vec::new(alloc),
@@ -75,15 +75,15 @@ impl<R: Drop> Boxes<R> {
 
     /// How many resources are held.
     pub fn len(&self) -> usize
-        ensures value { result ≡ length self.now.items }
-        ensures distinct { AreDistinct self.now.items }
+        ensures value { result ≡ length self.now }
+        ensures distinct { AreDistinct self.now }
     {
         self.group.len()
     }
 
     /// Whether no resource is held.
     pub fn is_empty(&self) -> bool
-        ensures { IsTrue result ↔ (self.now.items ≡ []) }
+        ensures { IsTrue result ↔ (self.now ≡ []) }
     {
         self.group.is_empty()
     }
@@ -97,10 +97,10 @@ impl<R: Drop> Boxes<R> {
 
     /// Holds a resource under a number that none has, last among those that are held.
     ///
-    /// Refused only where memory was refused: the resource then comes back, and nothing changes.
-    pub fn add(&mut self, number: u64, resource: R) -> Result<(), R>
+    /// Refused where memory was refused, and after 4,294,967,295 resources: the resource then comes
+    /// back, and nothing changes.
+    pub(crate) fn add(&mut self, number: u64, resource: R) -> Result<(), R>
         requires unused { box_of number self.old ≡ None }
-        requires countable { self.old.given < 4294967295 }
         ensures added { OnOk result (self.new ≡ with_box number resource self.old) }
         ensures given_back { IfErr result (λ back. back ≡ resource) }
         ensures err { OnErr result (self.new ≡ self.old) }
@@ -125,7 +125,7 @@ impl<R: Drop> Boxes<R> {
     }
 
     /// The resource of a number for writing; None where none is held under it.
-    pub fn get_mut(&mut self, number: u64) -> Option<&mut R>
+    pub(crate) fn get_mut(&mut self, number: u64) -> Option<&mut R>
         ensures* writes_back { sem 𝓛 (LendsBox R.row self.entry number result) }
         ensures value { option_copied_mut result ≡ box_of number self.old }
     {
@@ -137,7 +137,7 @@ impl<R: Drop> Boxes<R> {
     }
 
     /// Takes the resource of a number out; None, and nothing changed, where none is held under it.
-    pub fn remove(&mut self, number: u64) -> Option<R>
+    pub(crate) fn remove(&mut self, number: u64) -> Option<R>
         ensures value { result ≡ box_of number self.old }
         ensures rest { self.new ≡ without_box number self.old }
         ensures gone { box_of number self.new ≡ None }
@@ -150,9 +150,8 @@ impl<R: Drop> Boxes<R> {
 
     /// Takes out the resource that was held first; None where none is left.
     pub fn take_first(&mut self) -> Option<Held<R>>
-        ensures first { IfSome result (λ held. self.old.items ≡ (held.number, held.resource) ∷ self.new.items) }
-        ensures given { self.new.given ≡ self.old.given }
-        ensures none { IfNone result (self.old.items ≡ []) }
+        ensures first { IfSome result (λ held. self.old ≡ (held.number, held.resource) ∷ self.new) }
+        ensures none { IfNone result (self.old ≡ []) }
         ensures empty { IfNone result (self.new ≡ self.old) }
     {
         if self.tickets.is_empty() {

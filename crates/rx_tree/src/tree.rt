@@ -202,11 +202,11 @@ impl<R: Resource> Tree<R> {
 
     /// Adds a resource to a node, last among those that are held there, and gives its key.
     ///
-    /// Refused only where memory was refused: the resource then comes back, and nothing changes.
+    /// Refused where memory was refused: the resource then comes back, and nothing changes. So it is
+    /// after 4,294,967,295 resources at one node, more than a history has acceptances.
     pub fn hold(&mut self, key: Key, number: u64, resource: R) -> Result<ResKey, R>
         requires open { IsSome (find self.old key) }
         requires unused { resource_at self.old (record { slot = key.slot; number = number }) ≡ None }
-        requires countable { IfSome (find self.old key) (λ node. node.boxes.given < 4294967295) }
 
         ensures ok { IfOk result (λ res. res ≡ record { slot = key.slot; number = number }) }
         ensures held { OnOk result (Rewrites self.old self.new key (on_boxes (with_box number resource))) }

@@ -29,6 +29,6 @@ returns g c =
     let number = ap (λ x. x.number) c.deref_mut-held.ensures.value ∙ kept_number _ _ c.self.invariant c.args.number c.in_ok-place.place c.index.result.now within has c.index.ensures held found in
     let written = λ (w : g.row.R.Denot). items_set _ _ c.self.invariant c.args.number c.in_ok-place.place c.index.result.now within has c.index.ensures (boxed.with_value held (record { number = c.deref_mut-held.result.now.number; resource = w })) number in
     rw (← c.self.view_is) (
-      same_loan _ _ _ (λ w i. record { items = written w i; given = c.self.inside.group.given }),
+      same_loan _ _ _ (λ w. written w),
       record { writes_back = tt; value = ap (λ x. Some x.resource) c.deref_mut-held.ensures.value ∙ sym (kept_value _ _ c.self.invariant c.args.number c.in_ok-place.place c.index.result.now within has c.index.ensures held found) },
     )
