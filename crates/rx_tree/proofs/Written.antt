@@ -90,3 +90,12 @@ module _ {X : Type 0} where
   with_value-same s key x found =
       let kept : set s.entries key.slot (Some (entry_of key.number x)) ≡ s.entries = ap (λ o. set s.entries key.slot o) (sym (entry_found s key x found)) ∙ set-get_or s.entries key.slot None in
       λ i. record s { entries = kept i }
+
+  -- a number at a slot is found there
+  pub number_found : (s : Slots X) (slot number : ℕ) → number_at s slot ≡ Some number → IsSome (find s (record { slot = slot; number = number }))
+  number_found s slot number at = of (entry_at s slot) refl at where
+    of : (o : Option (Entry X)) → entry_at s slot ≡ o → option_map (λ e. e.number) o ≡ Some number → IsSome (find s (record { slot = slot; number = number }))
+    of None read at = absurd (true≢false (ap is_some (sym at)))
+    of (Some e) read at =
+        let same : e.number ≡ number = cc in
+        ap is_some (ap (with_number number) read ∙ with_number-same number e same)

@@ -5,17 +5,28 @@ ghost use Rattle.std.specs.Option.{option_and_then, option_copied_mut};
 ghost use Rattle.std.specs.Borrow.{sem};
 ghost use Rattle.rx_slots.specs.declared.Key.{Key};
 ghost use Rattle.rx_slots.specs.Slots.{find, entry_at, key_at, slot_count, KeepsOthers};
+ghost use Rattle.rx_event.specs.Events.{named_by};
 ghost use Rattle.rx_tree.specs.declared.node.ResKey.{ResKey};
 
 use crate::boxes::Boxes;
 use crate::marks::Marks;
 use crate::node::{Closed, Node, ResKey};
 use crate::subtree;
-use rx_event::Event;
+use rx_event::{Event, Place};
 use rx_resource::Resource;
 use rx_slots::{Key, Slots};
 use std::alloc::{AllocError, Global};
 use std::marker::Model;
+
+// Whether a place is below the node of this number.
+fn names(place: Place, number: u64) -> bool
+    ensures { IsTrue result ↔ (named_by place ≡ Some number) }
+{
+    match place {
+        Place::Root => false,
+        Place::Source(parent) | Place::Inner(parent) | Place::Notifier(parent) => parent == number,
+    }
+}
 
 /// The open nodes.
 #[derive(Drop)]
@@ -99,6 +110,35 @@ impl<R: Resource> Tree<R> {
         ensures { result ≡ key_at self.now slot }
     {
         self.nodes.key_at(slot)
+    }
+
+    /// Whether no node has this number, as `open` requires. It goes over all slots; who gives each
+    /// node a number that rises need not ask.
+    pub fn is_unused(&self, number: u64) -> bool
+        ensures { IsTrue result ↔ IsUnused self.now number }
+    {
+        for slot in 0..self.nodes.slot_count() {
+            if self.nodes.number_at(slot) == Some(number) {
+                return false;
+            }
+        }
+        true
+    }
+
+    /// Whether a node of this number and event may stand below that of the key, as `open` requires:
+    /// the event is an Open or a Connect, and the key is that of the node which its place names,
+    /// whose number is less.
+    pub fn is_placed(&self, number: u64, made: Event, above: Option<Key>) -> bool
+        ensures { IsTrue result ↔ IsPlaced self.now number made above }
+    {
+        match (made, above) {
+            (Event::Open { place, .. }, None) => place == Place::Root,
+            (Event::Open { place, .. }, Some(key)) => {
+                names(place, key.number) && key.number < number && self.nodes.contains(key)
+            }
+            (Event::Connect(_), None) => true,
+            _ => false,
+        }
     }
 
     /// Adds a record with blank marks and no resources, and gives its key.
