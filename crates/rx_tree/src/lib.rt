@@ -7,6 +7,9 @@ mod node;
 mod subtree;
 mod tree;
 
+#[cfg(test)]
+mod tests;
+
 pub use boxes::{Boxes, Held};
 pub use marks::Marks;
 pub use node::{Closed, Node, ResKey};
