@@ -1,0 +1,92 @@
+-- The tests that compute decide what callers may do.
+use Rattle.std.proofs.Common.{◌≡◌, ℕ, zero, suc, ◌+◌, ◌<◌, ◌≤◌, Bool, true, false, List, [], ◌∷◌, ◌++◌, length, Option, Some, None, refl, sym, ap, ◌∙◌, arith, ◌==◌, slice_get, inl, inr, ◌⊎◌, nat_lt, nat_le, IsTrue, ◌↔◌, filter}
+use Rattle.std.proofs.Math.Bool.{not, ◌&&◌, ◌||◌}
+use Rattle.std.specs.List.{list_any, list_all, range_with_len}
+use Rattle.std.specs.Option.{option_map_or, option_and_then}
+use Rattle.std.proofs.lemmas.Bool.{cases_Bool, cases_lt, and_parts, or_parts, both_ways, false≢true, ltb-true, lt-ltb, eqb-true, eq-eqb}
+use Rattle.std.proofs.lemmas.Option.{slice_get_within, same_Some, none-some, option_and_then_some}
+use Rattle.rx_note.specs.declared.note.Terminal.{Terminal}
+use Rattle.rx_note.specs.declared.note.Terminal.TheVariants.{Completed, Error}
+use Rattle.rx_event.specs.declared.event.Place.{Place}
+use Rattle.rx_event.specs.declared.event.Place.TheVariants.{Root, Source, Inner, Notifier}
+use Rattle.rx_event.specs.declared.event.Kind.{Kind}
+use Rattle.rx_event.specs.declared.event.Kind.TheVariants.{Leaf, Pass, Flat, Switch, Until, Sub}
+use Rattle.rx_event.specs.declared.event.Event.{Event}
+use Rattle.rx_event.specs.declared.event.Event.TheVariants.{Open, Hub, Connect, Accept, Use, Remove, Item, Decline, End, Close, Take}
+use Rattle.rx_event.specs.Events.{makes_resource, node_of_accept, is_remove_of, is_take_of, makes_hub, has_source, is_leaf, is_merging, is_until, is_root, is_manual_hub, is_source_of, is_notifier_of}
+use Rattle.rx_event.specs.Tree.{at, hubs, is_open, open_nodes, ancestors, parent, is_within, has_open_child, is_open_child_of, open_connections}
+use Rattle.rx_event.specs.Resources.{is_held, is_taken, is_waiting}
+use Rattle.rx_event.specs.Moments.{owed}
+use Rattle.rx_event.specs.Laws.Parents.{ancestors_step}
+use Rattle.rx_audit.specs.Rules.{is_key, removed_of, taken_of, was_removed, was_taken, hub_connected_at, is_owing}
+use Rattle.rx_audit.specs.Allowing.{connects_later, is_in_order_at, is_in_order, is_hubbed, is_free, failure_allowed, end_allowed, close_allowed}
+use Rattle.rx_audit.proofs.Deciding.{connection_at, at_connection, is_key_of}
+
+list_any-same : {X : Type 0} (p q : X → Bool) → ((x : X) → p x ≡ q x) → (xs : List X) → list_any p xs ≡ list_any q xs
+list_any-same p q same [] = refl
+list_any-same p q same (x ∷ xs) = rw (same x, list_any-same p q same xs) refl
+
+removed_key : (r : ℕ) (e : Event) → is_key (removed_of e) r ≡ is_remove_of r e
+removed_key r (Remove q) = refl
+removed_key r (Open place kind) = refl
+removed_key r (Hub mode) = refl
+removed_key r (Connect g) = refl
+removed_key r (Accept m tag) = refl
+removed_key r (Use q) = refl
+removed_key r (Item m v) = refl
+removed_key r (Decline f) = refl
+removed_key r (End m t) = refl
+removed_key r (Close m) = refl
+removed_key r (Take q) = refl
+
+taken_key : (r : ℕ) (e : Event) → is_key (taken_of e) r ≡ is_take_of r e
+taken_key r (Take q) = refl
+taken_key r (Remove q) = refl
+taken_key r (Open place kind) = refl
+taken_key r (Hub mode) = refl
+taken_key r (Connect g) = refl
+taken_key r (Accept m tag) = refl
+taken_key r (Use q) = refl
+taken_key r (Item m v) = refl
+taken_key r (Decline f) = refl
+taken_key r (End m t) = refl
+taken_key r (Close m) = refl
+
+-- resources --------------------------------------------------------------------------------------------
+
+pub node_within : (h : List Event) (r n : ℕ) → option_and_then node_of_accept (slice_get h r) ≡ Some n → r < length h
+node_within h r n e = option_and_then_some node_of_accept (slice_get h r) n e (λ x a b. slice_get_within h r x a)
+
+pub held_at : (h : List Event) (r n : ℕ) → option_and_then node_of_accept (slice_get h r) ≡ Some n → (is_open h n && not (was_removed h r)) ≡ is_held h r
+unfolding is_held
+held_at h r n e = rw e (ap (λ b. is_open h n && not b) (list_any-same (λ x. is_key (removed_of x) r) (is_remove_of r) (removed_key r) h))
+
+pub not_held : (h : List Event) (r : ℕ) → option_and_then node_of_accept (slice_get h r) ≡ None → false ≡ is_held h r
+unfolding is_held
+not_held h r e = rw e refl
+
+pub waiting_at : (h : List Event) (r : ℕ) (b : Bool) → at makes_resource h r ≡ true → b ≡ (not (is_held h r) && not (was_taken h r)) → b ≡ is_waiting h r
+unfolding is_waiting is_taken
+waiting_at h r b m e = e ∙ rw m (ap (λ t. not (is_held h r) && not t) (list_any-same (λ x. is_key (taken_of x) r) (is_take_of r) (taken_key r) h))
+
+pub not_waiting : (h : List Event) (r : ℕ) → at makes_resource h r ≡ false → false ≡ is_waiting h r
+unfolding is_waiting
+not_waiting h r m = rw m refl
+
+-- order of hubs ----------------------------------------------------------------------------------------
+
+and_true : (b : Bool) → (b && true) ≡ b
+and_true true = refl
+and_true false = refl
+
+pub order_above : (h : List Event) (g a p : ℕ) → parent h a ≡ Some p → connects_later h g a ≡ true → is_in_order_at h g a ≡ is_in_order_at h g p
+unfolding is_in_order_at
+order_above h g a p above later = rw (ancestors_step h a, above, later) refl
+
+pub order_top : (h : List Event) (g a : ℕ) → parent h a ≡ None → connects_later h g a ≡ true → is_in_order_at h g a ≡ true
+unfolding is_in_order_at
+order_top h g a above later = rw (ancestors_step h a, above, later) refl
+
+pub order_broken : (h : List Event) (g a : ℕ) → connects_later h g a ≡ false → is_in_order_at h g a ≡ false
+unfolding is_in_order_at
+order_broken h g a later = rw (ancestors_step h a, later) refl

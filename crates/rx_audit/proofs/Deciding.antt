@@ -1,0 +1,420 @@
+-- The tests that compute decide the rules: ends, sources and connections.
+use Rattle.std.proofs.Common.{◌≡◌, ℕ, zero, suc, ◌+◌, ◌<◌, ◌≤◌, Bool, true, false, List, [], ◌∷◌, ◌++◌, length, Option, Some, None, refl, sym, ap, ◌∙◌, arith, ◌==◌, cond, drop, slice_get, inl, inr, ◌⊎◌}
+use Rattle.std.proofs.Math.Bool.{not, ◌&&◌, ◌||◌}
+use Rattle.std.specs.List.{list_any, range_with_len, filter}
+use Rattle.std.specs.Option.{option_map_or, option_and_then}
+use Rattle.std.proofs.lemmas.Bool.{cases_Bool, and_parts, or_parts, both_ways, eqb-true, eq-eqb, false≢true}
+use Rattle.std.proofs.lemmas.Option.{slice_get_within, slice_get_past, same_Some, none-some, option_and_then_some}
+use Rattle.std.proofs.lemmas.Map.Keys.{any_passes_from_place}
+use Rattle.rx_note.specs.declared.note.Terminal.{Terminal}
+use Rattle.rx_note.specs.declared.note.Terminal.TheVariants.{Completed, Error}
+use Rattle.rx_event.specs.declared.event.Place.TheVariants.{Root, Source, Inner, Notifier}
+use Rattle.rx_event.specs.declared.event.Kind.TheVariants.{Leaf, Pass, Flat, Switch, Until, Sub}
+use Rattle.rx_event.specs.declared.event.Event.{Event}
+use Rattle.rx_event.specs.declared.event.Event.TheVariants.{Open, Hub, Connect, Accept, Use, Remove, Item, Decline, End, Close, Take}
+use Rattle.rx_event.specs.Events.{is_subscriber_of, is_connect_of, is_auto_hub}
+use Rattle.rx_event.specs.Tree.{at, places, parent, is_open, open_subscribers, open_connections}
+use Rattle.rx_event.specs.Forced.{Has, ChildEnded, SourceEnded, IsConnectDue}
+use Rattle.rx_audit.specs.Rules.{is_key, same_terminal, has_ended, has_failed, has_completed, ended_of, failed_of, completed_of, hub_subscribed, hub_connected, hub_subscribed_at, hub_connected_at, hub_ended, joins, ends_source, ends_source_so, is_cut, is_cut_so, ends_child_so, fails_child, open_subscribed, open_connected, open_waiting, has_key, connect_due}
+use Rattle.rx_audit.proofs.Surveying.{any_found, at_within}
+
+-- tests ----------------------------------------------------------------------------------------------
+
+pub both : (a b : Bool) → a ≡ true → b ≡ true → (a && b) ≡ true
+both a b e f = rw (e, f) refl
+
+pub left : (a b : Bool) → a ≡ true → (a || b) ≡ true
+left a b e = rw e refl
+
+pub right : (a b : Bool) → b ≡ true → (a || b) ≡ true
+right true b e = refl
+right false b e = e
+
+pub either : (a b : Bool) → (a || b) ≡ true → (a ≡ true) ⊎ (b ≡ true)
+either true b e = inl refl
+either false b e = inr e
+
+pub not_not : (b : Bool) → not b ≡ true → b ≡ false
+not_not false e = refl
+not_not true e = absurd (false≢true e)
+
+pub is_false : (b : Bool) → b ≡ false → not b ≡ true
+is_false b e = rw e refl
+
+pub not_true : (b : Bool) → (b ≡ true → ⊥) → b ≡ false
+not_true true n = absurd (n refl)
+not_true false n = refl
+
+pub key_is : (o : Option ℕ) (n : ℕ) → is_key o n ≡ true → o ≡ Some n
+key_is None n e = absurd (false≢true e)
+key_is (Some r) n e = ap (λ k. Some k) (eqb-true r n e)
+
+pub is_key_of : (o : Option ℕ) (n : ℕ) → o ≡ Some n → is_key o n ≡ true
+is_key_of o n e = rw e (eq-eqb n n refl)
+
+pub terminal_is : (u t : Terminal) → same_terminal u t ≡ true → u ≡ t
+terminal_is Completed Completed e = refl
+terminal_is (Error c) (Error d) e = ap (λ k. Error k) (eqb-true c d e)
+terminal_is Completed (Error d) e = absurd (false≢true e)
+terminal_is (Error c) Completed e = absurd (false≢true e)
+
+pub terminal_self : (t : Terminal) → same_terminal t t ≡ true
+terminal_self Completed = refl
+terminal_self (Error c) = eq-eqb c c refl
+
+-- what a list has ------------------------------------------------------------------------------------
+
+-- an event at or after place k of which the test holds
+pub record Found (q : Event → Bool) (k : ℕ) (h : List Event) : Type 0 where
+  pub place : ℕ
+  pub event : Event
+  pub after : k ≤ place
+  pub found : slice_get h place ≡ Some event
+  pub holds : q event ≡ true
+
+find_first : (q : Event → Bool) (h : List Event) → list_any q h ≡ true → Found q 0 h
+find_first q [] e = absurd (false≢true e)
+find_first q (x ∷ h) e = by_first (find_first q h) (cases_Bool (q x)) where
+  by_first : (list_any q h ≡ true → Found q 0 h) → (q x ≡ true) ⊎ (q x ≡ false) → Found q 0 (x ∷ h)
+  by_first later (inl y) = record { place = 0; event = x; after = omega arith; found = refl; holds = y }
+  by_first later (inr n) = let f = later (rw n at e) in record { place = suc f.place; event = f.event; after = omega arith; found = f.found; holds = f.holds }
+
+pub find_after : (q : Event → Bool) (k : ℕ) (h : List Event) → list_any q (drop k h) ≡ true → Found q k h
+find_after q zero h e = find_first q h e
+find_after q (suc k) [] e = absurd (false≢true e)
+find_after q (suc k) (x ∷ h) e = let f = find_after q k h e in record { place = suc f.place; event = f.event; after = (let a = f.after in omega arith); found = f.found; holds = f.holds }
+
+pub find : (q : Event → Bool) (h : List Event) → list_any q h ≡ true → Found q 0 h
+find q h e = find_first q h e
+
+pub any_after : (q : Event → Bool) (k i : ℕ) (h : List Event) (e : Event) → k ≤ i → slice_get h i ≡ Some e → q e ≡ true → list_any q (drop k h) ≡ true
+any_after q zero i h e l at_i holds = any_passes_from_place q h i e at_i holds
+any_after q (suc k) i [] e l at_i holds = absurd (none-some e at_i)
+any_after q (suc k) zero (x ∷ h) e l at_i holds = absurd (omega arith)
+any_after q (suc k) (suc i) (x ∷ h) e l at_i holds = any_after q k i h e (omega arith) at_i holds
+
+-- a number of a range of which the test holds
+pub record FoundNumber (q : ℕ → Bool) (n : ℕ) : Type 0 where
+  pub number : ℕ
+  pub within : number < n
+  pub holds : q number ≡ true
+
+find_from : (q : ℕ → Bool) (a n : ℕ) → list_any q (range_with_len a n) ≡ true → FoundNumber q (a + n)
+find_from q a zero e = absurd (false≢true e)
+find_from q a (suc n) e = by_first (find_from q (a + 1) n) (cases_Bool (q a)) where
+  by_first : (list_any q (range_with_len (a + 1) n) ≡ true → FoundNumber q ((a + 1) + n)) → (q a ≡ true) ⊎ (q a ≡ false) → FoundNumber q (a + suc n)
+  by_first later (inl y) = record { number = a; within = omega arith; holds = y }
+  by_first later (inr other) = let f = later (rw other at e) in record { number = f.number; within = (let w = f.within in omega arith); holds = f.holds }
+
+pub find_number : (q : ℕ → Bool) (n : ℕ) → list_any q (range_with_len 0 n) ≡ true → FoundNumber q n
+find_number q n e = let f = find_from q 0 n e in record { number = f.number; within = (let w = f.within in omega arith); holds = f.holds }
+
+-- ends -----------------------------------------------------------------------------------------------
+
+ended_is : (e : Event) (k : ℕ) → ended_of e ≡ Some k → (t : Terminal) × (e ≡ End k t)
+ended_is (End n t) k s = (t, ap (λ m. End m t) (same_Some n k s))
+ended_is (Open place kind) k s = cc
+ended_is (Hub mode) k s = cc
+ended_is (Connect g) k s = cc
+ended_is (Accept m tag) k s = cc
+ended_is (Use r) k s = cc
+ended_is (Remove r) k s = cc
+ended_is (Item m v) k s = cc
+ended_is (Decline f) k s = cc
+ended_is (Close m) k s = cc
+ended_is (Take r) k s = cc
+
+failed_is : (e : Event) (k : ℕ) → failed_of e ≡ Some k → (c : ℕ) × (e ≡ End k (Error c))
+failed_is (End n (Error c)) k s = (c, ap (λ m. End m (Error c)) (same_Some n k s))
+failed_is (End n Completed) k s = cc
+failed_is (Open place kind) k s = cc
+failed_is (Hub mode) k s = cc
+failed_is (Connect g) k s = cc
+failed_is (Accept m tag) k s = cc
+failed_is (Use r) k s = cc
+failed_is (Remove r) k s = cc
+failed_is (Item m v) k s = cc
+failed_is (Decline f) k s = cc
+failed_is (Close m) k s = cc
+failed_is (Take r) k s = cc
+
+completed_is : (e : Event) (k : ℕ) → completed_of e ≡ Some k → e ≡ End k Completed
+completed_is (End n Completed) k s = ap (λ m. End m Completed) (same_Some n k s)
+completed_is (End n (Error c)) k s = cc
+completed_is (Open place kind) k s = cc
+completed_is (Hub mode) k s = cc
+completed_is (Connect g) k s = cc
+completed_is (Accept m tag) k s = cc
+completed_is (Use r) k s = cc
+completed_is (Remove r) k s = cc
+completed_is (Item m v) k s = cc
+completed_is (Decline f) k s = cc
+completed_is (Close m) k s = cc
+completed_is (Take r) k s = cc
+
+pub has_of : (h : List Event) (e f : Event) (i : ℕ) → slice_get h i ≡ Some e → e ≡ f → Has h f
+has_of h e f i at_i same = record { place = i; found = at_i ∙ ap (λ x. Some x) same }
+
+pub ended_has : (h : List Event) (k : ℕ) → has_ended h k ≡ true → (t : Terminal) × Has h (End k t)
+ended_has h k e =
+    let f = find (λ x. is_key (ended_of x) k) h e in
+    let w = ended_is f.event k (key_is (ended_of f.event) k f.holds) in
+    (w.0, has_of h f.event (End k w.0) f.place f.found w.1)
+
+pub has_ended_of : (h : List Event) (k : ℕ) (t : Terminal) → Has h (End k t) → has_ended h k ≡ true
+has_ended_of h k t s = any_passes_from_place (λ x. is_key (ended_of x) k) h s.place (End k t) s.found (eq-eqb k k refl)
+
+pub failed_has : (h : List Event) (k : ℕ) → has_failed h k ≡ true → (c : ℕ) × Has h (End k (Error c))
+failed_has h k e =
+    let f = find (λ x. is_key (failed_of x) k) h e in
+    let w = failed_is f.event k (key_is (failed_of f.event) k f.holds) in
+    (w.0, has_of h f.event (End k (Error w.0)) f.place f.found w.1)
+
+pub has_failed_of : (h : List Event) (k c : ℕ) → Has h (End k (Error c)) → has_failed h k ≡ true
+has_failed_of h k c s = any_passes_from_place (λ x. is_key (failed_of x) k) h s.place (End k (Error c)) s.found (eq-eqb k k refl)
+
+pub completed_has : (h : List Event) (k : ℕ) → has_completed h k ≡ true → Has h (End k Completed)
+completed_has h k e =
+    let f = find (λ x. is_key (completed_of x) k) h e in
+    has_of h f.event (End k Completed) f.place f.found (completed_is f.event k (key_is (completed_of f.event) k f.holds))
+
+pub has_completed_of : (h : List Event) (k : ℕ) → Has h (End k Completed) → has_completed h k ≡ true
+has_completed_of h k s = any_passes_from_place (λ x. is_key (completed_of x) k) h s.place (End k Completed) s.found (eq-eqb k k refl)
+
+-- children -------------------------------------------------------------------------------------------
+
+child_at : (h : List Event) (p : ℕ) (t : Terminal) (i : ℕ) (e : Event) → slice_get h i ≡ Some e → ends_child_so h p t e ≡ true → ChildEnded h p t
+child_at h p t i (End c u) at_i holds =
+    let w = and_parts (is_key (parent h c) p) (same_terminal u t) holds in
+    record { child = c; below = key_is (parent h c) p w.0; ended = has_of h (End c u) (End c t) i at_i (ap (λ v. End c v) (terminal_is u t w.1)) }
+child_at h p t i (Open place kind) at_i holds = absurd (false≢true holds)
+child_at h p t i (Hub mode) at_i holds = absurd (false≢true holds)
+child_at h p t i (Connect g) at_i holds = absurd (false≢true holds)
+child_at h p t i (Accept m tag) at_i holds = absurd (false≢true holds)
+child_at h p t i (Use r) at_i holds = absurd (false≢true holds)
+child_at h p t i (Remove r) at_i holds = absurd (false≢true holds)
+child_at h p t i (Item m v) at_i holds = absurd (false≢true holds)
+child_at h p t i (Decline f) at_i holds = absurd (false≢true holds)
+child_at h p t i (Close m) at_i holds = absurd (false≢true holds)
+child_at h p t i (Take r) at_i holds = absurd (false≢true holds)
+
+pub child_ended : (h : List Event) (p : ℕ) (t : Terminal) → list_any (ends_child_so h p t) h ≡ true → ChildEnded h p t
+child_ended h p t e = let f = find (ends_child_so h p t) h e in child_at h p t f.place f.event f.found f.holds
+
+pub child_ended_of : (h : List Event) (p : ℕ) (t : Terminal) → ChildEnded h p t → list_any (ends_child_so h p t) h ≡ true
+child_ended_of h p t d = any_passes_from_place (ends_child_so h p t) h d.ended.place (End d.child t) d.ended.found (both (is_key (parent h d.child) p) (same_terminal t t) (is_key_of (parent h d.child) p d.below) (terminal_self t))
+
+pub child_failed_of : (h : List Event) (p c : ℕ) → ChildEnded h p (Error c) → list_any (fails_child h p) h ≡ true
+child_failed_of h p c d = any_passes_from_place (fails_child h p) h d.ended.place (End d.child (Error c)) d.ended.found (is_key_of (parent h d.child) p d.below)
+
+failed_at : (h : List Event) (p i : ℕ) (e : Event) → slice_get h i ≡ Some e → fails_child h p e ≡ true → (c : ℕ) × ChildEnded h p (Error c)
+failed_at h p i (End c (Error code)) at_i holds = (code, record { child = c; below = key_is (parent h c) p holds; ended = record { place = i; found = at_i } })
+failed_at h p i (End c Completed) at_i holds = absurd (false≢true holds)
+failed_at h p i (Open place kind) at_i holds = absurd (false≢true holds)
+failed_at h p i (Hub mode) at_i holds = absurd (false≢true holds)
+failed_at h p i (Connect g) at_i holds = absurd (false≢true holds)
+failed_at h p i (Accept m tag) at_i holds = absurd (false≢true holds)
+failed_at h p i (Use r) at_i holds = absurd (false≢true holds)
+failed_at h p i (Remove r) at_i holds = absurd (false≢true holds)
+failed_at h p i (Item m v) at_i holds = absurd (false≢true holds)
+failed_at h p i (Decline f) at_i holds = absurd (false≢true holds)
+failed_at h p i (Close m) at_i holds = absurd (false≢true holds)
+failed_at h p i (Take r) at_i holds = absurd (false≢true holds)
+
+pub child_failed : (h : List Event) (p : ℕ) → list_any (fails_child h p) h ≡ true → (c : ℕ) × ChildEnded h p (Error c)
+child_failed h p e = let f = find (fails_child h p) h e in failed_at h p f.place f.event f.found f.holds
+
+-- hubs -----------------------------------------------------------------------------------------------
+
+subscribed_is : (e : Event) (g : ℕ) → hub_subscribed e ≡ Some g → is_subscriber_of g e ≡ true
+subscribed_is (Open place (Sub k)) g s = eq-eqb k g (same_Some k g s)
+subscribed_is (Open place Leaf) g s = cc
+subscribed_is (Open place Pass) g s = cc
+subscribed_is (Open place Flat) g s = cc
+subscribed_is (Open place Switch) g s = cc
+subscribed_is (Open place Until) g s = cc
+subscribed_is (Hub mode) g s = cc
+subscribed_is (Connect k) g s = cc
+subscribed_is (Accept m tag) g s = cc
+subscribed_is (Use r) g s = cc
+subscribed_is (Remove r) g s = cc
+subscribed_is (Item m v) g s = cc
+subscribed_is (Decline f) g s = cc
+subscribed_is (End m t) g s = cc
+subscribed_is (Close m) g s = cc
+subscribed_is (Take r) g s = cc
+
+is_subscribed : (e : Event) (g : ℕ) → is_subscriber_of g e ≡ true → hub_subscribed e ≡ Some g
+is_subscribed (Open place (Sub k)) g s = ap (λ n. Some n) (eqb-true k g s)
+is_subscribed (Open place Leaf) g s = absurd (false≢true s)
+is_subscribed (Open place Pass) g s = absurd (false≢true s)
+is_subscribed (Open place Flat) g s = absurd (false≢true s)
+is_subscribed (Open place Switch) g s = absurd (false≢true s)
+is_subscribed (Open place Until) g s = absurd (false≢true s)
+is_subscribed (Hub mode) g s = absurd (false≢true s)
+is_subscribed (Connect k) g s = absurd (false≢true s)
+is_subscribed (Accept m tag) g s = absurd (false≢true s)
+is_subscribed (Use r) g s = absurd (false≢true s)
+is_subscribed (Remove r) g s = absurd (false≢true s)
+is_subscribed (Item m v) g s = absurd (false≢true s)
+is_subscribed (Decline f) g s = absurd (false≢true s)
+is_subscribed (End m t) g s = absurd (false≢true s)
+is_subscribed (Close m) g s = absurd (false≢true s)
+is_subscribed (Take r) g s = absurd (false≢true s)
+
+connected_is : (e : Event) (g : ℕ) → hub_connected e ≡ Some g → e ≡ Connect g
+connected_is (Connect k) g s = ap (λ n. Connect n) (same_Some k g s)
+connected_is (Open place kind) g s = cc
+connected_is (Hub mode) g s = cc
+connected_is (Accept m tag) g s = cc
+connected_is (Use r) g s = cc
+connected_is (Remove r) g s = cc
+connected_is (Item m v) g s = cc
+connected_is (Decline f) g s = cc
+connected_is (End m t) g s = cc
+connected_is (Close m) g s = cc
+connected_is (Take r) g s = cc
+
+same_connected : (e : Event) (g : ℕ) → is_key (hub_connected e) g ≡ is_connect_of g e
+same_connected (Connect k) g = refl
+same_connected (Open place kind) g = refl
+same_connected (Hub mode) g = refl
+same_connected (Accept m tag) g = refl
+same_connected (Use r) g = refl
+same_connected (Remove r) g = refl
+same_connected (Item m v) g = refl
+same_connected (Decline f) g = refl
+same_connected (End m t) g = refl
+same_connected (Close m) g = refl
+same_connected (Take r) g = refl
+
+same_subscribed : (e : Event) (g : ℕ) → is_key (hub_subscribed e) g ≡ is_subscriber_of g e
+same_subscribed (Open place (Sub k)) g = refl
+same_subscribed (Open place Leaf) g = refl
+same_subscribed (Open place Pass) g = refl
+same_subscribed (Open place Flat) g = refl
+same_subscribed (Open place Switch) g = refl
+same_subscribed (Open place Until) g = refl
+same_subscribed (Hub mode) g = refl
+same_subscribed (Connect k) g = refl
+same_subscribed (Accept m tag) g = refl
+same_subscribed (Use r) g = refl
+same_subscribed (Remove r) g = refl
+same_subscribed (Item m v) g = refl
+same_subscribed (Decline f) g = refl
+same_subscribed (End m t) g = refl
+same_subscribed (Close m) g = refl
+same_subscribed (Take r) g = refl
+
+pub subscriber_at : (h : List Event) (s g : ℕ) → hub_subscribed_at h s ≡ Some g → at (is_subscriber_of g) h s ≡ true
+subscriber_at h s g e = option_and_then_some hub_subscribed (slice_get h s) g e (λ x a b. ap (λ o. option_map_or (is_subscriber_of g) o false) a ∙ subscribed_is x g b)
+
+pub at_subscriber : (h : List Event) (s g : ℕ) → at (is_subscriber_of g) h s ≡ true → hub_subscribed_at h s ≡ Some g
+at_subscriber h s g e = by_event (slice_get h s) e where
+  by_event : (o : Option Event) → option_map_or (is_subscriber_of g) o false ≡ true → option_and_then hub_subscribed o ≡ Some g
+  by_event None e = absurd (false≢true e)
+  by_event (Some x) e = is_subscribed x g e
+
+pub connection_at : (h : List Event) (c g : ℕ) → hub_connected_at h c ≡ Some g → slice_get h c ≡ Some (Connect g)
+connection_at h c g e = option_and_then_some hub_connected (slice_get h c) g e (λ x a b. a ∙ ap (λ y. Some y) (connected_is x g b))
+
+pub at_connection : (h : List Event) (c g : ℕ) → slice_get h c ≡ Some (Connect g) → hub_connected_at h c ≡ Some g
+at_connection h c g e = ap (option_and_then hub_connected) e
+
+-- sources --------------------------------------------------------------------------------------------
+
+joined : (o p : Option ℕ) → joins o p ≡ true → (g : ℕ) × ((o ≡ Some g) × (p ≡ Some g))
+joined None p e = absurd (false≢true e)
+joined (Some g) p e = (g, (refl, key_is p g e))
+
+joins_of : (o p : Option ℕ) (g : ℕ) → o ≡ Some g → p ≡ Some g → joins o p ≡ true
+joins_of o p g e f = rw (e, f) (eq-eqb g g refl)
+
+source_at : (h : List Event) (s : ℕ) (t : Terminal) (i : ℕ) (e : Event) → s < i → slice_get h i ≡ Some e → ends_source_so h s t e ≡ true → SourceEnded h s t
+source_at h s t i (End c u) l at_i holds =
+    let w = and_parts (joins (hub_subscribed_at h s) (hub_connected_at h c)) (same_terminal u t) holds in
+    let j = joined (hub_subscribed_at h s) (hub_connected_at h c) w.0 in
+    record { hub = j.0; connection = c; place = i; subscribes = subscriber_at h s j.0 j.1.0; connects = connection_at h c j.0 j.1.1; later = l; ended = at_i ∙ ap (λ v. Some (End c v)) (terminal_is u t w.1) }
+source_at h s t i (Open place kind) l at_i holds = absurd (false≢true holds)
+source_at h s t i (Hub mode) l at_i holds = absurd (false≢true holds)
+source_at h s t i (Connect g) l at_i holds = absurd (false≢true holds)
+source_at h s t i (Accept m tag) l at_i holds = absurd (false≢true holds)
+source_at h s t i (Use r) l at_i holds = absurd (false≢true holds)
+source_at h s t i (Remove r) l at_i holds = absurd (false≢true holds)
+source_at h s t i (Item m v) l at_i holds = absurd (false≢true holds)
+source_at h s t i (Decline f) l at_i holds = absurd (false≢true holds)
+source_at h s t i (Close m) l at_i holds = absurd (false≢true holds)
+source_at h s t i (Take r) l at_i holds = absurd (false≢true holds)
+
+pub source_ended : (h : List Event) (s : ℕ) (t : Terminal) → is_cut_so h s t ≡ true → SourceEnded h s t
+unfolding is_cut_so
+source_ended h s t e = let f = find_after (ends_source_so h s t) (suc s) h e in source_at h s t f.place f.event f.after f.found f.holds
+
+pub source_ended_of : (h : List Event) (s : ℕ) (t : Terminal) → SourceEnded h s t → is_cut_so h s t ≡ true
+unfolding is_cut_so
+source_ended_of h s t d = any_after (ends_source_so h s t) (suc s) d.place h (End d.connection t) d.later d.ended (both (joins (hub_subscribed_at h s) (hub_connected_at h d.connection)) (same_terminal t t) (joins_of (hub_subscribed_at h s) (hub_connected_at h d.connection) d.hub (at_subscriber h s d.hub d.subscribes) (at_connection h d.connection d.hub d.connects)) (terminal_self t))
+
+no_join : {C : Type 0} (o : Option ℕ) → joins o None ≡ true → C
+no_join None e = absurd (false≢true e)
+no_join (Some g) e = absurd (false≢true e)
+
+cut_at : (h : List Event) (s i : ℕ) (e : Event) → s < i → slice_get h i ≡ Some e → ends_source h s e ≡ true → (t : Terminal) × SourceEnded h s t
+cut_at h s i (End c u) l at_i holds = (u, source_at h s u i (End c u) l at_i (both (joins (hub_subscribed_at h s) (hub_connected_at h c)) (same_terminal u u) holds (terminal_self u)))
+cut_at h s i (Open place kind) l at_i holds = no_join (hub_subscribed_at h s) holds
+cut_at h s i (Hub mode) l at_i holds = no_join (hub_subscribed_at h s) holds
+cut_at h s i (Connect g) l at_i holds = no_join (hub_subscribed_at h s) holds
+cut_at h s i (Accept m tag) l at_i holds = no_join (hub_subscribed_at h s) holds
+cut_at h s i (Use r) l at_i holds = no_join (hub_subscribed_at h s) holds
+cut_at h s i (Remove r) l at_i holds = no_join (hub_subscribed_at h s) holds
+cut_at h s i (Item m v) l at_i holds = no_join (hub_subscribed_at h s) holds
+cut_at h s i (Decline f) l at_i holds = no_join (hub_subscribed_at h s) holds
+cut_at h s i (Close m) l at_i holds = no_join (hub_subscribed_at h s) holds
+cut_at h s i (Take r) l at_i holds = no_join (hub_subscribed_at h s) holds
+
+pub cut_ended : (h : List Event) (s : ℕ) → is_cut h s ≡ true → (t : Terminal) × SourceEnded h s t
+unfolding is_cut
+cut_ended h s e = let f = find_after (ends_source h s) (suc s) h e in cut_at h s f.place f.event f.after f.found f.holds
+
+pub is_cut_of : (h : List Event) (s : ℕ) (t : Terminal) → SourceEnded h s t → is_cut h s ≡ true
+unfolding is_cut
+is_cut_of h s t d = any_after (ends_source h s) (suc s) d.place h (End d.connection t) d.later d.ended (joins_of (hub_subscribed_at h s) (hub_connected_at h d.connection) d.hub (at_subscriber h s d.hub d.subscribes) (at_connection h d.connection d.hub d.connects))
+
+-- keys of open nodes ---------------------------------------------------------------------------------
+
+pub filter_none : {X : Type 0} (q : X → Bool) (xs : List X) → list_any q xs ≡ false → filter q xs ≡ []
+filter_none q [] e = refl
+filter_none q (x ∷ xs) e = let w = or_parts (q x) (list_any q xs) e in rw w.0 (filter_none q xs w.1)
+
+no_cons : {X : Type 0} (x : X) (xs : List X) → x ∷ xs ≡ [] → ⊥
+no_cons x xs e = cc
+
+pub none_filtered : {X : Type 0} (q : X → Bool) (xs : List X) → filter q xs ≡ [] → list_any q xs ≡ false
+none_filtered q [] e = refl
+none_filtered q (x ∷ xs) e = by_first (none_filtered q xs) (cases_Bool (q x)) where
+  by_first : (filter q xs ≡ [] → list_any q xs ≡ false) → (q x ≡ true) ⊎ (q x ≡ false) → (q x || list_any q xs) ≡ false
+  by_first rest (inl y) = absurd (no_cons x (filter q xs) (rw y at e))
+  by_first rest (inr n) = rw n (rest (rw n at e))
+
+list_any-same : {X : Type 0} (p q : X → Bool) → ((x : X) → p x ≡ q x) → (xs : List X) → list_any p xs ≡ list_any q xs
+list_any-same p q same [] = refl
+list_any-same p q same (x ∷ xs) = rw (same x, list_any-same p q same xs) refl
+
+and_true : (b : Bool) → (b && true) ≡ b
+and_true true = refl
+and_true false = refl
+
+and_false : (b : Bool) → (b && false) ≡ false
+and_false true = refl
+and_false false = refl
+
+guarded : (key : Event → Option ℕ) (test : ℕ → Event → Bool) (g : ℕ) → ((e : Event) → is_key (key e) g ≡ test g e) → (b : Bool) (o : Option Event) → is_key (cond b (option_and_then key o) None) g ≡ (option_map_or (test g) o false && b)
+guarded key test g same true None = refl
+guarded key test g same true (Some e) = same e ∙ sym (and_true (test g e))
+guarded key test g same false None = refl
+guarded key test g same false (Some e) = sym (and_false (test g e))
+
+pub subscribed_key : (h : List Event) (g : ℕ) → has_key (open_subscribed h) h g ≡ list_any (λ n. at (is_subscriber_of g) h n && is_open h n) (places h)
+subscribed_key h g = list_any-same (λ k. is_key (open_subscribed h k) g) (λ n. at (is_subscriber_of g) h n && is_open h n) (λ k. guarded hub_subscribed is_subscriber_of g (λ e. same_subscribed e g) (is_open h k) (slice_get h k)) (places h)
+
+pub connected_key : (h : List Event) (g : ℕ) → has_key (open_connected h) h g ≡ list_any (λ n. at (is_connect_of g) h n && is_open h n) (places h)
+connected_key h g = list_any-same (λ k. is_key (open_connected h k) g) (λ n. at (is_connect_of g) h n && is_open h n) (λ k. guarded hub_connected is_connect_of g (λ e. same_connected e g) (is_open h k) (slice_get h k)) (places h)

@@ -1,0 +1,82 @@
+-- Marks and counts by a key.
+use Rattle.std.proofs.Common.{◌≡◌, ℕ, zero, suc, ◌+◌, ◌<◌, ◌≤◌, Bool, true, false, List, [], ◌∷◌, ◌++◌, length, Option, Some, None, refl, sym, ap, ◌∙◌, arith, ◌==◌, ◌≢◌, get_or, set, get_or-set_other, get_or-set_same, ◌⊎◌, inl, inr, cond, take, count_by, add_assoc, add-zero}
+use Rattle.std.proofs.Math.Bool.{not, ◌&&◌, ◌||◌}
+use Rattle.std.proofs.Math.ListN.{length-set}
+use Rattle.std.proofs.lemmas.Bool.{cases_order, eq-eqb, ne_eqb}
+use Rattle.std.specs.List.{list_any}
+use Rattle.std.proofs.lemmas.List.Folds.{list_any_more}
+use Rattle.std.proofs.lemmas.List.Sums.{sum_by_more}
+use Rattle.rx_audit.specs.Tables.{IsTable, IsTally, marks_with, counts_with, IsTold, IsCounted}
+use Rattle.rx_audit.specs.Rules.{is_key}
+
+or_false : (b : Bool) → (b || false) ≡ b
+or_false true = refl
+or_false false = refl
+
+or_true : (b : Bool) → (b || true) ≡ true
+or_true true = refl
+or_true false = refl
+
+pub length-marks_with : (ms : List Bool) (k : Option ℕ) → length (marks_with ms k) ≡ length ms
+length-marks_with ms None = refl
+length-marks_with ms (Some r) = simp length-set
+
+pub length-counts_with : (cs : List ℕ) (k : Option ℕ) → length (counts_with cs k) ≡ length cs
+length-counts_with cs None = refl
+length-counts_with cs (Some r) = simp length-set
+
+-- the mark of n after one key more
+pub marks_with_at : (ms : List Bool) (k : Option ℕ) (n : ℕ) → n < length ms → get_or (marks_with ms k) n false ≡ (get_or ms n false || is_key k n)
+marks_with_at ms None n l = sym (or_false (get_or ms n false))
+marks_with_at ms (Some r) n l = by_order (cases_order r n) where
+  other : (r ≡ n → ⊥) → get_or (set ms r true) n false ≡ (get_or ms n false || (r == n))
+  other d = let ne : n ≢ r = λ e. d (sym e) in rw get_or-set_other (rw (ne_eqb r n d) (sym (or_false (get_or ms n false))))
+
+  by_order : (r ≡ n) ⊎ ((r < n) ⊎ (n < r)) → get_or (set ms r true) n false ≡ (get_or ms n false || (r == n))
+  by_order (inl same) = rw (eq-eqb r n same, same) (rw get_or-set_same (sym (or_true (get_or ms n false))))
+  by_order (inr (inl m)) = other (λ e. omega arith)
+  by_order (inr (inr m)) = other (λ e. omega arith)
+
+-- the count of n after one key more
+pub counts_with_at : (cs : List ℕ) (k : Option ℕ) (n : ℕ) → n < length cs → get_or (counts_with cs k) n 0 ≡ get_or cs n 0 + cond (is_key k n) 1 0
+counts_with_at cs None n l = sym (add-zero (get_or cs n 0))
+counts_with_at cs (Some r) n l = by_order (cases_order r n) where
+  other : (r ≡ n → ⊥) → get_or (set cs r (get_or cs r 0 + 1)) n 0 ≡ get_or cs n 0 + cond (r == n) 1 0
+  other d = let ne : n ≢ r = λ e. d (sym e) in rw get_or-set_other (rw (ne_eqb r n d) (sym (add-zero (get_or cs n 0))))
+
+  by_order : (r ≡ n) ⊎ ((r < n) ⊎ (n < r)) → get_or (set cs r (get_or cs r 0 + 1)) n 0 ≡ get_or cs n 0 + cond (r == n) 1 0
+  by_order (inl same) = rw (eq-eqb r n same, same) (rw get_or-set_same refl)
+  by_order (inr (inl m)) = other (λ e. omega arith)
+  by_order (inr (inr m)) = other (λ e. omega arith)
+
+or_assoc : (a b c : Bool) → ((a || b) || c) ≡ (a || (b || c))
+or_assoc true b c = refl
+or_assoc false b c = refl
+
+pub told_none : (old : List Bool) (has : ℕ → ℕ → Bool) → IsTold old old has []
+told_none old has k l = sym (or_false (get_or old k false))
+
+pub counted_none : (old : List ℕ) (has : ℕ → ℕ → Bool) → IsCounted old old has []
+counted_none old has k l = sym (add-zero (get_or old k 0))
+
+-- one node more
+pub told_more : (old ms : List Bool) (has : ℕ → ℕ → Bool) (nodes : List ℕ) (i n : ℕ) (key : Option ℕ) → i < length nodes → n ≡ get_or nodes i n → length ms ≡ length old → ((k : ℕ) → has n k ≡ is_key key k) → IsTold old ms has (take i nodes) → IsTold old (marks_with ms key) has (take (i + 1) nodes)
+told_more old ms has nodes i n key l e same keyed told k m =
+    marks_with_at ms key k (omega arith) ∙ ap (λ b. b || is_key key k) (told k m) ∙ or_assoc (get_or old k false) (list_any (λ n. has n k) (take i nodes)) (is_key key k) ∙ ap (λ b. get_or old k false || b) (sym (list_any_more (λ n. has n k) nodes i n l ∙ ap (λ b. list_any (λ n. has n k) (take i nodes) || b) (ap (λ x. has x k) (sym e) ∙ keyed k)))
+
+pub counted_more : (old cs : List ℕ) (has : ℕ → ℕ → Bool) (nodes : List ℕ) (i n : ℕ) (key : Option ℕ) → i < length nodes → n ≡ get_or nodes i n → length cs ≡ length old → ((k : ℕ) → has n k ≡ is_key key k) → IsCounted old cs has (take i nodes) → IsCounted old (counts_with cs key) has (take (i + 1) nodes)
+counted_more old cs has nodes i n key l e same keyed told k m =
+    counts_with_at cs key k (omega arith) ∙ ap (λ a. a + cond (is_key key k) 1 0) (told k m) ∙ add_assoc (get_or old k 0) (count_by (λ n. has n k) (take i nodes)) (cond (is_key key k) 1 0) ∙ ap (λ a. get_or old k 0 + a) (sym (sum_by_more (λ n. cond (has n k) 1 0) nodes i n l ∙ ap (λ a. count_by (λ n. has n k) (take i nodes) + a) (ap (λ x. cond (has x k) 1 0) (sym e) ∙ ap (λ b. cond b 1 0) (keyed k))))
+
+pub counts_few : (cs : List ℕ) (k : Option ℕ) (n : ℕ) → get_or (counts_with cs k) n 0 ≤ get_or cs n 0 + 1
+counts_few cs None n = omega arith
+counts_few cs (Some r) n = by_order (cases_order r n) where
+  at_set : (cs : List ℕ) (n : ℕ) → get_or (set cs n (get_or cs n 0 + 1)) n 0 ≤ get_or cs n 0 + 1
+  at_set [] n = omega arith
+  at_set (c ∷ cs) zero = omega arith
+  at_set (c ∷ cs) (suc n) = at_set cs n
+
+  by_order : (r ≡ n) ⊎ ((r < n) ⊎ (n < r)) → get_or (set cs r (get_or cs r 0 + 1)) n 0 ≤ get_or cs n 0 + 1
+  by_order (inl same) = rw same (at_set cs n)
+  by_order (inr (inl m)) = let ne : n ≢ r = omega arith in rw get_or-set_other (omega arith)
+  by_order (inr (inr m)) = let ne : n ≢ r = omega arith in rw get_or-set_other (omega arith)

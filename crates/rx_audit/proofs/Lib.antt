@@ -1,0 +1,10 @@
+pub mod StaysOpen
+pub mod Climbing
+pub mod Keys
+pub mod Finding
+pub mod Surveying
+pub mod Deciding
+pub mod Due
+pub mod Allowing
+pub mod Permitting
+pub mod Judging

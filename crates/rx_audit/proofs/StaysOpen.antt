@@ -1,0 +1,133 @@
+-- The marks of nodes that stay open.
+use Rattle.std.proofs.Common.{◌≡◌, ℕ, zero, suc, ◌+◌, ◌<◌, ◌≤◌, Bool, true, false, List, [], ◌∷◌, ◌++◌, length, Option, Some, None, refl, sym, ap, ◌∙◌, arith, ◌==◌, ◌≢◌, get_or, set, get_or-set_other, get_or-set_same, below_more, ◌⊎◌, inl, inr, length-append, slice_get, nat_lt}
+use Rattle.std.proofs.Math.Bool.{not, ◌&&◌}
+use Rattle.std.proofs.lemmas.Bool.{cases_order, ltb-true, false≢true}
+use Rattle.std.proofs.lemmas.Option.{cond_some, option_and_then_some}
+use Rattle.std.specs.List.{list_all}
+use Rattle.std.specs.Option.{option_map_or, option_and_then}
+use Rattle.rx_event.specs.declared.event.Place.TheVariants.{Root, Source, Inner, Notifier}
+use Rattle.rx_event.specs.declared.event.Event.{Event}
+use Rattle.rx_event.specs.declared.event.Event.TheVariants.{Open, Hub, Connect, Accept, Use, Remove, Item, Decline, End, Close, Take}
+use Rattle.rx_event.specs.Events.{makes_node, parent_named}
+use Rattle.rx_event.specs.Tree.{parent, ancestors, is_open, is_standing, is_shut, shuts, if_less, at}
+use Rattle.rx_event.specs.Laws.Places.{slice_get_last}
+use Rattle.rx_event.specs.Laws.Parents.{parent-lt, ancestors_step, option_map_or-same}
+use Rattle.rx_event.specs.Laws.Openness.{is_open_step, is_open-push, is_open_past, is_open_kept, is_shut_last, shuts_none}
+use Rattle.rx_audit.specs.Tables.{IsMarked}
+use Rattle.rx_audit.specs.Rules.{stays_open, opens}
+
+shared : (a o b l : Bool) → ((a && o) && (b && l)) ≡ (((a && o) && b) && (o && l))
+shared false o b l = refl
+shared true false b l = refl
+shared true true b l = refl
+
+-- a node stays open where it is open, is not shut, and its parent stays open
+pub stays_open_step : (h : List Event) (e : Event) (n : ℕ) → stays_open h e n ≡ ((is_open h n && not (shuts h n e)) && option_map_or (stays_open h e) (parent h n) true)
+unfolding stays_open
+stays_open_step h e n = rw (is_open_step h n, ancestors_step h n) (by_parent (parent h n)) where
+  by_parent : (o : Option ℕ) → ((is_standing h n && option_map_or (is_open h) o true) && (not (shuts h n e) && list_all (λ a. not (shuts h a e)) (option_map_or (ancestors h) o []))) ≡ (((is_standing h n && option_map_or (is_open h) o true) && not (shuts h n e)) && option_map_or (stays_open h e) o true)
+  by_parent None = shared (is_standing h n) true (not (shuts h n e)) true
+  by_parent (Some p) = shared (is_standing h n) (is_open h p) (not (shuts h n e)) (list_all (λ a. not (shuts h a e)) (ancestors h p))
+
+and_false : (b : Bool) → (b && false) ≡ false
+and_false true = refl
+and_false false = refl
+
+and_true : (b : Bool) → (b && true) ≡ b
+and_true true = refl
+and_true false = refl
+
+pub stays_closed : (h : List Event) (e : Event) (n : ℕ) → is_open h n ≡ false → stays_open h e n ≡ false
+unfolding stays_open
+stays_closed h e n o = rw o refl
+
+pub shut_closed : (h : List Event) (e : Event) (n : ℕ) → shuts h n e ≡ true → stays_open h e n ≡ false
+shut_closed h e n s = stays_open_step h e n ∙ rw (s, and_false (is_open h n)) refl
+
+pub below_closed : (h : List Event) (e : Event) (n p : ℕ) → parent h n ≡ Some p → stays_open h e p ≡ false → stays_open h e n ≡ false
+below_closed h e n p below gone = stays_open_step h e n ∙ rw (below, gone) (and_false (is_open h n && not (shuts h n e)))
+
+pub below_open : (h : List Event) (e : Event) (n p : ℕ) → parent h n ≡ Some p → stays_open h e p ≡ true → shuts h n e ≡ false → stays_open h e n ≡ is_open h n
+below_open h e n p below stays s = stays_open_step h e n ∙ rw (below, stays, s) (and_true _ ∙ and_true (is_open h n))
+
+pub top_open : (h : List Event) (e : Event) (n : ℕ) → parent h n ≡ None → shuts h n e ≡ false → stays_open h e n ≡ is_open h n
+top_open h e n below s = stays_open_step h e n ∙ rw (below, s) (and_true _ ∙ and_true (is_open h n))
+
+-- a pass over the marks: those before i are f, the rest g
+pub done_cleared : (f : ℕ → Bool) (ms : List Bool) (i : ℕ) → i < length ms → ((k : ℕ) → k < i → get_or ms k false ≡ f k) → f i ≡ false → (k : ℕ) → k < i + 1 → get_or (set ms i false) k false ≡ f k
+done_cleared f ms i l done gone = below_more _ _ (λ k m. let ne : k ≢ i = omega arith in rw get_or-set_other (done k m)) (rw get_or-set_same (sym gone))
+
+pub rest_cleared : (g : ℕ → Bool) (ms : List Bool) (i : ℕ) → ((k : ℕ) → i ≤ k → get_or ms k false ≡ g k) → (k : ℕ) → i + 1 ≤ k → get_or (set ms i false) k false ≡ g k
+rest_cleared g ms i rest k m = let ne : k ≢ i = omega arith in rw get_or-set_other (rest k (omega arith))
+
+pub done_kept : (f g : ℕ → Bool) (ms : List Bool) (i : ℕ) → ((k : ℕ) → k < i → get_or ms k false ≡ f k) → ((k : ℕ) → i ≤ k → get_or ms k false ≡ g k) → f i ≡ g i → (k : ℕ) → k < i + 1 → get_or ms k false ≡ f k
+done_kept f g ms i done rest same = below_more _ _ done (rest i (omega arith) ∙ sym same)
+
+-- both parts, where the pass is over
+pub all_done : (h : List Event) (e : Event) (ms : List Bool) (i : ℕ) → length h ≤ i → ((k : ℕ) → k < i → get_or ms k false ≡ stays_open h e k) → ((k : ℕ) → i ≤ k → get_or ms k false ≡ is_open h k) → IsMarked ms (stays_open h e)
+all_done h e ms i l done rest k = by_place (cases_order k i) where
+  past : i ≤ k → get_or ms k false ≡ stays_open h e k
+  past m = let closed : is_open h k ≡ false = is_open_past h k (omega arith) in rest k m ∙ closed ∙ sym (stays_closed h e k closed)
+
+  by_place : (k ≡ i) ⊎ ((k < i) ⊎ (i < k)) → get_or ms k false ≡ stays_open h e k
+  by_place (inl same) = past (omega arith)
+  by_place (inr (inl m)) = done k m
+  by_place (inr (inr m)) = past (omega arith)
+
+list_all_yes : {X : Type 0} (p : X → Bool) → ((x : X) → p x ≡ true) → (xs : List X) → list_all p xs ≡ true
+list_all_yes p holds [] = refl
+list_all_yes p holds (x ∷ xs) = rw (holds x) (list_all_yes p holds xs)
+
+not_shut : (h : List Event) (n : ℕ) (e : Event) → shuts_none e ≡ true → shuts h n e ≡ false
+not_shut h n (End m u) s = cc
+not_shut h n (Close m) s = cc
+not_shut h n (Open (Inner f) kind) s = cc
+not_shut h n (Open Root kind) s = refl
+not_shut h n (Open (Source f) kind) s = refl
+not_shut h n (Open (Notifier f) kind) s = refl
+not_shut h n (Hub mode) s = refl
+not_shut h n (Connect g) s = refl
+not_shut h n (Accept m tag) s = refl
+not_shut h n (Use r) s = refl
+not_shut h n (Remove r) s = refl
+not_shut h n (Item m v) s = refl
+not_shut h n (Decline f) s = refl
+not_shut h n (Take r) s = refl
+
+-- an event that shuts nothing leaves each node open
+pub stays_as_open : (h : List Event) (e : Event) (n : ℕ) → shuts_none e ≡ true → stays_open h e n ≡ is_open h n
+unfolding stays_open
+stays_as_open h e n s = rw (list_all_yes (λ a. not (shuts h a e)) (λ a. ap not (not_shut h a e s)) (ancestors h n)) (and_true (is_open h n))
+
+-- an older node is open after the event where it stays open
+is_open_older : (h : List Event) (e : Event) (n : ℕ) → n < length h → is_open (h ++ e ∷ []) n ≡ stays_open h e n
+unfolding stays_open
+is_open_older h e n l = is_open-push h e n l
+
+-- the new node is open where it is one and the node above it stays open
+is_open_newest : (h : List Event) (e : Event) → is_open (h ++ e ∷ []) (length h) ≡ opens h e
+unfolding parent
+is_open_newest h e =
+    rw (is_open_step (h ++ e ∷ []) (length h), is_shut_last h e, slice_get_last h e)
+    (same_parts (makes_node e) _ _ (option_map_or-same (is_open (h ++ e ∷ [])) (stays_open h e) (option_and_then (if_less (length h)) (parent_named e)) true (λ p o. is_open_older h e p (less (parent_named e) p o))))
+  where
+    same_parts : (a b c : Bool) → b ≡ c → ((a && true) && b) ≡ (a && c)
+    same_parts true b c e = e
+    same_parts false b c e = refl
+
+    less : (o : Option ℕ) (p : ℕ) → option_and_then (if_less (length h)) o ≡ Some p → p < length h
+    less o p e = option_and_then_some (if_less (length h)) o p e (λ x a b. let w = cond_some (nat_lt x (length h)) x p b in rw (← w.1) (ltb-true x (length h) w.0))
+
+-- the marks after the event
+pub marked_after : (h : List Event) (e : Event) (ms : List Bool) → IsMarked ms (stays_open h e) → length h < length ms → IsMarked (set ms (length h) (opens h e)) (is_open (h ++ e ∷ []))
+marked_after h e ms tied room n = by_place (cases_order n (length h)) where
+  by_place : (n ≡ length h) ⊎ ((n < length h) ⊎ (length h < n)) → get_or (set ms (length h) (opens h e)) n false ≡ is_open (h ++ e ∷ []) n
+  by_place (inl same) = rw same (rw get_or-set_same (sym (is_open_newest h e)))
+  by_place (inr (inl l)) = let ne : n ≢ length h = omega arith in rw get_or-set_other (tied n ∙ sym (is_open_older h e n l))
+  by_place (inr (inr l)) =
+      let ne : n ≢ length h = omega arith in
+      rw get_or-set_other (tied n ∙ stays_closed h e n (is_open_past h n (omega arith)) ∙ sym (is_open_past (h ++ e ∷ []) n (omega (arith, length-append {A = Event}))))
+
+pub no_shut : (b : Bool) → false ≡ not b → b ≡ true
+no_shut true e = refl
+no_shut false e = absurd (false≢true e)

@@ -1,0 +1,19 @@
+use Rattle.std.proofs.Common.{arith, refl, length, ap}
+use Rattle.rx_event.specs.Moments.{stops_of}
+use Rattle.rx_audit.proofs.Finding.{fired_item, projected_item, fired_same, projected_same}
+use Rattle.rx_audit.proofs.found.find_item.Goals as goal
+
+pub returns-in_default : goal.returns-in_default
+returns-in_default c = record {
+  fired = fired_same c.args.past.now c.args.event c.args.fired.now c.in_default.not-Item c.requires.fired;
+  fired_len = refl;
+  projected = projected_same c.args.past.now c.args.event c.args.projected.now c.in_default.not-Item c.requires.projected;
+  projected_len = refl;
+  few = λ n. let f = c.requires.few n in omega arith;
+}
+
+pub returns-in_ok-find_stops-in-Item-clause-fired : goal.returns-in_ok-find_stops-in-Item-clause-fired
+returns-in_ok-find_stops-in-Item-clause-fired c = fired_item c.args.past.now c.in-Item.leaf c.args.event c.args.fired.now c.find_stops.new.fired (ap (stops_of c.args.past.now) c.in-Item.is) c.in_ok-find_stops-in-Item.ensures.fired_len c.requires.fired c.in_ok-find_stops-in-Item.ensures.fired
+
+pub returns-in_ok-find_stops-in-Item-clause-projected : goal.returns-in_ok-find_stops-in-Item-clause-projected
+returns-in_ok-find_stops-in-Item-clause-projected c = projected_item c.args.past.now c.in-Item.leaf c.args.event c.args.projected.now c.find_stops.new.projected (ap (stops_of c.args.past.now) c.in-Item.is) c.in_ok-find_stops-in-Item.ensures.projected_len c.requires.projected c.in_ok-find_stops-in-Item.ensures.projected

@@ -1,0 +1,26 @@
+use Rattle.std.proofs.Common.{◌≡◌, length, arith}
+use Rattle.rx_event.specs.declared.event.Place.TheVariants.{Root}
+use Rattle.rx_event.specs.declared.event.Kind.TheVariants.{Leaf}
+use Rattle.rx_event.specs.declared.event.Event.{Event}
+use Rattle.rx_event.specs.declared.event.Event.TheVariants.{Open}
+use Rattle.rx_event.specs.Laws.Lawful.{IsLawful_empty}
+use Rattle.rx_audit.proofs.Judging.{unlawful_here, lawful_more, found_more, sized_as}
+use Rattle.rx_audit.proofs.verdict.first_unlawful.Goals as goal
+
+any_event : Event
+any_event = Open Root Leaf
+
+pub loop-i-init : goal.loop-i-init
+loop-i-init c = record { lawful = IsLawful_empty; found = c.requires.found; sized = c.requires.sized }
+
+pub returns-then-not-branch-clause-answer : goal.returns-then-not-branch-clause-answer
+unfolding any_event
+returns-then-not-branch-clause-answer c = unlawful_here c.args.events.now c.loop-i.i any_event c.in_ok-may_follow.field-0 (omega arith) c.loop-i.invariant.lawful c.if-not-branch.true c.in_ok-may_follow.ensures.answer
+
+pub loop-i-preserved : goal.loop-i-preserved
+unfolding any_event
+loop-i-preserved c = record {
+  lawful = lawful_more c.args.events.now c.loop-i.i any_event c.in_ok-may_follow.field-0 (omega arith) c.loop-i.invariant.lawful c.if-not-branch.false c.in_ok-may_follow.ensures.answer;
+  found = found_more c.args.events.now c.loop-i.i any_event (length c.loop-i.found.live.items) c.follow.new.found (omega arith) c.loop-i.invariant.found.live_size c.in_ok-follow.ensures;
+  sized = sized_as (length c.args.events.now) (length c.loop-i.survey.parents.items) c.may_follow.new.survey c.loop-i.invariant.sized.parents c.in_ok-may_follow.ensures.sized;
+}

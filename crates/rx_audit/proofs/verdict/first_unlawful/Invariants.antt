@@ -1,0 +1,12 @@
+use Rattle.std.proofs.Common.{◌≡◌, length, take}
+use Rattle.rx_event.specs.Lawful.{IsLawful}
+use Rattle.rx_audit.specs.Found.{IsFound}
+use Rattle.rx_audit.specs.Survey.{IsSized}
+use Rattle.rx_audit.proofs.verdict.first_unlawful.Given as goal
+
+abbrev pub invariant-loop-i : goal.invariant-loop-i
+invariant-loop-i l = record {
+  lawful : IsLawful (take l.i l.events);
+  found : IsFound (take l.i l.events) (length l.events) l.found;
+  sized : IsSized (length l.events) l.survey;
+}

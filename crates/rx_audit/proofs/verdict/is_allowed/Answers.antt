@@ -1,0 +1,15 @@
+use Rattle.std.proofs.Common.{◌≡◌, ℕ, ◌+◌, ◌≤◌, Bool, length, sym, IsTrue, ◌↔◌}
+use Rattle.std.proofs.lemmas.Result.{IfOk-weaker}
+use Rattle.rx_event.specs.Allowed.{IsAllowed}
+use Rattle.rx_audit.specs.Allowing.{item_allowed}
+use Rattle.rx_audit.proofs.Judging.{item_answer, simple_answer}
+use Rattle.rx_audit.proofs.verdict.is_allowed.Goals as goal
+
+pub returns-in-Item-clause-answer : goal.returns-in-Item-clause-answer
+returns-in-Item-clause-answer c = IfOk-weaker c.is_item_allowed.result (λ (b : Bool). b ≡ item_allowed c.args.past.now c.in-Item.leaf) (λ (b : Bool). (IsTrue b) ↔ IsAllowed c.args.past.now c.args.event) (λ b w. item_answer c.args.past.now c.args.event c.in-Item.leaf c.in-Item.field-1 b c.in-Item.is w) c.is_item_allowed.ensures
+
+pub returns-in_default : goal.returns-in_default
+returns-in_default c = record {
+  answer = simple_answer c.args.past.now c.args.event c.is_allowed_simply.result c.in_default.not-Open c.in_default.not-Item c.is_allowed_simply.ensures;
+  sized = c.requires.survey.is.sized;
+}

@@ -1,0 +1,79 @@
+-- What callers may do, as tests that compute.
+use Rattle.std.specs.Prelude.{ℕ, Bool, true, false, ◌+◌, ◌&&◌, ◌||◌, Option, Some, None, List, length, slice_get, nat_lt, nat_le}
+use Rattle.std.proofs.Math.Bool.{not}
+use Rattle.std.specs.List.{list_any, list_all}
+use Rattle.std.specs.Option.{option_and_then, option_map_or}
+use Rattle.rx_note.specs.declared.note.Terminal.{Terminal}
+use Rattle.rx_note.specs.declared.note.Terminal.TheVariants.{Completed, Error}
+use Rattle.rx_event.specs.declared.event.Place.{Place}
+use Rattle.rx_event.specs.declared.event.Place.TheVariants.{Root, Source, Inner, Notifier}
+use Rattle.rx_event.specs.declared.event.Kind.{Kind}
+use Rattle.rx_event.specs.declared.event.Kind.TheVariants.{Sub}
+use Rattle.rx_event.specs.declared.event.Event.{Event}
+use Rattle.rx_event.specs.declared.event.Event.TheVariants.{Open, Hub, Connect, Accept, Use, Remove, Item, Decline, End, Close, Take}
+use Rattle.rx_event.specs.Events.{makes_hub, has_source, is_leaf, is_merging, is_until, is_root, is_manual_hub, is_source_of, is_notifier_of}
+use Rattle.rx_event.specs.Tree.{at, hubs, is_open, open_nodes, ancestors, has_open_child}
+use Rattle.rx_event.specs.Resources.{is_held, is_waiting}
+use Rattle.rx_event.specs.Climb.{visits}
+use Rattle.rx_audit.specs.Rules.{hub_connected_at, has_key, open_connected, is_owing}
+
+abbrev pub connects_later : List Event → ℕ → ℕ → Bool
+connects_later h g a = option_map_or (λ k. nat_lt g k) (hub_connected_at h a) true
+
+unfoldable pub is_in_order_at : List Event → ℕ → ℕ → Bool
+is_in_order_at h g p = list_all (connects_later h g) (ancestors h p)
+
+abbrev pub is_in_order : List Event → ℕ → Place → Bool
+is_in_order h g Root = true
+is_in_order h g (Source p) = is_in_order_at h g p
+is_in_order h g (Inner p) = is_in_order_at h g p
+is_in_order h g (Notifier p) = is_in_order_at h g p
+
+abbrev pub is_hubbed : List Event → Place → Kind → Bool
+is_hubbed h place (Sub g) = at makes_hub h g && is_in_order h g place
+is_hubbed h place _ = true
+
+abbrev pub is_free : List Event → Place → Bool
+is_free h Root = true
+is_free h (Source p) = is_open h p && at has_source h p && not (list_any (is_source_of p) h)
+is_free h (Inner p) = is_open h p && at is_merging h p && is_owing h p
+is_free h (Notifier p) = is_open h p && at is_until h p && not (list_any (is_notifier_of p) h)
+
+abbrev pub failure_allowed : List Event → ℕ → Bool
+failure_allowed h n = (at has_source h n && not (has_open_child h n)) || (at is_merging h n && is_owing h n)
+
+abbrev pub failing_allowed : List Event → ℕ → Terminal → Bool
+failing_allowed h n Completed = false
+failing_allowed h n (Error code) = failure_allowed h n
+
+unfoldable pub end_allowed : List Event → ℕ → Terminal → Bool
+end_allowed h n t = is_open h n && (at is_leaf h n || failing_allowed h n t)
+
+unfoldable pub close_allowed : List Event → ℕ → Bool
+close_allowed h n = is_open h n && (at is_root h n || option_map_or (at is_manual_hub h) (hub_connected_at h n) false)
+
+-- with the limits' numbers, so that the program's constants are what they are
+unfoldable pub connect_allowed : List Event → ℕ → Bool
+connect_allowed h g = at is_manual_hub h g && not (has_key (open_connected h) h g) && nat_lt (length (open_nodes h)) 1048576
+
+unfoldable pub decline_allowed : List Event → ℕ → Bool
+decline_allowed h f = is_open h f && at is_merging h f && is_owing h f
+
+abbrev pub allowed_simply : List Event → Event → Bool
+allowed_simply h (Hub mode) = nat_lt (length (hubs h)) 1024
+allowed_simply h (Connect g) = connect_allowed h g
+allowed_simply h (Accept n tag) = is_open h n
+allowed_simply h (Use r) = is_held h r
+allowed_simply h (Remove r) = is_held h r
+allowed_simply h (Decline f) = decline_allowed h f
+allowed_simply h (End n t) = end_allowed h n t
+allowed_simply h (Close n) = close_allowed h n
+allowed_simply h (Take r) = is_waiting h r
+allowed_simply h (Open place kind) = false
+allowed_simply h (Item l value) = false
+
+unfoldable pub item_allowed : List Event → ℕ → Bool
+item_allowed h l = is_open h l && at is_leaf h l && nat_le (visits h l) 1048576
+
+unfoldable pub open_allowed : List Event → Place → Kind → Bool
+open_allowed h place kind = is_free h place && is_hubbed h place kind && nat_lt (length (open_nodes h)) 1048576

@@ -1,0 +1,55 @@
+-- What the audit says of a list of events.
+use Rattle.std.specs.Prelude.{◌≡◌, ℕ, ◌+◌, Bool, true, false, ◌&&◌, ◌==◌, Some, List, take, length, slice_get}
+use Rattle.rx_event.specs.declared.event.Kind.TheVariants.{Pass}
+use Rattle.rx_event.specs.declared.event.Event.{Event}
+use Rattle.rx_event.specs.declared.event.Event.TheVariants.{Open, Accept}
+use Rattle.rx_event.specs.Tree.{at, is_open, open_nodes}
+use Rattle.rx_event.specs.Resources.{held_resources, waiting_resources}
+use Rattle.rx_event.specs.Forced.{IsSettled}
+use Rattle.rx_event.specs.Lawful.{IsLawful, MayFollow}
+use Rattle.rx_audit.specs.declared.found.Found.{Found}
+use Rattle.rx_audit.specs.Known.{IsFoundHere}
+use Rattle.rx_audit.specs.declared.verdict.Verdict.{Verdict}
+use Rattle.rx_audit.specs.declared.verdict.Verdict.TheVariants.{Lawful, Unlawful, Unsettled}
+
+-- each event may follow those before it, operators have nothing left to do, and the lists are those of the open nodes, the held
+-- and the waiting resources, each by rising number
+pub record IsFoundLawful (h : List Event) (nodes kept left_over : List ℕ) : Type 0 where
+  pub lawful : IsLawful h
+  pub settled : IsSettled h
+  pub live : nodes ≡ open_nodes h
+  pub held : kept ≡ held_resources h
+  pub waiting : left_over ≡ waiting_resources h
+
+-- each event before the place may follow those before it, and the event at the place may not
+pub record IsFoundUnlawful (h : List Event) (place : ℕ) : Type 0 where
+  pub before : IsLawful (take place h)
+  pub event : Event
+  pub found : slice_get h place ≡ Some event
+  pub breaks : ¬ MayFollow (take place h) event
+
+-- each event may follow those before it, and operators have something left to do
+pub record IsFoundUnsettled (h : List Event) : Type 0 where
+  pub lawful : IsLawful h
+  pub unsettled : ¬ IsSettled h
+
+-- the verdict is that of the list
+abbrev pub IsVerdict : List Event → Verdict → Type 0
+IsVerdict h (Lawful live held waiting) = IsFoundLawful h live.items held.items waiting.items
+IsVerdict h (Unlawful place) = IsFoundUnlawful h place
+IsVerdict h Unsettled = IsFoundUnsettled h
+
+-- the event opens a mirroring node of one source (Using)
+abbrev pub opens_pass : Event → Bool
+opens_pass (Open place Pass) = true
+opens_pass _ = false
+
+-- the event accepts a resource at the node that was opened last, which is a mirroring one
+abbrev pub opened_with : List Event → Event → Bool
+opened_with h (Accept n tag) = at opens_pass h n && (length h == n + 1) && is_open h n
+opened_with h _ = false
+
+-- the events are lawful, and this was found of all of them
+pub record IsAllFound (h : List Event) (found : Found) : Type 0 where
+  pub lawful : IsLawful h
+  pub is : IsFoundHere h found

@@ -1,0 +1,246 @@
+//! What was found of the events so far.
+
+ghost use Rattle.std.specs.Prelude.{◌≡◌, ℕ, ◌+◌, ◌*◌, ◌^◌, ◌<◌, ◌≤◌, ◌||◌, false, true, [], ◌∷◌, ◌++◌, IfOk, OnOk, length, slice_index_or, count_by, replicate};
+ghost use Rattle.std.specs.List.{list_any};
+ghost use Rattle.std.specs.Option.{option_and_then};
+ghost use Rattle.rx_event.specs.Tree.{is_open};
+ghost use Rattle.rx_event.specs.Climb.{stop_at, climb};
+ghost use Rattle.rx_event.specs.Moments.{is_fired, projections};
+ghost use Rattle.rx_audit.specs.Found.{IsFound};
+ghost use Rattle.rx_audit.specs.Rules.{fired_by, projected_by, is_key, has_ended, has_failed, has_completed, was_removed, was_taken, is_owing};
+ghost use Rattle.rx_audit.specs.Tables.{IsMarked, IsTable, IsTally, IsTold, IsCounted};
+
+use crate::climb::{fired_at, projected_at};
+use crate::marks::{count, count_of, is_marked, mark};
+use crate::climb::climb;
+use crate::event_tests::{completed_of, ended_of, failed_of, paid_of, removed_of, taken_of};
+use crate::openness::mark_open;
+use rx_event::Event;
+use std::alloc::{AllocError, Global};
+
+/// What was found, by the number of a node or a resource. Each list has a place for every event
+/// that there will be.
+#[derive(Drop)]
+pub struct Found {
+    /// The node is open.
+    pub live: Vec<bool>,
+    /// The node ended.
+    pub ended: Vec<bool>,
+    /// The node ended with an error.
+    pub failed: Vec<bool>,
+    /// The node ended without an error.
+    pub completed: Vec<bool>,
+    /// The resource was removed from its node.
+    pub removed: Vec<bool>,
+    /// The resource was handed out.
+    pub taken: Vec<bool>,
+    /// An item fired the TakeUntil.
+    pub fired: Vec<bool>,
+    /// How many items were projected to the FlatMap or Switch.
+    pub projected: Vec<u128>,
+    /// How many of them were paid.
+    pub paid: Vec<u128>,
+}
+
+/// A list of this many marks, none of which is set.
+pub fn unmarked(alloc: Global, size: usize) -> Result<Vec<bool>, AllocError>
+    ensures { IfOk result (λ v. v.items ≡ replicate size false) }
+{
+    Ok(vec![in alloc; false; size]?)
+}
+
+/// A list of this many counts, all of them 0.
+fn uncounted(alloc: Global, size: usize) -> Result<Vec<u128>, AllocError>
+    ensures { IfOk result (λ v. v.items ≡ replicate size 0) }
+{
+    Ok(vec![in alloc; 0; size]?)
+}
+
+/// Nothing was found yet, of this many events.
+pub fn nothing_found(alloc: Global, size: usize) -> Result<Found, AllocError>
+    ensures { IfOk result (λ f. IsFound [] size f) }
+{
+    Ok(Found {
+        live: unmarked(alloc, size)?,
+        ended: unmarked(alloc, size)?,
+        failed: unmarked(alloc, size)?,
+        completed: unmarked(alloc, size)?,
+        removed: unmarked(alloc, size)?,
+        taken: unmarked(alloc, size)?,
+        fired: unmarked(alloc, size)?,
+        projected: uncounted(alloc, size)?,
+        paid: uncounted(alloc, size)?,
+    })
+}
+
+/// Marks each TakeUntil that an item fires at one of these nodes.
+fn mark_fired(past: &[Event], nodes: &[u64], fired: &mut [bool])
+    ensures len { length fired.new ≡ length fired.old }
+    ensures told { IsTold fired.old fired.new (λ n u. is_key (option_and_then fired_by (stop_at past.now n)) u) nodes.now }
+{
+    for n in nodes {
+        mark(fired, fired_at(past, *n));
+    }
+}
+
+/// Counts each projection of an item at one of these nodes.
+fn count_projected(past: &[Event], nodes: &[u64], projected: &mut [u128])
+    requires { (n : ℕ) → slice_index_or projected.old n 0 + length nodes.now < 2 ^ 128 }
+    ensures len { length projected.new ≡ length projected.old }
+    ensures counted { IsCounted projected.old projected.new (λ n f. is_key (option_and_then projected_by (stop_at past.now n)) f) nodes.now }
+    ensures few { (n : ℕ) → slice_index_or projected.new n 0 ≤ slice_index_or projected.old n 0 + length nodes.now }
+{
+    for n in nodes {
+        count(projected, projected_at(past, *n));
+    }
+}
+
+/// Finds what an item of this leaf fires and projects.
+fn find_stops(
+    alloc: Global,
+    past: &[Event],
+    live: &[bool],
+    leaf: u64,
+    fired: &mut [bool],
+    projected: &mut [u128],
+) -> Result<(), AllocError>
+    requires live { IsMarked live.now (is_open past.now) }
+    requires few { (n : ℕ) → slice_index_or projected.old n 0 + 1048577 < 2 ^ 128 }
+    ensures fired { OnOk result (IsTold fired.old fired.new (λ n u. is_key (option_and_then fired_by (stop_at past.now n)) u) (climb past.now leaf)) }
+    ensures fired_len { length fired.new ≡ length fired.old }
+    ensures projected { OnOk result (IsCounted projected.old projected.new (λ n f. is_key (option_and_then projected_by (stop_at past.now n)) f) (climb past.now leaf)) }
+    ensures projected_len { length projected.new ≡ length projected.old }
+    ensures few { (n : ℕ) → slice_index_or projected.new n 0 ≤ slice_index_or projected.old n 0 + 1048577 }
+{
+    let nodes = climb(alloc, past, live, leaf)?;
+    mark_fired(past, nodes.as_slice(), fired);
+    count_projected(past, nodes.as_slice(), projected);
+    Ok(())
+}
+
+/// Finds what the event fires and projects.
+fn find_item(
+    alloc: Global,
+    past: &[Event],
+    live: &[bool],
+    event: Event,
+    fired: &mut [bool],
+    projected: &mut [u128],
+) -> Result<(), AllocError>
+    requires live { IsMarked live.now (is_open past.now) }
+    requires fired { IsTable fired.old (is_fired past.now) }
+    requires projected { IsTally projected.old (projections past.now) }
+    requires few { (n : ℕ) → slice_index_or projected.old n 0 ≤ length past.now * 1048577 }
+    ensures fired { OnOk result (IsTable fired.new (is_fired (past.now ++ event ∷ []))) }
+    ensures fired_len { length fired.new ≡ length fired.old }
+    ensures projected { OnOk result (IsTally projected.new (projections (past.now ++ event ∷ []))) }
+    ensures projected_len { length projected.new ≡ length projected.old }
+    ensures few { (n : ℕ) → slice_index_or projected.new n 0 ≤ (length past.now + 1) * 1048577 }
+{
+    match event {
+        Event::Item(leaf, _) => {
+            find_stops(alloc, past, live, leaf, fired, projected)?;
+            Ok(())
+        }
+        _ => Ok(()),
+    }
+}
+
+/// Finds what the event adds.
+pub fn follow(
+    alloc: Global,
+    past: &[Event],
+    event: Event,
+    found: &mut Found,
+) -> Result<(), AllocError>
+    requires found { IsFound past.now (length found.old.live.items) found.old }
+    requires room { length past.now < length found.old.live.items }
+    ensures { OnOk result (IsFound (past.now ++ event ∷ []) (length found.old.live.items) found.new) }
+{
+    find_item(
+        alloc,
+        past,
+        found.live.as_slice(),
+        event,
+        found.fired.as_mut_slice(),
+        found.projected.as_mut_slice(),
+    )?;
+    mark_open(past, event, found.live.as_mut_slice());
+    mark(found.ended.as_mut_slice(), ended_of(event));
+    mark(found.failed.as_mut_slice(), failed_of(event));
+    mark(found.completed.as_mut_slice(), completed_of(event));
+    mark(found.removed.as_mut_slice(), removed_of(event));
+    mark(found.taken.as_mut_slice(), taken_of(event));
+    count(found.paid.as_mut_slice(), paid_of(event));
+    Ok(())
+}
+
+/// Whether node `k` ended.
+pub fn has_ended(past: &[Event], found: &Found, k: u64) -> bool
+    requires found { IsFound past.now (length found.now.live.items) found.now }
+    requires within { k < length found.now.live.items }
+    ensures { result ≡ has_ended past.now k }
+{
+    let _ = past;
+    is_marked(found.ended.as_slice(), k)
+}
+
+/// Whether node `k` ended with an error.
+pub fn has_failed(past: &[Event], found: &Found, k: u64) -> bool
+    requires found { IsFound past.now (length found.now.live.items) found.now }
+    requires within { k < length found.now.live.items }
+    ensures { result ≡ has_failed past.now k }
+{
+    let _ = past;
+    is_marked(found.failed.as_slice(), k)
+}
+
+/// Whether node `k` ended without an error.
+pub fn has_completed(past: &[Event], found: &Found, k: u64) -> bool
+    requires found { IsFound past.now (length found.now.live.items) found.now }
+    requires within { k < length found.now.live.items }
+    ensures { result ≡ has_completed past.now k }
+{
+    let _ = past;
+    is_marked(found.completed.as_slice(), k)
+}
+
+/// Whether resource `r` was removed.
+pub fn was_removed(past: &[Event], found: &Found, r: u64) -> bool
+    requires found { IsFound past.now (length found.now.live.items) found.now }
+    requires within { r < length found.now.live.items }
+    ensures { result ≡ was_removed past.now r }
+{
+    let _ = past;
+    is_marked(found.removed.as_slice(), r)
+}
+
+/// Whether resource `r` was handed out.
+pub fn was_taken(past: &[Event], found: &Found, r: u64) -> bool
+    requires found { IsFound past.now (length found.now.live.items) found.now }
+    requires within { r < length found.now.live.items }
+    ensures { result ≡ was_taken past.now r }
+{
+    let _ = past;
+    is_marked(found.taken.as_slice(), r)
+}
+
+/// Whether an item fired the TakeUntil `k`.
+pub fn is_fired(past: &[Event], found: &Found, k: u64) -> bool
+    requires found { IsFound past.now (length found.now.live.items) found.now }
+    requires within { k < length found.now.live.items }
+    ensures { result ≡ is_fired past.now k }
+{
+    let _ = past;
+    is_marked(found.fired.as_slice(), k)
+}
+
+/// Whether something is owed at the FlatMap or Switch `f`.
+pub fn is_owing(past: &[Event], found: &Found, f: u64) -> bool
+    requires found { IsFound past.now (length found.now.live.items) found.now }
+    requires within { f < length found.now.live.items }
+    ensures { result ≡ is_owing past.now f }
+{
+    let _ = past;
+    count_of(found.paid.as_slice(), f) < count_of(found.projected.as_slice(), f)
+}

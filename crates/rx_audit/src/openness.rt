@@ -1,0 +1,145 @@
+//! Which nodes are open.
+
+ghost use Rattle.std.specs.Prelude.{◌≡◌, ℕ, ◌+◌, ◌<◌, ◌≤◌, ◌==◌, ◌&&◌, false, [], ◌∷◌, ◌++◌, length, slice_index_or, slice_get, IsTrue};
+ghost use Rattle.std.specs.Option.{option_map_or, option_and_then};
+ghost use Rattle.std.proofs.Math.Bool.{not};
+ghost use Rattle.std.specs.List.{list_any, range_with_len};
+ghost use Rattle.rx_event.specs.Events.{parent_named, is_switch, is_inner_of, makes_node, named_by};
+ghost use Rattle.rx_event.specs.Tree.{at, parent, shuts, is_open, ancestors, is_switched_inner, has_open_child, places, if_less};
+ghost use Rattle.rx_audit.specs.Tables.{IsMarked};
+ghost use Rattle.rx_audit.specs.Rules.{stays_open, opens};
+ghost use Rattle.rx_event.specs.Laws.Openness.{shuts_none};
+
+use crate::event_tests::{at, is_inner_of, is_switch, named_by};
+use crate::marks::is_marked;
+use rx_event::{Event, Place};
+
+/// The node that the place of node `n` names, if its number is less.
+#[tactic(auto, unfolding(rx_event::specs::Tree::parent))]
+pub fn parent_of(past: &[Event], n: usize) -> Option<u64>
+    ensures { result ≡ parent past.now n }
+{
+    let named = match past.get(n).copied() {
+        Some(Event::Open { place, .. }) => named_by(place),
+        _ => None,
+    };
+    match named {
+        Some(p) if p < n as u64 => Some(p),
+        _ => None,
+    }
+}
+
+/// Whether node `k` is an open child of node `p`.
+fn is_open_child_of(past: &[Event], marks: &[bool], p: u64, k: usize) -> bool
+    requires { IsMarked marks.now (is_open past.now) }
+    ensures { result ≡ (is_open past.now k && option_map_or (λ q. q == p) (parent past.now k) false) }
+{
+    is_marked(marks, k as u64) && parent_of(past, k) == Some(p)
+}
+
+/// Whether node `p` has an open child.
+pub fn has_open_child(past: &[Event], marks: &[bool], p: u64) -> bool
+    requires { IsMarked marks.now (is_open past.now) }
+    ensures { result ≡ has_open_child past.now p }
+{
+    (0..past.len()).any(|k| is_open_child_of(past, marks, p, k))
+}
+
+/// Whether node `n` is an inner observable of node `f`, which is a Switch.
+fn is_switched_inner(past: &[Event], f: u64, n: u64) -> bool
+    ensures { result ≡ is_switched_inner past.now f n }
+{
+    f < n && at(is_switch, past, f) && at(|e| is_inner_of(f, e), past, n)
+}
+
+/// Whether the event takes node `n` away.
+pub fn shuts(past: &[Event], n: u64, event: Event) -> bool
+    ensures { result ≡ shuts past.now n event }
+{
+    match event {
+        Event::End(m, _) | Event::Close(m) => m == n,
+        Event::Open {
+            place: Place::Inner(f),
+            ..
+        } => is_switched_inner(past, f, n),
+        _ => false,
+    }
+}
+
+/// Whether the event may take a node away.
+fn may_shut(event: Event) -> bool
+    ensures { result ≡ not (shuts_none event) }
+{
+    match event {
+        Event::End(_, _) | Event::Close(_) => true,
+        Event::Open {
+            place: Place::Inner(_),
+            ..
+        } => true,
+        _ => false,
+    }
+}
+
+/// Takes away the marks of the nodes that the event takes away, and of all below them.
+fn close_shut(past: &[Event], event: Event, marks: &mut [bool])
+    requires tied { IsMarked marks.old (is_open past.now) }
+    requires room { length past.now ≤ length marks.old }
+    ensures { IsMarked marks.new (stays_open past.now event) }
+{
+    if !may_shut(event) {
+        return;
+    }
+    for k in 0..past.len() {
+        if marks[k] {
+            if shuts(past, k as u64, event) {
+                marks[k] = false;
+            } else if let Some(p) = parent_of(past, k) {
+                if !marks[p as usize] {
+                    marks[k] = false;
+                }
+            }
+        }
+    }
+}
+
+/// The node above the one that the event makes as number `n`.
+fn parent_of_new(event: Event, n: u64) -> Option<u64>
+    ensures { result ≡ option_and_then (if_less n) (parent_named event) }
+{
+    match event {
+        Event::Open { place, .. } => match named_by(place) {
+            Some(p) if p < n => Some(p),
+            _ => None,
+        },
+        _ => None,
+    }
+}
+
+/// Whether the event makes a node.
+fn makes_node(event: Event) -> bool
+    ensures { result ≡ makes_node event }
+{
+    match event {
+        Event::Open { .. } | Event::Connect(_) => true,
+        _ => false,
+    }
+}
+
+/// Whether the node that the event makes is open.
+fn opens(past: &[Event], event: Event, marks: &[bool]) -> bool
+    requires { IsMarked marks.now (stays_open past.now event) }
+    ensures { result ≡ opens past.now event }
+{
+    let n = past.len() as u64;
+    makes_node(event) && parent_of_new(event, n).is_none_or(|p| is_marked(marks, p))
+}
+
+/// The marks of the open nodes, with one event more.
+pub fn mark_open(past: &[Event], event: Event, marks: &mut [bool])
+    requires tied { IsMarked marks.old (is_open past.now) }
+    requires room { length past.now < length marks.old }
+    ensures { IsMarked marks.new (is_open (past.now ++ event ∷ [])) }
+{
+    close_shut(past, event, marks);
+    marks[past.len()] = opens(past, event, marks);
+}

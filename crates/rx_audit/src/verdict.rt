@@ -1,0 +1,307 @@
+//! The verdict on a list of events.
+
+ghost use Rattle.std.specs.Prelude.{◌≡◌, ℕ, ◌+◌, ◌<◌, ◌≤◌, ◌↔◌, IsTrue, IfOk, IsErr, [], ◌∷◌, ◌++◌, Some, None, MatchOption, length, slice_get, take};
+ghost use Rattle.rx_event.specs.Tree.{is_open, open_nodes};
+ghost use Rattle.rx_event.specs.Resources.{held_resources, waiting_resources};
+ghost use Rattle.rx_event.specs.Allowed.{IsAllowed};
+ghost use Rattle.rx_event.specs.Forced.{IsConnectDue};
+ghost use Rattle.rx_event.specs.Lawful.{IsLawful, MayFollow};
+ghost use Rattle.rx_audit.specs.Known.{IsFoundHere, IsSurveyed};
+ghost use Rattle.rx_audit.specs.Survey.{AreHubsNamed, IsSized};
+ghost use Rattle.rx_audit.specs.Found.{IsFound};
+ghost use Rattle.rx_audit.specs.Verdict.{IsVerdict, IsFoundUnlawful, IsAllFound, opens_pass, opened_with};
+
+use crate::allowed::{
+    is_allowed_simply, is_held, is_item_allowed, is_open_allowed, is_waiting, open_count,
+    MOST_NODES,
+};
+use crate::event_tests::at;
+use crate::forced::{any_connect_due, is_forced, is_settled};
+use crate::found::{Found, follow, nothing_found};
+use crate::marks::is_marked;
+use crate::openness::mark_open;
+use crate::survey::{Survey, look, new_survey};
+use rx_event::{Event, Kind, Place};
+use std::alloc::{AllocError, Global};
+
+/// What the audit says of a list of events.
+#[derive(Debug, Drop)]
+pub enum Verdict {
+    /// The events are a history that may be, and operators have nothing left to do.
+    Lawful {
+        /// The open nodes, by rising number.
+        live: Vec<u64>,
+        /// The resources that are held, by rising number.
+        held: Vec<u64>,
+        /// The resources that wait to be handed out, by rising number.
+        waiting: Vec<u64>,
+    },
+    /// The events before this place are a history that may be, and the event there may not follow
+    /// them.
+    Unlawful {
+        /// The place, from 0.
+        place: u64,
+    },
+    /// The events are a history that may be, and operators have something left to do.
+    Unsettled,
+}
+
+/// Memory was asked for and refused.
+#[derive(Clone, Copy, Debug, PartialEq, Eq, Drop)]
+pub struct NoMemory;
+
+/// Whether there is room for the connection that the opening of this node may force.
+fn leaves_room(
+    alloc: Global,
+    past: &[Event],
+    next: &[Event],
+    event: Event,
+    found: &Found,
+    survey: &mut Survey,
+) -> Result<bool, AllocError>
+    requires next { next.now ≡ past.now ++ event ∷ [] }
+    requires named { AreHubsNamed next.now }
+    requires found { IsFoundHere past.now found.now }
+    requires found_room { length next.now ≤ length found.now.live.items }
+    requires sized { IsSized (length survey.old.parents.items) survey.old }
+    requires room { length next.now ≤ length survey.old.parents.items }
+    ensures answer { IfOk result (λ b. IsTrue b ↔ ((g : ℕ) → IsConnectDue next.now g → length (open_nodes past.now) + 2 ≤ 1048576)) }
+    ensures sized { IsSized (length survey.old.parents.items) survey.new }
+{
+    if open_count(past, found) <= MOST_NODES - 2 {
+        return Ok(true);
+    }
+    let mut live = Vec::from_slice(alloc, found.live.as_slice())?;
+    mark_open(past, event, live.as_mut_slice());
+    look(next, live.as_slice(), survey);
+    Ok(!any_connect_due(next, survey))
+}
+
+/// Whether a caller may open a node there.
+fn is_opening_allowed(
+    alloc: Global,
+    past: &[Event],
+    next: &[Event],
+    event: Event,
+    place: Place,
+    kind: Kind,
+    found: &Found,
+    survey: &mut Survey,
+) -> Result<bool, AllocError>
+    requires event { event ≡ Event.Open place kind }
+    requires next { next.now ≡ past.now ++ event ∷ [] }
+    requires named { AreHubsNamed past.now }
+    requires found { IsFoundHere past.now found.now }
+    requires found_room { length next.now ≤ length found.now.live.items }
+    requires sized { IsSized (length survey.old.parents.items) survey.old }
+    requires room { length next.now ≤ length survey.old.parents.items }
+    ensures answer { IfOk result (λ b. IsTrue b ↔ IsAllowed past.now event) }
+    ensures sized { IsSized (length survey.old.parents.items) survey.new }
+{
+    if !is_open_allowed(past, found, place, kind) {
+        return Ok(false);
+    }
+    leaves_room(alloc, past, next, event, found, survey)
+}
+
+/// Whether a caller's event may come next.
+fn is_allowed(
+    alloc: Global,
+    past: &[Event],
+    next: &[Event],
+    event: Event,
+    found: &Found,
+    survey: &mut Survey,
+) -> Result<bool, AllocError>
+    requires next { next.now ≡ past.now ++ event ∷ [] }
+    requires named { AreHubsNamed past.now }
+    requires found { IsFoundHere past.now found.now }
+    requires found_room { length next.now ≤ length found.now.live.items }
+    requires survey { IsSurveyed past.now survey.old }
+    requires room { length next.now ≤ length survey.old.parents.items }
+    ensures answer { IfOk result (λ b. IsTrue b ↔ IsAllowed past.now event) }
+    ensures sized { IsSized (length survey.old.parents.items) survey.new }
+{
+    match event {
+        Event::Open { place, kind } => {
+            is_opening_allowed(alloc, past, next, event, place, kind, found, survey)
+        }
+        Event::Item(leaf, _) => is_item_allowed(alloc, past, found, leaf),
+        _ => Ok(is_allowed_simply(past, found, survey, event)),
+    }
+}
+
+/// Whether the event opens a mirroring node.
+fn opens_pass(event: Event) -> bool
+    ensures { result ≡ opens_pass event }
+{
+    match event {
+        Event::Open {
+            kind: Kind::Pass, ..
+        } => true,
+        _ => false,
+    }
+}
+
+/// Whether the event accepts a resource at the node that was opened last, which is a mirroring one
+/// (Using).
+fn is_opened_with(past: &[Event], found: &Found, event: Event) -> bool
+    requires { IsFoundHere past.now found.now }
+    ensures { result ≡ opened_with past.now event }
+{
+    match event {
+        Event::Accept(n, _) => {
+            at(opens_pass, past, n)
+                && past.len() as u64 - 1 == n
+                && is_marked(found.live.as_slice(), n)
+        }
+        _ => false,
+    }
+}
+
+/// Whether the event may come next.
+fn may_follow(
+    alloc: Global,
+    past: &[Event],
+    next: &[Event],
+    event: Event,
+    found: &Found,
+    survey: &mut Survey,
+) -> Result<bool, AllocError>
+    requires next { next.now ≡ past.now ++ event ∷ [] }
+    requires lawful { IsLawful past.now }
+    requires found { IsFoundHere past.now found.now }
+    requires found_room { length next.now ≤ length found.now.live.items }
+    requires sized { IsSized (length survey.old.parents.items) survey.old }
+    requires room { length next.now ≤ length survey.old.parents.items }
+    ensures answer { IfOk result (λ b. IsTrue b ↔ MayFollow past.now event) }
+    ensures sized { IsSized (length survey.old.parents.items) survey.new }
+{
+    look(past, found.live.as_slice(), survey);
+    if is_forced(past, found, survey, event) {
+        return Ok(true);
+    }
+    if is_opened_with(past, found, event) {
+        return Ok(true);
+    }
+    if !is_settled(past, found, survey) {
+        return Ok(false);
+    }
+    is_allowed(alloc, past, next, event, found, survey)
+}
+
+/// The first place whose event may not follow those before it, if there is one. Where there is
+/// none, `found` is what was found of all events.
+fn first_unlawful(
+    alloc: Global,
+    events: &[Event],
+    found: &mut Found,
+    survey: &mut Survey,
+) -> Result<Option<u64>, AllocError>
+    requires found { IsFound [] (length events.now) found.old }
+    requires sized { IsSized (length events.now) survey.old }
+    ensures answer { IfOk result (λ place. MatchOption place (IsAllFound events.now found.new) (IsFoundUnlawful events.now)) }
+    ensures sized { IsSized (length survey.old.parents.items) survey.new }
+{
+    for i in 0..events.len() {
+        let past = &events[..i];
+        let next = &events[..i + 1];
+        let event = events[i];
+        if !may_follow(alloc, past, next, event, found, survey)? {
+            return Ok(Some(i as u64));
+        }
+        follow(alloc, past, event, found)?;
+    }
+    Ok(None)
+}
+
+/// The open nodes.
+fn open_nodes(
+    alloc: Global,
+    events: &[Event],
+    found: &Found,
+) -> Result<Vec<u64>, AllocError>
+    requires { IsFoundHere events.now found.now }
+    ensures { IfOk result (λ v. v.items ≡ open_nodes events.now) }
+{
+    (0..events.len() as u64)
+        .filter(|k| is_marked(found.live.as_slice(), *k))
+        .collect(alloc)
+}
+
+/// The held resources.
+fn held_resources(
+    alloc: Global,
+    events: &[Event],
+    found: &Found,
+) -> Result<Vec<u64>, AllocError>
+    requires { IsFoundHere events.now found.now }
+    ensures { IfOk result (λ v. v.items ≡ held_resources events.now) }
+{
+    (0..events.len() as u64)
+        .filter(|r| is_held(events, found, *r))
+        .collect(alloc)
+}
+
+/// The resources that wait.
+fn waiting_resources(
+    alloc: Global,
+    events: &[Event],
+    found: &Found,
+) -> Result<Vec<u64>, AllocError>
+    requires { IsFoundHere events.now found.now }
+    ensures { IfOk result (λ v. v.items ≡ waiting_resources events.now) }
+{
+    (0..events.len() as u64)
+        .filter(|r| is_waiting(events, found, *r))
+        .collect(alloc)
+}
+
+/// The verdict on a lawful list of events.
+fn judge_lawful(
+    alloc: Global,
+    events: &[Event],
+    found: &Found,
+    survey: &mut Survey,
+) -> Result<Verdict, AllocError>
+    requires found { IsAllFound events.now found.now }
+    requires sized { IsSized (length events.now) survey.old }
+    ensures { IfOk result (IsVerdict events.now) }
+{
+    look(events, found.live.as_slice(), survey);
+    if !is_settled(events, found, survey) {
+        return Ok(Verdict::Unsettled);
+    }
+    Ok(Verdict::Lawful {
+        live: open_nodes(alloc, events, found)?,
+        held: held_resources(alloc, events, found)?,
+        waiting: waiting_resources(alloc, events, found)?,
+    })
+}
+
+/// The verdict on a list of events.
+fn judge(alloc: Global, events: &[Event]) -> Result<Verdict, AllocError>
+    ensures { IfOk result (IsVerdict events.now) }
+{
+    let mut found = nothing_found(alloc, events.len())?;
+    let mut survey = new_survey(alloc, events.len())?;
+    match first_unlawful(alloc, events, &mut found, &mut survey)? {
+        Some(place) => Ok(Verdict::Unlawful { place }),
+        None => judge_lawful(alloc, events, &found, &mut survey),
+    }
+}
+
+/// The verdict on any list of events, oldest first: `Unlawful` with the first place whose event may
+/// not follow those before it, `Unsettled` where all may and operators have something left to do,
+/// else `Lawful` with what is open, held and waiting. The rules are those of the Observable
+/// Contract, of the operators' pages at reactivex.io and of System.Reactive's disposables.
+///
+/// Refused with `NoMemory` where memory was asked for and refused.
+pub fn audit(alloc: Global, events: &[Event]) -> Result<Verdict, NoMemory>
+    ensures { IfOk result (IsVerdict events.now) }
+{
+    match judge(alloc, events) {
+        Ok(verdict) => Ok(verdict),
+        Err(_) => Err(NoMemory),
+    }
+}
