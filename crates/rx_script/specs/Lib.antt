@@ -6,3 +6,5 @@ pub mod Stage
 pub mod Course
 pub mod Text
 pub mod Report
+pub mod Dump
+pub mod VerdictText

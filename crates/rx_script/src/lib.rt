@@ -7,8 +7,12 @@
 mod answer;
 mod decode;
 mod device;
+mod dump;
+mod fault;
 mod line;
 mod scenario;
 mod text;
+mod verdict;
 
 pub use device::Watched;
+pub use fault::ScriptError;
