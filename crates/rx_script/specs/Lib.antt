@@ -8,3 +8,4 @@ pub mod Text
 pub mod Report
 pub mod Dump
 pub mod VerdictText
+pub mod Check

@@ -5,6 +5,7 @@
 #![tactic(auto)]
 
 mod answer;
+mod check_dump;
 mod decode;
 mod device;
 mod dump;
@@ -14,5 +15,6 @@ mod scenario;
 mod text;
 mod verdict;
 
+pub use check_dump::check;
 pub use device::Watched;
 pub use fault::ScriptError;
