@@ -1,7 +1,9 @@
--- The history that a JSON value is. A dump is an array of events, and an event an array: what it is, then its parts.
-use Rattle.std.specs.Prelude.{ℕ, suc, ◌+◌, ◌^◌, ◌==◌, ℤ, List, [], ◌∷◌, codes, Bool, false, nat_lt, if◌then◌else◌, Option, Some, None, option_map, option_and_then}
+-- Histories as JSON: a dump is an array of events, and an event an array: what it is, then its parts. First the history that a
+-- value is, then the text of a history.
+use Rattle.std.specs.Prelude.{ℕ, suc, ◌+◌, ◌^◌, ◌==◌, ℤ, List, [], ◌∷◌, ◌++◌, codes, flat_map, Bool, false, nat_lt, if◌then◌else◌, Option, Some, None, option_map, option_and_then}
 use Rattle.std.specs.Option.{option_map_or}
 use Rattle.std.specs.Str.{bytes_eq}
+use Rattle.std.specs.Fmt.{decimal, signed_decimal}
 use Rattle.serde_json.specs.Data.{Data, Items, no_items, item}
 use Rattle.serde_json.specs.Find.{at, as_str, as_number, as_u64, as_i64, as_array}
 use Rattle.rx_note.specs.declared.note.Terminal.{Terminal}
@@ -141,3 +143,52 @@ each_event (item d ds) = option_and_then (λ e. option_map (λ es. e ∷ es) (ea
 -- an array of nothing but events
 unfoldable pub history_of : Data → Option (List Event)
 history_of d = option_and_then each_event (as_array d)
+
+-- the text of a history ---------------------------------------------------------------------------
+
+abbrev pub place_text : Place → List ℕ
+place_text Root = codes "\"root\""
+place_text (Source n) = codes "\"source\"," ++ decimal n
+place_text (Inner n) = codes "\"inner\"," ++ decimal n
+place_text (Notifier n) = codes "\"notifier\"," ++ decimal n
+
+abbrev pub kind_text : Kind → List ℕ
+kind_text Leaf = codes "\"leaf\""
+kind_text Pass = codes "\"pass\""
+kind_text Flat = codes "\"flat\""
+kind_text Switch = codes "\"switch\""
+kind_text Until = codes "\"until\""
+kind_text (Sub hub) = codes "\"sub\"," ++ decimal hub
+
+abbrev pub mode_text : Mode → List ℕ
+mode_text Auto = codes "\"auto\""
+mode_text Manual = codes "\"manual\""
+
+abbrev pub terminal_text : Terminal → List ℕ
+terminal_text Completed = codes "\"completed\""
+terminal_text (Error code) = codes "\"error\"," ++ decimal code
+
+unfoldable pub event_text : Event → List ℕ
+event_text (Open place kind) = codes "[\"open\"," ++ place_text place ++ codes "," ++ kind_text kind ++ codes "]"
+event_text (Hub mode) = codes "[\"hub\"," ++ mode_text mode ++ codes "]"
+event_text (Connect hub) = codes "[\"connect\"," ++ decimal hub ++ codes "]"
+event_text (Accept node tag) = codes "[\"accept\"," ++ decimal node ++ codes "," ++ decimal tag ++ codes "]"
+event_text (Use res) = codes "[\"use\"," ++ decimal res ++ codes "]"
+event_text (Remove res) = codes "[\"remove\"," ++ decimal res ++ codes "]"
+event_text (Item leaf value) = codes "[\"item\"," ++ decimal leaf ++ codes "," ++ signed_decimal value ++ codes "]"
+event_text (Decline node) = codes "[\"decline\"," ++ decimal node ++ codes "]"
+event_text (End node terminal) = codes "[\"end\"," ++ decimal node ++ codes "," ++ terminal_text terminal ++ codes "]"
+event_text (Close node) = codes "[\"close\"," ++ decimal node ++ codes "]"
+event_text (Take res) = codes "[\"take\"," ++ decimal res ++ codes "]"
+
+-- an event that another one precedes
+abbrev pub next_text : Event → List ℕ
+next_text e = codes "," ++ event_text e
+
+abbrev pub events_text : List Event → List ℕ
+events_text [] = []
+events_text (e ∷ es) = event_text e ++ flat_map next_text es
+
+-- the array with no space, and a newline
+unfoldable pub dump : List Event → List ℕ
+dump h = codes "[" ++ events_text h ++ codes "]\n"

@@ -107,3 +107,6 @@ pub fn check<R: Read, W: Write>(
     }
     Ok(is_lawful(&verdict))
 }
+
+#[cfg(test)]
+mod tests;

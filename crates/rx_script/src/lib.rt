@@ -9,6 +9,7 @@ mod check_dump;
 mod decode;
 mod device;
 mod dump;
+mod dump_text;
 mod fault;
 mod line;
 mod scenario;
