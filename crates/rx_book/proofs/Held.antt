@@ -1,16 +1,14 @@
 -- What is held, by the list of the resources that are not taken.
-use Rattle.std.proofs.Common.{◌≡◌, ℕ, zero, suc, ◌+◌, ◌<◌, ◌≤◌, Bool, true, false, List, [], ◌∷◌, ◌++◌, length, map, Option, Some, None, cond, refl, sym, ap, ◌∙◌, arith, slice_get, inl, inr, ◌⊎◌, ◌==◌, count_by}
-use Rattle.std.proofs.Math.Bool.{not, ◌&&◌, ◌||◌}
+use Rattle.std.proofs.Common.{◌≡◌, ℕ, zero, suc, ◌+◌, ◌<◌, ◌≤◌, Bool, true, false, List, [], ◌∷◌, length, map, Some, None, cond, refl, sym, ap, ◌∙◌, arith, inl, inr, ◌⊎◌, ◌==◌, count_by, get_or, zero-add}
+use Rattle.std.proofs.Math.Bool.{◌&&◌, ◌||◌}
 use Rattle.std.specs.List.{find, filter, list_any, list_all, range_with_len, AllByRecursion}
-use Rattle.std.specs.Option.{option_and_then, option_map_or}
-use Rattle.std.proofs.lemmas.Bool.{cases_Bool, cases_order, both_ways, eqb-true, and_parts, false≢true, or_parts, eq-eqb}
-use Rattle.std.proofs.lemmas.Option.{none-some, same_Some}
+use Rattle.std.proofs.lemmas.Bool.{cases_Bool, cases_order, both_ways, and_parts, false≢true, eq-eqb}
 use Rattle.std.proofs.lemmas.List.Sums.{sum_by-cons}
 use Rattle.rx_event.specs.declared.event.Event.{Event}
 use Rattle.rx_event.specs.declared.event.Event.TheVariants.{Remove}
-use Rattle.rx_event.specs.Events.{makes_resource, node_of_accept, is_remove_of}
-use Rattle.rx_event.specs.Tree.{at, places, is_open}
-use Rattle.rx_event.specs.Resources.{is_held, is_taken}
+use Rattle.rx_event.specs.Events.{is_remove_of}
+use Rattle.rx_event.specs.Tree.{places, is_open}
+use Rattle.rx_event.specs.Resources.{is_held}
 use Rattle.rx_event.specs.Totals.{held_count}
 use Rattle.rx_event.specs.Lawful.{IsLawful}
 use Rattle.rx_event.specs.Laws.Resources.{node_of, is_held_within, held_resource, held_not_taken}
@@ -18,7 +16,8 @@ use Rattle.rx_book.specs.declared.register.Untaken.{Untaken}
 use Rattle.rx_book.specs.Plain.{is_plain}
 use Rattle.rx_book.specs.Kept.{is_untaken, untaken_resources}
 use Rattle.rx_book.specs.Ties.{IsTied, IsAtNode, number_of}
-use Rattle.rx_book.proofs.Searches.{found, found_none}
+use Rattle.rx_book.proofs.Marks.{count_by-map}
+use Rattle.rx_book.proofs.Searches.{found_none}
 
 -- nothing is removed
 no_removal : (h : List Event) → list_all is_plain h ≡ true → (r : ℕ) → list_any (is_remove_of r) h ≡ false
@@ -69,3 +68,28 @@ not_listed h law us listed r none = by_test (cases_Bool (is_held h r)) where
       let there : list_any (λ k. k == r) (untaken_resources h) ≡ true = filter_has (is_untaken h) 0 (length h) r (omega arith) (let l = is_held_within h r held in omega arith) (held_untaken h law r held) in
       let gone : list_any (λ k. k == r) (untaken_resources h) ≡ false = ap (list_any (λ k. k == r)) (sym listed) ∙ list_any-map number_of (λ k. k == r) us ∙ found_none (λ u. u.number == r) us none in
       absurd (both_ways _ gone there)
+
+count_by-cons : {X : Type 0} (p : X → Bool) (x : X) (xs : List X) → count_by p (x ∷ xs) ≡ cond (p x) 1 0 + count_by p xs
+count_by-cons p x xs = sum_by-cons (λ y. cond (p y) 1 0) x xs
+
+-- tests that agree at each element count the same
+count_by-each : {X : Type 0} (P : X → Type 0) (p q : X → Bool) → ((x : X) → P x → p x ≡ q x) → (xs : List X) → AllByRecursion P xs → count_by p xs ≡ count_by q xs
+count_by-each P p q same [] each = refl
+count_by-each P p q same (x ∷ xs) each = rw (count_by-cons p x xs, count_by-cons q x xs, same x each.0, count_by-each P p q same xs each.1) refl
+
+count_by-filter : {X : Type 0} (p q : X → Bool) → ((x : X) → q x ≡ true → p x ≡ true) → (xs : List X) → count_by q (filter p xs) ≡ count_by q xs
+count_by-filter p q all [] = refl
+count_by-filter p q all (x ∷ xs) = rw (count_by-cons q x xs, ← count_by-filter p q all xs) (by_test (p x) (q x) refl (all x)) where
+  by_test : (b c : Bool) → q x ≡ c → (c ≡ true → b ≡ true) → count_by q (cond b (x ∷ filter p xs) (filter p xs)) ≡ cond c 1 0 + count_by q (filter p xs)
+  by_test true c is both = rw (count_by-cons q x (filter p xs), is) refl
+  by_test false true is both = absurd (false≢true (both refl))
+  by_test false false is both = sym (zero-add (count_by q (filter p xs)))
+
+-- how many resources are held, by the marks of their nodes
+pub held_total_is : (h : List Event) → IsLawful h → list_all is_plain h ≡ true → (ms : List Bool) → IsTied h ms → (us : List Untaken) → map number_of us ≡ untaken_resources h → AllByRecursion (IsAtNode h) us → count_by (λ (u : Untaken). get_or ms u.node false) us ≡ held_count h
+held_total_is h law p ms tied us listed nodes =
+    count_by-each (IsAtNode h) (λ (u : Untaken). get_or ms u.node false) (λ (u : Untaken). is_held h u.number) (λ u at_u. tied.each u.node ∙ sym (held_at h p u.number u.node at_u)) us nodes ∙ sym (count_by-map (is_held h) number_of us) ∙ ap (count_by (is_held h)) listed ∙ count_by-filter (is_untaken h) (is_held h) (held_untaken h law) (places h)
+
+-- a count of marked nodes, over the lists that slices showed
+pub marked_count : (n : ℕ) (ms ns : List Bool) (us vs : List Untaken) → ms ≡ ns → us ≡ vs → n ≡ count_by (λ (u : Untaken). get_or ms u.node false) us → n ≡ count_by (λ (u : Untaken). get_or ns u.node false) vs
+marked_count n ms ns us vs marks untaken is = is ∙ ap (λ (xs : List Bool). count_by (λ (u : Untaken). get_or xs u.node false) us) marks ∙ ap (count_by (λ (u : Untaken). get_or ns u.node false)) untaken

@@ -11,3 +11,13 @@ pub mod Empty
 pub mod Searches
 pub mod Held
 pub mod Given
+pub mod Taken
+pub mod Clear
+pub mod After
+pub mod Openings
+pub mod Items
+pub mod Tops
+pub mod Closings
+pub mod Holdings
+pub mod Takings
+pub mod Letters

@@ -2,7 +2,7 @@
 use Rattle.std.proofs.Common.{◌≡◌, ℕ, zero, suc, ◌+◌, ◌<◌, ◌≤◌, Bool, true, false, List, [], ◌∷◌, ◌++◌, length, Option, Some, None, refl, sym, ap, ◌∙◌, arith, ◌==◌, ◌≢◌, get_or, set, get_or-set_other, get_or-set_same, below_more, ◌⊎◌, inl, inr, length-append, take, map, count_by, cond, slice_get, add-one}
 use Rattle.std.proofs.Math.Bool.{not, ◌&&◌}
 use Rattle.std.proofs.Math.Seq.{take-append_seam}
-use Rattle.std.proofs.lemmas.Bool.{eq-eqb, ne_eqb, cases_order, cases_Bool, both_ways, false≢true, lt-ltb, or_parts}
+use Rattle.std.proofs.lemmas.Bool.{eq-eqb, ne_eqb, cases_order, false≢true, lt-ltb, or_parts}
 use Rattle.std.proofs.lemmas.List.Sums.{sum_by-cons}
 use Rattle.std.proofs.lemmas.List.FromFn.{fill_by_all}
 use Rattle.std.proofs.lemmas.Option.{none-some, same_Some}
@@ -100,7 +100,7 @@ is_open_after h e q s n = by_place (cases_order n (length h)) where
   by_place (inr (inr g)) = is_open_past (h ++ e ∷ []) n (omega (arith, length-append {A = Event})) ∙ sym (gone n (omega arith))
 
 -- one more mark that is false reads as none
-get_or-push_false : (ms : List Bool) (n : ℕ) → get_or (ms ++ false ∷ []) n false ≡ get_or ms n false
+pub get_or-push_false : (ms : List Bool) (n : ℕ) → get_or (ms ++ false ∷ []) n false ≡ get_or ms n false
 get_or-push_false [] zero = refl
 get_or-push_false [] (suc n) = refl
 get_or-push_false (m ∷ ms) zero = refl
@@ -118,7 +118,7 @@ tied_empty = record { same_length = refl; each = λ n. sym (is_open_past [] n (o
 pub written_back : (n : ℕ) (xs ys : List Bool) → n ≡ length xs → take n (xs ++ ys) ≡ xs
 written_back n xs ys e = rw (e, take-append_seam xs ys) refl
 
-count_by-map : {X : Type 0} (q : X → Bool) (f : ℕ → X) (xs : List ℕ) → count_by q (map f xs) ≡ count_by (λ x. q (f x)) xs
+pub count_by-map : {X Y : Type 0} (q : X → Bool) (f : Y → X) (xs : List Y) → count_by q (map f xs) ≡ count_by (λ x. q (f x)) xs
 count_by-map q f [] = refl
 count_by-map q f (x ∷ xs) = sum_by-cons (λ y. cond (q y) 1 0) (f x) (map f xs) ∙ ap (λ (k : ℕ). cond (q (f x)) 1 0 + k) (count_by-map q f xs) ∙ sym (sum_by-cons (λ y. cond (q (f y)) 1 0) x xs)
 
@@ -139,7 +139,7 @@ free_opens h (Source x) kind p free = rw (lt-ltb x (length h) (is_open_within h 
 free_opens h (Inner x) kind p free = absurd (false≢true p)
 free_opens h (Notifier x) kind p free = absurd (false≢true p)
 
-shuts_no_node : (place : Place) (kind : Kind) → is_plain (Open place kind) ≡ true → shuts_none (Open place kind) ≡ true
+pub shuts_no_node : (place : Place) (kind : Kind) → is_plain (Open place kind) ≡ true → shuts_none (Open place kind) ≡ true
 shuts_no_node Root kind p = refl
 shuts_no_node (Source x) kind p = refl
 shuts_no_node (Inner x) kind p = absurd (false≢true p)
@@ -187,6 +187,7 @@ tied_after_quiet h e ms no_node quiet tied = record {
     by_place n (inr (inl l)) = is_open_kept h e n l quiet
     by_place n (inl same) = rw same (is_open_step (h ++ e ∷ []) (length h) ∙ rw (slice_get_last h e, no_node) (sym (is_open_past h (length h) (omega arith))))
     by_place n (inr (inr g)) = is_open_past (h ++ e ∷ []) n (omega (arith, length-append {A = Event})) ∙ sym (is_open_past h n (omega arith))
+
 -- how many nodes are open
 pub count_of_marks : (h : List Event) (ms : List Bool) → IsTied h ms → open_count h ≡ count_by (λ b. b) ms
 count_of_marks h ms tied = sym (ap (count_by (λ b. b)) all_marks ∙ count_by-map (λ b. b) (is_open h) (places h))

@@ -1,14 +1,16 @@
 -- A register with the boxes of its resources beside it keeps what a book promises.
 use Rattle.std.proofs.Common.{◌≡◌, ℕ, ◌+◌, ◌<◌, Bool, true, false, List, [], ◌∷◌, length, map, cond, refl, sym, ap, ◌∙◌, arith, inl, inr, ◌⊎◌}
 use Rattle.std.proofs.Math.Bool.{not, ◌&&◌}
-use Rattle.std.specs.List.{filter}
-use Rattle.std.proofs.lemmas.Bool.{cases_Bool, and_from, both_ways}
+use Rattle.std.specs.List.{filter, list_all}
+use Rattle.std.proofs.lemmas.Bool.{cases_Bool, and_from, both_ways, false≢true}
 use Rattle.std.proofs.lemmas.List.{length-map}
 use Rattle.std.proofs.lemmas.List.Elements.{All-filter}
 use Rattle.std.proofs.lemmas.List.Sums.{length-filter}
 use Rattle.rx_event.specs.declared.event.Event.{Event}
-use Rattle.rx_event.specs.Tree.{is_open, places, open_nodes}
+use Rattle.rx_event.specs.Tree.{at, is_open, places, open_nodes, hubs}
 use Rattle.rx_event.specs.Resources.{is_held, is_taken, is_waiting, held_resources}
+use Rattle.rx_event.specs.declared.event.Event.TheVariants.{Hub}
+use Rattle.rx_event.specs.Events.{makes_hub}
 use Rattle.rx_event.specs.Lawful.{IsLawful}
 use Rattle.rx_event.specs.Laws.Openness.{is_open_within}
 use Rattle.rx_event.specs.Laws.Resources.{is_held_within, held_resource, held_not_taken, is_waiting_within, waiting_parts}
@@ -16,6 +18,8 @@ use Rattle.rx_event.specs.Laws.Totals.{accepted_count-parts}
 use Rattle.rx_book.specs.declared.key.Key.{Key}
 use Rattle.rx_book.specs.declared.key.ResKey.{ResKey}
 use Rattle.rx_book.specs.State.{Box, State, AreJust, IsBoxOf, IsKept}
+use Rattle.rx_book.specs.Plain.{is_plain}
+use Rattle.rx_book.proofs.Plain.{never_at}
 use Rattle.rx_book.specs.Kept.{Kept, IsUpheld, is_untaken, untaken_resources}
 use Rattle.rx_book.specs.Boxes.{state_of, key_at, res_key_at, IsStocked}
 use Rattle.rx_book.proofs.Just.{AreJust-places}
@@ -45,7 +49,7 @@ filter-filter p q wider (n ∷ ns) = at_first (filter-filter p q wider ns) (case
 held_untaken : (h : List Event) → IsLawful h → (r : ℕ) → is_held h r ≡ true → is_untaken h r ≡ true
 held_untaken h law r held = and_from _ _ (held_resource h r held) (ap not (held_not_taken h law r held))
 
-waiting_untaken : (h : List Event) (r : ℕ) → is_waiting h r ≡ true → is_untaken h r ≡ true
+pub waiting_untaken : (h : List Event) (r : ℕ) → is_waiting h r ≡ true → is_untaken h r ≡ true
 waiting_untaken h r waits = let parts = waiting_parts h r waits in and_from _ _ parts.0 (ap not parts.2)
 
 -- the boxes of the resources that pass a test, which only resources that are not taken do
@@ -53,10 +57,22 @@ pub boxes_where : (s : Kept) (boxes : List Box) (p : ℕ → Bool) → s.untaken
 boxes_where s boxes p listed stocked untaken =
     map-filter (λ (b : Box). b.number) p boxes ∙ ap (filter p) (stocked.numbers ∙ listed) ∙ filter-filter p (is_untaken s.history) untaken (places s.history)
 
+-- a plain history makes no hub
+no_hubs : (h : List Event) → list_all is_plain h ≡ true → hubs h ≡ []
+no_hubs h plain = none (places h) where
+  no_hub : (e : Event) → is_plain e ≡ true → makes_hub e ≡ false
+  no_hub (Hub mode) p = absurd (false≢true p)
+  no_hub _ p = refl
+
+  none : (ns : List ℕ) → filter (at makes_hub h) ns ≡ []
+  none [] = refl
+  none (n ∷ ns) = rw (never_at makes_hub no_hub h plain n) (none ns)
+
 pub kept_state : (s : Kept) (boxes : List Box) → IsUpheld s → IsStocked s boxes → IsKept (state_of s boxes)
 kept_state s boxes up stocked = record {
   lawful = up.lawful;
   settled = up.settled;
+  unpublished = no_hubs s.history up.plain;
   keys = rw open_numbers (AreJust-places (is_open s.history) s.history (is_open_within s.history));
   res_keys = rw res_numbers (AreJust-places (is_held s.history) s.history (is_held_within s.history));
   held = rw held_numbers (AreJust-places (is_held s.history) s.history (is_held_within s.history));

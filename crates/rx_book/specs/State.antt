@@ -1,10 +1,10 @@
 -- What a book is to its callers.
-use Rattle.std.specs.Prelude.{◌≡◌, ◌≢◌, ℕ, ◌+◌, ◌≤◌, Bool, ◌&&◌, ◌==◌, Option, Some, None, List, length, map, slice_get, IsTrue}
+use Rattle.std.specs.Prelude.{◌≡◌, ◌≢◌, ℕ, ◌+◌, ◌≤◌, Bool, [], ◌&&◌, ◌==◌, Option, Some, None, List, length, map, slice_get, IsTrue}
 use Rattle.std.specs.List.{All, AllPairs, Contains, list_any}
 use Rattle.std.specs.Option.{option_and_then}
 use Rattle.rx_event.specs.declared.event.Event.{Event}
 use Rattle.rx_event.specs.declared.event.Event.TheVariants.{Accept}
-use Rattle.rx_event.specs.Tree.{is_open}
+use Rattle.rx_event.specs.Tree.{is_open, hubs}
 use Rattle.rx_event.specs.Resources.{is_held, is_waiting, uses}
 use Rattle.rx_event.specs.Notes.{notes}
 use Rattle.rx_event.specs.Totals.{debt, accepted_count, taken_count}
@@ -57,6 +57,7 @@ pub record IsBoxOf (h : List Event) (b : Box) : Type 0 where
 pub record IsKept (s : State) : Type 0 where
   pub lawful : IsLawful s.history
   pub settled : IsSettled s.history
+  pub unpublished : hubs s.history ≡ []
   pub keys : AreJust (is_open s.history) (map (λ k. k.number) s.keys)
   pub res_keys : AreJust (is_held s.history) (map (λ k. k.number) s.res_keys)
   pub held : AreJust (is_held s.history) (map (λ b. b.number) s.held)

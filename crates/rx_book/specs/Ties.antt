@@ -1,16 +1,18 @@
 -- How what a register keeps beside its history is tied to it.
-use Rattle.std.specs.Prelude.{◌≡◌, ℕ, ◌+◌, ◌≤◌, Bool, true, false, ◌&&◌, ◌==◌, Option, Some, None, List, length, map, take, slice_get, slice_index_or, vec_len, vec_capacity, if◌then◌else◌}
+use Rattle.std.specs.Prelude.{◌≡◌, ℕ, ◌+◌, ◌≤◌, Bool, true, false, ◌&&◌, ◌==◌, Some, List, [], ◌∷◌, ◌++◌, length, map, take, slice_get, slice_index_or, vec_len, vec_capacity}
 use Rattle.std.specs.List.{AllByRecursion, list_all}
-use Rattle.std.specs.Option.{option_and_then}
+use Rattle.std.specs.Option.{option_and_then, option_map_or}
 use Rattle.std.proofs.Math.Bool.{not}
 use Rattle.rx_event.specs.declared.event.Event.{Event}
 use Rattle.rx_event.specs.Events.{node_of_accept}
 use Rattle.rx_event.specs.Tree.{is_open, ancestors}
-use Rattle.rx_event.specs.Notes.{notes}
+use Rattle.rx_event.specs.Notes.{Mail, notes, mail_of}
 use Rattle.rx_event.specs.Totals.{debt, open_count, held_count, item_count, accepted_count}
+use Rattle.rx_event.specs.Lawful.{IsStep}
+use Rattle.rx_book.specs.Plain.{is_plain}
 use Rattle.rx_book.specs.declared.register.Untaken.{Untaken}
 use Rattle.rx_book.specs.declared.register.Register.TheInside.{Inside}
-use Rattle.rx_book.specs.Kept.{Kept, IsUpheld}
+use Rattle.rx_book.specs.Kept.{Kept, IsUpheld, untaken_resources}
 
 -- a mark for each event: whether it made a node that is open
 pub record IsTied (h : List Event) (marks : List Bool) : Type 0 where
@@ -45,3 +47,25 @@ pub record IsRegistered (a : Inside) : Type 0 where
 -- the node is open, and is not q or below it
 abbrev pub outlives : List Event → ℕ → ℕ → Bool
 outlives h q n = is_open h n && list_all (λ a. not (q == a)) (ancestors h n)
+
+abbrev pub last_of : ℕ → List ℕ → ℕ
+last_of n [] = n
+last_of n (m ∷ ms) = last_of m ms
+
+-- the node at the end of the way up from n
+abbrev pub top : List Event → ℕ → ℕ
+top h n = last_of n (ancestors h n)
+
+-- k is h after an end or a closing, and all that it forces: ends alone, which pay for their places out of the debt
+pub record Closes (h outside k : List Event) : Type 0 where
+  pub step : IsStep h outside k
+  pub plain : list_all is_plain k ≡ true
+  pub longer : (more : List Event) × (k ≡ h ++ more)
+  pub untaken : untaken_resources k ≡ untaken_resources h
+  pub items : item_count k ≡ item_count h
+  pub accepted : accepted_count k ≡ accepted_count h
+  pub within : length k + debt k ≤ length h + debt h
+
+-- what the event at a place tells
+abbrev pub told_at : List Event → ℕ → List Mail
+told_at h i = option_map_or (mail_of (take i h)) (slice_get h i) []

@@ -4,7 +4,7 @@ ghost use Rattle.std.specs.Prelude.{◌≡◌, ◌+◌, ◌<◌, ◌≤◌, true
 ghost use Rattle.std.specs.List.{Contains, find};
 ghost use Rattle.rx_event.specs.Tree.{places};
 ghost use Rattle.rx_event.specs.Notes.{notes};
-ghost use Rattle.rx_event.specs.Totals.{held_count, waiting_count, accepted_count, taken_count, item_count};
+ghost use Rattle.rx_event.specs.Totals.{open_count as open_count_in, held_count, waiting_count, accepted_count, taken_count, item_count};
 ghost use Rattle.rx_event.specs.Calls.{Opening, OpeningUsing, Holding, Emitting, Ending, Disposing, Taking};
 ghost use Rattle.rx_event.specs.Refusals.{IsRefusal, first_cause};
 ghost use Rattle.rx_resource.specs.declared.Life.{Life};
@@ -131,7 +131,9 @@ impl<R: Resource> Book<R> {
         ensures kept { OnErr result (self.new ≡ self.old) }
     {
         let place = self.place(at)?;
+        self.register.promise();
         let number = self.register.open(place, kind)?;
+        self.register.promise();
         Ok(
             Opened {
                 key: key_of(number),
@@ -164,8 +166,10 @@ impl<R: Resource> Book<R> {
                 back: resource,
             });
         }
+        self.register.promise();
         match self.register.open_using(place, resource.tag(), fresh) {
             Ok(number) => {
+                self.register.promise();
                 keep(&mut self.entries, number + 1, resource);
                 Ok(
                     OpenedUsing {
@@ -204,6 +208,7 @@ impl<R: Resource> Book<R> {
                 back: resource,
             });
         }
+        self.register.promise();
         match self.register.hold(node.number, resource.tag(), fresh) {
             Ok(number) => {
                 keep(&mut self.entries, number, resource);
@@ -263,6 +268,7 @@ impl<R: Resource> Book<R> {
         ensures accepted { IfSome result (λ handed. Accepts self.old (against self.old true true (Taking handed.0)) (Taking handed.0) self.new) }
         ensures kept { IfNone result (self.new ≡ self.old) }
     {
+        self.register.promise();
         let taken = self.register.take()?;
         let entry = self.entries.remove(taken.index);
         Some(Handed::new(entry.number, entry.resource))
@@ -275,6 +281,13 @@ impl<R: Resource> Book<R> {
         ensures given { self.new ≡ record self.old { given = if is_some result then self.old.given + 1 else self.old.given } }
     {
         self.register.take_mail()
+    }
+
+    /// How many nodes are open.
+    pub fn open_count(&self) -> u64
+        ensures { result ≡ open_count_in self.now.history }
+    {
+        self.register.open_count()
     }
 
     /// How many resources are held.
@@ -345,7 +358,10 @@ impl<R: Resource> Book<R> {
         ensures least { option_map (λ k. k.number) result ≡ find (is_open_root self.now.history) (places self.now.history) }
         ensures key { IfSome result (λ k. IsTrue (has_key self.now.keys k)) }
     {
-        self.register.open_root().map(key_of)
+        match self.register.open_root() {
+            Some(number) => Some(key_of(number)),
+            None => None,
+        }
     }
 
     /// The place by numbers, where its key is an open node's.

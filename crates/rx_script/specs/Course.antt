@@ -15,8 +15,8 @@ use Rattle.rx_script.specs.Stage.{Ware, Stage, start, own_cause, call_of, front_
 
 -- from h one resource after another is taken
 pub data Takes (h : List Event) : List Event → Type 0 where
-  none : Takes h h
-  one_more : {m k : List Event} {r : ℕ} → Takes h m → IsStepOf m (Taking r) k → Takes h k
+  none_taken : Takes h h
+  next_taken : {m k : List Event} {r : ℕ} → Takes h m → IsStepOf m (Taking r) k → Takes h k
 
 -- until nothing waits
 pub record Drains (h k : List Event) : Type 0 where

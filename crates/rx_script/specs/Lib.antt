@@ -6,6 +6,10 @@ pub mod Stage
 pub mod Course
 pub mod Text
 pub mod Report
+pub mod Shelf
+pub mod Engine
+pub mod Outcome
 pub mod Dump
+pub mod DumpLaws
 pub mod VerdictText
 pub mod Check

@@ -7,7 +7,7 @@ use Rattle.rx_event.specs.declared.event.Event.{Event}
 use Rattle.rx_event.specs.declared.event.Event.TheVariants.{Open}
 use Rattle.rx_event.specs.Events.{makes_node}
 use Rattle.rx_event.specs.Tree.{at, is_open}
-use Rattle.rx_event.specs.Resources.{is_held, is_waiting, uses}
+use Rattle.rx_event.specs.Resources.{is_held, is_taken, uses}
 use Rattle.rx_event.specs.Notes.{notes_to}
 use Rattle.rx_event.specs.Totals.{open_count, accepted_count, held_count, waiting_count, taken_count}
 use Rattle.rx_book.specs.State.{accepted_tag}
@@ -16,7 +16,7 @@ use Rattle.rx_script.specs.declared.line.Whereabouts.{Whereabouts}
 use Rattle.rx_script.specs.declared.line.Whereabouts.TheVariants.{Held, Waiting, Taken}
 use Rattle.rx_script.specs.declared.line.Account.{Account}
 use Rattle.rx_script.specs.declared.line.Totals.{Totals}
-use Rattle.rx_script.specs.Stage.{Binding}
+use Rattle.rx_script.specs.Stage.{Binding, Stage}
 use Rattle.rx_script.specs.Text.{refused_line, node_line, res_line, totals_line, closed_line}
 use Rattle.rx_script.specs.Course.{Course}
 
@@ -39,7 +39,7 @@ abbrev pub node_lines : List Event → List Binding → List ℕ
 node_lines h nodes = flat_map (node_shown h) (filter (λ b. at is_told h b.number) nodes)
 
 abbrev pub whereabouts : List Event → ℕ → Whereabouts
-whereabouts h r = if is_held h r then Held else if is_waiting h r then Waiting else Taken
+whereabouts h r = if is_held h r then Held else if is_taken h r then Taken else Waiting
 
 abbrev pub account_of : List Event → ℕ → Account
 account_of h r = record { tag = unwrap_or (option_and_then accepted_tag (slice_get h r)) 0; uses = uses h r; whereabouts = whereabouts h r }
@@ -54,7 +54,10 @@ res_lines h resources = flat_map (res_shown h) resources
 abbrev pub totals_of : List Event → Totals
 totals_of h = record { nodes = count_by makes_node h; open_nodes = open_count h; accepted = accepted_count h; held = held_count h; waiting = waiting_count h; taken = taken_count h }
 
+-- all lines but the last
+unfoldable pub unclosed_report : List Answer → Stage → List ℕ
+unclosed_report answers s = refused_lines answers ++ node_lines s.history s.nodes ++ res_lines s.history s.resources ++ totals_line (totals_of s.history)
+
 -- the text, where so many releases of the whole run met a fault. What is held or waits after the last step is released then
 unfoldable pub report : Course → ℕ → List ℕ
-report c faults =
-    refused_lines c.answers ++ node_lines c.last.history c.last.nodes ++ res_lines c.last.history c.last.resources ++ totals_line (totals_of c.last.history) ++ closed_line (held_count c.last.history + waiting_count c.last.history) faults
+report c faults = unclosed_report c.answers c.last ++ closed_line (held_count c.last.history + waiting_count c.last.history) faults

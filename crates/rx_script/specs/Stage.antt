@@ -6,6 +6,8 @@ use Rattle.rx_event.specs.declared.event.Place.{Place}
 use Rattle.rx_event.specs.declared.event.Place.TheVariants.{Root, Source}
 use Rattle.rx_event.specs.declared.event.Event.{Event}
 use Rattle.rx_event.specs.Calls.{Call, Opening, OpeningUsing, Holding, Emitting, Ending, Disposing}
+use Rattle.rx_resource.specs.declared.Life.{Life}
+use Rattle.rx_book.specs.Boxes.{is_fresh_box}
 use Rattle.rx_script.specs.declared.answer.Cause.{Cause}
 use Rattle.rx_script.specs.declared.answer.Cause.TheVariants.{NoName, NameTaken, NoStock}
 use Rattle.rx_script.specs.Scenario.{Name, Spot, root, source, Step, using, open_node, hold, next, end, dispose, drain}
@@ -19,6 +21,10 @@ pub record Binding : Type 0 where
 pub record Ware : Type 0 where
   pub tag : ℕ
   pub is_fresh : Bool
+
+-- a book takes a resource that was neither released nor used
+abbrev pub ware_of : ℕ → Life → ℕ → Ware
+ware_of tag life uses = record { tag = tag; is_fresh = is_fresh_box life uses }
 
 -- what has happened, what the names of nodes and of resources stand for, in order of binding, and what is left of the stock
 pub record Stage : Type 0 where

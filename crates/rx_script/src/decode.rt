@@ -1,6 +1,6 @@
 //! The scenario that a JSON text is.
 
-ghost use Rattle.std.specs.Prelude.{◌≡◌, Some, None, IfOk, IsErrOf};
+ghost use Rattle.std.specs.Prelude.{◌≡◌, ◌≤◌, Some, None, IfOk, IsErrOf};
 ghost use Rattle.serde_json.specs.Data.{Data};
 ghost use Rattle.rx_script.specs.Scenario.{script_of};
 ghost use Rattle.rx_script.specs.Reading.{scenario_of, IsJsonOf};
@@ -55,6 +55,7 @@ pub enum DecodeError {
 /// The scenario that the input is.
 pub fn decode(alloc: Global, input: &[u8]) -> Result<Scenario, DecodeError>
     ensures ok { IfOk result (λ s. (d : Data) × IsJsonOf input.now d × (scenario_of d ≡ Some (script_of s))) }
+    ensures limited { IfOk result (λ s. s.events ≤ 4294967295) }
     ensures syntax { IsErrOf result DecodeError.Syntax → (d : Data) → ¬ IsJsonOf input.now d }
     ensures shape { IsErrOf result DecodeError.Shape → (d : Data) × IsJsonOf input.now d × (scenario_of d ≡ None) }
 {

@@ -1,13 +1,13 @@
 //! What a history says of one node, and the marks of those that are open.
 
-ghost use Rattle.std.specs.Prelude.{◌≡◌, ℕ, ◌<◌, ◌≤◌, true, false, Some, ◌&&◌, ◌==◌, length, slice_index_or, count_by, IsTrue};
+ghost use Rattle.std.specs.Prelude.{◌≡◌, ℕ, ◌<◌, ◌≤◌, true, false, Some, ◌&&◌, ◌==◌, length, slice_index_or, count_by, vec_len, vec_capacity, IsTrue};
 ghost use Rattle.std.specs.List.{list_all, list_any};
 ghost use Rattle.std.proofs.Math.Bool.{not};
 ghost use Rattle.rx_event.specs.Events.{has_source as has_source_in, is_leaf as is_leaf_in, is_root as is_root_in, is_source_of};
 ghost use Rattle.rx_event.specs.Tree.{at, parent, ancestors, is_open};
 ghost use Rattle.rx_event.specs.Climb.{visits};
 ghost use Rattle.rx_book.specs.Plain.{is_plain};
-ghost use Rattle.rx_book.specs.Ties.{IsTied, outlives};
+ghost use Rattle.rx_book.specs.Ties.{IsTied, outlives, top};
 
 use rx_event::{Event, History, Kind, Place};
 
@@ -27,6 +27,17 @@ pub(super) fn parent_of(history: &History, node: u64) -> Option<u64>
         }
         _ => None,
     }
+}
+
+/// The node at the end of the way up from this one.
+pub(super) fn top_of(history: &History, node: u64) -> u64
+    ensures { result ≡ top history.now.events node }
+{
+    let mut top = node;
+    while let Some(p) = parent_of(history, top) {
+        top = p;
+    }
+    top
 }
 
 /// Whether the node has a place for a source.
@@ -126,6 +137,13 @@ pub(super) fn count_visits(history: &History, node: u64) -> u64
     seen
 }
 
+/// Whether the node is marked.
+pub(super) fn is_marked(marks: &[bool], node: u64) -> bool
+    ensures { result ≡ slice_index_or marks.now node false }
+{
+    (node as usize) < marks.len() && marks[node as usize]
+}
+
 /// How many marks are set.
 pub(super) fn count_marks(marks: &[bool]) -> usize
     ensures { result ≡ count_by (λ b. b) marks.now }
@@ -134,7 +152,7 @@ pub(super) fn count_marks(marks: &[bool]) -> usize
 }
 
 /// Takes the marks of a node and of all below it away.
-pub(super) fn clear_below(marks: &mut [bool], history: &History, node: u64)
+fn clear_slice(marks: &mut [bool], history: &History, node: u64)
     requires { IsTied history.now.events marks.old }
     ensures { (n : ℕ) → slice_index_or marks.new n false ≡ outlives history.now.events node n }
 {
@@ -147,4 +165,15 @@ pub(super) fn clear_below(marks: &mut [bool], history: &History, node: u64)
             }
         }
     }
+}
+
+/// Takes the marks of a node and of all below it away.
+pub(super) fn clear_below(marks: &mut Vec<bool>, history: &History, node: u64)
+    requires { IsTied history.now.events marks.old.items }
+    ensures same_length { length marks.new.items ≡ length history.now.events }
+    ensures each { (n : ℕ) → slice_index_or marks.new.items n false ≡ outlives history.now.events node n }
+    ensures len { vec_len marks.new ≡ vec_len marks.old }
+    ensures capacity { vec_capacity marks.new ≡ vec_capacity marks.old }
+{
+    clear_slice(marks.as_mut_slice(), history, node);
 }

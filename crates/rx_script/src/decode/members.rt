@@ -1,6 +1,6 @@
 //! Members of objects, and the names, numbers and words in them.
 
-ghost use Rattle.std.specs.Prelude.{◌≡◌, map, string_bytes};
+ghost use Rattle.std.specs.Prelude.{◌≡◌, ◌≤◌, map, string_bytes, IfOk};
 ghost use Rattle.std.specs.List.{list_all};
 ghost use Rattle.std.specs.Map.{keys_of};
 ghost use Rattle.serde_json.specs.View.{view, members_view};
@@ -153,7 +153,8 @@ pub fn kind_in(object: &Value) -> Result<Kind, ShapeError>
 /// The member `events`, a limit from 1 to 4,294,967,295, which is 1,048,576 where there is none.
 #[tactic(auto, unfolding(crate::specs::Reading::events_in))]
 pub fn events_in(object: &Value) -> Result<u64, ShapeError>
-    ensures { Gives (λ n. n) result (events_in (view object.now)) }
+    ensures value { Gives (λ n. n) result (events_in (view object.now)) }
+    ensures limited { IfOk result (λ n. n ≤ 4294967295) }
 {
     let Some(events) = object.get("events") else {
         return Ok(1_048_576);

@@ -1,6 +1,6 @@
 //! Steps by what they do, and the scenario that they make.
 
-ghost use Rattle.std.specs.Prelude.{map};
+ghost use Rattle.std.specs.Prelude.{◌≤◌, map, IfOk};
 ghost use Rattle.serde_json.specs.View.{view, items_view};
 ghost use Rattle.rx_script.specs.Scenario.{step_of as step_meant, script_of};
 ghost use Rattle.rx_script.specs.Gives.{Gives};
@@ -151,7 +151,8 @@ fn steps_in(alloc: Global, object: &Value) -> Result<Vec<Command>, ShapeError>
 /// The scenario that a JSON value is.
 #[tactic(auto, unfolding(crate::specs::Reading::scenario_of))]
 pub fn scenario_of(alloc: Global, object: &Value) -> Result<Scenario, ShapeError>
-    ensures { Gives script_of result (scenario_of (view object.now)) }
+    ensures value { Gives script_of result (scenario_of (view object.now)) }
+    ensures limited { IfOk result (λ s. s.events ≤ 4294967295) }
 {
     if !is_object_of(object, &["steps", "events"]) {
         return Err(ShapeError::Shape);

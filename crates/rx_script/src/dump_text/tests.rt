@@ -41,7 +41,8 @@ fn a_whole_life(rt: HostRuntime) -> Result<(), Fail> {
         Event::End(0, Terminal::Completed),
         Event::Take(1),
     ];
-    let expected = "[[\"open\",\"root\",\"pass\"],[\"accept\",0,0],[\"open\",\"source\",0,\"leaf\"],[\"item\",2,5],[\"end\",2,\"completed\"],[\"end\",0,\"completed\"],[\"take\",1]]\n";
+    let expected =
+        "[[\"open\",\"root\",\"pass\"],[\"accept\",0,0],[\"open\",\"source\",0,\"leaf\"],[\"item\",2,5],[\"end\",2,\"completed\"],[\"end\",0,\"completed\"],[\"take\",1]]\n";
     assert_dump(&rt, rt.alloc(), &history, expected)
 }
 

@@ -1,17 +1,7 @@
-use Rattle.std.proofs.Common.{rules, ◌≡◌, ◌+◌, ◌<◌, ◌≤◌, true, [], ◌∷◌, ◌++◌, length, false, vec_len, vec_capacity, slice_get, option_map, is_some, if◌then◌else◌, OnOk, OnErr, IfOk, IfErr, IfNone, IfSome, IsTrue, MatchOption, ℕ, ◌-◌, ◌*◌, ◌/◌, ◌%◌, Bool, nat_eq, nat_lt, List, slice_index_or, slice_set, bit_and, bit_or, Fits, w8, w32, w64, Bor, MutBor}
-use Rattle.std.specs.List.{Contains, find}
-use Rattle.rx_event.specs.Tree.{places}
-use Rattle.rx_event.specs.Notes.{notes}
-use Rattle.rx_event.specs.Totals.{held_count, waiting_count, accepted_count, taken_count, item_count}
-use Rattle.rx_event.specs.Calls.{Opening, OpeningUsing, Holding, Emitting, Ending, Disposing, Taking}
-use Rattle.rx_event.specs.Refusals.{IsRefusal, first_cause}
-use Rattle.rx_resource.specs.declared.Life.{Life}
-use Rattle.rx_book.specs.State.{IsKept, has_key, has_res_key}
-use Rattle.rx_book.specs.Answers.{place_of, is_known, against, connection_made, Accepts}
-use Rattle.rx_book.specs.Kept.{is_open_root, letter}
-use Rattle.rx_book.specs.Boxes.{box_of, is_fresh_box, key_at, res_key_at}
+use Rattle.std.proofs.Common.{◌∙◌, ap}
+use Rattle.rx_book.specs.State.{State, has_key}
+use Rattle.rx_book.proofs.Given.{root_key}
 use Rattle.rx_book.proofs.book.Book.open_root.Goals as goal
 
--- src/book.rt:344:5
-pub returns-clause-key : goal.returns-clause-key
-returns-clause-key g c = ?
+pub returns-in-Some-clause-key : goal.returns-in-Some-clause-key
+returns-in-Some-clause-key g c = rw (c.key_of.ensures, ← c.self.view_is) (root_key c.self.inside.register.history c.in-Some.number c.in-Some.ensures)

@@ -1,33 +1,28 @@
-use Rattle.std.proofs.Common.{rules, ◌≡◌, ◌+◌, ◌<◌, ◌≤◌, true, [], ◌∷◌, ◌++◌, length, false, vec_len, vec_capacity, slice_get, option_map, is_some, if◌then◌else◌, OnOk, OnErr, IfOk, IfErr, IfNone, IfSome, IsTrue, MatchOption, ℕ, ◌-◌, ◌*◌, ◌/◌, ◌%◌, Bool, nat_eq, nat_lt, List, slice_index_or, slice_set, bit_and, bit_or, Fits, w8, w32, w64, Bor, MutBor}
-use Rattle.std.specs.List.{Contains, find}
-use Rattle.rx_event.specs.Tree.{places}
-use Rattle.rx_event.specs.Notes.{notes}
-use Rattle.rx_event.specs.Totals.{held_count, waiting_count, accepted_count, taken_count, item_count}
-use Rattle.rx_event.specs.Calls.{Opening, OpeningUsing, Holding, Emitting, Ending, Disposing, Taking}
-use Rattle.rx_event.specs.Refusals.{IsRefusal, first_cause}
-use Rattle.rx_resource.specs.declared.Life.{Life}
-use Rattle.rx_book.specs.State.{IsKept, has_key, has_res_key}
-use Rattle.rx_book.specs.Answers.{place_of, is_known, against, connection_made, Accepts}
-use Rattle.rx_book.specs.Kept.{is_open_root, letter}
-use Rattle.rx_book.specs.Boxes.{box_of, is_fresh_box, key_at, res_key_at}
+use Rattle.std.proofs.Common.{◌≡◌, ◌∙◌, sym, refl, true, ap, arith}
+use Rattle.rx_event.specs.Calls.{Taking}
+use Rattle.rx_book.proofs.Steps.{accepts}
+use Rattle.rx_book.proofs.Taken.{none_waiting, within_boxes, stocked_taken, number_taken, box_waits, All-remove}
+use Rattle.rx_resource.specs.declared.Life.TheVariants.{Live}
 use Rattle.rx_book.proofs.book.Book.take.Goals as goal
 
--- src/book.rt:266:21
 pub returns-in_err-taken-clause-cases : goal.returns-in_err-taken-clause-cases
-returns-in_err-taken-clause-cases g c = ?
+returns-in_err-taken-clause-cases g c =
+    rw (c.from_residual.ensures, ← c.self.view_is) (none_waiting c.self.inside.register _ c.promise.ensures c.self.invariant.0 c.in_err-taken.ensures.cases)
 
--- src/book.rt:267:13
 pub remove-entry-requires : goal.remove-entry-requires
-remove-entry-requires g c = ?
+remove-entry-requires g c = let l = within_boxes c.self.inside.register _ _ _ _ c.self.invariant.0 c.in_ok-taken.ensures.removed in omega (arith, l)
 
--- src/book.rt:261:5
 pub invariant_of-self-2 : goal.invariant_of-self-2
-invariant_of-self-2 g c = ?
+invariant_of-self-2 g c =
+    rw c.remove-entry.ensures.items
+    (stocked_taken c.self.inside.register c.take.new.self _ _ _ _ _ c.in_ok-taken.ensures.accepted c.in_ok-taken.ensures.untaken c.self.invariant.0, All-remove (λ e. g.R.Resource.life_of e.resource ≡ Live) _ _ c.self.invariant.1)
 
--- src/book.rt:261:5
 pub returns-clause-cases : goal.returns-clause-cases
-returns-clause-cases g c = ?
+returns-clause-cases g c =
+    rw (c.new.ensures, ← c.self.view_is)
+    (box_waits c.self.inside.register _ _ _ _ c.remove-entry.result c.self.invariant.0 c.in_ok-taken.ensures.removed c.in_ok-taken.ensures.cases c.remove-entry.ensures.value)
 
--- src/book.rt:261:5
 pub returns-clause-accepted : goal.returns-clause-accepted
-returns-clause-accepted g c = ?
+returns-clause-accepted g c =
+    let same = number_taken c.self.inside.register _ _ _ _ c.remove-entry.result c.self.invariant.0 c.in_ok-taken.ensures.removed c.remove-entry.ensures.value in
+    rw (c.new.ensures, same, ← c.self.view_is) (accepts c.self.inside.register c.take.new.self _ _ true true (Taking c.in_ok-taken.taken.number) refl c.in_ok-taken.ensures.accepted)

@@ -1,7 +1,7 @@
 use Rattle.std.proofs.Common.{◌≡◌, ℕ, ◌<◌, ◌≤◌, false, get_or}
 use Rattle.rx_event.specs.Tree.{is_open}
 use Rattle.rx_book.specs.Ties.{outlives}
-use Rattle.rx_book.proofs.register.nodes.clear_below.Given as goal
+use Rattle.rx_book.proofs.register.nodes.clear_slice.Given as goal
 
 abbrev pub invariant-loop-i : goal.invariant-loop-i
 invariant-loop-i l = record {

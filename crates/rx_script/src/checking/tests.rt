@@ -1,8 +1,8 @@
 //! Dumps and their verdicts, faulty input, devices that fail, and refused memory.
 
 use super::check;
+use crate::ScriptError;
 use crate::device::{MOST_BYTES, Watched};
-use crate::fault::ScriptError;
 use rx_scarce::Scarce;
 use std::alloc::Global;
 use std::io;
@@ -10,30 +10,47 @@ use std::io::{Read, Write};
 use std::process::Abort;
 use std::test::Fail;
 
-// What the check of a text answers, and what it writes.
-fn checked(alloc: Global, text: &[u8]) -> (Result<bool, ScriptError>, Vec<u8>) {
-    let mut reader = Watched::new(text);
-    let mut writer = Watched::new(Vec::new(alloc));
-    let answer = check(alloc, &mut reader, &mut writer);
-    let _rest = reader.into_inner();
-    (answer, writer.into_inner())
+// What a check answers, in words.
+fn told(answer: &Result<bool, ScriptError>) -> &'static str {
+    match answer {
+        Ok(true) => "lawful",
+        Ok(false) => "not lawful",
+        Err(ScriptError::Read) => "read fault",
+        Err(ScriptError::Write) => "write fault",
+        Err(ScriptError::Syntax) => "no JSON",
+        Err(ScriptError::Shape) => "no dump",
+        Err(ScriptError::Memory) => "no memory",
+    }
 }
 
-fn assert_verdict(rt: &impl Abort, alloc: Global, text: &str, lawful: bool, expected: &str) {
-    let (answer, written) = checked(alloc, text.as_bytes());
-    assert_eq!(rt; answer, Ok(lawful), "{text}");
+// What the check of a text answers, and what it writes.
+fn checked(alloc: Global, text: &[u8]) -> (&'static str, Vec<u8>) {
+    let mut input = text;
+    let mut output = Vec::new(alloc);
+    let answer = check(
+        alloc,
+        &mut Watched::new(&mut input),
+        &mut Watched::new(&mut output),
+    );
+    (told(&answer), output)
+}
+
+fn assert_verdict(rt: &impl Abort, alloc: Global, text: &str, answer: &str, expected: &str) {
+    let (found, written) = checked(alloc, text.as_bytes());
+    assert_eq!(rt; found, answer, "{text}");
     assert_eq!(rt; written.as_slice(), expected.as_bytes(), "{text}");
 }
 
-fn assert_fault(rt: &impl Abort, alloc: Global, text: &[u8], fault: ScriptError) {
-    let (answer, written) = checked(alloc, text);
-    assert_eq!(rt; answer, Err(fault), "{text:?}");
+fn assert_fault(rt: &impl Abort, alloc: Global, text: &[u8], fault: &str) {
+    let (found, written) = checked(alloc, text);
+    assert_eq!(rt; found, fault, "{text:?}");
     assert!(rt; written.is_empty(), "{text:?}");
 }
 
 const NOTHING_LEFT: &str = "lawful\nlive:\nheld:\nwaiting:\n";
 
-const A_WHOLE_LIFE: &str = "[[\"open\",\"root\",\"pass\"],[\"accept\",0,0],[\"open\",\"source\",0,\"leaf\"],[\"item\",2,5],[\"end\",2,\"completed\"],[\"end\",0,\"completed\"],[\"take\",1]]\n";
+const A_WHOLE_LIFE: &str =
+    "[[\"open\",\"root\",\"pass\"],[\"accept\",0,0],[\"open\",\"source\",0,\"leaf\"],[\"item\",2,5],[\"end\",2,\"completed\"],[\"end\",0,\"completed\"],[\"take\",1]]\n";
 
 #[test]
 fn lawful_histories_are_told_with_what_is_left(rt: HostRuntime) {
@@ -50,7 +67,7 @@ fn lawful_histories_are_told_with_what_is_left(rt: HostRuntime) {
         ),
     ];
     for (text, expected) in cases {
-        assert_verdict(&rt, rt.alloc(), text, true, expected);
+        assert_verdict(&rt, rt.alloc(), text, "lawful", expected);
     }
 }
 
@@ -77,7 +94,7 @@ fn other_histories_are_told_by_the_first_place_that_breaks_a_rule(rt: HostRuntim
         ("[[\"hub\",\"auto\"],[\"connect\",0]]", "unlawful 1\n"),
     ];
     for (text, expected) in cases {
-        assert_verdict(&rt, rt.alloc(), text, false, expected);
+        assert_verdict(&rt, rt.alloc(), text, "not lawful", expected);
     }
 }
 
@@ -92,14 +109,15 @@ fn each_form_of_an_event_is_read(rt: HostRuntime) {
         [\"end\",9,\"error\",4294967295],[\"end\",6,\"error\",4294967295],\
         [\"open\",\"root\",\"switch\"],[\"connect\",1],[\"close\",19],[\"close\",20]]";
     let expected = "lawful\nlive: 2 3 4 5\nheld:\nwaiting:\n";
-    assert_verdict(&rt, rt.alloc(), text, true, expected);
+    assert_verdict(&rt, rt.alloc(), text, "lawful", expected);
 }
 
 #[test]
 fn spaces_do_not_matter(rt: HostRuntime) {
-    let text = " [\n\t[ \"hub\" , \"auto\"]\r\n,[\"open\",\"root\",\"sub\" ,0 ] ,\n[\"connect\"\t,0]\n] \n\n";
+    let text =
+        " [\n\t[ \"hub\" , \"auto\"]\r\n,[\"open\",\"root\",\"sub\" ,0 ] ,\n[\"connect\"\t,0]\n] \n\n";
     let expected = "lawful\nlive: 1 2\nheld:\nwaiting:\n";
-    assert_verdict(&rt, rt.alloc(), text, true, expected);
+    assert_verdict(&rt, rt.alloc(), text, "lawful", expected);
 }
 
 #[test]
@@ -149,7 +167,7 @@ fn what_is_no_dump_has_the_wrong_shape(rt: HostRuntime) {
         "[[\"end\",0,\"error\",4294967296]]",
     ];
     for text in texts {
-        assert_fault(&rt, rt.alloc(), text.as_bytes(), ScriptError::Shape);
+        assert_fault(&rt, rt.alloc(), text.as_bytes(), "no dump");
     }
 }
 
@@ -166,10 +184,10 @@ fn what_is_no_json_is_a_syntax_fault(rt: HostRuntime) {
         b"[\"\xff\"]",
     ];
     for text in texts {
-        assert_fault(&rt, rt.alloc(), text, ScriptError::Syntax);
+        assert_fault(&rt, rt.alloc(), text, "no JSON");
     }
     let brackets = [b'['; 200];
-    assert_fault(&rt, rt.alloc(), &brackets, ScriptError::Syntax);
+    assert_fault(&rt, rt.alloc(), &brackets, "no JSON");
 }
 
 // An empty array and then so many spaces.
@@ -185,11 +203,11 @@ fn padded(alloc: Global, spaces: usize) -> Result<Vec<u8>, Fail> {
 fn an_input_has_a_greatest_length(rt: HostRuntime) -> Result<(), Fail> {
     let longest = padded(rt.alloc(), MOST_BYTES - 2)?;
     let (answer, written) = checked(rt.alloc(), longest.as_slice());
-    assert_eq!(rt; answer, Ok(true));
+    assert_eq!(rt; answer, "lawful");
     assert_eq!(rt; written.as_slice(), NOTHING_LEFT.as_bytes());
     let longer = padded(rt.alloc(), MOST_BYTES - 1)?;
     let (refused, nothing) = checked(rt.alloc(), longer.as_slice());
-    assert_eq!(rt; refused, Err(ScriptError::Syntax));
+    assert_eq!(rt; refused, "no JSON");
     assert!(rt; nothing.is_empty());
     Ok(())
 }
@@ -249,61 +267,65 @@ impl Write for Shut {
 
 #[test]
 fn a_reader_that_fails_is_a_read_fault(rt: HostRuntime) {
-    let mut reader = Watched::new(Broken { reads_left: 1 });
-    let mut writer = Watched::new(Vec::new(rt.alloc()));
-    let answer = check(rt.alloc(), &mut reader, &mut writer);
-    let _broken = reader.into_inner();
-    assert_eq!(rt; answer, Err(ScriptError::Read));
-    assert!(rt; writer.into_inner().is_empty());
+    let mut input = Broken { reads_left: 1 };
+    let mut output = Vec::new(rt.alloc());
+    let answer = check(
+        rt.alloc(),
+        &mut Watched::new(&mut input),
+        &mut Watched::new(&mut output),
+    );
+    assert_eq!(rt; told(&answer), "read fault");
+    assert!(rt; output.is_empty());
 }
 
 #[test]
 fn a_writer_that_fails_has_a_front_of_the_text(rt: HostRuntime) {
-    let mut reader = Watched::new(A_WHOLE_LIFE.as_bytes());
-    let mut writer = Watched::new(Full {
+    let mut input = A_WHOLE_LIFE.as_bytes();
+    let mut output = Full {
         taken: Vec::new(rt.alloc()),
-    });
-    let answer = check(rt.alloc(), &mut reader, &mut writer);
-    let _rest = reader.into_inner();
-    assert_eq!(rt; answer, Err(ScriptError::Write));
-    assert_eq!(rt; writer.into_inner().taken.as_slice(), b"lawful\nliv".as_slice());
+    };
+    let answer = check(
+        rt.alloc(),
+        &mut Watched::new(&mut input),
+        &mut Watched::new(&mut output),
+    );
+    assert_eq!(rt; told(&answer), "write fault");
+    assert_eq!(rt; output.taken.as_slice(), b"lawful\nliv".as_slice());
 }
 
 #[test]
 fn a_writer_that_takes_nothing_is_a_write_fault(rt: HostRuntime) {
-    let mut reader = Watched::new(A_WHOLE_LIFE.as_bytes());
-    let mut writer = Watched::new(Shut);
-    let answer = check(rt.alloc(), &mut reader, &mut writer);
-    let _rest = reader.into_inner();
-    let Shut = writer.into_inner();
-    assert_eq!(rt; answer, Err(ScriptError::Write));
+    let mut input = A_WHOLE_LIFE.as_bytes();
+    let answer = check(
+        rt.alloc(),
+        &mut Watched::new(&mut input),
+        &mut Watched::new(&mut Shut),
+    );
+    assert_eq!(rt; told(&answer), "write fault");
 }
 
 #[test]
 fn refused_memory_writes_nothing(rt: HostRuntime) -> Result<(), Fail> {
-    let mut written: Vec<u8> = Vec::with_capacity(rt.alloc(), 4096)?;
+    let mut output: Vec<u8> = Vec::with_capacity(rt.alloc(), 4096)?;
     let mut scarce = Scarce::new(rt.alloc())?;
     let mut refused = 0u32;
     for _ in 0..100_000 {
-        let mut reader = Watched::new(A_WHOLE_LIFE.as_bytes());
-        let mut writer = Watched::new(&mut written);
-        let answer = check(rt.alloc(), &mut reader, &mut writer);
-        let _rest = reader.into_inner();
-        let _same = writer.into_inner();
-        match answer {
-            Ok(lawful) => {
-                assert!(rt; lawful);
-                break;
-            }
-            Err(fault) => {
-                assert_eq!(rt; fault, ScriptError::Memory);
-                assert!(rt; written.is_empty());
-                refused = refused.wrapping_add(1);
-            }
+        let mut input = A_WHOLE_LIFE.as_bytes();
+        let answer = check(
+            rt.alloc(),
+            &mut Watched::new(&mut input),
+            &mut Watched::new(&mut output),
+        );
+        if let Ok(lawful) = answer {
+            assert!(rt; lawful);
+            break;
         }
+        assert_eq!(rt; told(&answer), "no memory");
+        assert!(rt; output.is_empty());
+        refused = refused.wrapping_add(1);
         assert!(rt; scarce.give_back_one());
     }
     assert!(rt; refused > 1, "refused {refused}");
-    assert_eq!(rt; written.as_slice(), NOTHING_LEFT.as_bytes());
+    assert_eq!(rt; output.as_slice(), NOTHING_LEFT.as_bytes());
     Ok(())
 }
