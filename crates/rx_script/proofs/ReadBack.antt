@@ -1,9 +1,9 @@
 -- Each event's JSON value is read as the event.
-use Rattle.std.proofs.Common.{◌≡◌, ℕ, ◌^◌, pos, negsuc, Bool, true, List, [], ◌∷◌, ◌++◌, Some, None, option_map, option_and_then, refl, ap, ◌∙◌, codes, map}
+use Rattle.std.proofs.Common.{◌≡◌, pos, negsuc, true, List, [], ◌∷◌, Some, option_map, refl, ap, map}
 use Rattle.std.specs.List.{list_all}
 use Rattle.std.proofs.lemmas.Bool.{and_parts}
 use Rattle.serde_json.specs.View.{items_of}
-use Rattle.serde_json.specs.Data.{Data, string, array}
+use Rattle.serde_json.specs.Data.{Data, array}
 use Rattle.rx_note.specs.declared.note.Terminal.TheVariants.{Completed, Error}
 use Rattle.rx_event.specs.declared.event.Place.{Place}
 use Rattle.rx_event.specs.declared.event.Place.TheVariants.{Root, Source, Inner, Notifier}
@@ -13,7 +13,7 @@ use Rattle.rx_event.specs.declared.event.Mode.TheVariants.{Auto, Manual}
 use Rattle.rx_event.specs.declared.event.Event.{Event}
 use Rattle.rx_event.specs.declared.event.Event.TheVariants.{Open, Hub, Connect, Accept, Use, Remove, Item, Decline, End, Close, Take}
 use Rattle.rx_script.specs.Dump.{has_count, word_at, number_at, value_at, only_number, plain_kind, kind_from, place_below, open_below, open_by, open_of, terminal_by, end_of, mode_by, hub_of, accept_of, item_of, event_by, event_of, each_event, history_of}
-use Rattle.rx_script.specs.DumpLaws.{numeral, kind_parts, event_data, history_data, is_in_range}
+use Rattle.rx_script.specs.DumpLaws.{kind_parts, event_data, history_data, is_in_range}
 
 kind_after_two : (a b : Data) (kind : Kind) → kind_from 2 (array (items_of (a ∷ b ∷ kind_parts kind))) ≡ Some kind
 unfolding kind_from has_count word_at number_at plain_kind

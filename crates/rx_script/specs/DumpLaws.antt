@@ -1,5 +1,5 @@
 -- Laws of dumps: the text is that of a JSON value, and the value is read as the history.
-use Rattle.std.specs.Prelude.{◌≡◌, ℕ, ◌^◌, ℤ, pos, negsuc, Bool, true, List, [], ◌∷◌, ◌++◌, codes, map, nat_lt, Some}
+use Rattle.std.specs.Prelude.{◌≡◌, ℕ, ◌^◌, pos, Bool, true, List, [], ◌∷◌, ◌++◌, codes, map, nat_lt, Some}
 use Rattle.std.specs.List.{list_all}
 use Rattle.serde_json.specs.Data.{Data, string, number, array, unsigned}
 use Rattle.serde_json.specs.Find.{of_integer}
