@@ -13,3 +13,7 @@ pub mod Closings
 pub mod Leading
 pub mod Gathering
 pub mod Reporting
+pub mod Counts
+pub mod Histories
+pub mod ReadBack
+pub mod Compact

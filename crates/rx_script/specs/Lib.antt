@@ -9,3 +9,7 @@ pub mod Report
 pub mod Shelf
 pub mod Engine
 pub mod Outcome
+pub mod Dump
+pub mod DumpLaws
+pub mod VerdictText
+pub mod Check
