@@ -1,0 +1,50 @@
+//! The program over any streams.
+ghost use Rattle.std.specs.Prelude.{◌≡◌, ◌≢◌, ◌⊎◌, [], map, Result};
+ghost use Rattle.clap.specs.Words.{IsAmong, fault_of};
+ghost use Rattle.clap.specs.declared.error.kind.ErrorKind.{ErrorKind};
+ghost use Rattle.rx_script.specs.declared.ScriptError.{ScriptError};
+ghost use Rattle.rx_cli.specs.Words.{rxbook};
+ghost use Rattle.rx_cli.specs.Served.{Ended, RefusedBy};
+
+use crate::request::Order;
+use crate::statuses::{ended, out_of_memory};
+use crate::usage::refuse;
+use crate::words::order;
+use clap::error::ErrorKind;
+use rx_resource::Resource;
+use rx_script::run;
+use std::alloc::Global;
+use std::io::{Read, Write};
+
+/// Does what the words order, over these streams and with this stock, and answers the exit status. The
+/// first word is the program's name.
+pub fn serve<R: Resource, I: Read, O: Write, E: Write>(
+    alloc: Global,
+    words: &[&str],
+    stock: Vec<R>,
+    input: &mut I,
+    output: &mut O,
+    errors: &mut E,
+) -> u8
+    ensures ran { fault_of rxbook (map (λ s. s.now) words.now) ≡ []
+        → (outcome : Result (Unit {0}) ScriptError)
+        × Ended (O.contents output.old) (O.contents output.new) (E.contents errors.old)
+        (E.contents errors.new) outcome result }
+
+    ensures refused { fault_of rxbook (map (λ s. s.now) words.now) ≢ []
+        → (k : ErrorKind)
+        × ((k ≡ ErrorKind.OutOfMemory) ⊎ IsAmong k (fault_of rxbook (map (λ s. s.now) words.now)))
+        × RefusedBy k (O.contents output.old) (O.contents output.new) (E.contents errors.old)
+        (E.contents errors.new) result }
+    ensures unread { fault_of rxbook (map (λ s. s.now) words.now) ≢ [] → input.new ≡ input.old }
+{
+    match order(alloc, words) {
+        Ok(Order::Run(form)) => ended(errors, run(alloc, input, output, stock, form)),
+        Err(error) => {
+            if error.kind() == ErrorKind::OutOfMemory {
+                return out_of_memory(errors);
+            }
+            refuse(alloc, &error, output, errors)
+        }
+    }
+}

@@ -1,0 +1,44 @@
+//! What is said where the words are no order.
+ghost use Rattle.std.specs.Prelude.{◌≡◌, ◌≢◌};
+ghost use Rattle.clap.specs.Words.{kind_of};
+ghost use Rattle.rx_cli.specs.Served.{RefusedBy, ShowsHelp, FailsHelp, TellsUsage, is_help};
+
+use crate::statuses::{ended, out_of_memory};
+use crate::text::write_text;
+use clap::error::ErrorKind;
+use rx_script::ScriptError;
+use std::alloc::Global;
+use std::io::Write;
+
+// Whether the text of an error of this kind is help.
+fn is_help(kind: ErrorKind) -> bool
+    ensures { result ≡ is_help kind }
+{
+    matches!(kind, ErrorKind::DisplayHelp | ErrorKind::DisplayVersion)
+}
+
+/// The exit status where the words gave this error, which is not want of memory: its text goes to
+/// `output` with status 0 where it is help, else to `errors` with status 2. Where memory is refused for
+/// the text, or `output` refuses it, the line and status are those of that fault.
+pub fn refuse<O: Write, E: Write>(
+    alloc: Global,
+    error: &clap::Error,
+    output: &mut O,
+    errors: &mut E,
+) -> u8
+    requires { kind_of error.now ≢ ErrorKind.OutOfMemory }
+    ensures { RefusedBy (kind_of error.now) (O.contents output.old) (O.contents output.new)
+        (E.contents errors.old) (E.contents errors.new) result }
+{
+    let Ok(text) = error.to_string(alloc) else {
+        return out_of_memory(errors);
+    };
+    if !is_help(error.kind()) {
+        let _ = write_text(errors, text.as_str().as_bytes());
+        return 2;
+    }
+    if write_text(output, text.as_str().as_bytes()).is_err() {
+        return ended(errors, Err(ScriptError::Write));
+    }
+    0
+}
