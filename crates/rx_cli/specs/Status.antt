@@ -24,3 +24,7 @@ status_of (Err e) = fault_status e
 abbrev pub line_of : {T : Type 0} → Result T ScriptError → List ℕ
 line_of (Ok x) = []
 line_of (Err e) = fault_line e
+
+-- what is said of a word that is no UTF-8
+abbrev pub no_text_line : List ℕ
+no_text_line = codes "error: invalid UTF-8 was detected in one or more arguments\n\nUsage: rxbook [COMMAND]\n\nFor more information, try '--help'.\n"

@@ -43,4 +43,5 @@ pub use program::serve;
 pub use request::Order;
 pub use rx_script::{Form, ScriptError, run};
 pub use statuses::out_of_memory;
+pub use usage::refuse_bytes;
 pub use words::order;

@@ -14,29 +14,30 @@ use clap::error::ErrorKind;
 use rx_resource::Resource;
 use rx_script::run;
 use std::alloc::Global;
+use std::convert::AsStr;
 use std::io::{Read, Write};
 
 /// Does what the words order, over these streams and with this stock, and answers the exit status. The
 /// first word is the program's name.
-pub fn serve<R: Resource, I: Read, O: Write, E: Write>(
+pub fn serve<S: AsStr, R: Resource, I: Read, O: Write, E: Write>(
     alloc: Global,
-    words: &[&str],
+    words: &[S],
     stock: Vec<R>,
     input: &mut I,
     output: &mut O,
     errors: &mut E,
 ) -> u8
-    ensures ran { fault_of rxbook (map (λ s. s.now) words.now) ≡ []
+    ensures ran { fault_of rxbook (map S.text words.now) ≡ []
         → (outcome : Result (Unit {0}) ScriptError)
         × Ended (O.contents output.old) (O.contents output.new) (E.contents errors.old)
         (E.contents errors.new) outcome result }
 
-    ensures refused { fault_of rxbook (map (λ s. s.now) words.now) ≢ []
+    ensures refused { fault_of rxbook (map S.text words.now) ≢ []
         → (k : ErrorKind)
-        × ((k ≡ ErrorKind.OutOfMemory) ⊎ IsAmong k (fault_of rxbook (map (λ s. s.now) words.now)))
+        × ((k ≡ ErrorKind.OutOfMemory) ⊎ IsAmong k (fault_of rxbook (map S.text words.now)))
         × RefusedBy k (O.contents output.old) (O.contents output.new) (E.contents errors.old)
         (E.contents errors.new) result }
-    ensures unread { fault_of rxbook (map (λ s. s.now) words.now) ≢ [] → input.new ≡ input.old }
+    ensures unread { fault_of rxbook (map S.text words.now) ≢ [] → input.new ≡ input.old }
 {
     match order(alloc, words) {
         Ok(Order::Run(form)) => ended(errors, run(alloc, input, output, stock, form)),

@@ -45,7 +45,7 @@ pub fn ended<E: Write>(errors: &mut E, outcome: Result<(), ScriptError>) -> u8
     }
 }
 
-/// The exit status of a program that memory was refused, 4, after its line.
+/// The exit status of a program that memory was refused, 4, after its line is written to `errors`.
 pub fn out_of_memory<E: Write>(errors: &mut E) -> u8
     ensures status { result ≡ 4 }
     ensures line { AppendsPrefix (E.contents errors.old) (E.contents errors.new)

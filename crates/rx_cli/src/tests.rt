@@ -80,8 +80,10 @@ fn each_outcome_has_its_status_and_line(rt: HostRuntime) -> Result<(), Fail> {
 
 #[test]
 fn help_goes_to_the_output(rt: HostRuntime) -> Result<(), Fail> {
-    let whole = "Runs scenarios of subscriptions and reports what they did\n\nUsage: rxbook [COMMAND]\n\nCommands:\n  run   Run the scenario on standard input (the default)\n  help  Print this message or the help of the given subcommand(s)\n\nOptions:\n  -h, --help  Print help\n";
-    let run = "Run the scenario on standard input (the default)\n\nUsage: rxbook run\n\nOptions:\n  -h, --help  Print help\n";
+    let whole =
+        "Runs scenarios of subscriptions and reports what they did\n\nUsage: rxbook [COMMAND]\n\nCommands:\n  run   Run the scenario on standard input (the default)\n  help  Print this message or the help of the given subcommand(s)\n\nOptions:\n  -h, --help  Print help\n";
+    let run =
+        "Run the scenario on standard input (the default)\n\nUsage: rxbook run\n\nOptions:\n  -h, --help  Print help\n";
     let cases: [(&[&str], &str); 4] = [
         (&["rxbook", "--help"], whole),
         (&["rxbook", "-h"], whole),
@@ -268,6 +270,16 @@ fn each_kind_answers_words_its_own_way(rt: HostRuntime) {
     ] {
         assert_eq!(rt; ResourceKind::by_tag(tag), kind);
     }
+}
+
+#[test]
+fn a_word_that_is_no_text_is_a_usage_error(rt: HostRuntime) {
+    let mut errors = Vec::new(rt.alloc());
+    assert_eq!(rt; refuse_bytes(&mut errors), 2);
+    assert_eq!(rt;
+        errors.as_slice(),
+        b"error: invalid UTF-8 was detected in one or more arguments\n\nUsage: rxbook [COMMAND]\n\nFor more information, try '--help'.\n".as_slice()
+    );
 }
 
 #[test]

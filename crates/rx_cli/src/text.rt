@@ -1,5 +1,5 @@
 //! Writing a whole text.
-ghost use Rattle.std.specs.Prelude.{OnOk, OnErr};
+ghost use Rattle.std.specs.Prelude.{OnOk};
 ghost use Rattle.std.specs.Io.KnownBytes.{Appends};
 ghost use Rattle.rx_cli.specs.Text.{AppendsPrefix};
 
@@ -12,8 +12,7 @@ pub struct WriteFault;
 /// Writes the whole text, or a prefix of it and then meets a fault.
 pub fn write_text<W: Write>(writer: &mut W, text: &[u8]) -> Result<(), WriteFault>
     ensures ok { OnOk result (Appends (W.contents writer.old) (W.contents writer.new) text.now) }
-    ensures err { OnErr result (AppendsPrefix (W.contents writer.old) (W.contents writer.new)
-        text.now) }
+    ensures prefix { AppendsPrefix (W.contents writer.old) (W.contents writer.new) text.now }
 {
     let mut done = 0;
     while done < text.len() {

@@ -1,6 +1,8 @@
 //! What is said where the words are no order.
-ghost use Rattle.std.specs.Prelude.{◌≡◌, ◌≢◌};
+ghost use Rattle.std.specs.Prelude.{◌≡◌, ◌≢◌, codes};
 ghost use Rattle.clap.specs.Words.{kind_of};
+ghost use Rattle.rx_cli.specs.Text.{AppendsPrefix};
+ghost use Rattle.rx_cli.specs.Status.{no_text_line};
 ghost use Rattle.rx_cli.specs.Served.{RefusedBy, ShowsHelp, FailsHelp, TellsUsage, is_help};
 
 use crate::statuses::{ended, out_of_memory};
@@ -9,6 +11,10 @@ use clap::error::ErrorKind;
 use rx_script::ScriptError;
 use std::alloc::Global;
 use std::io::Write;
+
+// The text of `clap` on a word that is no UTF-8.
+const NO_TEXT: &str =
+    "error: invalid UTF-8 was detected in one or more arguments\n\nUsage: rxbook [COMMAND]\n\nFor more information, try '--help'.\n";
 
 // Whether the text of an error of this kind is help.
 fn is_help(kind: ErrorKind) -> bool
@@ -41,4 +47,14 @@ pub fn refuse<O: Write, E: Write>(
         return ended(errors, Err(ScriptError::Write));
     }
     0
+}
+
+/// The exit status where a word of the command line is no UTF-8, 2, after the text that `clap` has for
+/// that is written to `errors`.
+pub fn refuse_bytes<E: Write>(errors: &mut E) -> u8
+    ensures status { result ≡ 2 }
+    ensures line { AppendsPrefix (E.contents errors.old) (E.contents errors.new) no_text_line }
+{
+    let _ = write_text(errors, NO_TEXT.as_bytes());
+    2
 }

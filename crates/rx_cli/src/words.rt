@@ -7,6 +7,7 @@ use crate::request::Order;
 use clap::{ArgMatches, Command, Error};
 use rx_script::Form;
 use std::alloc::{AllocError, Global};
+use std::convert::AsStr;
 
 // The program's command.
 fn program<'a>(alloc: Global) -> Result<Command<'a>, AllocError>
@@ -24,14 +25,17 @@ fn order_in(matches: &ArgMatches<'_>) -> Order
 {
     match matches.subcommand() {
         None => Order::Run(Form::Report),
-        Some((_, _)) => Order::Run(Form::Report),
+        Some(_) => Order::Run(Form::Report),
     }
 }
 
 /// The order of the words of a command line, of which the first is the program's name.
-pub fn order<'a>(alloc: Global, words: &'a [&'a str]) -> Result<Order, Error>
-    ensures ok { IfOk result (λ o. o ≡ order_of (subcommand_of rxbook (map (λ s. s.now) words.now))) }
-    ensures kinds { FailsBy (fault_of rxbook (map (λ s. s.now) words.now)) result }
+///
+/// Err comes where `clap` refuses the words or they ask for help, with the kinds that it has for them,
+/// or where memory is refused, with `OutOfMemory`.
+pub fn order<S: AsStr>(alloc: Global, words: &[S]) -> Result<Order, Error>
+    ensures ok { IfOk result (λ o. o ≡ order_of (subcommand_of rxbook (map S.text words.now))) }
+    ensures kinds { FailsBy (fault_of rxbook (map S.text words.now)) result }
 {
     let command = program(alloc)?;
     let matches = command.try_get_matches_from(words)?;

@@ -6,14 +6,31 @@
 ghost use Rattle.std.specs.Prelude.{◌≡◌, IfOk};
 ghost use Rattle.rx_resource.specs.declared.Life.{Life};
 
-use rx_cli::{Faulty, Plain, ResourceKind, STOCK, Tally, fill, out_of_memory, serve};
+use rx_cli::{Faulty, Plain, ResourceKind, STOCK, Tally, fill, out_of_memory, refuse_bytes, serve};
 use rx_resource::{Life, Resource};
 use std::alloc::AllocError;
+use std::env::Env;
 use std::process::ExitCode;
 use std::{env, io};
 
+// The words of the command line, of which the first is the program's name.
+fn gather<R: Env + AllocGlobal>(rt: &R) -> io::Result<Vec<String>> {
+    Ok(env::args(rt)?.collect(rt.alloc())?)
+}
+
 fn main(rt: HostRuntime) -> ExitCode {
     let alloc = rt.alloc();
+    let mut errors = rt.stderr();
+    let words = match gather(&rt) {
+        Ok(words) => words,
+        Err(error) => {
+            return ExitCode::from(if error.kind() == io::ErrorKind::OutOfMemory {
+                out_of_memory(&mut errors)
+            } else {
+                refuse_bytes(&mut errors)
+            });
+        }
+    };
     let make = |tag: u64| -> Result<Box<dyn Resource>, AllocError>
         ensures tag { IfOk result (λ b. tag_of b ≡ tag) }
         ensures live { IfOk result (λ b. life_of b ≡ Life.Live) }
@@ -25,30 +42,16 @@ fn main(rt: HostRuntime) -> ExitCode {
             ResourceKind::Faulty => Ok(Box::new(alloc, Faulty::new(tag))?),
         }
     };
-    let mut errors = rt.stderr();
     let Ok(stock) = fill(alloc, STOCK, &make) else {
         return ExitCode::from(out_of_memory(&mut errors));
     };
-    let Ok(arguments) = env::args(&rt) else {
-        return ExitCode::from(2);
-    };
-    let kept: Result<Vec<String>, _> = arguments.collect(alloc);
-    let Ok(kept) = kept else {
-        return ExitCode::from(out_of_memory(&mut errors));
-    };
-    let mut words = Vec::new(alloc);
-    for word in &kept {
-        if words.push(word.as_str()).is_err() {
-            return ExitCode::from(out_of_memory(&mut errors));
-        }
-    }
-    let status = serve(
+    let mut output = io::writer(&rt);
+    ExitCode::from(serve(
         alloc,
         words.as_slice(),
         stock,
         &mut rt.reader(),
-        &mut io::writer(&rt),
+        &mut output,
         &mut errors,
-    );
-    ExitCode::from(status)
+    ))
 }

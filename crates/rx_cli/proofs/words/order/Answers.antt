@@ -14,9 +14,9 @@ unfolding clap_on_literals
 is_free = refl
 
 pub returns : goal.returns
-returns c =
+returns g c =
     let is : app_of c.in_ok-command.command ≡ rxbook = c.in_ok-command.ensures in
-    let words : List Text = map (λ s. s.now) c.args.words.now in
+    let words : List Text = map g.S.AsStr.text c.args.words.now in
     record {
       ok = c.order_in.ensures ∙ ap order_of ((c.in_ok-matches.ensures.matches (ap is_simple is ∙ is_ready)).1 ∙ ap (λ (a : App). subcommand_of a words) is);
       kinds = ap (λ (a : App). fault_of a words) (sym is) ∙ c.in_ok-matches.ensures.kinds (ap is_simple_and_free is ∙ is_free);
