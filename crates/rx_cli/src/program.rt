@@ -19,6 +19,11 @@ use std::io::{Read, Write};
 
 /// Does what the words order, over these streams and with this stock, and answers the exit status. The
 /// first word is the program's name.
+///
+/// A run's status is 0 where it is done, 1 where a stream failed, 3 where the input is no scenario, 4
+/// where memory was refused. Words that `clap` refuses give 2, and a request for help 0, or 1 where the
+/// output refuses its text, or 4 where memory is refused for it; then nothing is read. Each status but
+/// 0 comes with its line on `errors`; what `errors` refuses is lost, and the status stays.
 pub fn serve<S: AsStr, R: Resource, I: Read, O: Write, E: Write>(
     alloc: Global,
     words: &[S],
