@@ -3,3 +3,11 @@ pub mod Parents
 pub mod Openness
 pub mod Lawful
 pub mod Counts
+pub mod Sums
+pub mod Steps
+pub mod Switches
+pub mod Resources
+pub mod Totals
+pub mod Projections
+pub mod Debt
+pub mod Claims

@@ -1,5 +1,5 @@
 -- What each event did in the history before it.
-use Rattle.std.specs.Prelude.{ℕ, ◌-◌, Bool, false, ◌==◌, List, [], ◌∷◌, ◌++◌, count_by, sum_by}
+use Rattle.std.specs.Prelude.{ℕ, ◌-◌, Bool, true, false, ◌==◌, List, [], ◌∷◌, ◌++◌, count_by, sum_by}
 use Rattle.std.specs.List.{list_any}
 use Rattle.rx_event.specs.declared.event.Event.{Event}
 use Rattle.rx_event.specs.declared.event.Event.TheVariants.{Item}
@@ -18,6 +18,11 @@ moments_after before (e ∷ rest) = (record { before = before; event = e }) ∷ 
 -- each event with the history before it, in order
 unfoldable pub moments : List Event → List Moment
 moments h = moments_after [] h
+
+abbrev pub is_projection : Stop → Bool
+is_projection (Projection f) = true
+is_projection (Delivery n) = false
+is_projection (Firing u) = false
 
 abbrev pub is_projection_to : ℕ → Stop → Bool
 is_projection_to f (Projection g) = g == f

@@ -1,5 +1,5 @@
 -- Counts over a history.
-use Rattle.std.specs.Prelude.{ℕ, ◌+◌, Bool, ◌&&◌, List, [], ◌∷◌, count_by, sum_by, if◌then◌else◌}
+use Rattle.std.specs.Prelude.{ℕ, ◌+◌, ◌&&◌, List, count_by, sum_by, if◌then◌else◌}
 use Rattle.rx_event.specs.declared.event.Event.{Event}
 use Rattle.rx_event.specs.Events.{is_item, is_take, makes_resource, is_merging}
 use Rattle.rx_event.specs.Tree.{at, places, is_open}
@@ -23,6 +23,14 @@ waiting_count h = count_by (is_waiting h) (places h)
 
 abbrev pub open_count : List Event → ℕ
 open_count h = count_by (is_open h) (places h)
+
+-- what n owes, where it is an open FlatMap or Switch
+abbrev pub owed_open : List Event → ℕ → ℕ
+owed_open h n = if is_open h n && at is_merging h n then owed h n else 0
+
+-- what all open FlatMaps and Switches owe together
+abbrev pub owed_count : List Event → ℕ
+owed_count h = sum_by (owed_open h) (places h)
 
 -- the events that the closing of what n made may still need: one for an open node, two for a held resource (its removal and
 -- its taking), one for a waiting one, and one for each projected item that a FlatMap or Switch still owes

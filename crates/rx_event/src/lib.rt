@@ -12,9 +12,14 @@
 
 mod event;
 mod history;
+mod laws;
 mod refusal;
 
 pub use event::{Event, Kind, Mode, Place};
 pub use history::History;
+pub use laws::{
+    a_switch_has_one_open_inner, closed_stays_closed, each_resource_is_in_one_place,
+    what_one_event_changes,
+};
 pub use refusal::Refusal;
 pub use rx_note::Terminal;

@@ -1,19 +1,20 @@
 -- Which nodes are open after one more event.
-use Rattle.std.proofs.Common.{◌≡◌, ℕ, zero, suc, ◌+◌, ◌<◌, ◌≤◌, Bool, true, false, List, [], ◌∷◌, ◌++◌, length, drop, Option, Some, None, refl, sym, ap, ◌∙◌, arith, inl, inr, ◌⊎◌, nat_lt, ◌==◌, slice_get, length-append}
+use Rattle.std.proofs.Common.{◌≡◌, ℕ, zero, suc, ◌<◌, ◌≤◌, Bool, true, false, List, [], ◌∷◌, ◌++◌, length, drop, Option, Some, None, refl, sym, ap, ◌∙◌, arith, inl, inr, ◌⊎◌, nat_lt, ◌==◌, length-append, append-nil, append_assoc}
 use Rattle.std.proofs.Math.Bool.{not, ◌&&◌, ◌||◌}
 use Rattle.std.specs.List.{list_any, list_all, AllByRecursion}
 use Rattle.std.specs.Option.{option_and_then, option_map_or}
-use Rattle.std.proofs.lemmas.Bool.{cases_Bool, cases_lt, cases_order, ltb-true, and_parts, both_ways, eq-eqb}
+use Rattle.std.proofs.lemmas.Bool.{cases_Bool, cases_lt, cases_order, ltb-true, lt-ltb, le-ltb, and_parts, both_ways, eq-eqb}
 use Rattle.std.proofs.lemmas.Option.{cond_some, option_and_then_some, slice_get_past}
 use Rattle.std.proofs.lemmas.List.{drop-append-le}
 use Rattle.std.proofs.lemmas.List.Folds.{list_any-append}
 use Rattle.rx_note.specs.declared.note.Terminal.{Terminal}
+use Rattle.rx_event.specs.declared.event.Kind.{Kind}
 use Rattle.rx_event.specs.declared.event.Place.TheVariants.{Root, Source, Inner, Notifier}
 use Rattle.rx_event.specs.declared.event.Event.{Event}
 use Rattle.rx_event.specs.declared.event.Event.TheVariants.{Open, Hub, Connect, Accept, Use, Remove, Item, Decline, End, Close, Take}
 use Rattle.rx_event.specs.Events.{makes_node, parent_named, is_switch, is_inner_of}
-use Rattle.rx_event.specs.Tree.{at, parent, if_less, ancestors, shuts, is_shut, is_open, is_standing, is_switched_inner}
-use Rattle.rx_event.specs.Laws.Places.{slice_get-append, slice_get_last, at-append}
+use Rattle.rx_event.specs.Tree.{at, parent, if_less, ancestors, shuts, is_shut, is_open, is_standing, is_switched_inner, is_within}
+use Rattle.rx_event.specs.Laws.Places.{slice_get_last, at-append}
 use Rattle.rx_event.specs.Laws.Parents.{parent-lt, ancestors_step, ancestors-append, ancestors-le, option_map_or-same}
 
 -- openness ----------------------------------------------------------------------------------------
@@ -132,6 +133,32 @@ and_true false = refl
 pub is_open_kept : (h : List Event) (e : Event) (n : ℕ) → n < length h → shuts_none e ≡ true → is_open (h ++ e ∷ []) n ≡ is_open h n
 is_open_kept h e n l s = rw (is_open-push h e n l, list_all_yes (λ a. not (shuts h a e)) (λ a. ap not (not_shut h a e s)) (ancestors h n)) (and_true (is_open h n))
 
+-- the event takes away n, or a node above it
+abbrev pub is_cut : List Event → Event → ℕ → Bool
+is_cut h e n = list_any (λ a. shuts h a e) (ancestors h n)
+
+-- what an event shuts it cuts
+pub self_cut : (h : List Event) (e : Event) (n : ℕ) → shuts h n e ≡ true → is_cut h e n ≡ true
+self_cut h e n s = rw (ancestors_step h n, s) refl
+
+list_all-not : {X : Type 0} (p : X → Bool) (xs : List X) → list_all (λ x. not (p x)) xs ≡ not (list_any p xs)
+list_all-not p [] = refl
+list_all-not p (x ∷ xs) = rw (list_all-not p xs) (shape (p x) (list_any p xs)) where
+  shape : (a b : Bool) → (not a && not b) ≡ not (a || b)
+  shape true b = refl
+  shape false b = refl
+
+-- an older node is open if it was, and the new event does not cut it. (Cut by the end or the closing of c is what is within c.)
+pub is_open_cut : (h : List Event) (e : Event) (n : ℕ) → n < length h → is_open (h ++ e ∷ []) n ≡ (is_open h n && not (is_cut h e n))
+is_open_cut h e n l = is_open-push h e n l ∙ ap (λ b. is_open h n && b) (list_all-not (λ a. shuts h a e) (ancestors h n))
+
+-- an event that shuts no node cuts none
+pub is_cut_none : (h : List Event) (e : Event) (n : ℕ) → shuts_none e ≡ true → is_cut h e n ≡ false
+is_cut_none h e n s = none (ancestors h n) where
+  none : (xs : List ℕ) → list_any (λ a. shuts h a e) xs ≡ false
+  none [] = refl
+  none (a ∷ xs) = rw (not_shut h a e s) (none xs)
+
 -- an end shuts just the nodes that it is above
 pub is_open-end : (h : List Event) (c : ℕ) (t : Terminal) (n : ℕ) → n < length h → is_open (h ++ End c t ∷ []) n ≡ (is_open h n && list_all (λ a. not (c == a)) (ancestors h n))
 is_open-end h c t n l = is_open-push h (End c t) n l
@@ -189,3 +216,104 @@ open_before_end h q u p o = (within, parts.0, λ same. both_ways _ (ap not (eq-e
   parts : (is_open h p ≡ true) × (list_all (λ a. not (q == a)) (ancestors h p) ≡ true)
   parts = and_parts _ _ (sym (is_open-push h (End q u) p within) ∙ o)
 
+-- an event that neither shuts nor makes a node leaves each number as it was
+pub is_open_unchanged : (h : List Event) (e : Event) → shuts_none e ≡ true → makes_node e ≡ false → (n : ℕ) → is_open (h ++ e ∷ []) n ≡ is_open h n
+is_open_unchanged h e s no_node n = by_place (cases_order n (length h)) where
+  by_place : (n ≡ length h) ⊎ ((n < length h) ⊎ (length h < n)) → is_open (h ++ e ∷ []) n ≡ is_open h n
+  by_place (inr (inl l)) = is_open_kept h e n l s
+  by_place (inl same) = ap (is_open (h ++ e ∷ [])) same ∙ (is_open_step (h ++ e ∷ []) (length h) ∙ rw (slice_get_last h e, no_node) refl) ∙ sym (is_open_past h n (omega arith))
+  by_place (inr (inr g)) = is_open_past (h ++ e ∷ []) n (omega (arith, length-append {A = Event})) ∙ sym (is_open_past h n (omega arith))
+
+list_any_never : {X : Type 0} (P : X → Type 0) (p : X → Bool) → ((x : X) → P x → p x ≡ false) → (xs : List X) → AllByRecursion P xs → list_any p xs ≡ false
+list_any_never P p never [] a = refl
+list_any_never P p never (x ∷ xs) a = rw (never x a.0) (list_any_never P p never xs a.1)
+
+-- the opening of an inner cuts nothing at or above its parent
+pub is_cut_inner : (h : List Event) (f : ℕ) (kind : Kind) (n : ℕ) → n ≤ f → is_cut h (Open (Inner f) kind) n ≡ false
+is_cut_inner h f kind n l = list_any_never (λ a. a ≤ n) (λ a. is_switched_inner h f a) (λ a b. let above : nat_lt f a ≡ false = ltb_not f a (omega arith) in rw above refl) (ancestors h n) (ancestors-le h n) where
+  ltb_not : (m n : ℕ) → n ≤ m → nat_lt m n ≡ false
+  ltb_not m n le = le-ltb m n le
+
+-- nor does that of a FlatMap cut anything
+pub is_cut_inner_flat : (h : List Event) (f : ℕ) (kind : Kind) → at is_switch h f ≡ false → (n : ℕ) → is_cut h (Open (Inner f) kind) n ≡ false
+is_cut_inner_flat h f kind flat n = none (ancestors h n) where
+  no_switch : (b c : Bool) → ((b && false) && c) ≡ false
+  no_switch true c = refl
+  no_switch false c = refl
+
+  none : (xs : List ℕ) → list_any (λ a. is_switched_inner h f a) xs ≡ false
+  none [] = refl
+  none (a ∷ xs) = rw (flat, no_switch (nat_lt f a) (at (is_inner_of f) h a)) (none xs)
+
+-- a new node below an open one is open, where it does not cut it
+pub is_open_made : (h : List Event) (e : Event) (p : ℕ) → makes_node e ≡ true → parent_named e ≡ Some p → is_open h p ≡ true → is_cut h e p ≡ false → is_open (h ++ e ∷ []) (length h) ≡ true
+unfolding parent
+is_open_made h e p node named o kept = is_open_step (h ++ e ∷ []) (length h) ∙ rw (is_shut_last h e, slice_get_last h e, node, named, lt-ltb p (length h) l) (is_open_cut h e p l ∙ rw (o, kept) refl) where
+  l : p < length h
+  l = is_open_within h p o
+
+-- an event that makes no node opens none
+pub is_open_last_none : (h : List Event) (e : Event) → makes_node e ≡ false → is_open (h ++ e ∷ []) (length h) ≡ false
+is_open_last_none h e no_node = is_open_step (h ++ e ∷ []) (length h) ∙ rw (slice_get_last h e, no_node) refl
+
+-- the parent of an open node is open
+pub parent_open : (h : List Event) (n p : ℕ) → is_open h n ≡ true → parent h n ≡ Some p → is_open h p ≡ true
+parent_open h n p o below = (and_parts _ _ (sym (is_open_step h n ∙ ap (λ q. is_standing h n && option_map_or (is_open h) q true) below) ∙ o)).1
+
+-- closed nodes ------------------------------------------------------------------------------------
+
+-- a node whose parent is not open is not open
+pub closed_below : (h : List Event) (n p : ℕ) → parent h n ≡ Some p → is_open h p ≡ false → is_open h n ≡ false
+closed_below h n p below closed = is_open_step h n ∙ ap (λ q. is_standing h n && option_map_or (is_open h) q true) below ∙ ap (λ b. is_standing h n && b) closed ∙ and_false (is_standing h n) where
+  and_false : (b : Bool) → (b && false) ≡ false
+  and_false true = refl
+  and_false false = refl
+
+-- what is not open stays so, whatever comes
+pub stays_closed : (h : List Event) (e : Event) (n : ℕ) → n < length h → is_open h n ≡ false → is_open (h ++ e ∷ []) n ≡ false
+stays_closed h e n l closed = is_open_cut h e n l ∙ ap (λ b. b && not (is_cut h e n)) closed
+
+pub stays_closed_after : (h t : List Event) (n : ℕ) → n < length h → is_open h n ≡ false → is_open (h ++ t) n ≡ false
+stays_closed_after h [] n l closed = rw (append-nil h) closed
+stays_closed_after h (e ∷ t) n l closed = rw (← append_assoc h (e ∷ []) t) (stays_closed_after (h ++ e ∷ []) t n (omega (arith, length-append {A = Event})) (stays_closed h e n l closed))
+
+-- what an end and a closing close ------------------------------------------------------------------
+
+closed_outside : (h : List Event) (e : Event) (c : ℕ) → makes_node e ≡ false → ((n : ℕ) → is_cut h e n ≡ is_within h c n) → (n : ℕ) → is_open (h ++ e ∷ []) n ≡ (is_open h n && not (is_within h c n))
+closed_outside h e c no_node cuts n = by_place (cases_order n (length h)) where
+  gone : length h ≤ n → (is_open h n && not (is_within h c n)) ≡ false
+  gone l = rw (is_open_past h n l) refl
+
+  by_place : (n ≡ length h) ⊎ ((n < length h) ⊎ (length h < n)) → is_open (h ++ e ∷ []) n ≡ (is_open h n && not (is_within h c n))
+  by_place (inr (inl l)) = is_open_cut h e n l ∙ ap (λ b. is_open h n && not b) (cuts n)
+  by_place (inl same) = ap (is_open (h ++ e ∷ [])) same ∙ is_open_last_none h e no_node ∙ sym (gone (omega arith))
+  by_place (inr (inr g)) = is_open_past (h ++ e ∷ []) n (omega (arith, length-append {A = Event})) ∙ sym (gone (omega arith))
+
+-- after the end or the closing of c just what was open outside c is open
+pub is_open_outside-end : (h : List Event) (c : ℕ) (t : Terminal) (n : ℕ) → is_open (h ++ End c t ∷ []) n ≡ (is_open h n && not (is_within h c n))
+is_open_outside-end h c t = closed_outside h (End c t) c refl (λ n. refl)
+
+pub is_open_outside-close : (h : List Event) (c : ℕ) (n : ℕ) → is_open (h ++ Close c ∷ []) n ≡ (is_open h n && not (is_within h c n))
+is_open_outside-close h c = closed_outside h (Close c) c refl (λ n. refl)
+
+-- all above an open node is open -------------------------------------------------------------------
+
+open_above : (k : ℕ) (h : List Event) (n : ℕ) → n < k → is_open h n ≡ true → AllByRecursion (λ a. is_open h a ≡ true) (ancestors h n)
+open_above zero h n l o = absurd (omega arith)
+open_above (suc k) h n l o = rw (ancestors_step h n) (o, above (open_above k h) (parent h n) refl) where
+  above : ((p : ℕ) → p < k → is_open h p ≡ true → AllByRecursion (λ a. is_open h a ≡ true) (ancestors h p)) → (q : Option ℕ) → parent h n ≡ q → AllByRecursion (λ a. is_open h a ≡ true) (option_map_or (ancestors h) q [])
+  above rest None below = tt
+  above rest (Some p) below = let s : p < n = parent-lt h n p below in rest p (omega arith) (parent_open h n p o below)
+
+pub ancestors_open : (h : List Event) (n : ℕ) → is_open h n ≡ true → AllByRecursion (λ a. is_open h a ≡ true) (ancestors h n)
+ancestors_open h n o = open_above (suc n) h n (omega arith) o
+
+-- an event that shuts nothing closes nothing
+pub is_cut_never : (h : List Event) (e : Event) → ((m : ℕ) → shuts h m e ≡ false) → (n : ℕ) → is_cut h e n ≡ false
+is_cut_never h e never n = none (ancestors h n) where
+  none : (xs : List ℕ) → list_any (λ a. shuts h a e) xs ≡ false
+  none [] = refl
+  none (a ∷ xs) = rw (never a) (none xs)
+
+pub is_open_uncut : (h : List Event) (e : Event) → ((m : ℕ) → shuts h m e ≡ false) → (n : ℕ) → n < length h → is_open (h ++ e ∷ []) n ≡ is_open h n
+is_open_uncut h e never n l = is_open_cut h e n l ∙ ap (λ b. is_open h n && not b) (is_cut_never h e never n) ∙ and_true (is_open h n)

@@ -1,0 +1,4 @@
+pub mod Nodes
+pub mod Resources
+pub mod Totals
+pub mod Debt

@@ -1,0 +1,114 @@
+-- An engine carries out a step: it is refused by the scenario, refused by the book, or accepted.
+use Rattle.std.proofs.Common.{◌≡◌, ◌<◌, ◌≤◌, ◌+◌, ℕ, List, Bool, true, false, refl, sym, ap, subst, ◌∙◌, map, cond, arith}
+use Rattle.std.specs.Prelude.{Option, Some, None}
+use Rattle.std.specs.List.{All}
+use Rattle.rx_event.specs.declared.event.Event.{Event}
+use Rattle.rx_event.specs.declared.refusal.Refusal.{Refusal}
+use Rattle.rx_event.specs.declared.refusal.Refusal.TheVariants.{Gone, NoHub}
+use Rattle.rx_event.specs.Totals.{taken_count}
+use Rattle.rx_event.specs.Calls.{Call, outside_of}
+use Rattle.rx_event.specs.Refusals.{first_cause}
+use Rattle.rx_book.specs.declared.key.Key.{Key}
+use Rattle.rx_book.specs.declared.key.ResKey.{ResKey}
+use Rattle.rx_book.specs.State.{State, IsKept}
+use Rattle.rx_book.specs.Causes.{causes, by_key}
+use Rattle.rx_book.specs.Answers.{against, Accepts}
+use Rattle.rx_script.specs.declared.answer.Answer.{Answer}
+use Rattle.rx_script.specs.declared.answer.Answer.TheVariants.{Accepted, Refused}
+use Rattle.rx_script.specs.declared.answer.Cause.{Cause}
+use Rattle.rx_script.specs.declared.answer.Cause.TheVariants.{Book}
+use Rattle.rx_script.specs.declared.engine.Named.{Named}
+use Rattle.rx_script.specs.declared.engine.Engine.{Engine}
+use Rattle.rx_script.specs.Scenario.{Step, drain}
+use Rattle.rx_script.specs.Stage.{Stage, own_cause, call_of, front_is_fresh, after}
+use Rattle.rx_script.specs.Course.{Drains, Executes, refused, refused_by_book, accepted, drained, book_cause}
+use Rattle.rx_script.specs.Shelf.{Shelf}
+use Rattle.rx_script.specs.Engine.{node_binding, res_binding, stage_of, IsNodeKey, IsHeldKey, Continues, IsSound, Carries}
+use Rattle.rx_script.proofs.Going.{step_taken, accepted_continues, node_keys_kept, held_keys_kept}
+
+-- to look for the key is to look whether the node is open
+pub first_cause-by_key : (known : Bool) (stands : Refusal → Bool) → (known ≡ false → stands Gone ≡ true) → first_cause (by_key known stands) ≡ first_cause stands
+first_cause-by_key true stands gone = refl
+first_cause-by_key false stands gone = let stands_gone : stands Gone ≡ true = gone refl in rw stands_gone refl
+
+-- a book's causes against a call by a key are those of the numbers
+pub record Agrees (s : State) (known is_fresh : Bool) (stage : Stage) (call : Call) : Type 0 where
+  pub same : first_cause (against s known is_fresh call) ≡ book_cause s.limit stage call
+
+-- the engine with another book and stock
+abbrev pub with : {R : Type 0} → Engine R → State → Shelf → Engine R
+with e book stock = record { book = book; nodes = e.nodes; resources = e.resources; stock = stock; faults = e.faults }
+
+-- nothing was changed
+pub unchanged : {R : Type 0} (e : Engine R) (step : Step) (answer : Answer) (book : State) (stock : Shelf) → IsSound e → book ≡ e.book → stock.wares ≡ e.stock.wares
+    → Executes e.book.limit (stage_of e) step answer (stage_of e) → Carries e step answer (with e book stock)
+unchanged {R} e step answer book stock sound same_book same_stock executes =
+    let at_book : Carries e step answer (with e e.book stock) = record {
+      executes = subst (λ wares. Executes e.book.limit (stage_of e) step answer (record { history = e.book.history; nodes = (stage_of e).nodes; resources = (stage_of e).resources; stock = wares })) (sym same_stock) executes;
+      sound = record { kept = sound.kept; nodes = sound.nodes; resources = sound.resources; faults = sound.faults };
+      limit = refl;
+      given = refl;
+    } in
+    subst (λ b. Carries e step answer (with e b stock)) (sym same_book) at_book
+
+pub refused_own : {R : Type 0} (e : Engine R) (step : Step) (why : Cause) (book : State) (stock : Shelf) → IsSound e → book ≡ e.book → stock.wares ≡ e.stock.wares
+    → own_cause (stage_of e) step ≡ Some why → Carries e step (Refused why) (with e book stock)
+refused_own e step why book stock sound same_book same_stock own = unchanged e step (Refused why) book stock sound same_book same_stock (refused own)
+
+pub refused_there : {R : Type 0} (e : Engine R) (step : Step) (call : Call) (known is_fresh : Bool) (why : Refusal) (book : State) (stock : Shelf) → IsSound e → book ≡ e.book → stock.wares ≡ e.stock.wares
+    → own_cause (stage_of e) step ≡ None → call_of (stage_of e) step ≡ Some call → Agrees e.book known is_fresh (stage_of e) call
+    → first_cause (against e.book known is_fresh call) ≡ Some why → Carries e step (Refused (Book why)) (with e book stock)
+refused_there e step call known is_fresh why book stock sound same_book same_stock own called agrees cause =
+    unchanged e step (Refused (Book why)) book stock sound same_book same_stock (refused_by_book own called (sym agrees.same ∙ cause))
+
+-- an accepted call, after which the names are these
+pub accepted_to : {R : Type 0} (e new : Engine R) (step : Step) (call : Call) (known is_fresh : Bool) → IsSound e → IsKept new.book
+    → own_cause (stage_of e) step ≡ None → call_of (stage_of e) step ≡ Some call → Agrees e.book known is_fresh (stage_of e) call
+    → Accepts e.book (against e.book known is_fresh call) call new.book
+    → stage_of new ≡ after (stage_of e) step new.book.history
+    → All (λ n. IsNodeKey new.book n.key) new.nodes.items → All (λ n. IsHeldKey new.book n.key) new.resources.items → new.faults ≡ e.faults
+    → Carries e step Accepted new
+accepted_to e new step call known is_fresh sound kept own called agrees accepts staged nodes resources same_faults = record {
+  executes = subst (λ s. Executes e.book.limit (stage_of e) step Accepted s) (sym staged) (accepted own called (sym agrees.same ∙ accepts.no_cause) accepts.step);
+  sound = record {
+    kept = kept;
+    nodes = nodes;
+    resources = resources;
+    faults = let taken = step_taken e.book.history new.book.history call accepts.step in let faults = sound.faults in omega arith;
+  };
+  limit = accepts.limit;
+  given = accepts.given;
+}
+
+-- a call that binds no names
+pub accepted_plain : {R : Type 0} (e : Engine R) (step : Step) (call : Call) (known is_fresh : Bool) (book : State) → IsSound e → IsKept book
+    → own_cause (stage_of e) step ≡ None → call_of (stage_of e) step ≡ Some call → Agrees e.book known is_fresh (stage_of e) call
+    → Accepts e.book (against e.book known is_fresh call) call book
+    → ((k : List Event) → after (stage_of e) step k ≡ record (stage_of e) { history = k })
+    → Carries e step Accepted (with e book e.stock)
+accepted_plain e step call known is_fresh book sound kept own called agrees accepts plain =
+    let goes = accepted_continues e.book book _ call accepts in
+    accepted_to e (with e book e.stock) step call known is_fresh sound kept own called agrees accepts (sym (plain book.history))
+    (node_keys_kept e.book book e.nodes.items sound.kept kept goes sound.nodes) (held_keys_kept e.book book e.resources.items sound.kept kept goes sound.resources) refl
+
+-- taking and releasing all that waits
+pub drained_to : {R : Type 0} (e new : Engine R) (released : ℕ) → IsSound e → IsKept new.book → Drains e.book.history new.book.history → Continues e.book new.book
+    → new.nodes ≡ e.nodes → new.resources ≡ e.resources → new.stock ≡ e.stock → taken_count new.book.history ≡ taken_count e.book.history + released → new.faults ≤ e.faults + released
+    → Carries e drain Accepted new
+drained_to e new released sound kept drains goes same_nodes same_resources same_stock rose faults =
+    let staged : stage_of new ≡ after (stage_of e) drain new.book.history =
+    ap (λ n. record { history = new.book.history; nodes = map node_binding n.items; resources = map res_binding new.resources.items; stock = new.stock.wares }) same_nodes
+    ∙ ap (λ r. record { history = new.book.history; nodes = map node_binding e.nodes.items; resources = map res_binding r.items; stock = new.stock.wares }) same_resources
+    ∙ ap (λ s. record { history = new.book.history; nodes = map node_binding e.nodes.items; resources = map res_binding e.resources.items; stock = s.wares }) same_stock in
+    let before = sound.faults in
+    record {
+      executes = subst (λ s. Executes e.book.limit (stage_of e) drain Accepted s) (sym staged) (drained drains);
+      sound = record {
+        kept = kept;
+        nodes = subst (λ n. All (λ x. IsNodeKey new.book x.key) n.items) (sym same_nodes) (node_keys_kept e.book new.book e.nodes.items sound.kept kept goes sound.nodes);
+        resources = subst (λ r. All (λ x. IsHeldKey new.book x.key) r.items) (sym same_resources) (held_keys_kept e.book new.book e.resources.items sound.kept kept goes sound.resources);
+        faults = omega arith;
+      };
+      limit = goes.limit;
+      given = goes.given;
+    }

@@ -1,0 +1,90 @@
+-- Each command, carried out by an engine.
+use Rattle.std.proofs.Common.{◌≡◌, ◌<◌, ◌≤◌, ◌+◌, ◌++◌, ◌∷◌, [], ℕ, ℤ, List, Bool, true, false, refl, sym, ap, subst, ◌∙◌, map, cond, length, inl, inr, arith}
+use Rattle.std.specs.Prelude.{◌≢◌, ◌⊎◌, Option, Some, None, Result, Ok, Err, IfOk, is_none, option_map, if◌then◌else◌}
+use Rattle.std.proofs.Math.Bool.{not}
+use Rattle.std.specs.declared.alloc.AllocError.{AllocError}
+use Rattle.std.specs.List.{All}
+use Rattle.rx_note.specs.declared.note.Terminal.{Terminal}
+use Rattle.rx_event.specs.declared.event.Event.{Event}
+use Rattle.rx_event.specs.declared.refusal.Refusal.{Refusal}
+use Rattle.rx_event.specs.declared.refusal.Refusal.TheVariants.{Gone, NoMemory}
+use Rattle.rx_event.specs.Tree.{is_open}
+use Rattle.rx_event.specs.Calls.{Call, Emitting, Ending, Disposing}
+use Rattle.rx_event.specs.Refusals.{first_cause, IsRefusal}
+use Rattle.rx_book.specs.declared.key.Key.{Key}
+use Rattle.rx_book.specs.State.{State, IsKept, has_key}
+use Rattle.rx_book.specs.Causes.{causes, by_key}
+use Rattle.rx_book.specs.Answers.{against, Accepts}
+use Rattle.rx_script.specs.declared.answer.Answer.{Answer}
+use Rattle.rx_script.specs.declared.answer.Answer.TheVariants.{Accepted, Refused}
+use Rattle.rx_script.specs.declared.answer.Cause.TheVariants.{NoName, NameTaken, NoStock, Book}
+use Rattle.rx_script.specs.declared.engine.Named.{Named}
+use Rattle.rx_script.specs.declared.engine.Engine.{Engine}
+use Rattle.rx_script.specs.Scenario.{Name, Step, next, end, dispose}
+use Rattle.rx_script.specs.Stage.{Stage, bound, is_unbound, own_cause, call_of, front_is_fresh, after}
+use Rattle.rx_script.specs.Engine.{key_of, node_binding, stage_of, IsNodeKey, IsSound, Carries}
+use Rattle.rx_script.proofs.Keys.{has_key-is_open}
+use Rattle.rx_script.proofs.Names.{key_of-holds, node_bound, node_unbound}
+use Rattle.rx_script.proofs.Carrying.{Agrees, first_cause-by_key, with, refused_own, refused_there, accepted_plain}
+
+-- refusals by the book -----------------------------------------------------------------------------
+
+-- where it is no want of memory, the book's first cause
+pub cause_of : (stands : Refusal → Bool) (why : Refusal) → IsRefusal stands why → why ≢ NoMemory → first_cause stands ≡ Some why
+cause_of stands why refusal other = elim refusal [ inl cause ↦ cause | inr none ↦ absurd (other none.1) ]
+
+pub answered : (r : Result Answer AllocError) (why : Refusal) (P : Answer → Type 0) → IfOk r (λ a. (a ≡ Refused (Book why)) × (why ≢ NoMemory)) → (why ≢ NoMemory → P (Refused (Book why))) → IfOk r P
+answered (Ok a) why P told here = subst P (sym told.0) (here told.1)
+answered (Err e) why P told here = tt
+
+-- commands that name one node ----------------------------------------------------------------------
+
+-- the step makes this call of the node with this name, and binds nothing
+pub record IsNodeStep (step : Step) (name : Name) (call : ℕ → Call) : Type 0 where
+  pub own : (s : Stage) → own_cause s step ≡ cond (is_unbound s.nodes name) (Some NoName) None
+  pub called : (s : Stage) → call_of s step ≡ option_map call (bound s.nodes name)
+  pub binds_none : (s : Stage) (k : List Event) → after s step k ≡ record s { history = k }
+  pub gone : (h : List Event) (limit : ℕ) (is_fresh : Bool) (n : ℕ) → causes h limit is_fresh (call n) Gone ≡ not (is_open h n)
+  pub any_front : (h : List Event) (limit : ℕ) (is_fresh : Bool) (n : ℕ) → causes h limit true (call n) ≡ causes h limit is_fresh (call n)
+
+pub next_step : (node : Name) (value : ℤ) → IsNodeStep (next node value) node (λ n. Emitting n value)
+next_step node value = record { own = λ s. refl; called = λ s. refl; binds_none = λ s k. refl; gone = λ h limit f n. refl; any_front = λ h limit f n. refl }
+
+pub end_step : (node : Name) (t : Terminal) → IsNodeStep (end node t) node (λ n. Ending n t)
+end_step node t = record { own = λ s. refl; called = λ s. refl; binds_none = λ s k. refl; gone = λ h limit f n. refl; any_front = λ h limit f n. refl }
+
+pub dispose_step : (node : Name) → IsNodeStep (dispose node) node Disposing
+dispose_step node = record { own = λ s. refl; called = λ s. refl; binds_none = λ s k. refl; gone = λ h limit f n. refl; any_front = λ h limit f n. refl }
+
+module _ {R : Type 0} (e : Engine R) {step : Step} {name : Name} {call : ℕ → Call} (is_step : IsNodeStep step name call) (sound : IsSound e) where
+  pub node_nameless : key_of e.nodes.items name ≡ None → Carries e step (Refused NoName) (with e e.book e.stock)
+  node_nameless none =
+      let nameless : is_unbound (stage_of e).nodes name ≡ true = ap is_none (node_unbound e.nodes.items name none) in
+      refused_own e step NoName e.book e.stock sound refl refl (is_step.own (stage_of e) ∙ ap (λ b. cond b (Some NoName) None) nameless)
+
+  module _ (k : Key) (named : key_of e.nodes.items name ≡ Some k) where
+    number_named : bound (stage_of e).nodes name ≡ Some k.number
+    number_named = node_bound e.nodes.items name k named
+
+    no_own_cause : own_cause (stage_of e) step ≡ None
+    no_own_cause = is_step.own (stage_of e) ∙ ap (λ o. cond (is_none o) (Some NoName) None) number_named
+
+    called : call_of (stage_of e) step ≡ Some (call k.number)
+    called = is_step.called (stage_of e) ∙ ap (option_map call) number_named
+
+    known : has_key e.book.keys k ≡ is_open e.book.history k.number
+    known = has_key-is_open e.book k sound.kept (key_of-holds (IsNodeKey e.book) e.nodes.items name k sound.nodes named)
+
+    agrees : Agrees e.book (has_key e.book.keys k) true (stage_of e) (call k.number)
+    agrees = record {
+      same =
+        ap (λ stands. first_cause (by_key (has_key e.book.keys k) stands)) (is_step.any_front e.book.history e.book.limit (front_is_fresh (stage_of e)) k.number)
+        ∙ first_cause-by_key (has_key e.book.keys k) (causes e.book.history e.book.limit (front_is_fresh (stage_of e)) (call k.number))
+        (λ unknown. is_step.gone e.book.history e.book.limit (front_is_fresh (stage_of e)) k.number ∙ ap not (sym known ∙ unknown));
+    }
+
+    pub node_refused : (book : State) (why : Refusal) → book ≡ e.book → IsRefusal (against e.book (has_key e.book.keys k) true (call k.number)) why → why ≢ NoMemory → Carries e step (Refused (Book why)) (with e book e.stock)
+    node_refused book why same refusal other = refused_there e step (call k.number) (has_key e.book.keys k) true why book e.stock sound same refl no_own_cause called agrees (cause_of (against e.book (has_key e.book.keys k) true (call k.number)) why refusal other)
+
+    pub node_accepted : (book : State) → IsKept book → Accepts e.book (against e.book (has_key e.book.keys k) true (call k.number)) (call k.number) book → Carries e step Accepted (with e book e.stock)
+    node_accepted book kept accepts = accepted_plain e step (call k.number) (has_key e.book.keys k) true book sound kept no_own_cause called agrees accepts (is_step.binds_none (stage_of e))

@@ -1,0 +1,185 @@
+-- The commands that hand a resource in, carried out by an engine.
+use Rattle.std.proofs.Common.{◌≡◌, ◌<◌, ◌≤◌, ◌+◌, ◌++◌, ◌∷◌, [], ℕ, List, Bool, true, false, refl, sym, ap, subst, ◌∙◌, map, cond, length, add-zero, arith}
+use Rattle.std.specs.Prelude.{◌≢◌, ◌||◌, Option, Some, None, IsTrue, is_none, is_some, slice_get, drop, option_map, option_and_then, if◌then◌else◌}
+use Rattle.std.proofs.Math.Bool.{not}
+use Rattle.std.specs.List.{All}
+use Rattle.rx_event.specs.declared.event.Event.{Event}
+use Rattle.rx_event.specs.declared.event.Place.{Place}
+use Rattle.rx_event.specs.declared.refusal.Refusal.{Refusal}
+use Rattle.rx_event.specs.declared.refusal.Refusal.TheVariants.{NoMemory}
+use Rattle.rx_event.specs.Tree.{is_open}
+use Rattle.rx_event.specs.Calls.{Call, OpeningUsing, Holding}
+use Rattle.rx_event.specs.Refusals.{first_cause, IsRefusal}
+use Rattle.rx_book.specs.declared.key.Key.{Key}
+use Rattle.rx_book.specs.declared.key.ResKey.{ResKey}
+use Rattle.rx_book.specs.declared.answer.At.{At}
+use Rattle.rx_book.specs.State.{State, IsKept, has_key, has_res_key}
+use Rattle.rx_book.specs.Causes.{causes, by_key}
+use Rattle.rx_book.specs.Answers.{against, Accepts, place_of, is_known}
+use Rattle.rx_script.specs.declared.answer.Answer.TheVariants.{Accepted, Refused}
+use Rattle.rx_script.specs.declared.answer.Cause.TheVariants.{NoName, NameTaken, NoStock, Book}
+use Rattle.rx_script.specs.declared.engine.Named.{Named}
+use Rattle.rx_script.specs.declared.engine.Engine.{Engine}
+use Rattle.rx_script.specs.Scenario.{Name, Spot, Step, using, hold}
+use Rattle.rx_script.specs.Stage.{Ware, Stage, bound, is_bound, is_unbound, is_unbound_spot, is_empty, own_cause, call_of, place_at, front, front_is_fresh, with_binding, after}
+use Rattle.rx_script.specs.Shelf.{Shelf}
+use Rattle.rx_script.specs.Course.{book_cause}
+use Rattle.rx_script.specs.Engine.{name_of, key_of, node_binding, res_binding, at_of, stage_of, IsNodeKey, IsHeldKey, IsSound, Carries}
+use Rattle.rx_script.proofs.Keys.{has_key-is_open}
+use Rattle.rx_script.proofs.Names.{key_of-holds, node_bound, node_unbound}
+use Rattle.rx_script.proofs.Going.{accepted_continues, node_keys_kept, held_keys_kept}
+use Rattle.rx_script.proofs.Carrying.{Agrees, first_cause-by_key, with, refused_own, refused_there, accepted_to}
+use Rattle.rx_script.proofs.Commands.{cause_of}
+use Rattle.rx_script.proofs.Openings.{is_bound-nodes, is_bound-resources, IsPlaced, spot_placed, spot_nameless, new_node_key, new_held_key, nodes_bound, resources_bound, same_stage, all_pushed}
+
+-- a stock with a resource in front
+module _ {R : Type 0} (e : Engine R) (w : Ware) (rest : List Ware) (stocked : e.stock.wares ≡ w ∷ rest) where
+  pub front_stocked : front (stage_of e) ≡ Some w
+  front_stocked = ap (λ wares. slice_get wares 0) stocked
+
+  pub fresh_stocked : front_is_fresh (stage_of e) ≡ w.is_fresh
+  fresh_stocked = rw front_stocked refl
+
+  pub some_stocked : is_empty (stage_of e).stock ≡ false
+  some_stocked = ap is_empty stocked
+
+  pub rest_stocked : drop 1 (stage_of e).stock ≡ rest
+  rest_stocked = ap (drop 1) stocked
+
+  -- the causes look at that resource
+  pub agrees_stocked : (known : Bool) (call : Call) → (known ≡ false → causes e.book.history e.book.limit w.is_fresh call Rattle.rx_event.specs.declared.refusal.Refusal.TheVariants.Gone ≡ true) → Agrees e.book known w.is_fresh (stage_of e) call
+  agrees_stocked known call gone = record {
+    same = first_cause-by_key known (causes e.book.history e.book.limit w.is_fresh call) gone ∙ ap (λ f. first_cause (causes e.book.history e.book.limit f call)) (sym fresh_stocked);
+  }
+
+-- opening with a resource --------------------------------------------------------------------------
+
+module _ {R : Type 0} (e : Engine R) (name : Name) (spot : Spot) (res : Name) (sound : IsSound e) where
+  pub using_nameless : at_of e.nodes.items spot ≡ None → Carries e (using name spot res) (Refused NoName) (with e e.book e.stock)
+  using_nameless none = let nameless = spot_nameless e spot none in refused_own e (using name spot res) NoName e.book e.stock sound refl refl (rw nameless refl)
+
+  module _ (place : At) (at : at_of e.nodes.items spot ≡ Some place) where
+    facts : IsPlaced e spot place
+    facts = spot_placed e spot place sound at
+
+    pub using_taken : (is_some (key_of e.nodes.items name) || is_some (key_of e.resources.items res)) ≡ true → Carries e (using name spot res) (Refused NameTaken) (with e e.book e.stock)
+    using_taken taken =
+        let named = facts.named in
+        let node_named = is_bound-nodes e.nodes.items name in
+        let res_named = is_bound-resources e.resources.items res in
+        refused_own e (using name spot res) NameTaken e.book e.stock sound refl refl (rw (named, node_named, res_named, taken) refl)
+
+    module _ (free : (is_some (key_of e.nodes.items name) || is_some (key_of e.resources.items res)) ≡ false) where
+      pub using_stockless : (stock : Shelf) → e.stock.wares ≡ [] → stock.wares ≡ [] → Carries e (using name spot res) (Refused NoStock) (with e e.book stock)
+      using_stockless stock none same =
+          let named = facts.named in
+          let node_named = is_bound-nodes e.nodes.items name in
+          let res_named = is_bound-resources e.resources.items res in
+          refused_own e (using name spot res) NoStock e.book stock sound refl (same ∙ sym none) (rw (named, node_named, res_named, free, none) refl)
+
+      module _ (w : Ware) (rest : List Ware) (stocked : e.stock.wares ≡ w ∷ rest) where
+        no_own_cause : own_cause (stage_of e) (using name spot res) ≡ None
+        no_own_cause =
+            let named = facts.named in
+            let node_named = is_bound-nodes e.nodes.items name in
+            let res_named = is_bound-resources e.resources.items res in
+            let some = some_stocked e w rest stocked in
+            rw (named, node_named, res_named, free, some) refl
+
+        called : call_of (stage_of e) (using name spot res) ≡ Some (OpeningUsing (place_of place) w.tag)
+        called =
+            let placed = facts.placed in
+            let in_front = front_stocked e w rest stocked in
+            rw (placed, in_front) refl
+
+        agrees : Agrees e.book (is_known e.book.keys place) w.is_fresh (stage_of e) (OpeningUsing (place_of place) w.tag)
+        agrees = agrees_stocked e w rest stocked (is_known e.book.keys place) (OpeningUsing (place_of place) w.tag) facts.gone
+
+        pub using_refused : (book : State) (stock : Shelf) (why : Refusal) → book ≡ e.book → stock.wares ≡ e.stock.wares → IsRefusal (against e.book (is_known e.book.keys place) w.is_fresh (OpeningUsing (place_of place) w.tag)) why → why ≢ NoMemory
+            → Carries e (using name spot res) (Refused (Book why)) (with e book stock)
+        using_refused book stock why same same_stock refusal other =
+            refused_there e (using name spot res) (OpeningUsing (place_of place) w.tag) (is_known e.book.keys place) w.is_fresh why book stock sound same same_stock no_own_cause called agrees
+            (cause_of (against e.book (is_known e.book.keys place) w.is_fresh (OpeningUsing (place_of place) w.tag)) why refusal other)
+
+        pub using_accepted : (new : Engine R) (x : Named Key) (y : Named ResKey) → IsKept new.book
+            → Accepts e.book (against e.book (is_known e.book.keys place) w.is_fresh (OpeningUsing (place_of place) w.tag)) (OpeningUsing (place_of place) w.tag) new.book
+            → x.key.number ≡ length e.book.history → IsTrue (has_key new.book.keys x.key) → name_of x ≡ name → y.key.number ≡ length e.book.history + 1 → IsTrue (has_res_key new.book.res_keys y.key) → name_of y ≡ res
+            → new.nodes.items ≡ e.nodes.items ++ x ∷ [] → new.resources.items ≡ e.resources.items ++ y ∷ [] → new.stock.wares ≡ rest → new.faults ≡ e.faults → Carries e (using name spot res) Accepted new
+        using_accepted new x y kept accepts number listed same_name res_number res_listed same_res pushed res_pushed same_stock same_faults =
+            let goes = accepted_continues e.book new.book _ (OpeningUsing (place_of place) w.tag) accepts in
+            accepted_to e new (using name spot res) (OpeningUsing (place_of place) w.tag) (is_known e.book.keys place) w.is_fresh sound kept no_own_cause called agrees accepts
+            (same_stage new.book.history _ _ _ _ _ _
+            (nodes_bound e.nodes.items new.nodes.items x (length e.book.history) pushed number ∙ ap (λ n. with_binding (map node_binding e.nodes.items) n (length e.book.history)) same_name)
+            (resources_bound e.resources.items new.resources.items y (length e.book.history + 1) res_pushed res_number ∙ ap (λ n. with_binding (map res_binding e.resources.items) n (length e.book.history + 1)) same_res)
+            (same_stock ∙ sym (rest_stocked e w rest stocked)))
+            (all_pushed (λ n. IsNodeKey new.book n.key) e.nodes.items new.nodes.items x pushed (node_keys_kept e.book new.book e.nodes.items sound.kept kept goes sound.nodes) (new_node_key e.book new.book _ (OpeningUsing (place_of place) w.tag) x.key accepts number (omega arith) listed))
+            (all_pushed (λ n. IsHeldKey new.book n.key) e.resources.items new.resources.items y res_pushed (held_keys_kept e.book new.book e.resources.items sound.kept kept goes sound.resources) (new_held_key e.book new.book _ (OpeningUsing (place_of place) w.tag) y.key 1 accepts res_number (omega arith) res_listed))
+            same_faults
+
+-- holding ------------------------------------------------------------------------------------------
+
+module _ {R : Type 0} (e : Engine R) (node : Name) (res : Name) (sound : IsSound e) where
+  pub hold_nameless : key_of e.nodes.items node ≡ None → Carries e (hold node res) (Refused NoName) (with e e.book e.stock)
+  hold_nameless none =
+      let nameless : is_unbound (stage_of e).nodes node ≡ true = ap is_none (node_unbound e.nodes.items node none) in
+      refused_own e (hold node res) NoName e.book e.stock sound refl refl (rw nameless refl)
+
+  module _ (k : Key) (at : key_of e.nodes.items node ≡ Some k) where
+    number_named : bound (stage_of e).nodes node ≡ Some k.number
+    number_named = node_bound e.nodes.items node k at
+
+    pub hold_taken : is_some (key_of e.resources.items res) ≡ true → Carries e (hold node res) (Refused NameTaken) (with e e.book e.stock)
+    hold_taken taken =
+        let named = number_named in
+        let res_named = is_bound-resources e.resources.items res ∙ taken in
+        refused_own e (hold node res) NameTaken e.book e.stock sound refl refl (rw (named, res_named) refl)
+
+    module _ (free : is_some (key_of e.resources.items res) ≡ false) where
+      pub hold_stockless : (stock : Shelf) → e.stock.wares ≡ [] → stock.wares ≡ [] → Carries e (hold node res) (Refused NoStock) (with e e.book stock)
+      hold_stockless stock none same =
+          let named = number_named in
+          let res_named = is_bound-resources e.resources.items res ∙ free in
+          refused_own e (hold node res) NoStock e.book stock sound refl (same ∙ sym none) (rw (named, res_named, none) refl)
+
+      module _ (w : Ware) (rest : List Ware) (stocked : e.stock.wares ≡ w ∷ rest) where
+        hold_no_own_cause : own_cause (stage_of e) (hold node res) ≡ None
+        hold_no_own_cause =
+            let named = number_named in
+            let res_named = is_bound-resources e.resources.items res ∙ free in
+            let some = some_stocked e w rest stocked in
+            rw (named, res_named, some) refl
+
+        hold_called : call_of (stage_of e) (hold node res) ≡ Some (Holding k.number w.tag)
+        hold_called =
+            let named = number_named in
+            let in_front = front_stocked e w rest stocked in
+            rw (named, in_front) refl
+
+        hold_known : has_key e.book.keys k ≡ is_open e.book.history k.number
+        hold_known = has_key-is_open e.book k sound.kept (key_of-holds (IsNodeKey e.book) e.nodes.items node k sound.nodes at)
+
+        hold_agrees : Agrees e.book (has_key e.book.keys k) w.is_fresh (stage_of e) (Holding k.number w.tag)
+        hold_agrees = agrees_stocked e w rest stocked (has_key e.book.keys k) (Holding k.number w.tag) (λ unknown. ap not (sym hold_known ∙ unknown))
+
+        pub hold_refused : (book : State) (stock : Shelf) (why : Refusal) → book ≡ e.book → stock.wares ≡ e.stock.wares → IsRefusal (against e.book (has_key e.book.keys k) w.is_fresh (Holding k.number w.tag)) why → why ≢ NoMemory
+            → Carries e (hold node res) (Refused (Book why)) (with e book stock)
+        hold_refused book stock why same same_stock refusal other =
+            refused_there e (hold node res) (Holding k.number w.tag) (has_key e.book.keys k) w.is_fresh why book stock sound same same_stock hold_no_own_cause hold_called hold_agrees
+            (cause_of (against e.book (has_key e.book.keys k) w.is_fresh (Holding k.number w.tag)) why refusal other)
+
+        pub hold_accepted : (new : Engine R) (y : Named ResKey) → IsKept new.book → Accepts e.book (against e.book (has_key e.book.keys k) w.is_fresh (Holding k.number w.tag)) (Holding k.number w.tag) new.book
+            → y.key.number ≡ length e.book.history → IsTrue (has_res_key new.book.res_keys y.key) → name_of y ≡ res
+            → new.nodes.items ≡ e.nodes.items → new.resources.items ≡ e.resources.items ++ y ∷ [] → new.stock.wares ≡ rest → new.faults ≡ e.faults → Carries e (hold node res) Accepted new
+        hold_accepted new y kept accepts number listed same_res same_nodes pushed same_stock same_faults =
+            let goes = accepted_continues e.book new.book _ (Holding k.number w.tag) accepts in
+            accepted_to e new (hold node res) (Holding k.number w.tag) (has_key e.book.keys k) w.is_fresh sound kept hold_no_own_cause hold_called hold_agrees accepts
+            (same_stage new.book.history _ _ _ _ _ _ (ap (map node_binding) same_nodes)
+            (resources_bound e.resources.items new.resources.items y (length e.book.history) pushed number ∙ ap (λ n. with_binding (map res_binding e.resources.items) n (length e.book.history)) same_res)
+            (same_stock ∙ sym (rest_stocked e w rest stocked)))
+            (subst (All (λ n. IsNodeKey new.book n.key)) (sym same_nodes) (node_keys_kept e.book new.book e.nodes.items sound.kept kept goes sound.nodes))
+            (all_pushed (λ n. IsHeldKey new.book n.key) e.resources.items new.resources.items y pushed (held_keys_kept e.book new.book e.resources.items sound.kept kept goes sound.resources) (new_held_key e.book new.book _ (Holding k.number w.tag) y.key 0 accepts (number ∙ sym (add-zero (length e.book.history))) (omega arith) listed))
+            same_faults
+
+-- a resource that was put back in front
+pub put_back : {R : Type 0} (ware : R → Ware) (old mid new : List Ware) (r back : R) → old ≡ ware r ∷ mid → back ≡ r → new ≡ ware back ∷ mid → new ≡ old
+put_back ware old mid new r back taken same returned = returned ∙ ap (λ x. ware x ∷ mid) same ∙ sym taken

@@ -1,0 +1,15 @@
+pub mod Written
+pub mod Lists
+pub mod Steps
+pub mod Texts
+pub mod Keys
+pub mod Names
+pub mod Going
+pub mod Carrying
+pub mod Commands
+pub mod Openings
+pub mod Holdings
+pub mod Closings
+pub mod Leading
+pub mod Gathering
+pub mod Reporting

@@ -1,0 +1,30 @@
+-- What is known of a device that is watched, and of the bytes that went through it.
+use Rattle.std.specs.Prelude.{◌≡◌, ℕ, ◌≤◌, Bool, false, List, length, take, Option}
+use Rattle.std.specs.Io.KnownBytes.{Appends}
+use Rattle.rx_script.specs.declared.device.Watched.{Watched}
+
+-- the device itself
+abbrev pub device_of : {D : Type 0} → Watched D → D
+device_of w = w.device
+
+-- how often it was called
+abbrev pub turns_of : {D : Type 0} → Watched D → ℕ
+turns_of w = w.turns
+
+-- some call of it failed
+abbrev pub has_failed : {D : Type 0} → Watched D → Bool
+has_failed w = w.failed
+
+-- some call of it moved no byte: a reader at its end, a writer that takes none
+abbrev pub has_stopped : {D : Type 0} → Watched D → Bool
+has_stopped w = w.stopped
+
+-- nothing was asked of it yet
+pub record IsFresh {D : Type 0} (w : Watched D) : Type 0 where
+  pub turns : turns_of w ≡ 0
+  pub failed : has_failed w ≡ false
+  pub stopped : has_stopped w ≡ false
+
+-- a front of the text was written, and nothing else
+abbrev pub AppendsPrefix : Option (List ℕ) → Option (List ℕ) → List ℕ → Type 0
+AppendsPrefix old new text = (n : ℕ) × (n ≤ length text) × Appends old new (take n text)

@@ -1,0 +1,135 @@
+-- Where a scenario is while it runs.
+use Rattle.std.specs.Prelude.{ℕ, ◌+◌, Bool, true, false, ◌||◌, is_some, is_none, Option, Some, None, List, [], ◌∷◌, ◌++◌, length, drop, slice_get, find, option_map, option_and_then, if◌then◌else◌}
+use Rattle.std.specs.Str.{bytes_eq}
+use Rattle.std.specs.Option.{option_map_or}
+use Rattle.rx_event.specs.declared.event.Place.{Place}
+use Rattle.rx_event.specs.declared.event.Place.TheVariants.{Root, Source}
+use Rattle.rx_event.specs.declared.event.Event.{Event}
+use Rattle.rx_event.specs.Calls.{Call, Opening, OpeningUsing, Holding, Emitting, Ending, Disposing}
+use Rattle.rx_resource.specs.declared.Life.{Life}
+use Rattle.rx_book.specs.Boxes.{is_fresh_box}
+use Rattle.rx_script.specs.declared.answer.Cause.{Cause}
+use Rattle.rx_script.specs.declared.answer.Cause.TheVariants.{NoName, NameTaken, NoStock}
+use Rattle.rx_script.specs.Scenario.{Name, Spot, root, source, Step, using, open_node, hold, next, end, dispose, drain}
+
+-- a name, and the number of the node or resource that it stands for
+pub record Binding : Type 0 where
+  pub name : Name
+  pub number : ℕ
+
+-- a resource of the stock: its tag, and whether a book would take it
+pub record Ware : Type 0 where
+  pub tag : ℕ
+  pub is_fresh : Bool
+
+-- a book takes a resource that was neither released nor used
+abbrev pub ware_of : ℕ → Life → ℕ → Ware
+ware_of tag life uses = record { tag = tag; is_fresh = is_fresh_box life uses }
+
+-- what has happened, what the names of nodes and of resources stand for, in order of binding, and what is left of the stock
+pub record Stage : Type 0 where
+  pub history : List Event
+  pub nodes : List Binding
+  pub resources : List Binding
+  pub stock : List Ware
+
+-- before the first step
+abbrev pub start : List Ware → Stage
+start stock = record { history = []; nodes = []; resources = []; stock = stock }
+
+-- what a name stands for
+unfoldable pub bound : List Binding → Name → Option ℕ
+bound bindings name = option_map (λ b. b.number) (find (λ b. bytes_eq b.name name) bindings)
+
+-- the causes of the scenario's own -----------------------------------------------------------------
+
+abbrev pub is_unbound : List Binding → Name → Bool
+is_unbound bindings name = is_none (bound bindings name)
+
+abbrev pub is_bound : List Binding → Name → Bool
+is_bound bindings name = is_some (bound bindings name)
+
+abbrev pub is_unbound_spot : Stage → Spot → Bool
+is_unbound_spot s root = false
+is_unbound_spot s (source name) = is_unbound s.nodes name
+
+-- it uses a name that is not bound
+abbrev pub lacks_name : Stage → Step → Bool
+lacks_name s (using name spot res) = is_unbound_spot s spot
+lacks_name s (open_node name spot kind) = is_unbound_spot s spot
+lacks_name s (hold node res) = is_unbound s.nodes node
+lacks_name s (next node value) = is_unbound s.nodes node
+lacks_name s (end node t) = is_unbound s.nodes node
+lacks_name s (dispose node) = is_unbound s.nodes node
+lacks_name s drain = false
+
+-- it would bind a name that is bound; nodes and resources have a space of names each
+abbrev pub takes_name : Stage → Step → Bool
+takes_name s (using name spot res) = is_bound s.nodes name || is_bound s.resources res
+takes_name s (open_node name spot kind) = is_bound s.nodes name
+takes_name s (hold node res) = is_bound s.resources res
+takes_name s (next node value) = false
+takes_name s (end node t) = false
+takes_name s (dispose node) = false
+takes_name s drain = false
+
+abbrev pub is_empty : List Ware → Bool
+is_empty [] = true
+is_empty (ware ∷ stock) = false
+
+-- it takes a resource of the stock, and none is left
+abbrev pub lacks_stock : Stage → Step → Bool
+lacks_stock s (using name spot res) = is_empty s.stock
+lacks_stock s (open_node name spot kind) = false
+lacks_stock s (hold node res) = is_empty s.stock
+lacks_stock s (next node value) = false
+lacks_stock s (end node t) = false
+lacks_stock s (dispose node) = false
+lacks_stock s drain = false
+
+-- the first of these that stands
+abbrev pub own_cause : Stage → Step → Option Cause
+own_cause s step =
+    if lacks_name s step then Some NoName
+    else if takes_name s step then Some NameTaken
+    else if lacks_stock s step then Some NoStock
+    else None
+
+-- the call of the book -----------------------------------------------------------------------------
+
+abbrev pub place_at : Stage → Spot → Option Place
+place_at s root = Some Root
+place_at s (source name) = option_map Source (bound s.nodes name)
+
+-- the next resource of the stock
+abbrev pub front : Stage → Option Ware
+front s = slice_get s.stock 0
+
+abbrev pub front_is_fresh : Stage → Bool
+front_is_fresh s = option_map_or (λ w. w.is_fresh) (front s) true
+
+-- the call that a step makes, with numbers in place of names
+abbrev pub call_of : Stage → Step → Option Call
+call_of s (using name spot res) = option_and_then (λ place. option_map (λ w. OpeningUsing place w.tag) (front s)) (place_at s spot)
+call_of s (open_node name spot kind) = option_map (λ place. Opening place kind) (place_at s spot)
+call_of s (hold node res) = option_and_then (λ n. option_map (λ w. Holding n w.tag) (front s)) (bound s.nodes node)
+call_of s (next node value) = option_map (λ n. Emitting n value) (bound s.nodes node)
+call_of s (end node t) = option_map (λ n. Ending n t) (bound s.nodes node)
+call_of s (dispose node) = option_map Disposing (bound s.nodes node)
+call_of s drain = None
+
+-- what follows -------------------------------------------------------------------------------------
+
+abbrev pub with_binding : List Binding → Name → ℕ → List Binding
+with_binding bindings name number = bindings ++ (record { name = name; number = number }) ∷ []
+
+-- after an accepted step that took the history to k: a node is numbered by the place of its opening, and a resource by the
+-- place of its acceptance
+abbrev pub after : Stage → Step → List Event → Stage
+after s (using name spot res) k = record { history = k; nodes = with_binding s.nodes name (length s.history); resources = with_binding s.resources res (length s.history + 1); stock = drop 1 s.stock }
+after s (open_node name spot kind) k = record { history = k; nodes = with_binding s.nodes name (length s.history); resources = s.resources; stock = s.stock }
+after s (hold node res) k = record { history = k; nodes = s.nodes; resources = with_binding s.resources res (length s.history); stock = drop 1 s.stock }
+after s (next node value) k = record { history = k; nodes = s.nodes; resources = s.resources; stock = s.stock }
+after s (end node t) k = record { history = k; nodes = s.nodes; resources = s.resources; stock = s.stock }
+after s (dispose node) k = record { history = k; nodes = s.nodes; resources = s.resources; stock = s.stock }
+after s drain k = record { history = k; nodes = s.nodes; resources = s.resources; stock = s.stock }

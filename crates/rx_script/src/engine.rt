@@ -1,0 +1,303 @@
+//! A scenario at work: a book, what its names stand for, and the stock that is left.
+
+ghost use Rattle.std.specs.Prelude.{◌≡◌, ◌≢◌, ◌≤◌, [], ◌∷◌, ◌++◌, true, false, is_some, map, string_bytes, Some, IfOk, IfErr, OnOk, OnErr};
+ghost use Rattle.rx_book.specs.State.{IsKept};
+ghost use Rattle.rx_event.specs.declared.refusal.Refusal.{Refusal};
+ghost use Rattle.rx_script.specs.declared.answer.Answer.{Answer};
+ghost use Rattle.rx_script.specs.declared.answer.Cause.{Cause};
+ghost use Rattle.rx_script.specs.Scenario.{spot_of, step_of, using, open_node, hold as holding, next as emitting, end as ending, dispose as disposing, drain as draining};
+ghost use Rattle.rx_script.specs.Stage.{start, ware_of};
+ghost use Rattle.rx_script.specs.Course.{Leads};
+ghost use Rattle.rx_script.specs.Engine.{key_of, at_of, stage_of, IsSound, Carries};
+
+use crate::answer::{Answer, Cause};
+use crate::closing::release_waiting;
+use crate::scenario::{Command, Site};
+use crate::stock::Stock;
+use rx_book::{At, Book, Key, ResKey};
+use rx_event::{Kind, Refusal, Terminal};
+use rx_resource::Resource;
+use std::alloc::{AllocError, Global};
+
+/// A name, and the key that it stands for.
+#[derive(Drop)]
+pub struct Named<K> {
+    pub name: String,
+    pub key: K,
+}
+
+/// A book, the names of its nodes and of its resources in order of binding, the stock that is
+/// left, and how many releases have met a fault.
+#[derive(Drop)]
+pub struct Engine<R: Resource> {
+    pub book: Book<R>,
+    pub nodes: Vec<Named<Key>>,
+    pub resources: Vec<Named<ResKey>>,
+    pub stock: Stock<R>,
+    pub faults: u64,
+}
+
+/// Before the first step: an empty book of so many events at most, and this stock.
+pub fn begin<R: Resource>(alloc: Global, max_events: u64, stock: Vec<R>) -> Engine<R>
+    requires { max_events ≤ 4294967295 }
+    ensures sound { IsSound result }
+    ensures stage { stage_of result ≡ start (map (λ r. ware_of (R.tag_of r) (R.life_of r) (R.uses_of r)) stock.items) }
+    ensures limit { result.book.limit ≡ max_events }
+    ensures given { result.book.given ≡ 0 }
+{
+    let book = Book::new(alloc, max_events);
+    book.promise();
+    Engine {
+        book,
+        nodes: Vec::new(alloc),
+        resources: Vec::new(alloc),
+        stock: Stock::new(stock),
+        faults: 0,
+    }
+}
+
+/// The key that a name stands for.
+#[tactic(auto, unfolding(crate::specs::Engine::key_of))]
+pub fn key_of<K: Copy>(names: &[Named<K>], name: &str) -> Option<K>
+    ensures { result ≡ key_of names.now name.now }
+{
+    names
+        .iter()
+        .find(|named| named.name.as_str() == name)
+        .map(|named| named.key)
+}
+
+/// The place that a site stands for.
+pub fn place_of(names: &[Named<Key>], site: &Site) -> Option<At>
+    ensures { result ≡ at_of names.now (spot_of site.now) }
+{
+    match site {
+        Site::Root => Some(At::Root),
+        Site::Source(name) => key_of(names, name.as_str()).map(At::Source),
+    }
+}
+
+/// The answer where the book refuses a call; want of memory is no answer.
+pub fn refused(why: Refusal) -> Result<Answer, AllocError>
+    ensures ok { IfOk result (λ a. (a ≡ Answer.Refused (Cause.Book why)) × (why ≢ Refusal.NoMemory)) }
+    ensures err { OnErr result (why ≡ Refusal.NoMemory) }
+{
+    match why {
+        Refusal::NoMemory => Err(AllocError),
+        _ => Ok(Answer::Refused(Cause::Book(why))),
+    }
+}
+
+/// A leaf emits an item.
+pub fn next<R: Resource>(
+    engine: &mut Engine<R>,
+    node: &str,
+    value: i64,
+) -> Result<Answer, AllocError>
+    requires { IsSound engine.old }
+    ensures { IfOk result (λ a. Carries engine.old (emitting node.now value) a engine.new) }
+{
+    let Some(leaf) = key_of(engine.nodes.as_slice(), node) else {
+        return Ok(Answer::Refused(Cause::NoName));
+    };
+    match engine.book.next(leaf, value) {
+        Ok(_) => {
+            engine.book.promise();
+            Ok(Answer::Accepted)
+        }
+        Err(why) => refused(why),
+    }
+}
+
+/// A leaf ends.
+pub fn end<R: Resource>(
+    engine: &mut Engine<R>,
+    node: &str,
+    terminal: Terminal,
+) -> Result<Answer, AllocError>
+    requires { IsSound engine.old }
+    ensures { IfOk result (λ a. Carries engine.old (ending node.now terminal) a engine.new) }
+{
+    let Some(leaf) = key_of(engine.nodes.as_slice(), node) else {
+        return Ok(Answer::Refused(Cause::NoName));
+    };
+    match engine.book.end(leaf, terminal) {
+        Ok(_) => {
+            engine.book.promise();
+            Ok(Answer::Accepted)
+        }
+        Err(why) => refused(why),
+    }
+}
+
+/// A root is unsubscribed.
+pub fn dispose<R: Resource>(engine: &mut Engine<R>, node: &str) -> Result<Answer, AllocError>
+    requires { IsSound engine.old }
+    ensures { IfOk result (λ a. Carries engine.old (disposing node.now) a engine.new) }
+{
+    let Some(root) = key_of(engine.nodes.as_slice(), node) else {
+        return Ok(Answer::Refused(Cause::NoName));
+    };
+    match engine.book.dispose(root) {
+        Ok(_) => {
+            engine.book.promise();
+            Ok(Answer::Accepted)
+        }
+        Err(why) => refused(why),
+    }
+}
+
+/// A node is opened.
+pub fn open<R: Resource>(
+    engine: &mut Engine<R>,
+    name: String,
+    site: &Site,
+    kind: Kind,
+) -> Result<Answer, AllocError>
+    requires { IsSound engine.old }
+    ensures { IfOk result (λ a. Carries engine.old (open_node (string_bytes name) (spot_of site.now) kind) a engine.new) }
+{
+    let Some(place) = place_of(engine.nodes.as_slice(), site) else {
+        return Ok(Answer::Refused(Cause::NoName));
+    };
+    if key_of(engine.nodes.as_slice(), name.as_str()).is_some() {
+        return Ok(Answer::Refused(Cause::NameTaken));
+    }
+    match engine.book.open(place, kind) {
+        Ok(opened) => {
+            engine.book.promise();
+            engine.nodes.push(Named {
+                name,
+                key: opened.key,
+            })?;
+            Ok(Answer::Accepted)
+        }
+        Err(why) => refused(why),
+    }
+}
+
+/// A mirroring node is opened with the first resource of the stock.
+pub fn using<R: Resource>(
+    engine: &mut Engine<R>,
+    name: String,
+    site: &Site,
+    res: String,
+) -> Result<Answer, AllocError>
+    requires { IsSound engine.old }
+    ensures { IfOk result (λ a. Carries engine.old (using (string_bytes name) (spot_of site.now) (string_bytes res)) a engine.new) }
+{
+    let Some(place) = place_of(engine.nodes.as_slice(), site) else {
+        return Ok(Answer::Refused(Cause::NoName));
+    };
+    if key_of(engine.nodes.as_slice(), name.as_str()).is_some() {
+        return Ok(Answer::Refused(Cause::NameTaken));
+    }
+    if key_of(engine.resources.as_slice(), res.as_str()).is_some() {
+        return Ok(Answer::Refused(Cause::NameTaken));
+    }
+    let Some(resource) = engine.stock.take() else {
+        return Ok(Answer::Refused(Cause::NoStock));
+    };
+    match engine.book.open_using(place, resource) {
+        Ok(opened) => {
+            engine.book.promise();
+            engine.nodes.push(Named {
+                name,
+                key: opened.key,
+            })?;
+            engine.resources.push(Named {
+                name: res,
+                key: opened.res,
+            })?;
+            Ok(Answer::Accepted)
+        }
+        Err(unheld) => {
+            engine.stock.put_back(unheld.back);
+            refused(unheld.why)
+        }
+    }
+}
+
+/// A node holds the first resource of the stock.
+pub fn hold<R: Resource>(
+    engine: &mut Engine<R>,
+    node: &str,
+    res: String,
+) -> Result<Answer, AllocError>
+    requires { IsSound engine.old }
+    ensures { IfOk result (λ a. Carries engine.old (holding node.now (string_bytes res)) a engine.new) }
+{
+    let Some(key) = key_of(engine.nodes.as_slice(), node) else {
+        return Ok(Answer::Refused(Cause::NoName));
+    };
+    if key_of(engine.resources.as_slice(), res.as_str()).is_some() {
+        return Ok(Answer::Refused(Cause::NameTaken));
+    }
+    let Some(resource) = engine.stock.take() else {
+        return Ok(Answer::Refused(Cause::NoStock));
+    };
+    match engine.book.hold(key, resource) {
+        Ok(held) => {
+            engine.book.promise();
+            engine.resources.push(Named {
+                name: res,
+                key: held,
+            })?;
+            Ok(Answer::Accepted)
+        }
+        Err(unheld) => {
+            engine.stock.put_back(unheld.back);
+            refused(unheld.why)
+        }
+    }
+}
+
+/// All that waits is taken and released.
+pub fn drain<R: Resource>(engine: &mut Engine<R>)
+    requires { IsSound engine.old }
+    ensures { Carries engine.old draining Answer.Accepted engine.new }
+{
+    let closed = release_waiting(&mut engine.book);
+    engine.book.promise();
+    engine.faults = engine.faults.saturating_add(closed.faults);
+}
+
+/// Carries out one command. Err where memory was refused; then the scenario goes no further.
+pub fn execute<R: Resource>(
+    engine: &mut Engine<R>,
+    command: Command,
+) -> Result<Answer, AllocError>
+    requires { IsSound engine.old }
+    ensures { IfOk result (λ a. Carries engine.old (step_of command) a engine.new) }
+{
+    match command {
+        Command::Using { name, place, res } => using(engine, name, &place, res),
+        Command::Open { name, place, kind } => open(engine, name, &place, kind),
+        Command::Hold { node, res } => hold(engine, node.as_str(), res),
+        Command::Next { node, value } => next(engine, node.as_str(), value),
+        Command::End { node, terminal } => end(engine, node.as_str(), terminal),
+        Command::Dispose { node } => dispose(engine, node.as_str()),
+        Command::Drain => {
+            drain(engine);
+            Ok(Answer::Accepted)
+        }
+    }
+}
+
+/// Carries out all commands in order, and lists their answers.
+pub fn execute_all<R: Resource>(
+    alloc: Global,
+    engine: &mut Engine<R>,
+    commands: Vec<Command>,
+) -> Result<Vec<Answer>, AllocError>
+    requires { IsSound engine.old }
+    ensures leads { IfOk result (λ v. Leads engine.old.book.limit (stage_of engine.old) (map step_of commands.items) v.items (stage_of engine.new)) }
+    ensures sound { OnOk result (IsSound engine.new) }
+    ensures given { OnOk result (engine.new.book.given ≡ engine.old.book.given) }
+{
+    let mut answers = Vec::new(alloc);
+    for command in commands {
+        answers.push(execute(engine, command)?)?;
+    }
+    Ok(answers)
+}
