@@ -1,26 +1,23 @@
 -- An engine carries out a step: it is refused by the scenario, refused by the book, or accepted.
-use Rattle.std.proofs.Common.{◌≡◌, ◌<◌, ◌≤◌, ◌+◌, ℕ, List, Bool, true, false, refl, sym, ap, subst, ◌∙◌, map, cond, arith}
-use Rattle.std.specs.Prelude.{Option, Some, None}
+use Rattle.std.proofs.Common.{◌≡◌, ◌≤◌, ◌+◌, ℕ, List, Bool, true, false, refl, sym, ap, subst, ◌∙◌, map, arith}
+use Rattle.std.specs.Prelude.{Some, None}
 use Rattle.std.specs.List.{All}
 use Rattle.rx_event.specs.declared.event.Event.{Event}
 use Rattle.rx_event.specs.declared.refusal.Refusal.{Refusal}
-use Rattle.rx_event.specs.declared.refusal.Refusal.TheVariants.{Gone, NoHub}
+use Rattle.rx_event.specs.declared.refusal.Refusal.TheVariants.{Gone}
 use Rattle.rx_event.specs.Totals.{taken_count}
-use Rattle.rx_event.specs.Calls.{Call, outside_of}
+use Rattle.rx_event.specs.Calls.{Call}
 use Rattle.rx_event.specs.Refusals.{first_cause}
-use Rattle.rx_book.specs.declared.key.Key.{Key}
-use Rattle.rx_book.specs.declared.key.ResKey.{ResKey}
 use Rattle.rx_book.specs.State.{State, IsKept}
-use Rattle.rx_book.specs.Causes.{causes, by_key}
+use Rattle.rx_book.specs.Causes.{by_key}
 use Rattle.rx_book.specs.Answers.{against, Accepts}
 use Rattle.rx_script.specs.declared.answer.Answer.{Answer}
 use Rattle.rx_script.specs.declared.answer.Answer.TheVariants.{Accepted, Refused}
 use Rattle.rx_script.specs.declared.answer.Cause.{Cause}
 use Rattle.rx_script.specs.declared.answer.Cause.TheVariants.{Book}
-use Rattle.rx_script.specs.declared.engine.Named.{Named}
 use Rattle.rx_script.specs.declared.engine.Engine.{Engine}
 use Rattle.rx_script.specs.Scenario.{Step, drain}
-use Rattle.rx_script.specs.Stage.{Stage, own_cause, call_of, front_is_fresh, after}
+use Rattle.rx_script.specs.Stage.{Stage, own_cause, call_of, after}
 use Rattle.rx_script.specs.Course.{Drains, Executes, refused, refused_by_book, accepted, drained, book_cause}
 use Rattle.rx_script.specs.Shelf.{Shelf}
 use Rattle.rx_script.specs.Engine.{node_binding, res_binding, stage_of, IsNodeKey, IsHeldKey, Continues, IsSound, Carries}

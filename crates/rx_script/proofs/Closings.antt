@@ -1,10 +1,9 @@
 -- Taking, disposing and closing.
-use Rattle.std.proofs.Common.{◌≡◌, ◌<◌, ◌≤◌, ◌+◌, ◌-◌, ◌++◌, ◌∷◌, [], ℕ, zero, suc, List, Bool, true, false, refl, sym, ap, subst, ◌∙◌, map, cond, length, take, drop, filter, get_or, ⊎_elim, zero-add, take-append-drop, length-append, length-take, arith}
-use Rattle.std.specs.Prelude.{◌&&◌, ◌≢◌, ◌==◌, Option, Some, None, IsTrue, count_by, find, slice_get, option_map, nat_lt, if◌then◌else◌}
-use Rattle.std.proofs.Math.Bool.{not}
-use Rattle.std.specs.List.{All, Contains, range_with_len}
+use Rattle.std.proofs.Common.{◌≡◌, ◌<◌, ◌≤◌, ◌+◌, ◌-◌, ◌++◌, ◌∷◌, [], ℕ, zero, suc, List, Bool, true, false, refl, sym, ap, subst, ◌∙◌, map, cond, length, take, drop, filter, ⊎_elim, zero-add, take-append-drop, length-append, length-take, arith}
+use Rattle.std.specs.Prelude.{Option, Some, None, count_by, find, slice_get, nat_lt}
+use Rattle.std.specs.List.{All, Contains}
 use Rattle.std.specs.Option.{option_and_then, option_map_or}
-use Rattle.std.proofs.lemmas.Bool.{and_parts, and_from, cases_lt, cases_Bool, lt-ltb, false_from_ne_true, both_ways, and_left}
+use Rattle.std.proofs.lemmas.Bool.{and_parts, and_from, cases_lt, lt-ltb, false_from_ne_true, both_ways, and_left}
 use Rattle.std.proofs.lemmas.List.Elements.{All-cons}
 use Rattle.std.proofs.lemmas.List.FromFn.{get_or-range_with_len, length-range_with_len}
 use Rattle.rx_event.specs.declared.event.Event.{Event}
@@ -13,14 +12,13 @@ use Rattle.rx_event.specs.declared.event.Place.{Place}
 use Rattle.rx_event.specs.declared.event.Place.TheVariants.{Root, Source, Inner, Notifier}
 use Rattle.rx_event.specs.declared.event.Kind.{Kind}
 use Rattle.rx_event.specs.declared.refusal.Refusal.{Refusal}
-use Rattle.rx_event.specs.declared.refusal.Refusal.TheVariants.{Gone, NotRoot}
 use Rattle.rx_event.specs.Events.{makes_node, makes_hub, makes_resource, is_take, is_root, is_auto_hub, is_manual_hub, parent_named, node_of_accept}
-use Rattle.rx_event.specs.Tree.{at, places, hubs, parent, if_less, is_open, is_standing, is_shut}
+use Rattle.rx_event.specs.Tree.{at, places, hubs, parent, if_less, is_open}
 use Rattle.rx_event.specs.Forced.{IsDue, mirrored, fired, failed, completed, cut, left, IsForced, connecting, due}
 use Rattle.rx_event.specs.Allowed.{IsFree, IsAllowed, connected}
 use Rattle.rx_event.specs.Resources.{is_held, is_waiting, waiting_resources}
 use Rattle.rx_event.specs.Totals.{accepted_count, taken_count, held_count, waiting_count}
-use Rattle.rx_event.specs.Lawful.{IsForcedOn, stays, more, IsLawful, MayFollow, forced, allowed, opened_with}
+use Rattle.rx_event.specs.Lawful.{IsForcedOn, stays, more, IsLawful, MayFollow, forced, allowed}
 use Rattle.rx_event.specs.Calls.{Call, Disposing, Taking, outside_of, IsStepOf}
 use Rattle.rx_event.specs.Refusals.{first_cause}
 use Rattle.rx_event.specs.Laws.Places.{slice_get_last, at-append}
@@ -30,8 +28,7 @@ use Rattle.rx_event.specs.Laws.Lawful.{lawful_at}
 use Rattle.rx_event.specs.Laws.Steps.{may_be_forced, forced_kind, may_open}
 use Rattle.rx_event.specs.Laws.Totals.{accepted_count-parts}
 use Rattle.rx_book.specs.declared.key.Key.{Key}
-use Rattle.rx_book.specs.State.{Box, State, AreJust, IsKept, has_key}
-use Rattle.rx_book.specs.Causes.{causes, by_key}
+use Rattle.rx_book.specs.State.{State, AreJust, IsKept, has_key}
 use Rattle.rx_book.specs.Answers.{against, Accepts}
 use Rattle.rx_book.specs.Kept.{is_open_root}
 use Rattle.rx_script.specs.Course.{Takes, none_taken, next_taken}
@@ -239,7 +236,7 @@ none_open_below h lawful no_hub rootless (suc bound) n lt open_now =
     let made = at_some makes_node (slice_get h n) (and_parts _ _ parts.0).0 in
     let by_parent : (o : Option ℕ) → parent h n ≡ o → option_map_or (is_open h) o true ≡ true → ⊥ =
     λ o. elim o as (λ o. parent h n ≡ o → option_map_or (is_open h) o true ≡ true → ⊥) [
-      None ↦ λ orphan above. both_ways _ (rootless n) (and_from _ _ open_now (top_root h n made.0 lawful no_hub made.1 made.2 orphan))
+      | None ↦ λ orphan above. both_ways _ (rootless n) (and_from _ _ open_now (top_root h n made.0 lawful no_hub made.1 made.2 orphan))
       | Some p ↦ λ child above. let older = parent-lt h n p child in none_open_below h lawful no_hub rootless bound p (omega arith) above
     ] in
     by_parent (parent h n) refl parts.1

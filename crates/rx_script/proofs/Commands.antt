@@ -1,9 +1,8 @@
 -- Each command, carried out by an engine.
-use Rattle.std.proofs.Common.{◌≡◌, ◌<◌, ◌≤◌, ◌+◌, ◌++◌, ◌∷◌, [], ℕ, ℤ, List, Bool, true, false, refl, sym, ap, subst, ◌∙◌, map, cond, length, inl, inr, arith}
-use Rattle.std.specs.Prelude.{◌≢◌, ◌⊎◌, Option, Some, None, Result, Ok, Err, IfOk, is_none, option_map, if◌then◌else◌}
+use Rattle.std.proofs.Common.{◌≡◌, ℕ, ℤ, List, Bool, true, refl, sym, ap, subst, ◌∙◌, cond, inl, inr}
+use Rattle.std.specs.Prelude.{◌≢◌, Some, None, Result, Ok, Err, IfOk, is_none, option_map}
 use Rattle.std.proofs.Math.Bool.{not}
 use Rattle.std.specs.declared.alloc.AllocError.{AllocError}
-use Rattle.std.specs.List.{All}
 use Rattle.rx_note.specs.declared.note.Terminal.{Terminal}
 use Rattle.rx_event.specs.declared.event.Event.{Event}
 use Rattle.rx_event.specs.declared.refusal.Refusal.{Refusal}
@@ -17,12 +16,11 @@ use Rattle.rx_book.specs.Causes.{causes, by_key}
 use Rattle.rx_book.specs.Answers.{against, Accepts}
 use Rattle.rx_script.specs.declared.answer.Answer.{Answer}
 use Rattle.rx_script.specs.declared.answer.Answer.TheVariants.{Accepted, Refused}
-use Rattle.rx_script.specs.declared.answer.Cause.TheVariants.{NoName, NameTaken, NoStock, Book}
-use Rattle.rx_script.specs.declared.engine.Named.{Named}
+use Rattle.rx_script.specs.declared.answer.Cause.TheVariants.{NoName, Book}
 use Rattle.rx_script.specs.declared.engine.Engine.{Engine}
 use Rattle.rx_script.specs.Scenario.{Name, Step, next, end, dispose}
 use Rattle.rx_script.specs.Stage.{Stage, bound, is_unbound, own_cause, call_of, front_is_fresh, after}
-use Rattle.rx_script.specs.Engine.{key_of, node_binding, stage_of, IsNodeKey, IsSound, Carries}
+use Rattle.rx_script.specs.Engine.{key_of, stage_of, IsNodeKey, IsSound, Carries}
 use Rattle.rx_script.proofs.Keys.{has_key-is_open}
 use Rattle.rx_script.proofs.Names.{key_of-holds, node_bound, node_unbound}
 use Rattle.rx_script.proofs.Carrying.{Agrees, first_cause-by_key, with, refused_own, refused_there, accepted_plain}
@@ -78,9 +76,9 @@ module _ {R : Type 0} (e : Engine R) {step : Step} {name : Name} {call : ℕ →
     agrees : Agrees e.book (has_key e.book.keys k) true (stage_of e) (call k.number)
     agrees = record {
       same =
-        ap (λ stands. first_cause (by_key (has_key e.book.keys k) stands)) (is_step.any_front e.book.history e.book.limit (front_is_fresh (stage_of e)) k.number)
-        ∙ first_cause-by_key (has_key e.book.keys k) (causes e.book.history e.book.limit (front_is_fresh (stage_of e)) (call k.number))
-        (λ unknown. is_step.gone e.book.history e.book.limit (front_is_fresh (stage_of e)) k.number ∙ ap not (sym known ∙ unknown));
+          ap (λ stands. first_cause (by_key (has_key e.book.keys k) stands)) (is_step.any_front e.book.history e.book.limit (front_is_fresh (stage_of e)) k.number)
+          ∙ first_cause-by_key (has_key e.book.keys k) (causes e.book.history e.book.limit (front_is_fresh (stage_of e)) (call k.number))
+          (λ unknown. is_step.gone e.book.history e.book.limit (front_is_fresh (stage_of e)) k.number ∙ ap not (sym known ∙ unknown));
     }
 
     pub node_refused : (book : State) (why : Refusal) → book ≡ e.book → IsRefusal (against e.book (has_key e.book.keys k) true (call k.number)) why → why ≢ NoMemory → Carries e step (Refused (Book why)) (with e book e.stock)

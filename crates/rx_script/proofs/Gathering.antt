@@ -1,12 +1,12 @@
 -- Lists that are copied from a book, one by one, and the lines that are made of them.
-use Rattle.std.proofs.Common.{◌≡◌, ◌<◌, ◌≤◌, ◌+◌, ◌++◌, ◌∷◌, [], ℕ, zero, suc, List, Bool, true, false, map, filter, length, take, get_or, cond, refl, sym, ap, subst, ◌∙◌, append_assoc, append-nil, add-one, arith}
-use Rattle.std.specs.Prelude.{Option, Some, None, ◌==◌, slice_get, option_map, flat_map, if◌then◌else◌}
+use Rattle.std.proofs.Common.{◌≡◌, ◌<◌, ◌≤◌, ◌+◌, ◌++◌, ◌∷◌, [], ℕ, zero, suc, List, Bool, true, false, map, filter, length, take, get_or, cond, refl, sym, ap, ◌∙◌, append_assoc, append-nil, arith}
+use Rattle.std.specs.Prelude.{Option, Some, None, ◌==◌, slice_get, option_map, flat_map}
 use Rattle.std.proofs.lemmas.List.{take_more, take_all, map-append}
 use Rattle.std.proofs.lemmas.Option.{get_or_from_slice_get}
 use Rattle.std.proofs.lemmas.Grind.{flat_map-append}
 use Rattle.rx_event.specs.declared.event.Event.{Event}
 use Rattle.rx_event.specs.Tree.{at, is_open}
-use Rattle.rx_event.specs.Notes.{Mail, notes_to, notes}
+use Rattle.rx_event.specs.Notes.{Mail, notes}
 use Rattle.rx_book.specs.declared.answer.Mail.{Mail as Letter}
 use Rattle.rx_book.specs.State.{State}
 use Rattle.rx_book.specs.Kept.{letter}
@@ -16,7 +16,6 @@ use Rattle.rx_script.specs.Engine.{name_of, node_binding}
 use Rattle.rx_script.specs.Text.{node_line}
 use Rattle.rx_script.specs.Stage.{Binding}
 use Rattle.rx_event.specs.Resources.{is_held, is_taken}
-use Rattle.rx_script.specs.declared.line.Whereabouts.{Whereabouts}
 use Rattle.rx_script.specs.declared.line.Whereabouts.TheVariants.{Held, Waiting, Taken}
 use Rattle.rx_script.specs.Report.{is_told, node_shown, node_lines, res_shown, res_lines, whereabouts}
 
@@ -45,10 +44,10 @@ pub mail_next : (told : List Mail) (mail pushed : List Letter) (n : ℕ) (note :
 mail_next told mail pushed n note is found is_pushed =
     let by_case : (o : Option Mail) → slice_get told n ≡ o → Some note ≡ option_map letter o → pushed ≡ map letter (take (n + 1) told) =
     λ o. elim o as (λ o. slice_get told n ≡ o → Some note ≡ option_map letter o → pushed ≡ map letter (take (n + 1) told)) [
-      None ↦ λ at_n same. absurd (cc)
+      | None ↦ λ at_n same. absurd (cc)
       | Some m ↦ λ at_n same.
-      let is_note : note ≡ letter m = cc in
-      is_pushed ∙ ap (λ l. l ++ note ∷ []) is ∙ ap (λ x. map letter (take n told) ++ x ∷ []) is_note ∙ sym (map-append letter (take n told) (m ∷ [])) ∙ ap (map letter) (sym (take_next told n m at_n))
+          let is_note : note ≡ letter m = cc in
+          is_pushed ∙ ap (λ l. l ++ note ∷ []) is ∙ ap (λ x. map letter (take n told) ++ x ∷ []) is_note ∙ sym (map-append letter (take n told) (m ∷ [])) ∙ ap (map letter) (sym (take_next told n m at_n))
     ] in
     by_case (slice_get told n) refl found
 
@@ -56,7 +55,7 @@ pub mail_all : (told : List Mail) (mail : List Letter) (n : ℕ) → mail ≡ ma
 mail_all told mail n is missing =
     let by_case : (o : Option Mail) → slice_get told n ≡ o → None ≡ option_map letter o → mail ≡ map letter told =
     λ o. elim o as (λ o. slice_get told n ≡ o → None ≡ option_map letter o → mail ≡ map letter told) [
-      None ↦ λ at_n same. is ∙ ap (map letter) (take_all n told (slice_get-past told n at_n))
+      | None ↦ λ at_n same. is ∙ ap (map letter) (take_all n told (slice_get-past told n at_n))
       | Some m ↦ λ at_n same. absurd (cc)
     ] in
     by_case (slice_get told n) refl missing

@@ -1,10 +1,8 @@
 -- The commands that hand a resource in, carried out by an engine.
-use Rattle.std.proofs.Common.{◌≡◌, ◌<◌, ◌≤◌, ◌+◌, ◌++◌, ◌∷◌, [], ℕ, List, Bool, true, false, refl, sym, ap, subst, ◌∙◌, map, cond, length, add-zero, arith}
-use Rattle.std.specs.Prelude.{◌≢◌, ◌||◌, Option, Some, None, IsTrue, is_none, is_some, slice_get, drop, option_map, option_and_then, if◌then◌else◌}
+use Rattle.std.proofs.Common.{◌≡◌, ◌+◌, ◌++◌, ◌∷◌, [], List, Bool, true, false, refl, sym, ap, subst, ◌∙◌, map, length, add-zero, arith}
+use Rattle.std.specs.Prelude.{◌≢◌, ◌||◌, Some, None, IsTrue, is_none, is_some, slice_get, drop}
 use Rattle.std.proofs.Math.Bool.{not}
 use Rattle.std.specs.List.{All}
-use Rattle.rx_event.specs.declared.event.Event.{Event}
-use Rattle.rx_event.specs.declared.event.Place.{Place}
 use Rattle.rx_event.specs.declared.refusal.Refusal.{Refusal}
 use Rattle.rx_event.specs.declared.refusal.Refusal.TheVariants.{NoMemory}
 use Rattle.rx_event.specs.Tree.{is_open}
@@ -14,16 +12,15 @@ use Rattle.rx_book.specs.declared.key.Key.{Key}
 use Rattle.rx_book.specs.declared.key.ResKey.{ResKey}
 use Rattle.rx_book.specs.declared.answer.At.{At}
 use Rattle.rx_book.specs.State.{State, IsKept, has_key, has_res_key}
-use Rattle.rx_book.specs.Causes.{causes, by_key}
+use Rattle.rx_book.specs.Causes.{causes}
 use Rattle.rx_book.specs.Answers.{against, Accepts, place_of, is_known}
 use Rattle.rx_script.specs.declared.answer.Answer.TheVariants.{Accepted, Refused}
 use Rattle.rx_script.specs.declared.answer.Cause.TheVariants.{NoName, NameTaken, NoStock, Book}
 use Rattle.rx_script.specs.declared.engine.Named.{Named}
 use Rattle.rx_script.specs.declared.engine.Engine.{Engine}
-use Rattle.rx_script.specs.Scenario.{Name, Spot, Step, using, hold}
-use Rattle.rx_script.specs.Stage.{Ware, Stage, bound, is_bound, is_unbound, is_unbound_spot, is_empty, own_cause, call_of, place_at, front, front_is_fresh, with_binding, after}
+use Rattle.rx_script.specs.Scenario.{Name, Spot, using, hold}
+use Rattle.rx_script.specs.Stage.{Ware, bound, is_unbound, is_empty, own_cause, call_of, front, front_is_fresh, with_binding}
 use Rattle.rx_script.specs.Shelf.{Shelf}
-use Rattle.rx_script.specs.Course.{book_cause}
 use Rattle.rx_script.specs.Engine.{name_of, key_of, node_binding, res_binding, at_of, stage_of, IsNodeKey, IsHeldKey, IsSound, Carries}
 use Rattle.rx_script.proofs.Keys.{has_key-is_open}
 use Rattle.rx_script.proofs.Names.{key_of-holds, node_bound, node_unbound}

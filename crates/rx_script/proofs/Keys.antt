@@ -1,12 +1,11 @@
 -- Keys that a book gave, and the numbers that they go by.
-use Rattle.std.proofs.Common.{◌≡◌, ◌<◌, ℕ, List, [], ◌∷◌, Bool, true, false, map, length, get_or, refl, sym, ap, subst, ◌∙◌, ⊎_elim, arith}
-use Rattle.std.specs.Prelude.{◌≢◌, ◌&&◌, ◌==◌, Option, Some, None, IsTrue}
-use Rattle.std.specs.List.{All, AllPairs, Contains, list_any}
+use Rattle.std.proofs.Common.{◌≡◌, ◌<◌, ℕ, List, Bool, true, false, map, length, get_or, refl, sym, ap, subst, ◌∙◌, ⊎_elim, arith}
+use Rattle.std.specs.Prelude.{◌≢◌, ◌&&◌, ◌==◌, IsTrue}
+use Rattle.std.specs.List.{AllPairs, Contains}
 use Rattle.std.proofs.lemmas.Bool.{eqb-true, eq-eqb, and_parts, and_from, cases_order}
 use Rattle.std.proofs.lemmas.List.{get_or-map, get_or_default, length-map}
 use Rattle.std.proofs.lemmas.List.Folds.{list_any_at}
 use Rattle.std.proofs.lemmas.Map.Views.{Contains-from_any}
-use Rattle.rx_event.specs.declared.event.Event.{Event}
 use Rattle.rx_event.specs.Tree.{is_open}
 use Rattle.rx_event.specs.Resources.{is_held}
 use Rattle.rx_book.specs.declared.key.Key.{Key}

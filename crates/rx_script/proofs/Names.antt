@@ -1,6 +1,6 @@
 -- What names stand for, by keys and by numbers.
-use Rattle.std.proofs.Common.{◌≡◌, ◌<◌, ℕ, List, [], ◌∷◌, Bool, true, false, map, cond, refl, sym, ap, subst, ◌∙◌, arith}
-use Rattle.std.specs.Prelude.{Option, Some, None, option_map, find, is_some, is_none}
+use Rattle.std.proofs.Common.{◌≡◌, List, [], ◌∷◌, Bool, true, false, map, cond, refl, ap, subst, ◌∙◌, arith}
+use Rattle.std.specs.Prelude.{Option, Some, None, option_map, find}
 use Rattle.std.specs.Str.{bytes_eq}
 use Rattle.std.specs.List.{All}
 use Rattle.std.proofs.lemmas.List.Elements.{All-tail}
@@ -8,7 +8,7 @@ use Rattle.rx_book.specs.declared.key.Key.{Key}
 use Rattle.rx_book.specs.declared.key.ResKey.{ResKey}
 use Rattle.rx_script.specs.declared.engine.Named.{Named}
 use Rattle.rx_script.specs.Scenario.{Name}
-use Rattle.rx_script.specs.Stage.{Binding, bound}
+use Rattle.rx_script.specs.Stage.{bound}
 use Rattle.rx_script.specs.Engine.{name_of, key_of, node_binding, res_binding}
 
 find-map : {A B : Type 0} (p : B → Bool) (f : A → B) (xs : List A) → find p (map f xs) ≡ option_map f (find (λ x. p (f x)) xs)

@@ -1,34 +1,30 @@
 -- The commands that bind names, carried out by an engine.
-use Rattle.std.proofs.Common.{◌≡◌, ◌<◌, ◌≤◌, ◌+◌, ◌++◌, ◌∷◌, [], ℕ, List, Bool, true, false, refl, sym, ap, subst, ◌∙◌, map, cond, length, arith}
-use Rattle.std.specs.Prelude.{◌≢◌, ◌||◌, Option, Some, None, IsTrue, is_none, is_some, slice_get, drop, option_map, option_and_then, if◌then◌else◌}
+use Rattle.std.proofs.Common.{◌≡◌, ◌<◌, ◌+◌, ◌++◌, ◌∷◌, [], ℕ, List, Bool, true, false, refl, sym, ap, subst, ◌∙◌, map, length, arith}
+use Rattle.std.specs.Prelude.{◌≢◌, Option, Some, None, IsTrue, is_none, is_some, option_map}
 use Rattle.std.proofs.Math.Bool.{not}
-use Rattle.std.specs.List.{All, Contains}
+use Rattle.std.specs.List.{All}
 use Rattle.std.proofs.lemmas.List.{map-append}
 use Rattle.std.proofs.lemmas.List.Elements.{All-push}
 use Rattle.rx_event.specs.declared.event.Event.{Event}
-use Rattle.rx_event.specs.declared.event.Place.{Place}
-use Rattle.rx_event.specs.declared.event.Place.TheVariants.{Root, Source}
+use Rattle.rx_event.specs.declared.event.Place.TheVariants.{Source}
 use Rattle.rx_event.specs.declared.event.Kind.{Kind}
 use Rattle.rx_event.specs.declared.refusal.Refusal.{Refusal}
 use Rattle.rx_event.specs.declared.refusal.Refusal.TheVariants.{NoMemory}
-use Rattle.rx_event.specs.Tree.{is_open}
-use Rattle.rx_event.specs.Calls.{Call, Opening, OpeningUsing, Holding, outside_of}
-use Rattle.rx_event.specs.Refusals.{first_cause, IsRefusal}
+use Rattle.rx_event.specs.Calls.{Call, Opening, outside_of}
+use Rattle.rx_event.specs.Refusals.{IsRefusal}
 use Rattle.rx_book.specs.declared.key.Key.{Key}
 use Rattle.rx_book.specs.declared.key.ResKey.{ResKey}
 use Rattle.rx_book.specs.declared.answer.At.{At}
 use Rattle.rx_book.specs.declared.answer.At.TheVariants.{Root as AtRoot, Source as AtSource}
 use Rattle.rx_book.specs.State.{State, IsKept, has_key, has_res_key}
-use Rattle.rx_book.specs.Causes.{causes, by_key, is_gone}
+use Rattle.rx_book.specs.Causes.{causes, is_gone}
 use Rattle.rx_book.specs.Answers.{against, Accepts, place_of, is_known}
 use Rattle.rx_script.specs.declared.answer.Answer.TheVariants.{Accepted, Refused}
-use Rattle.rx_script.specs.declared.answer.Cause.{Cause}
-use Rattle.rx_script.specs.declared.answer.Cause.TheVariants.{NoName, NameTaken, NoStock, Book}
+use Rattle.rx_script.specs.declared.answer.Cause.TheVariants.{NoName, NameTaken, Book}
 use Rattle.rx_script.specs.declared.engine.Named.{Named}
 use Rattle.rx_script.specs.declared.engine.Engine.{Engine}
-use Rattle.rx_script.specs.Scenario.{Name, Spot, root, source, Step, using, open_node, hold}
-use Rattle.rx_script.specs.Stage.{Binding, Ware, Stage, bound, is_bound, is_unbound, is_unbound_spot, own_cause, call_of, place_at, front, front_is_fresh, with_binding, after}
-use Rattle.rx_script.specs.Shelf.{Shelf}
+use Rattle.rx_script.specs.Scenario.{Name, Spot, root, source, open_node}
+use Rattle.rx_script.specs.Stage.{Binding, Ware, Stage, is_bound, is_unbound_spot, own_cause, call_of, place_at, with_binding}
 use Rattle.rx_script.specs.Engine.{name_of, key_of, node_binding, res_binding, at_of, stage_of, IsNodeKey, IsHeldKey, IsSound, Carries}
 use Rattle.rx_script.proofs.Keys.{has_key-is_open, has_key-contained, has_res_key-contained}
 use Rattle.rx_script.proofs.Names.{key_of-holds, bound-nodes, bound-resources, node_bound, node_unbound}

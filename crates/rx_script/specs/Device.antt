@@ -1,11 +1,20 @@
 -- What is known of a device that is watched, and of the bytes that went through it.
 use Rattle.std.specs.Prelude.{◌≡◌, ℕ, ◌≤◌, Bool, false, List, length, take, Option}
 use Rattle.std.specs.Io.KnownBytes.{Appends}
+use Rattle.std.specs.Borrow.{MutBor}
 use Rattle.rx_script.specs.declared.device.Watched.{Watched}
 
--- the device itself
+-- the device that is watched
 abbrev pub device_of : {D : Type 0} → Watched D → D
-device_of w = w.device
+device_of w = w.device.now
+
+-- the reference to the device stays, so that whoever lent it learns what became of it
+abbrev pub KeepsDevice : {D : Type 0} → Watched D → Watched D → Type 0
+KeepsDevice old new = new.device.ghost_name ≡ old.device.ghost_name
+
+-- the device is watched through this reference
+abbrev pub Watches : {D : Type 0} → Watched D → MutBor D → Type 0
+Watches w device = w.device.ghost_name ≡ device.ghost_name
 
 -- how often it was called
 abbrev pub turns_of : {D : Type 0} → Watched D → ℕ

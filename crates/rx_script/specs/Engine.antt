@@ -1,5 +1,5 @@
 -- A scenario at work: what its parts stand for, and what they keep.
-use Rattle.std.specs.Prelude.{◌≡◌, ℕ, ◌<◌, ◌≤◌, Bool, true, Option, Some, None, List, length, map, find, string_bytes, IsTrue, option_map}
+use Rattle.std.specs.Prelude.{◌≡◌, ◌<◌, ◌≤◌, Option, Some, List, length, map, find, string_bytes, IsTrue, option_map}
 use Rattle.std.specs.Str.{bytes_eq}
 use Rattle.std.specs.List.{All, Contains}
 use Rattle.rx_event.specs.Tree.{is_open}

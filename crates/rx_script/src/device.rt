@@ -3,7 +3,7 @@
 ghost use Rattle.std.specs.Prelude.{◌≡◌, ◌<◌, ◌≤◌, ◌⊎◌, ◌+◌, ◌-◌, ◌^◌, ℕ, List, false, true, length, min, take, vec_len, IfOk, OnOk, OnErr, IfSome, OnSome, IfNone, IsErrOf, IsTrue};
 ghost use Rattle.std.specs.Io.{ReadsAtMost};
 ghost use Rattle.std.specs.Io.KnownBytes.{Appends, Consumes, IsAtEnd, Keeps};
-ghost use Rattle.rx_script.specs.Device.{device_of, turns_of, has_failed, has_stopped, IsFresh, AppendsPrefix};
+ghost use Rattle.rx_script.specs.Device.{device_of, KeepsDevice, Watches, turns_of, has_failed, has_stopped, IsFresh, AppendsPrefix};
 
 use std::alloc::Global;
 use std::io::{Read, Write};
@@ -18,17 +18,19 @@ const PIECE: usize = 4096;
 
 /// A reader or a writer, with what is known of its calls: how many there were, whether one failed,
 /// and whether one moved no byte, as a reader's does at its end.
-pub struct Watched<D> {
-    device: D,
+#[derive(Drop)]
+pub struct Watched<'a, D> {
+    device: &'a mut D,
     turns: u64,
     failed: bool,
     stopped: bool,
 }
 
-impl<D> Watched<D> {
-    /// Watches a device of which nothing was asked yet.
-    pub fn new(device: D) -> Self
-        ensures device { device_of result ≡ device }
+impl<'a, D> Watched<'a, D> {
+    /// Watches a device, from which nothing was asked through this watch yet.
+    pub fn new(device: &'a mut D) -> Self
+        ensures device { device_of result ≡ device.old }
+        ensures watches { Watches result device.entry }
         ensures fresh { IsFresh result }
     {
         Watched {
@@ -38,25 +40,13 @@ impl<D> Watched<D> {
             stopped: false,
         }
     }
-
-    /// The device, no longer watched.
-    pub fn into_inner(self) -> D
-        ensures { result ≡ device_of self }
-    {
-        let Watched {
-            device,
-            turns: _,
-            failed: _,
-            stopped: _,
-        } = self;
-        device
-    }
 }
 
-impl<R: Read> Watched<R> {
+impl<R: Read> Watched<'_, R> {
     // The next bytes, and how many they are; None where the reader failed.
     fn read(&mut self, buffer: &mut [u8]) -> Option<usize>
         requires { 0 < length buffer.old }
+        ensures same_device { KeepsDevice self.old self.new }
         ensures turns { turns_of self.new ≡ min (turns_of self.old + 1) (2 ^ 64 - 1) }
         ensures within { IfSome result (λ n. n ≤ length buffer.new) }
         ensures bytes { IfSome result (λ n. Consumes (R.remaining (device_of self.old)) (R.remaining (device_of self.new)) (take n buffer.new)) }
@@ -77,11 +67,12 @@ impl<R: Read> Watched<R> {
     }
 }
 
-impl<W: Write> Watched<W> {
+impl<W: Write> Watched<'_, W> {
     // How many bytes of the text were written, which are more than none; None where the writer
     // failed or took none.
     fn write(&mut self, text: &[u8]) -> Option<usize>
         requires { 0 < length text.now }
+        ensures same_device { KeepsDevice self.old self.new }
         ensures written { IfSome result (λ n. Appends (W.contents (device_of self.old)) (W.contents (device_of self.new)) (take n text.now)) }
         ensures some { IfSome result (λ n. (0 < n) × (n ≤ length text.now)) }
         ensures kept { IfNone result (Keeps (W.contents (device_of self.old)) (W.contents (device_of self.new))) }
@@ -116,8 +107,9 @@ pub enum ReadFault {
 }
 
 /// All that the reader has left.
-pub fn read_all<R: Read>(alloc: Global, reader: &mut Watched<R>) -> Result<Vec<u8>, ReadFault>
+pub fn read_all<R: Read>(alloc: Global, reader: &mut Watched<'_, R>) -> Result<Vec<u8>, ReadFault>
     requires fresh { IsFresh reader.old }
+    ensures same_device { KeepsDevice reader.old reader.new }
     ensures ok { IfOk result (λ v. Consumes (R.remaining (device_of reader.old)) (R.remaining (device_of reader.new)) v.items) }
     ensures end { OnOk result (IsAtEnd (R.remaining (device_of reader.new))) }
     ensures stopped { OnOk result (has_stopped reader.new ≡ true) }
@@ -151,7 +143,8 @@ pub fn read_all<R: Read>(alloc: Global, reader: &mut Watched<R>) -> Result<Vec<u
 pub struct WriteFault;
 
 /// Writes the whole text.
-pub fn write_text<W: Write>(writer: &mut Watched<W>, text: &[u8]) -> Result<(), WriteFault>
+pub fn write_text<W: Write>(writer: &mut Watched<'_, W>, text: &[u8]) -> Result<(), WriteFault>
+    ensures same_device { KeepsDevice writer.old writer.new }
     ensures ok { OnOk result (Appends (W.contents (device_of writer.old)) (W.contents (device_of writer.new)) text.now) }
     ensures err { OnErr result (AppendsPrefix (W.contents (device_of writer.old)) (W.contents (device_of writer.new)) text.now) }
     ensures failed { OnErr result ((has_failed writer.new ≡ true) ⊎ (has_stopped writer.new ≡ true)) }

@@ -263,10 +263,7 @@ pub fn drain<R: Resource>(engine: &mut Engine<R>)
 }
 
 /// Carries out one command. Err where memory was refused; then the scenario goes no further.
-pub fn execute<R: Resource>(
-    engine: &mut Engine<R>,
-    command: Command,
-) -> Result<Answer, AllocError>
+pub fn execute<R: Resource>(engine: &mut Engine<R>, command: Command) -> Result<Answer, AllocError>
     requires { IsSound engine.old }
     ensures { IfOk result (λ a. Carries engine.old (step_of command) a engine.new) }
 {

@@ -71,7 +71,10 @@ fn is_told_at(events: &[Event], node: u64) -> bool
 fn makes_node(event: &Event) -> bool
     ensures { result ≡ makes_node event.now }
 {
-    matches!(*event, Event::Open { place: _, kind: _ } | Event::Connect(_))
+    matches!(
+        *event,
+        Event::Open { place: _, kind: _ } | Event::Connect(_)
+    )
 }
 
 fn accepted_tag(event: &Event) -> Option<u64>

@@ -1,19 +1,79 @@
 //! Scenarios of subscriptions, and their reports.
 //!
-//! A scenario is a JSON text that says what to do with a book: open nodes, hold resources, emit
-//! items, end and dispose.
+//! A scenario is a JSON text that says, step by step, what to do with a book of subscriptions: open
+//! nodes, hold resources, emit items, end and dispose. [`run`] reads one, carries it out on a new book
+//! with the caller's resources, closes the book, and writes a report: which steps were refused and why,
+//! what each node was told, and what became of each resource.
+//!
+//! # Vocabulary
+//!
+//! - A **step** goes by names: it binds names to the nodes that it opens and the resources that it hands
+//!   in, which are taken from the **stock**, first to last. Nodes and resources have a space of names
+//!   each. A step that is **refused** changes nothing and binds nothing, and its resource goes back to
+//!   the front of the stock.
+//! - A **course** of a scenario is the list of the answers of its steps, and where it is at its end: the
+//!   history, what the names stand for, and the stock that is left. `specs/` defines it as a relation
+//!   (`Course`), what a JSON value says as a scenario (`Reading`), and the bytes of the report of a
+//!   course (`Report`).
+//! - A [`Watched`] reader or writer notes whether the device behind it failed, so that the contract of
+//!   [`run`] can say whose fault a fault is.
+//! - To **close** a book is to dispose of all that is open, and to take and release all that waits then.
+//!
+//! # Promised, and not
+//!
+//! - Where [`run`] answers Ok, the reader was read to its end, and what was written is the report of a
+//!   course of the scenario that its bytes are, and nothing else. Each error comes only for its cause,
+//!   and a cause of `Syntax` or `Shape` is never passed over. With an error nothing was written, but
+//!   for a front of the report with `Write`.
+//! - [`close`] leaves nothing open, held or waiting, and takes no memory.
+//! - `run` closes its book in every outcome and before the first byte is written; that it does so where
+//!   it answers an error is tested and not proved. So it is that `Memory` is given only where memory
+//!   was really refused, and that the faults of a report are those that the resources answered: proved
+//!   is that there are at most as many as accepted resources.
+//! - There are the commands `using`, `open`, `hold`, `next`, `end`, `dispose` and `drain` so far, at roots
+//!   and sources, for leaves and mirroring nodes. Anything else is `Shape`.
 #![tactic(auto)]
 
 mod answer;
-mod decode;
 mod closing;
+mod decode;
 mod device;
 mod engine;
 mod gather;
 mod line;
-mod run;
+mod running;
 mod scenario;
 mod stock;
 mod text;
 
-pub use device::Watched;
+pub use closing::{Closed, close};
+pub use device::{MOST_BYTES, MOST_TURNS, Watched};
+pub use running::run;
+use thiserror::Error;
+
+/// Why a run ended early.
+#[derive(Debug, Drop, Error)]
+pub enum ScriptError {
+    /// The reader failed, or had not ended after 33,554,432 turns.
+    #[error("read fault")]
+    Read,
+    /// The writer failed, or took no byte.
+    #[error("write fault")]
+    Write,
+    /// The input is no JSON text, or longer than 16,777,216 bytes.
+    #[error("faulty input")]
+    Syntax,
+    /// The input is JSON and no scenario.
+    #[error("faulty input")]
+    Shape,
+    /// There was no memory.
+    #[error("out of memory")]
+    Memory,
+}
+
+/// What a run writes.
+#[derive(Clone, Copy, Debug, PartialEq, Eq)]
+pub enum Form {
+    /// What became of each node and resource, and the totals.
+    Report,
+}

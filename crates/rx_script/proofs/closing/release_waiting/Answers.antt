@@ -1,5 +1,4 @@
-use Rattle.std.proofs.Common.{◌≡◌, ◌+◌, ◌≤◌, ap, sym, subst, arith}
-use Rattle.rx_event.specs.Totals.{taken_count}
+use Rattle.std.proofs.Common.{sym, subst, arith}
 use Rattle.rx_script.specs.Course.{Drains, none_taken, next_taken}
 use Rattle.rx_script.proofs.Going.{accepted_continues, continues_none, continues_more}
 use Rattle.rx_script.proofs.Closings.{taken_one, less_room, none_waits}

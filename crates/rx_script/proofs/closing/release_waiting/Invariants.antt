@@ -1,5 +1,5 @@
 -- So far resources were taken, one after another, and at most as many releases met a fault.
-use Rattle.std.proofs.Common.{◌≡◌, ◌≤◌, ◌+◌, ◌-◌, length}
+use Rattle.std.proofs.Common.{◌≤◌, ◌+◌, ◌-◌, length}
 use Rattle.rx_event.specs.Totals.{taken_count}
 use Rattle.rx_book.specs.State.{IsKept}
 use Rattle.rx_script.specs.Course.{Takes}

@@ -1,12 +1,13 @@
 -- What was read so far is gone from the reader, is within the limit, and took a turn each time.
 use Rattle.std.proofs.Common.{◌≡◌, ◌≤◌, vec_len}
 use Rattle.std.specs.Io.KnownBytes.{Consumes}
-use Rattle.rx_script.specs.Device.{device_of, turns_of}
+use Rattle.rx_script.specs.Device.{device_of, turns_of, KeepsDevice}
 use Rattle.rx_script.proofs.device.read_all.Given as goal
 
 abbrev pub invariant-loop-turn : goal.invariant-loop-turn
 invariant-loop-turn g l = record {
   read : Consumes (g.R.Read.remaining (device_of l.initial.reader)) (g.R.Read.remaining (device_of l.reader)) l.bytes.items;
+  same : KeepsDevice l.initial.reader l.reader;
   short : vec_len l.bytes ≤ 16777216;
   turns : turns_of l.reader ≡ l._turn;
 }

@@ -1,11 +1,12 @@
 -- A front of the text is written.
 use Rattle.std.proofs.Common.{length, ◌-◌, ◌≤◌, take}
 use Rattle.std.specs.Io.KnownBytes.{Appends}
-use Rattle.rx_script.specs.Device.{device_of}
+use Rattle.rx_script.specs.Device.{device_of, KeepsDevice}
 use Rattle.rx_script.proofs.device.write_text.Given as goal
 
 abbrev pub invariant-loop-done : goal.invariant-loop-done
 invariant-loop-done g l = record {
+  same : KeepsDevice l.initial.writer l.writer;
   within : l.done ≤ length l.text;
   written : Appends (g.W.Write.contents (device_of l.initial.writer)) (g.W.Write.contents (device_of l.writer)) (take l.done l.text);
 }

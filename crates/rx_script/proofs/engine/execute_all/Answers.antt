@@ -18,7 +18,7 @@ loop-command-preserved g c =
     let carried = c.in_ok-execute.ensures in
     record {
       leads = leads_more c.args.engine.now.book.limit c.loop-command.engine.book.limit (stage_of c.args.engine.now) (stage_of c.loop-command.engine) (stage_of c.execute.new.engine) c.loop-command.yielded c.in-Some.command
-      c.loop-command.answers.items c.push.new.self.items c.in_ok-execute.field-0 c.loop-command.invariant.leads c.loop-command.invariant.limit carried.executes pushed;
+          c.loop-command.answers.items c.push.new.self.items c.in_ok-execute.field-0 c.loop-command.invariant.leads c.loop-command.invariant.limit carried.executes pushed;
       sound = carried.sound;
       limit = carried.limit ∙ c.loop-command.invariant.limit;
       given = carried.given ∙ c.loop-command.invariant.given;

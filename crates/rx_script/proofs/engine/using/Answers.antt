@@ -1,5 +1,5 @@
 use Rattle.std.proofs.Common.{◌≡◌, ◌++◌, ◌∷◌, [], Some, None, true, false, refl, string_bytes, rules}
-use Rattle.std.specs.Prelude.{is_some, ◌||◌}
+use Rattle.std.specs.Prelude.{is_some}
 use Rattle.std.proofs.lemmas.Bool.{or_left, or_right, or_from}
 use Rattle.rx_script.specs.Scenario.{spot_of}
 use Rattle.rx_script.specs.Engine.{key_of, at_of}

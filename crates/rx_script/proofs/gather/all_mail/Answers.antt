@@ -1,4 +1,4 @@
-use Rattle.std.proofs.Common.{◌≡◌, ◌+◌, ◌++◌, ◌∷◌, [], rules}
+use Rattle.std.proofs.Common.{◌≡◌, ◌++◌, ◌∷◌, [], rules}
 use Rattle.rx_script.proofs.Gathering.{handed_book, handed_mail, mail_whole}
 use Rattle.rx_script.proofs.gather.all_mail.Goals as goal
 

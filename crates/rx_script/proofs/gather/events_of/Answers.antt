@@ -1,4 +1,4 @@
-use Rattle.std.proofs.Common.{◌≡◌, ◌+◌, ◌++◌, ◌∷◌, [], ◌∙◌, ap, take, vec_len, length, rules, arith}
+use Rattle.std.proofs.Common.{◌≡◌, ◌+◌, ◌++◌, ◌∷◌, [], ◌∙◌, ap, take, vec_len, rules}
 use Rattle.rx_script.proofs.Gathering.{front_next, front_all}
 use Rattle.rx_script.proofs.gather.events_of.Goals as goal
 

@@ -1,58 +1,29 @@
 //! From a scenario's bytes to its report.
 
 ghost use Rattle.std.specs.Prelude.{◌≡◌, ◌≢◌, ◌≤◌, ◌<◌, ◌⊎◌, ◌++◌, ℕ, List, true, length, map, string_bytes, Some, None, IfOk, IfErr, OnOk, IsErrOf};
-ghost use Rattle.std.specs.Io.KnownBytes.{Appends, Consumes};
-ghost use Rattle.serde_json.specs.Data.{Data};
+ghost use Rattle.std.specs.Io.KnownBytes.{Appends};
 ghost use Rattle.rx_event.specs.Totals.{accepted_count, taken_count};
 ghost use Rattle.rx_script.specs.declared.answer.Answer.{Answer};
-ghost use Rattle.rx_script.specs.Device.{device_of, turns_of, has_failed, has_stopped, IsFresh, AppendsPrefix};
+ghost use Rattle.rx_script.specs.Device.{device_of, KeepsDevice, turns_of, has_failed, has_stopped, IsFresh, AppendsPrefix};
 ghost use Rattle.rx_script.specs.Scenario.{step_of, script_of};
-ghost use Rattle.rx_script.specs.Reading.{scenario_of, IsJsonOf};
 ghost use Rattle.rx_script.specs.Stage.{Stage, ware_of};
 ghost use Rattle.rx_script.specs.Course.{Leads, Course, IsCourseOf};
 ghost use Rattle.rx_script.specs.Report.{unclosed_report, report};
 ghost use Rattle.rx_script.specs.Engine.{stage_of, IsSound};
-ghost use Rattle.rx_script.specs.Outcome.{GivesWhole, IsReportOf};
+ghost use Rattle.rx_script.specs.Outcome.{GivesWhole, IsReportOf, Reports, GivesTooMuch, GivesNoJson, GivesNoScenario};
 
 use crate::answer::Answer;
 use crate::closing::close;
 use crate::decode::{DecodeError, decode};
-use crate::device::{MOST_BYTES, MOST_TURNS, ReadFault, Watched, read_all, write_text};
+use crate::device::{MOST_TURNS, ReadFault, Watched, read_all, write_text};
 use crate::engine::{Engine, begin, execute_all};
 use crate::gather::{all_mail, events_of, push_nodes, push_resources, totals_of};
 use crate::scenario::{Command, Scenario};
 use crate::text::{push_all_refused, push_closed, push_totals};
+use crate::{Form, ScriptError};
 use rx_resource::Resource;
 use std::alloc::{AllocError, Global};
 use std::io::{Read, Write};
-use thiserror::Error;
-
-/// Why a run ended early.
-#[derive(Debug, Drop, Error)]
-pub enum ScriptError {
-    /// The reader failed, or had not ended after 33,554,432 turns.
-    #[error("read fault")]
-    Read,
-    /// The writer failed, or took no byte.
-    #[error("write fault")]
-    Write,
-    /// The input is no JSON text, or longer than 16,777,216 bytes.
-    #[error("faulty input")]
-    Syntax,
-    /// The input is JSON and no scenario.
-    #[error("faulty input")]
-    Shape,
-    /// There was no memory.
-    #[error("out of memory")]
-    Memory,
-}
-
-/// What a run writes.
-#[derive(Clone, Copy, Debug, PartialEq, Eq)]
-pub enum Form {
-    /// What became of each node and resource, and the totals.
-    Report,
-}
 
 // All lines of the report but the last.
 #[tactic(auto, unfolding(crate::specs::Report::unclosed_report))]
@@ -128,17 +99,20 @@ fn text_of<S: Resource>(
 // The report of the scenario that the reader has left.
 fn report_of<R: Read, S: Resource>(
     alloc: Global,
-    reader: &mut Watched<R>,
+    reader: &mut Watched<'_, R>,
     stock: Vec<S>,
 ) -> Result<String, ScriptError>
     requires { IsFresh reader.old }
+    ensures same_reader { KeepsDevice reader.old reader.new }
     ensures ok { IfOk result (λ s. (input : List ℕ) × GivesWhole (R.remaining (device_of reader.old)) (R.remaining (device_of reader.new)) input
-        × (length input ≤ MOST_BYTES) × IsReportOf input (map (λ r. ware_of (S.tag_of r) (S.life_of r) (S.uses_of r)) stock.items) (string_bytes s)) }
+        × IsReportOf input (map (λ r. ware_of (S.tag_of r) (S.life_of r) (S.uses_of r)) stock.items) (string_bytes s)) }
     ensures stopped { OnOk result (has_stopped reader.new ≡ true) }
     ensures read { IsErrOf result ScriptError.Read → (has_failed reader.new ≡ true) ⊎ (turns_of reader.new ≡ MOST_TURNS) }
-    ensures syntax { IsErrOf result ScriptError.Syntax → ((input : List ℕ) × Consumes (R.remaining (device_of reader.old)) (R.remaining (device_of reader.new)) input × (MOST_BYTES < length input))
-        ⊎ ((input : List ℕ) × GivesWhole (R.remaining (device_of reader.old)) (R.remaining (device_of reader.new)) input × ((d : Data) → ¬ IsJsonOf input d)) }
-    ensures shape { IsErrOf result ScriptError.Shape → (input : List ℕ) × (d : Data) × GivesWhole (R.remaining (device_of reader.old)) (R.remaining (device_of reader.new)) input × IsJsonOf input d × (scenario_of d ≡ None) }
+    ensures syntax { IsErrOf result ScriptError.Syntax
+        → GivesTooMuch (R.remaining (device_of reader.old)) (R.remaining (device_of reader.new))
+        ⊎ GivesNoJson (R.remaining (device_of reader.old)) (R.remaining (device_of reader.new)) }
+    ensures shape { IsErrOf result ScriptError.Shape
+        → GivesNoScenario (R.remaining (device_of reader.old)) (R.remaining (device_of reader.new)) }
     ensures never_write { IfErr result (λ e. e ≢ ScriptError.Write) }
 {
     let input = match read_all(alloc, reader) {
@@ -167,27 +141,36 @@ fn report_of<R: Read, S: Resource>(
 /// [`ScriptError::Write`] is anything but a whole report written: a front of one.
 pub fn run<R: Read, W: Write, S: Resource>(
     alloc: Global,
-    reader: &mut Watched<R>,
-    writer: &mut Watched<W>,
+    reader: &mut Watched<'_, R>,
+    writer: &mut Watched<'_, W>,
     stock: Vec<S>,
     form: Form,
 ) -> Result<(), ScriptError>
     requires reader { IsFresh reader.old }
     requires writer { IsFresh writer.old }
 
-    ensures ok { OnOk result ((input text : List ℕ) × GivesWhole (R.remaining (device_of reader.old)) (R.remaining (device_of reader.new)) input × (length input ≤ MOST_BYTES)
-        × IsReportOf input (map (λ r. ware_of (S.tag_of r) (S.life_of r) (S.uses_of r)) stock.items) text × Appends (W.contents (device_of writer.old)) (W.contents (device_of writer.new)) text) }
+    ensures ok { OnOk result (Reports (map (λ r. ware_of (S.tag_of r) (S.life_of r) (S.uses_of r)) stock.items)
+        (R.remaining (device_of reader.old)) (R.remaining (device_of reader.new))
+        (Appends (W.contents (device_of writer.old)) (W.contents (device_of writer.new)))) }
     ensures stopped { OnOk result (has_stopped reader.new ≡ true) }
 
     ensures read { IsErrOf result ScriptError.Read → (has_failed reader.new ≡ true) ⊎ (turns_of reader.new ≡ MOST_TURNS) }
     ensures write { IsErrOf result ScriptError.Write → (has_failed writer.new ≡ true) ⊎ (has_stopped writer.new ≡ true) }
-    ensures syntax { IsErrOf result ScriptError.Syntax → ((input : List ℕ) × Consumes (R.remaining (device_of reader.old)) (R.remaining (device_of reader.new)) input × (MOST_BYTES < length input))
-        ⊎ ((input : List ℕ) × GivesWhole (R.remaining (device_of reader.old)) (R.remaining (device_of reader.new)) input × ((d : Data) → ¬ IsJsonOf input d)) }
-    ensures shape { IsErrOf result ScriptError.Shape → (input : List ℕ) × (d : Data) × GivesWhole (R.remaining (device_of reader.old)) (R.remaining (device_of reader.new)) input × IsJsonOf input d × (scenario_of d ≡ None) }
+    ensures syntax { IsErrOf result ScriptError.Syntax
+        → GivesTooMuch (R.remaining (device_of reader.old)) (R.remaining (device_of reader.new))
+        ⊎ GivesNoJson (R.remaining (device_of reader.old)) (R.remaining (device_of reader.new)) }
+    ensures shape { IsErrOf result ScriptError.Shape
+        → GivesNoScenario (R.remaining (device_of reader.old)) (R.remaining (device_of reader.new)) }
 
-    ensures front { IsErrOf result ScriptError.Write → (input text : List ℕ) × GivesWhole (R.remaining (device_of reader.old)) (R.remaining (device_of reader.new)) input × (length input ≤ MOST_BYTES)
-        × IsReportOf input (map (λ r. ware_of (S.tag_of r) (S.life_of r) (S.uses_of r)) stock.items) text × AppendsPrefix (W.contents (device_of writer.old)) (W.contents (device_of writer.new)) text }
+    // With a write fault a front of the report is written, and with any other fault nothing.
+    ensures front { IsErrOf result ScriptError.Write
+        → Reports (map (λ r. ware_of (S.tag_of r) (S.life_of r) (S.uses_of r)) stock.items)
+        (R.remaining (device_of reader.old)) (R.remaining (device_of reader.new))
+        (AppendsPrefix (W.contents (device_of writer.old)) (W.contents (device_of writer.new))) }
     ensures silent { IfErr result (λ e. e ≢ ScriptError.Write → writer.new ≡ writer.old) }
+
+    ensures same_reader { KeepsDevice reader.old reader.new }
+    ensures same_writer { KeepsDevice writer.old writer.new }
 {
     let text = match form {
         Form::Report => report_of(alloc, reader, stock)?,

@@ -3,7 +3,7 @@ use Rattle.rx_script.specs.Scenario.{script_of}
 use Rattle.rx_script.specs.Stage.{ware_of}
 use Rattle.rx_script.specs.Engine.{stage_of}
 use Rattle.rx_script.proofs.Reporting.{few_faults, whole_report}
-use Rattle.rx_script.proofs.run.text_of.Goals as goal
+use Rattle.rx_script.proofs.running.text_of.Goals as goal
 
 pub returns : goal.returns
 returns g c =

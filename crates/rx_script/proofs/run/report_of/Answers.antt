@@ -1,7 +1,0 @@
-use Rattle.std.proofs.Common.{Err, inr, sym, ap, subst}
-use Rattle.rx_script.specs.Reading.{IsJsonOf}
-use Rattle.rx_script.proofs.run.report_of.Goals as goal
-
-pub returns-in-Err-Syntax-clause-syntax : goal.returns-in-Err-Syntax-clause-syntax
-returns-in-Err-Syntax-clause-syntax g c _ =
-    inr (c.in-Ok.input.items, record { consumes = c.in-Ok.ensures.ok; at_end = c.in-Ok.ensures.end }, λ d json. c.in-Err-Syntax.ensures.syntax (ap Err c.in-Err-Syntax.field-0-is) d (subst (λ s. IsJsonOf s d) (sym c.as_slice.ensures.value) json))
