@@ -2,5 +2,4 @@ pub mod Boxes
 pub mod Marks
 pub mod Served
 pub mod Status
-pub mod Text
 pub mod Words

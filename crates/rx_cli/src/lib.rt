@@ -32,16 +32,16 @@ mod boxes;
 mod program;
 mod request;
 mod statuses;
+mod telling;
 #[cfg(test)]
 mod tests;
-mod text;
 mod usage;
 mod words;
 
 pub use boxes::{Faulty, Plain, ResourceKind, STOCK, Tally, fill};
 pub use program::serve;
 pub use request::Order;
-pub use rx_script::{Form, ScriptError, run};
+pub use rx_script::{Closed, Form, ScriptError, Watched, close, run};
 pub use statuses::out_of_memory;
 pub use usage::refuse_bytes;
 pub use words::order;

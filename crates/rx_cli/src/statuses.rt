@@ -1,9 +1,9 @@
 //! The exit statuses, and the lines on standard error that go with them.
 ghost use Rattle.std.specs.Prelude.{◌≡◌, codes};
 ghost use Rattle.rx_cli.specs.Status.{fault_line, fault_status, status_of, line_of};
-ghost use Rattle.rx_cli.specs.Text.{AppendsPrefix};
+ghost use Rattle.rx_script.specs.Device.{AppendsPrefix};
 
-use crate::text::write_text;
+use crate::telling::tell;
 use rx_script::ScriptError;
 use std::io::Write;
 
@@ -39,7 +39,7 @@ pub fn ended<E: Write>(errors: &mut E, outcome: Result<(), ScriptError>) -> u8
     match outcome {
         Ok(()) => 0,
         Err(error) => {
-            let _ = write_text(errors, fault_line(&error).as_bytes());
+            tell(errors, fault_line(&error).as_bytes());
             fault_status(&error)
         }
     }

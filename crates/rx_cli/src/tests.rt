@@ -15,6 +15,13 @@ use std::test::Fail;
 const NOTHING_DONE: &str =
     "totals nodes=0 open=0 accepted=0 held=0 waiting=0 taken=0\nclosed 0 faults 0\n";
 
+// A subscription with a resource, from its beginning to its end.
+const FIRST_RUN: &str =
+    "{\"steps\":[{\"do\":\"using\",\"name\":\"a\",\"place\":\"root\",\"res\":\"r\"},{\"do\":\"open\",\"name\":\"b\",\"place\":\"source\",\"of\":\"a\",\"kind\":\"leaf\"},{\"do\":\"next\",\"node\":\"b\",\"value\":5},{\"do\":\"end\",\"node\":\"b\"},{\"do\":\"next\",\"node\":\"b\",\"value\":6},{\"do\":\"drain\"}]}";
+
+const FIRST_REPORT: &str =
+    "refused 4 Gone\nnode a closed: next=5 completed\nres r tag=0 uses=0 taken\ntotals nodes=2 open=0 accepted=1 held=0 waiting=0 taken=1\nclosed 0 faults 0\n";
+
 // What a call of the program left.
 #[derive(Drop)]
 struct Left {
@@ -35,7 +42,14 @@ fn call(alloc: Global, words: &[&str], input: &[u8]) -> Result<Left, AllocError>
     let mut reader = input;
     let mut output = Vec::new(alloc);
     let mut errors = Vec::new(alloc);
-    let status = serve(alloc, words, stock, &mut reader, &mut output, &mut errors);
+    let status = serve(
+        alloc,
+        words,
+        stock,
+        &mut Watched::new(&mut reader),
+        &mut Watched::new(&mut output),
+        &mut errors,
+    );
     Ok(Left {
         status,
         unread: reader.len(),
@@ -47,8 +61,9 @@ fn call(alloc: Global, words: &[&str], input: &[u8]) -> Result<Left, AllocError>
 #[test]
 fn each_outcome_has_its_status_and_line(rt: HostRuntime) -> Result<(), Fail> {
     let empty = "{\"steps\":[]}";
-    let cases: [(&[&str], &str, u8, &str, &str); 6] = [
+    let cases: [(&[&str], &str, u8, &str, &str); 7] = [
         (&["rxbook"], empty, 0, NOTHING_DONE, ""),
+        (&["rxbook"], FIRST_RUN, 0, FIRST_REPORT, ""),
         (&["rxbook", "run"], empty, 0, NOTHING_DONE, ""),
         (&["rxbook"], "{\"steps\":[", 3, "", "rxbook: faulty input\n"),
         (&["rxbook"], "[]", 3, "", "rxbook: faulty input\n"),
@@ -161,8 +176,8 @@ fn a_reader_that_fails_is_a_read_fault(rt: HostRuntime) -> Result<(), Fail> {
         rt.alloc(),
         &["rxbook"],
         stock,
-        &mut Broken { reads: 0 },
-        &mut output,
+        &mut Watched::new(&mut Broken { reads: 0 }),
+        &mut Watched::new(&mut output),
         &mut errors,
     );
     assert_eq!(rt; status, 1);
@@ -187,8 +202,8 @@ fn an_output_that_fails_is_a_write_fault(rt: HostRuntime) -> Result<(), Fail> {
             rt.alloc(),
             words,
             stock,
-            &mut input,
-            &mut output,
+            &mut Watched::new(&mut input),
+            &mut Watched::new(&mut output),
             &mut errors,
         );
         assert_eq!(rt; status, 1);
@@ -209,8 +224,8 @@ fn errors_that_are_not_taken_leave_the_status(rt: HostRuntime) -> Result<(), Fai
             rt.alloc(),
             words,
             stock,
-            &mut input,
-            &mut output,
+            &mut Watched::new(&mut input),
+            &mut Watched::new(&mut output),
             &mut make_full(rt.alloc(), 3, false),
         );
         assert_eq!(rt; status, wanted);
@@ -316,8 +331,8 @@ fn a_run_without_memory_says_so_and_writes_nothing(rt: HostRuntime) -> Result<()
             rt.alloc(),
             &words,
             stock,
-            &mut input,
-            &mut output,
+            &mut Watched::new(&mut input),
+            &mut Watched::new(&mut output),
             &mut errors,
         );
         if status == 0 {

@@ -1,14 +1,14 @@
 //! What is said where the words are no order.
 ghost use Rattle.std.specs.Prelude.{◌≡◌, ◌≢◌, codes};
 ghost use Rattle.clap.specs.Words.{kind_of};
-ghost use Rattle.rx_cli.specs.Text.{AppendsPrefix};
+ghost use Rattle.rx_script.specs.Device.{AppendsPrefix, KeepsDevice, device_of};
 ghost use Rattle.rx_cli.specs.Status.{no_text_line};
 ghost use Rattle.rx_cli.specs.Served.{RefusedBy, ShowsHelp, FailsHelp, TellsUsage, is_help};
 
 use crate::statuses::{ended, out_of_memory};
-use crate::text::write_text;
+use crate::telling::tell;
 use clap::error::ErrorKind;
-use rx_script::ScriptError;
+use rx_script::{ScriptError, Watched, write_text};
 use std::alloc::Global;
 use std::io::Write;
 
@@ -29,18 +29,19 @@ fn is_help(kind: ErrorKind) -> bool
 pub fn refuse<O: Write, E: Write>(
     alloc: Global,
     error: &clap::Error,
-    output: &mut O,
+    output: &mut Watched<'_, O>,
     errors: &mut E,
 ) -> u8
     requires { kind_of error.now ≢ ErrorKind.OutOfMemory }
-    ensures { RefusedBy (kind_of error.now) (O.contents output.old) (O.contents output.new)
+    ensures refused { RefusedBy (kind_of error.now) (O.contents (device_of output.old)) (O.contents (device_of output.new))
         (E.contents errors.old) (E.contents errors.new) result }
+    ensures same_output { KeepsDevice output.old output.new }
 {
     let Ok(text) = error.to_string(alloc) else {
         return out_of_memory(errors);
     };
     if !is_help(error.kind()) {
-        let _ = write_text(errors, text.as_str().as_bytes());
+        tell(errors, text.as_str().as_bytes());
         return 2;
     }
     if write_text(output, text.as_str().as_bytes()).is_err() {
@@ -55,6 +56,6 @@ pub fn refuse_bytes<E: Write>(errors: &mut E) -> u8
     ensures status { result ≡ 2 }
     ensures line { AppendsPrefix (E.contents errors.old) (E.contents errors.new) no_text_line }
 {
-    let _ = write_text(errors, NO_TEXT.as_bytes());
+    tell(errors, NO_TEXT.as_bytes());
     2
 }

@@ -47,7 +47,7 @@ mod stock;
 mod text;
 
 pub use closing::{Closed, close};
-pub use device::{MOST_BYTES, MOST_TURNS, Watched};
+pub use device::{MOST_BYTES, MOST_TURNS, Watched, WriteFault, write_text};
 pub use running::run;
 use thiserror::Error;
 

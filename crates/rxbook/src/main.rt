@@ -6,7 +6,9 @@
 ghost use Rattle.std.specs.Prelude.{◌≡◌, IfOk};
 ghost use Rattle.rx_resource.specs.declared.Life.{Life};
 
-use rx_cli::{Faulty, Plain, ResourceKind, STOCK, Tally, fill, out_of_memory, refuse_bytes, serve};
+use rx_cli::{
+    Faulty, Plain, ResourceKind, STOCK, Tally, Watched, fill, out_of_memory, refuse_bytes, serve,
+};
 use rx_resource::{Life, Resource};
 use std::alloc::AllocError;
 use std::env::Env;
@@ -50,8 +52,8 @@ fn main(rt: HostRuntime) -> ExitCode {
         alloc,
         words.as_slice(),
         stock,
-        &mut rt.reader(),
-        &mut output,
+        &mut Watched::new(&mut rt.reader()),
+        &mut Watched::new(&mut output),
         &mut errors,
     ))
 }
