@@ -66,8 +66,12 @@ mod verdict;
 
 pub use checking::check;
 pub use closing::{Closed, close};
+<<<<<<< HEAD
 pub use device::{MOST_BYTES, MOST_TURNS, Watched};
 pub use dump_laws::a_dump_is_read_back;
+=======
+pub use device::{MOST_BYTES, MOST_TURNS, Watched, WriteFault, write_text};
+>>>>>>> cli
 pub use running::run;
 use thiserror::Error;
 

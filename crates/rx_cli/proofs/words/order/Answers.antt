@@ -1,0 +1,23 @@
+use Rattle.std.proofs.Common.{◌≡◌, ◌∙◌, ap, sym, refl, true, map, List}
+use Rattle.clap.specs.Words.{App, Text, is_simple, app_of, subcommand_of, fault_of}
+use Rattle.clap.specs.Words.{is_simple_and_free}
+use Rattle.clap.proofs.OnLiterals.{clap_on_literals}
+use Rattle.rx_cli.specs.Words.{rxbook, order_of}
+use Rattle.rx_cli.proofs.words.order.Goals as goal
+
+is_ready : is_simple rxbook ≡ true
+unfolding clap_on_literals
+is_ready = refl
+
+is_free : is_simple_and_free rxbook ≡ true
+unfolding clap_on_literals
+is_free = refl
+
+pub returns : goal.returns
+returns g c =
+    let is : app_of c.in_ok-command.command ≡ rxbook = c.in_ok-command.ensures in
+    let words : List Text = map g.S.AsStr.text c.args.words.now in
+    record {
+      ok = c.order_in.ensures ∙ ap order_of ((c.in_ok-matches.ensures.matches (ap is_simple is ∙ is_ready)).1 ∙ ap (λ (a : App). subcommand_of a words) is);
+      kinds = ap (λ (a : App). fault_of a words) (sym is) ∙ c.in_ok-matches.ensures.kinds (ap is_simple_and_free is ∙ is_free);
+    }

@@ -1,0 +1,5 @@
+pub mod Boxes
+pub mod Marks
+pub mod Served
+pub mod Status
+pub mod Words

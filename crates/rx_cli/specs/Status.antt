@@ -1,0 +1,30 @@
+-- The exit status of a run, and the line on standard error that goes with it.
+use Rattle.std.specs.Prelude.{ℕ, List, [], codes, Result, Ok, Err}
+use Rattle.rx_script.specs.declared.ScriptError.{ScriptError}
+use Rattle.rx_script.specs.declared.ScriptError.TheVariants.{Read, Write, Syntax, Shape, Memory}
+
+abbrev pub fault_status : ScriptError → ℕ
+fault_status Read = 1
+fault_status Write = 1
+fault_status Syntax = 3
+fault_status Shape = 3
+fault_status Memory = 4
+
+abbrev pub fault_line : ScriptError → List ℕ
+fault_line Read = codes "rxbook: read fault\n"
+fault_line Write = codes "rxbook: write fault\n"
+fault_line Syntax = codes "rxbook: faulty input\n"
+fault_line Shape = codes "rxbook: faulty input\n"
+fault_line Memory = codes "rxbook: out of memory\n"
+
+abbrev pub status_of : {T : Type 0} → Result T ScriptError → ℕ
+status_of (Ok x) = 0
+status_of (Err e) = fault_status e
+
+abbrev pub line_of : {T : Type 0} → Result T ScriptError → List ℕ
+line_of (Ok x) = []
+line_of (Err e) = fault_line e
+
+-- what is said of a word that is no UTF-8
+abbrev pub no_text_line : List ℕ
+no_text_line = codes "error: invalid UTF-8 was detected in one or more arguments\n\nUsage: rxbook [COMMAND]\n\nFor more information, try '--help'.\n"

@@ -1,0 +1,47 @@
+//! The program `rxbook` without its `main`: its words, its resources, its exit statuses.
+//!
+//! `main` gathers the words, makes the stock of resources and passes the standard streams on; all else
+//! is done here over any streams, so that it can be proved and tested over memory.
+//!
+//! # Vocabulary
+//!
+//! - An [`Order`] is what the words of a command line ask for; [`order`] reads it by `clap`.
+//! - The stock is the list of resources that a scenario may hold, [`STOCK`] of them, of the kinds
+//!   [`Plain`], [`Tally`] and [`Faulty`], by [`ResourceKind::by_tag`]. [`fill`] makes it.
+//! - [`serve`] does what the words order, and answers the exit status:
+//!
+//! | Status | Cause | Line on the error stream |
+//! |---|---|---|
+//! | 0 | done, or help was shown | none |
+//! | 1 | a stream failed | `rxbook: read fault`, `rxbook: write fault` |
+//! | 2 | the words are no order | the text of `clap` |
+//! | 3 | the input is no scenario | `rxbook: faulty input` |
+//! | 4 | memory was refused | `rxbook: out of memory` |
+//!
+//! # Promised, and not
+//!
+//! - The order is the one that `clap` matches in the words, a run where they name no subcommand; it is
+//!   refused only where `clap` refuses the words or memory is.
+//! - The status and the line are those of the outcome, exactly; where the words are refused, nothing is
+//!   read, and only a request for help writes to the output.
+//! - The words of help and of usage errors are `clap`'s, and are tested alone.
+//! - A line that the error stream refuses is lost, and the status stays.
+#![tactic(auto)]
+
+mod boxes;
+mod program;
+mod request;
+mod statuses;
+mod telling;
+#[cfg(test)]
+mod tests;
+mod usage;
+mod words;
+
+pub use boxes::{Faulty, Plain, ResourceKind, STOCK, Tally, fill};
+pub use program::serve;
+pub use request::Order;
+pub use rx_script::{Closed, Form, ScriptError, Watched, close, run};
+pub use statuses::out_of_memory;
+pub use usage::refuse_bytes;
+pub use words::order;

@@ -1,0 +1,65 @@
+//! The program over any streams.
+ghost use Rattle.std.specs.Prelude.{◌≡◌, ◌≢◌, ◌⊎◌, [], map, Result};
+ghost use Rattle.clap.specs.Words.{IsAmong, fault_of};
+ghost use Rattle.clap.specs.declared.error.kind.ErrorKind.{ErrorKind};
+ghost use Rattle.rx_script.specs.declared.ScriptError.{ScriptError};
+ghost use Rattle.rx_cli.specs.Words.{rxbook};
+ghost use Rattle.rx_script.specs.Device.{IsFresh, KeepsDevice, device_of};
+ghost use Rattle.rx_script.specs.Stage.{ware_of};
+ghost use Rattle.rx_cli.specs.Served.{Ran, Tells, RefusedBy};
+
+use crate::request::Order;
+use crate::statuses::{ended, out_of_memory};
+use crate::usage::refuse;
+use crate::words::order;
+use clap::error::ErrorKind;
+use rx_resource::Resource;
+use rx_script::{Watched, run};
+use std::alloc::Global;
+use std::convert::AsStr;
+use std::io::{Read, Write};
+
+/// Does what the words order, over these streams and with this stock, and answers the exit status. The
+/// first word is the program's name.
+///
+/// A run's status is 0 where it is done, 1 where a stream failed, 3 where the input is no scenario, 4
+/// where memory was refused. Words that `clap` refuses give 2, and a request for help 0, or 1 where the
+/// output refuses its text, or 4 where memory is refused for it; then nothing is read. Each status but
+/// 0 comes with its line on `errors`; what `errors` refuses is lost, and the status stays.
+pub fn serve<S: AsStr, R: Resource, I: Read, O: Write, E: Write>(
+    alloc: Global,
+    words: &[S],
+    stock: Vec<R>,
+    input: &mut Watched<'_, I>,
+    output: &mut Watched<'_, O>,
+    errors: &mut E,
+) -> u8
+    requires input { IsFresh input.old }
+    requires output { IsFresh output.old }
+
+    ensures ran { fault_of rxbook (map S.text words.now) ≡ []
+        → (outcome : Result (Unit {0}) ScriptError)
+        × Ran I.remaining O.contents (map (λ r. ware_of (R.tag_of r) (R.life_of r) (R.uses_of r)) stock.items)
+        input.old input.new output.old output.new outcome
+        × Tells (E.contents errors.old) (E.contents errors.new) outcome result }
+
+    ensures refused { fault_of rxbook (map S.text words.now) ≢ []
+        → (k : ErrorKind)
+        × ((k ≡ ErrorKind.OutOfMemory) ⊎ IsAmong k (fault_of rxbook (map S.text words.now)))
+        × RefusedBy k (O.contents (device_of output.old)) (O.contents (device_of output.new)) (E.contents errors.old)
+        (E.contents errors.new) result }
+    ensures unread { fault_of rxbook (map S.text words.now) ≢ [] → input.new ≡ input.old }
+
+    ensures same_input { KeepsDevice input.old input.new }
+    ensures same_output { KeepsDevice output.old output.new }
+{
+    match order(alloc, words) {
+        Ok(Order::Run(form)) => ended(errors, run(alloc, input, output, stock, form)),
+        Err(error) => {
+            if error.kind() == ErrorKind::OutOfMemory {
+                return out_of_memory(errors);
+            }
+            refuse(alloc, &error, output, errors)
+        }
+    }
+}

@@ -1,0 +1,55 @@
+//! The exit statuses, and the lines on standard error that go with them.
+ghost use Rattle.std.specs.Prelude.{◌≡◌, codes};
+ghost use Rattle.rx_cli.specs.Status.{fault_line, fault_status, status_of, line_of};
+ghost use Rattle.rx_script.specs.Device.{AppendsPrefix};
+
+use crate::telling::tell;
+use rx_script::ScriptError;
+use std::io::Write;
+
+// The line of a fault.
+fn fault_line(error: &ScriptError) -> &'static str
+    ensures { result.now ≡ fault_line error.now }
+{
+    match error {
+        ScriptError::Read => "rxbook: read fault\n",
+        ScriptError::Write => "rxbook: write fault\n",
+        ScriptError::Syntax | ScriptError::Shape => "rxbook: faulty input\n",
+        ScriptError::Memory => "rxbook: out of memory\n",
+    }
+}
+
+// The status of a fault.
+fn fault_status(error: &ScriptError) -> u8
+    ensures { result ≡ fault_status error.now }
+{
+    match error {
+        ScriptError::Read | ScriptError::Write => 1,
+        ScriptError::Syntax | ScriptError::Shape => 3,
+        ScriptError::Memory => 4,
+    }
+}
+
+/// The exit status of a run that ended so; where it failed, its line is written to `errors`. A write
+/// that fails there changes nothing.
+pub fn ended<E: Write>(errors: &mut E, outcome: Result<(), ScriptError>) -> u8
+    ensures status { result ≡ status_of outcome }
+    ensures line { AppendsPrefix (E.contents errors.old) (E.contents errors.new) (line_of outcome) }
+{
+    match outcome {
+        Ok(()) => 0,
+        Err(error) => {
+            tell(errors, fault_line(&error).as_bytes());
+            fault_status(&error)
+        }
+    }
+}
+
+/// The exit status of a program that memory was refused, 4, after its line is written to `errors`.
+pub fn out_of_memory<E: Write>(errors: &mut E) -> u8
+    ensures status { result ≡ 4 }
+    ensures line { AppendsPrefix (E.contents errors.old) (E.contents errors.new)
+        (codes "rxbook: out of memory\n") }
+{
+    ended(errors, Err(ScriptError::Memory))
+}

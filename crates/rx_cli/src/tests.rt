@@ -1,0 +1,352 @@
+//! The statuses and lines over memory, help, the stock, streams that fail, and refused memory.
+
+ghost use Rattle.std.specs.Prelude.{◌≡◌, IfOk};
+ghost use Rattle.rx_resource.specs.declared.Life.{Life};
+
+use super::*;
+use clap::error::ErrorKind;
+use rx_resource::{Life, Resource};
+use rx_scarce::Scarce;
+use std::alloc::{AllocError, Global};
+use std::io;
+use std::io::{Read, Write};
+use std::test::Fail;
+
+const NOTHING_DONE: &str =
+    "totals nodes=0 open=0 accepted=0 held=0 waiting=0 taken=0\nclosed 0 faults 0\n";
+
+// A subscription with a resource, from its beginning to its end.
+const FIRST_RUN: &str =
+    "{\"steps\":[{\"do\":\"using\",\"name\":\"a\",\"place\":\"root\",\"res\":\"r\"},{\"do\":\"open\",\"name\":\"b\",\"place\":\"source\",\"of\":\"a\",\"kind\":\"leaf\"},{\"do\":\"next\",\"node\":\"b\",\"value\":5},{\"do\":\"end\",\"node\":\"b\"},{\"do\":\"next\",\"node\":\"b\",\"value\":6},{\"do\":\"drain\"}]}";
+
+const FIRST_REPORT: &str =
+    "refused 4 Gone\nnode a closed: next=5 completed\nres r tag=0 uses=0 taken\ntotals nodes=2 open=0 accepted=1 held=0 waiting=0 taken=1\nclosed 0 faults 0\n";
+
+// What a call of the program left.
+#[derive(Drop)]
+struct Left {
+    status: u8,
+    unread: usize,
+    output: Vec<u8>,
+    errors: Vec<u8>,
+}
+
+// A call over memory, with a stock of plain resources.
+fn call(alloc: Global, words: &[&str], input: &[u8]) -> Result<Left, AllocError> {
+    let make = |tag: u64| -> Result<Plain, AllocError>
+        ensures tag { IfOk result (λ p. p.tag ≡ tag) }
+        ensures live { IfOk result (λ p. p.life ≡ Life.Live) }
+        ensures unused { IfOk result (λ p. p.uses ≡ 0) }
+    { Ok(Plain::new(tag)) };
+    let stock = fill(alloc, 8, &make)?;
+    let mut reader = input;
+    let mut output = Vec::new(alloc);
+    let mut errors = Vec::new(alloc);
+    let status = serve(
+        alloc,
+        words,
+        stock,
+        &mut Watched::new(&mut reader),
+        &mut Watched::new(&mut output),
+        &mut errors,
+    );
+    Ok(Left {
+        status,
+        unread: reader.len(),
+        output,
+        errors,
+    })
+}
+
+#[test]
+fn each_outcome_has_its_status_and_line(rt: HostRuntime) -> Result<(), Fail> {
+    let empty = "{\"steps\":[]}";
+    let cases: [(&[&str], &str, u8, &str, &str); 7] = [
+        (&["rxbook"], empty, 0, NOTHING_DONE, ""),
+        (&["rxbook"], FIRST_RUN, 0, FIRST_REPORT, ""),
+        (&["rxbook", "run"], empty, 0, NOTHING_DONE, ""),
+        (&["rxbook"], "{\"steps\":[", 3, "", "rxbook: faulty input\n"),
+        (&["rxbook"], "[]", 3, "", "rxbook: faulty input\n"),
+        (
+            &["rxbook", "bad"],
+            empty,
+            2,
+            "",
+            "error: unrecognized subcommand 'bad'\n\nUsage: rxbook [COMMAND]\n\nFor more information, try '--help'.\n",
+        ),
+        (
+            &["rxbook", "run", "--dump"],
+            empty,
+            2,
+            "",
+            "error: unexpected argument '--dump' found\n\nUsage: rxbook run\n\nFor more information, try '--help'.\n",
+        ),
+    ];
+    for (words, input, status, output, errors) in cases {
+        let left = call(rt.alloc(), words, input.as_bytes())?;
+        assert_eq!(rt; left.status, status);
+        assert_eq!(rt; left.output.as_slice(), output.as_bytes());
+        assert_eq!(rt; left.errors.as_slice(), errors.as_bytes());
+        let unread = if status == 2 { input.len() } else { 0 };
+        assert_eq!(rt; left.unread, unread);
+    }
+    Ok(())
+}
+
+#[test]
+fn help_goes_to_the_output(rt: HostRuntime) -> Result<(), Fail> {
+    let whole =
+        "Runs scenarios of subscriptions and reports what they did\n\nUsage: rxbook [COMMAND]\n\nCommands:\n  run   Run the scenario on standard input (the default)\n  help  Print this message or the help of the given subcommand(s)\n\nOptions:\n  -h, --help  Print help\n";
+    let run =
+        "Run the scenario on standard input (the default)\n\nUsage: rxbook run\n\nOptions:\n  -h, --help  Print help\n";
+    let cases: [(&[&str], &str); 4] = [
+        (&["rxbook", "--help"], whole),
+        (&["rxbook", "-h"], whole),
+        (&["rxbook", "help"], whole),
+        (&["rxbook", "run", "--help"], run),
+    ];
+    for (words, text) in cases {
+        let left = call(rt.alloc(), words, b"unread")?;
+        assert_eq!(rt; left.status, 0);
+        assert_eq!(rt; left.output.as_slice(), text.as_bytes());
+        assert!(rt; left.errors.is_empty());
+        assert_eq!(rt; left.unread, 6);
+    }
+    Ok(())
+}
+
+// A reader of which the second read fails.
+#[derive(Drop)]
+struct Broken {
+    reads: u8,
+}
+
+impl Read for Broken {
+    fn read(&mut self, buf: &mut [u8]) -> io::Result<usize> {
+        if self.reads > 0 || buf.is_empty() {
+            return Err(io::Error::from(io::ErrorKind::Other));
+        }
+        self.reads = 1;
+        buf[0] = b'{';
+        Ok(1)
+    }
+}
+
+// A writer that takes `room` bytes, and then fails, or takes none where it is `stuck`.
+#[derive(Drop)]
+struct Full {
+    room: usize,
+    stuck: bool,
+    taken: Vec<u8>,
+}
+
+impl Write for Full {
+    fn write(&mut self, buf: &[u8]) -> io::Result<usize> {
+        if self.taken.len() >= self.room {
+            if self.stuck {
+                return Ok(0);
+            }
+            return Err(io::Error::from(io::ErrorKind::Other));
+        }
+        let left = self.room - self.taken.len();
+        let count = left.min(buf.len());
+        self.taken.extend_from_slice(&buf[..count])?;
+        Ok(count)
+    }
+
+    fn flush(&mut self) -> io::Result<()> {
+        Ok(())
+    }
+}
+
+fn make_full(alloc: Global, room: usize, stuck: bool) -> Full {
+    Full {
+        room,
+        stuck,
+        taken: Vec::new(alloc),
+    }
+}
+
+#[test]
+fn a_reader_that_fails_is_a_read_fault(rt: HostRuntime) -> Result<(), Fail> {
+    let mut output = Vec::new(rt.alloc());
+    let mut errors = Vec::new(rt.alloc());
+    let stock: Vec<Plain> = Vec::new(rt.alloc());
+    let status = serve(
+        rt.alloc(),
+        &["rxbook"],
+        stock,
+        &mut Watched::new(&mut Broken { reads: 0 }),
+        &mut Watched::new(&mut output),
+        &mut errors,
+    );
+    assert_eq!(rt; status, 1);
+    assert!(rt; output.is_empty());
+    assert_eq!(rt; errors.as_slice(), b"rxbook: read fault\n".as_slice());
+    Ok(())
+}
+
+#[test]
+fn an_output_that_fails_is_a_write_fault(rt: HostRuntime) -> Result<(), Fail> {
+    let cases: [(&[&str], bool, &[u8]); 3] = [
+        (&["rxbook"], false, b"totals nod"),
+        (&["rxbook"], true, b"totals nod"),
+        (&["rxbook", "--help"], false, b"Runs scena"),
+    ];
+    for (words, stuck, taken) in cases {
+        let mut output = make_full(rt.alloc(), 10, stuck);
+        let mut errors = Vec::new(rt.alloc());
+        let mut input: &[u8] = b"{\"steps\":[]}";
+        let stock: Vec<Plain> = Vec::new(rt.alloc());
+        let status = serve(
+            rt.alloc(),
+            words,
+            stock,
+            &mut Watched::new(&mut input),
+            &mut Watched::new(&mut output),
+            &mut errors,
+        );
+        assert_eq!(rt; status, 1);
+        assert_eq!(rt; output.taken.as_slice(), taken);
+        assert_eq!(rt; errors.as_slice(), b"rxbook: write fault\n".as_slice());
+    }
+    Ok(())
+}
+
+#[test]
+fn errors_that_are_not_taken_leave_the_status(rt: HostRuntime) -> Result<(), Fail> {
+    let cases: [(&[&str], u8); 2] = [(&["rxbook"], 3), (&["rxbook", "bad"], 2)];
+    for (words, wanted) in cases {
+        let mut output = Vec::new(rt.alloc());
+        let mut input: &[u8] = b"{";
+        let stock: Vec<Plain> = Vec::new(rt.alloc());
+        let status = serve(
+            rt.alloc(),
+            words,
+            stock,
+            &mut Watched::new(&mut input),
+            &mut Watched::new(&mut output),
+            &mut make_full(rt.alloc(), 3, false),
+        );
+        assert_eq!(rt; status, wanted);
+        assert!(rt; output.is_empty());
+    }
+    Ok(())
+}
+
+#[test]
+fn the_stock_has_its_kinds_in_order(rt: HostRuntime) -> Result<(), Fail> {
+    let alloc = rt.alloc();
+    let make = |tag: u64| -> Result<Box<dyn Resource>, AllocError>
+        ensures tag { IfOk result (λ b. tag_of b ≡ tag) }
+        ensures live { IfOk result (λ b. life_of b ≡ Life.Live) }
+        ensures unused { IfOk result (λ b. uses_of b ≡ 0) }
+    {
+        match ResourceKind::by_tag(tag) {
+            ResourceKind::Plain => Ok(Box::new(alloc, Plain::new(tag))?),
+            ResourceKind::Tally => Ok(Box::new(alloc, Tally::new(tag))?),
+            ResourceKind::Faulty => Ok(Box::new(alloc, Faulty::new(tag))?),
+        }
+    };
+    let stock = fill(alloc, STOCK, &make)?;
+    assert_eq!(rt; stock.len(), 256);
+    let mut tag = 0u64;
+    for held in stock {
+        let mut held = held;
+        assert_eq!(rt; held.tag(), tag);
+        assert_eq!(rt; held.uses(), 0);
+        assert_eq!(rt; held.life(), Life::Live);
+        let fault = if tag % 8 == 3 { Err(2) } else { Ok(()) };
+        assert_eq!(rt; held.release(), fault);
+        assert_eq!(rt; held.life(), Life::Released);
+        tag = tag.wrapping_add(1);
+    }
+    Ok(())
+}
+
+#[test]
+fn each_kind_answers_words_its_own_way(rt: HostRuntime) {
+    let mut plain = Plain::new(0);
+    assert_eq!(rt; (plain.apply(12), plain.apply(10)), (12, 10));
+    assert_eq!(rt; plain.uses(), 2);
+    let mut tally = Tally::new(5);
+    assert_eq!(rt; (tally.apply(12), tally.apply(10)), (12, 6));
+    assert_eq!(rt; tally.uses(), 2);
+    let mut faulty = Faulty::new(3);
+    assert_eq!(rt; (faulty.apply(12), faulty.apply(10)), (12, 10));
+    assert_eq!(rt; faulty.uses(), 2);
+    for (tag, kind) in [
+        (2, ResourceKind::Plain),
+        (3, ResourceKind::Faulty),
+        (5, ResourceKind::Tally),
+        (251, ResourceKind::Faulty),
+        (253, ResourceKind::Tally),
+        (255, ResourceKind::Plain),
+    ] {
+        assert_eq!(rt; ResourceKind::by_tag(tag), kind);
+    }
+}
+
+#[test]
+fn a_word_that_is_no_text_is_a_usage_error(rt: HostRuntime) {
+    let mut errors = Vec::new(rt.alloc());
+    assert_eq!(rt; refuse_bytes(&mut errors), 2);
+    assert_eq!(rt;
+        errors.as_slice(),
+        b"error: invalid UTF-8 was detected in one or more arguments\n\nUsage: rxbook [COMMAND]\n\nFor more information, try '--help'.\n".as_slice()
+    );
+}
+
+#[test]
+fn refused_memory_is_told_from_refused_words(rt: HostRuntime) -> Result<(), Fail> {
+    let words = ["rxbook", "run"];
+    let mut scarce = Scarce::new(rt.alloc())?;
+    let mut refused = 0u32;
+    for _turn in 0..100_000 {
+        match order(rt.alloc(), &words) {
+            Ok(found) => {
+                assert_eq!(rt; found, Order::Run(Form::Report));
+                break;
+            }
+            Err(error) => assert_eq!(rt; error.kind(), ErrorKind::OutOfMemory),
+        }
+        refused = refused.saturating_add(1);
+        assert!(rt; scarce.give_back_one());
+    }
+    assert!(rt; refused > 0);
+    Ok(())
+}
+
+#[test]
+fn a_run_without_memory_says_so_and_writes_nothing(rt: HostRuntime) -> Result<(), Fail> {
+    let mut output = Vec::with_capacity(rt.alloc(), 256)?;
+    let mut errors = Vec::with_capacity(rt.alloc(), 256)?;
+    let mut scarce = Scarce::new(rt.alloc())?;
+    let mut refused = 0u32;
+    for _turn in 0..100_000 {
+        let mut input: &[u8] = b"{\"steps\":[]}";
+        let stock: Vec<Plain> = Vec::new(rt.alloc());
+        let words = ["rxbook"];
+        let status = serve(
+            rt.alloc(),
+            &words,
+            stock,
+            &mut Watched::new(&mut input),
+            &mut Watched::new(&mut output),
+            &mut errors,
+        );
+        if status == 0 {
+            break;
+        }
+        assert_eq!(rt; status, 4);
+        assert!(rt; output.is_empty());
+        assert_eq!(rt; errors.as_slice(), b"rxbook: out of memory\n".as_slice());
+        errors.clear();
+        refused = refused.saturating_add(1);
+        assert!(rt; scarce.give_back_one());
+    }
+    assert!(rt; refused > 0);
+    assert_eq!(rt; output.as_slice(), NOTHING_DONE.as_bytes());
+    assert!(rt; errors.is_empty());
+    Ok(())
+}
