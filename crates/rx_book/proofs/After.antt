@@ -1,8 +1,8 @@
 -- A register after more events.
-use Rattle.std.proofs.Common.{◌≡◌, ℕ, ◌+◌, ◌<◌, ◌≤◌, Bool, true, false, List, [], ◌∷◌, ◌++◌, length, map, take, cond, refl, sym, ap, subst, Option, None, ◌∙◌, arith, vec_len, vec_capacity, length-append, append-nil, append_assoc}
+use Rattle.std.proofs.Common.{◌≡◌, ℕ, ◌+◌, ◌≤◌, Bool, true, false, List, [], ◌∷◌, ◌++◌, length, map, cond, refl, sym, ap, subst, Option, None, ◌∙◌, arith, vec_len, vec_capacity, length-append, append-nil, append_assoc}
 use Rattle.std.proofs.Math.Bool.{not, ◌&&◌}
-use Rattle.std.specs.List.{AllByRecursion, list_all, filter, count_by}
-use Rattle.std.proofs.lemmas.Bool.{false≢true, both_ways}
+use Rattle.std.specs.List.{AllByRecursion, list_all}
+use Rattle.std.proofs.lemmas.Bool.{false≢true}
 use Rattle.std.proofs.lemmas.List.{take-append-le}
 use Rattle.std.proofs.lemmas.List.Sums.{length-filter}
 use Rattle.rx_event.specs.declared.event.Event.{Event}
@@ -11,7 +11,7 @@ use Rattle.rx_event.specs.Events.{makes_resource, node_of_accept}
 use Rattle.rx_event.specs.Tree.{at, places}
 use Rattle.rx_event.specs.Resources.{is_held, is_taken, is_waiting}
 use Rattle.rx_event.specs.Notes.{notes, mail_of, Mail}
-use Rattle.rx_event.specs.Totals.{debt, open_count, held_count, waiting_count, item_count, accepted_count, taken_count}
+use Rattle.rx_event.specs.Totals.{debt, open_count, held_count, waiting_count, item_count, accepted_count}
 use Rattle.rx_event.specs.declared.refusal.Refusal.{Refusal}
 use Rattle.rx_event.specs.Refusals.{first_cause}
 use Rattle.rx_event.specs.Calls.{Call, outside_of, IsStepOf}
@@ -20,7 +20,7 @@ use Rattle.rx_event.specs.Forced.{IsSettled}
 use Rattle.rx_event.specs.Laws.Places.{slice_get-append}
 use Rattle.rx_event.specs.Laws.Counts.{notes-push}
 use Rattle.rx_event.specs.Laws.Sums.{sum_by-same, sum_by-plus}
-use Rattle.rx_event.specs.Laws.Resources.{node_of_within, in_one_place, held_resource, taken_resource, held_not_taken}
+use Rattle.rx_event.specs.Laws.Resources.{node_of_within, in_one_place, taken_resource}
 use Rattle.rx_event.specs.Laws.Totals.{accepted_count-parts}
 use Rattle.rx_book.specs.declared.register.Untaken.{Untaken}
 use Rattle.rx_book.specs.declared.register.Register.TheInside.{Inside}
@@ -115,3 +115,29 @@ follows_after a b t s stands call f shown o cause none forced = record {
   limit = f.stored_limit ∙ ap (λ (x : Kept). x.limit) shown;
   given = f.given ∙ ap (λ (x : Kept). x.given) shown;
 }
+
+-- more events, and then more
+pub after_both : (a m b : Inside) (t u : List Event) → IsAfter a m t → IsAfter m b u → IsAfter a b (t ++ u)
+after_both a m b t u f g = record {
+  events = g.events ∙ is;
+  stored_limit = g.stored_limit ∙ f.stored_limit;
+  limit = g.limit ∙ f.limit;
+  given = g.given ∙ f.given;
+  cursor = g.cursor ∙ f.cursor;
+  lawful = rw (← is) g.lawful;
+  settled = rw (← is) g.settled;
+  plain = rw (← is) g.plain;
+  marks = rw (← is) g.marks;
+  untaken = rw (← is) g.untaken;
+  nodes = rw (← is) g.nodes;
+  open_total = rw (← is) g.open_total;
+  held_total = rw (← is) g.held_total;
+  item_total = rw (← is) g.item_total;
+  accepted_total = rw (← is) g.accepted_total;
+  within = rw (← is, ← f.limit) g.within;
+  room = rw (← is) g.room;
+  mark_room = rw (← is) g.mark_room;
+}
+  where
+    is : m.history.events ++ u ≡ a.history.events ++ (t ++ u)
+    is = ap (λ (x : List Event). x ++ u) f.events ∙ append_assoc a.history.events t u

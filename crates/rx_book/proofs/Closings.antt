@@ -1,5 +1,5 @@
 -- Histories after an end or a closing.
-use Rattle.std.proofs.Common.{◌==◌, ◌≡◌, ℕ, ◌+◌, ◌<◌, ◌≤◌, Bool, true, false, List, [], ◌∷◌, ◌++◌, length, Option, Some, None, refl, sym, ap, ◌∙◌, arith, length-append, append_assoc, ◌⊎◌, inl, inr, get_or, map, count_by, vec_len, vec_capacity}
+use Rattle.std.proofs.Common.{◌==◌, ◌≡◌, ℕ, ◌+◌, ◌<◌, ◌≤◌, Bool, true, false, List, [], ◌∷◌, ◌++◌, length, Some, None, refl, sym, ap, ◌∙◌, arith, length-append, append_assoc, ◌⊎◌, inl, inr, get_or, map, count_by, vec_len, vec_capacity}
 use Rattle.std.proofs.Math.Bool.{not, ◌&&◌}
 use Rattle.std.specs.List.{list_all, AllByRecursion}
 use Rattle.std.specs.Option.{option_map_or}
@@ -109,19 +109,22 @@ chain_open h leaf t last p k o c below = (up, here, c.opens p ∙ rw (here, apar
 
 -- the end of the node above it comes next
 pub chain_next : (h : List Event) (leaf : ℕ) (t : Terminal) (last p : ℕ) (k : List Event) → is_open h last ≡ true → IsChain h leaf t last k → parent k last ≡ Some p → MayFollow k (End p t) × IsChain h leaf t p (k ++ End p t ∷ [])
-chain_next h leaf t last p k o c below = (next, record {
-  lawful = IsLawful-push k (End p t) c.lawful next;
-  plain = plain-push k (End p t) c.plain refl;
-  due_above = chain_step k last t c.due_above p below;
-  forced = more c.forced due;
-  longer = (c.longer.0 ++ End p t ∷ [], ap (λ (x : List Event). x ++ End p t ∷ []) c.longer.1 ∙ append_assoc h c.longer.0 (End p t ∷ []));
-  untaken = untaken_kept k (End p t) c.lawful refl (λ q. refl) ∙ c.untaken;
-  items = let i = item_count-push k (End p t) in let j = c.items in omega arith;
-  accepted = let i = accepted_count-push k (End p t) in let j = c.accepted in omega arith;
-  within = let d = debt_falls-end k p t c.lawful next in let w = c.within in omega (arith, length-append k (End p t ∷ []));
-  old = let l = parent-lt h last p above.0 in let m = c.old in omega arith;
-  opens = λ n. is_open_after k (End p t) p (shuts_end p t) n ∙ by_place n (cases_lt n (length h));
-})
+chain_next h leaf t last p k o c below = (
+  next,
+  record {
+    lawful = IsLawful-push k (End p t) c.lawful next;
+    plain = plain-push k (End p t) c.plain refl;
+    due_above = chain_step k last t c.due_above p below;
+    forced = more c.forced due;
+    longer = (c.longer.0 ++ End p t ∷ [], ap (λ (x : List Event). x ++ End p t ∷ []) c.longer.1 ∙ append_assoc h c.longer.0 (End p t ∷ []));
+    untaken = untaken_kept k (End p t) c.lawful refl (λ q. refl) ∙ c.untaken;
+    items = let i = item_count-push k (End p t) in let j = c.items in omega arith;
+    accepted = let i = accepted_count-push k (End p t) in let j = c.accepted in omega arith;
+    within = let d = debt_falls-end k p t c.lawful next in let w = c.within in omega (arith, length-append k (End p t ∷ []));
+    old = let l = parent-lt h last p above.0 in let m = c.old in omega arith;
+    opens = λ n. is_open_after k (End p t) p (shuts_end p t) n ∙ by_place n (cases_lt n (length h));
+  },
+)
   where
     above : (parent h last ≡ Some p) × (is_open h p ≡ true) × (is_open k p ≡ true)
     above = chain_open h leaf t last p k o c below

@@ -1,18 +1,15 @@
 -- A register with no events.
-use Rattle.std.proofs.Common.{◌≡◌, ℕ, ◌+◌, ◌<◌, ◌≤◌, Bool, true, false, List, [], length, map, take, refl, sym, ap, ◌∙◌, arith, vec_len, vec_capacity}
+use Rattle.std.proofs.Common.{◌≡◌, ℕ, ◌≤◌, true, [], length, refl, sym, arith}
 use Rattle.std.proofs.lemmas.Bool.{both_ways}
-use Rattle.rx_note.specs.declared.note.Terminal.{Terminal}
-use Rattle.rx_event.specs.declared.event.Event.{Event}
 use Rattle.rx_event.specs.Tree.{is_open}
 use Rattle.rx_event.specs.Moments.{moments}
 use Rattle.rx_event.specs.Notes.{notes}
 use Rattle.rx_event.specs.Totals.{debt}
 use Rattle.rx_event.specs.Laws.Openness.{is_open_past}
 use Rattle.rx_event.specs.Laws.Lawful.{IsLawful_empty}
-use Rattle.rx_book.specs.declared.register.Untaken.{Untaken}
 use Rattle.rx_book.specs.declared.register.Register.TheInside.{Inside}
-use Rattle.rx_book.specs.Kept.{Kept, IsUpheld}
-use Rattle.rx_book.specs.Ties.{IsRegistered, IsAtNode, number_of}
+use Rattle.rx_book.specs.Kept.{IsUpheld}
+use Rattle.rx_book.specs.Ties.{IsRegistered}
 use Rattle.rx_book.proofs.Plain.{settled_where}
 use Rattle.rx_book.proofs.Marks.{tied_empty}
 use Rattle.rx_book.proofs.Tallies.{debt_plain}
@@ -35,7 +32,7 @@ upheld_empty limit few = record {
   given = omega arith;
 }
 
-no_notes : length (notes []) ≡ 0
+pub no_notes : length (notes []) ≡ 0
 unfolding notes moments
 no_notes = refl
 

@@ -1,16 +1,14 @@
 -- What is held, by the list of the resources that are not taken.
-use Rattle.std.proofs.Common.{◌≡◌, ℕ, zero, suc, ◌+◌, ◌<◌, ◌≤◌, Bool, true, false, List, [], ◌∷◌, ◌++◌, length, map, Option, Some, None, cond, refl, sym, ap, ◌∙◌, arith, slice_get, inl, inr, ◌⊎◌, ◌==◌, count_by, get_or, zero-add}
-use Rattle.std.proofs.Math.Bool.{not, ◌&&◌, ◌||◌}
+use Rattle.std.proofs.Common.{◌≡◌, ℕ, zero, suc, ◌+◌, ◌<◌, ◌≤◌, Bool, true, false, List, [], ◌∷◌, length, map, Some, None, cond, refl, sym, ap, ◌∙◌, arith, inl, inr, ◌⊎◌, ◌==◌, count_by, get_or, zero-add}
+use Rattle.std.proofs.Math.Bool.{◌&&◌, ◌||◌}
 use Rattle.std.specs.List.{find, filter, list_any, list_all, range_with_len, AllByRecursion}
-use Rattle.std.specs.Option.{option_and_then, option_map_or}
-use Rattle.std.proofs.lemmas.Bool.{cases_Bool, cases_order, both_ways, eqb-true, and_parts, false≢true, or_parts, eq-eqb}
-use Rattle.std.proofs.lemmas.Option.{none-some, same_Some}
+use Rattle.std.proofs.lemmas.Bool.{cases_Bool, cases_order, both_ways, and_parts, false≢true, eq-eqb}
 use Rattle.std.proofs.lemmas.List.Sums.{sum_by-cons}
 use Rattle.rx_event.specs.declared.event.Event.{Event}
 use Rattle.rx_event.specs.declared.event.Event.TheVariants.{Remove}
-use Rattle.rx_event.specs.Events.{makes_resource, node_of_accept, is_remove_of}
-use Rattle.rx_event.specs.Tree.{at, places, is_open}
-use Rattle.rx_event.specs.Resources.{is_held, is_taken}
+use Rattle.rx_event.specs.Events.{is_remove_of}
+use Rattle.rx_event.specs.Tree.{places, is_open}
+use Rattle.rx_event.specs.Resources.{is_held}
 use Rattle.rx_event.specs.Totals.{held_count}
 use Rattle.rx_event.specs.Lawful.{IsLawful}
 use Rattle.rx_event.specs.Laws.Resources.{node_of, is_held_within, held_resource, held_not_taken}
@@ -19,7 +17,7 @@ use Rattle.rx_book.specs.Plain.{is_plain}
 use Rattle.rx_book.specs.Kept.{is_untaken, untaken_resources}
 use Rattle.rx_book.specs.Ties.{IsTied, IsAtNode, number_of}
 use Rattle.rx_book.proofs.Marks.{count_by-map}
-use Rattle.rx_book.proofs.Searches.{found, found_none}
+use Rattle.rx_book.proofs.Searches.{found_none}
 
 -- nothing is removed
 no_removal : (h : List Event) → list_all is_plain h ≡ true → (r : ℕ) → list_any (is_remove_of r) h ≡ false

@@ -18,3 +18,6 @@ pub mod Openings
 pub mod Items
 pub mod Tops
 pub mod Closings
+pub mod Holdings
+pub mod Takings
+pub mod Letters

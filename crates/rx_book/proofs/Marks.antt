@@ -2,7 +2,7 @@
 use Rattle.std.proofs.Common.{◌≡◌, ℕ, zero, suc, ◌+◌, ◌<◌, ◌≤◌, Bool, true, false, List, [], ◌∷◌, ◌++◌, length, Option, Some, None, refl, sym, ap, ◌∙◌, arith, ◌==◌, ◌≢◌, get_or, set, get_or-set_other, get_or-set_same, below_more, ◌⊎◌, inl, inr, length-append, take, map, count_by, cond, slice_get, add-one}
 use Rattle.std.proofs.Math.Bool.{not, ◌&&◌}
 use Rattle.std.proofs.Math.Seq.{take-append_seam}
-use Rattle.std.proofs.lemmas.Bool.{eq-eqb, ne_eqb, cases_order, cases_Bool, both_ways, false≢true, lt-ltb, or_parts}
+use Rattle.std.proofs.lemmas.Bool.{eq-eqb, ne_eqb, cases_order, false≢true, lt-ltb, or_parts}
 use Rattle.std.proofs.lemmas.List.Sums.{sum_by-cons}
 use Rattle.std.proofs.lemmas.List.FromFn.{fill_by_all}
 use Rattle.std.proofs.lemmas.Option.{none-some, same_Some}
@@ -187,6 +187,7 @@ tied_after_quiet h e ms no_node quiet tied = record {
     by_place n (inr (inl l)) = is_open_kept h e n l quiet
     by_place n (inl same) = rw same (is_open_step (h ++ e ∷ []) (length h) ∙ rw (slice_get_last h e, no_node) (sym (is_open_past h (length h) (omega arith))))
     by_place n (inr (inr g)) = is_open_past (h ++ e ∷ []) n (omega (arith, length-append {A = Event})) ∙ sym (is_open_past h n (omega arith))
+
 -- how many nodes are open
 pub count_of_marks : (h : List Event) (ms : List Bool) → IsTied h ms → open_count h ≡ count_by (λ b. b) ms
 count_of_marks h ms tied = sym (ap (count_by (λ b. b)) all_marks ∙ count_by-map (λ b. b) (is_open h) (places h))

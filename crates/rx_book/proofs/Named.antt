@@ -34,8 +34,8 @@ list_any-places p h within n = same_test _ _ forth back where
 
   forth : list_any (λ m. nat_eq m n) (filter p (places h)) ≡ true → p n ≡ true
   forth found =
-    let a = Any-from_list_any (λ (m : ℕ). nat_eq m n) (filter p (places h)) found in
-    ap p (sym (a.3 ∙ eqb-true a.1 n a.4)) ∙ just.each a.0 a.1 a.2
+      let a = Any-from_list_any (λ (m : ℕ). nat_eq m n) (filter p (places h)) found in
+      ap p (sym (a.3 ∙ eqb-true a.1 n a.4)) ∙ just.each a.0 a.1 a.2
 
   back : p n ≡ true → list_any (λ m. nat_eq m n) (filter p (places h)) ≡ true
   back passes = let c = just.every n passes in list_any_at (λ (m : ℕ). nat_eq m n) (filter p (places h)) c.0 n c.1 (eq-eqb _ n c.2)
@@ -45,15 +45,15 @@ list_any_both : (s n : ℕ) (ns : List ℕ) → list_any (λ m. nat_eq m s && na
 list_any_both s n ns = same_test _ _ (forth ns) (λ b. let parts = and_parts _ _ b in back ns (eqb-true s n parts.0) parts.1) where
   forth : (ms : List ℕ) → list_any (λ m. nat_eq m s && nat_eq m n) ms ≡ true → (nat_eq s n && list_any (λ m. nat_eq m n) ms) ≡ true
   forth ms found =
-    let a = Any-from_list_any (λ (m : ℕ). nat_eq m s && nat_eq m n) ms found in
-    let parts = and_parts _ _ a.4 in
-    and_from _ _ (eq-eqb s n (sym (eqb-true a.1 s parts.0) ∙ eqb-true a.1 n parts.1)) (list_any_at (λ (m : ℕ). nat_eq m n) ms a.0 a.1 a.2 (ap (λ m. nat_eq m n) a.3 ∙ parts.1))
+      let a = Any-from_list_any (λ (m : ℕ). nat_eq m s && nat_eq m n) ms found in
+      let parts = and_parts _ _ a.4 in
+      and_from _ _ (eq-eqb s n (sym (eqb-true a.1 s parts.0) ∙ eqb-true a.1 n parts.1)) (list_any_at (λ (m : ℕ). nat_eq m n) ms a.0 a.1 a.2 (ap (λ m. nat_eq m n) a.3 ∙ parts.1))
 
   back : (ms : List ℕ) → s ≡ n → list_any (λ m. nat_eq m n) ms ≡ true → list_any (λ m. nat_eq m s && nat_eq m n) ms ≡ true
   back ms e found =
-    let a = Any-from_list_any (λ (m : ℕ). nat_eq m n) ms found in
-    let f : get_or ms a.0 a.1 ≡ n = a.3 ∙ eqb-true a.1 n a.4 in
-    list_any_at (λ (m : ℕ). nat_eq m s && nat_eq m n) ms a.0 a.1 a.2 (and_from _ _ (eq-eqb _ s (f ∙ sym e)) (eq-eqb _ n f))
+      let a = Any-from_list_any (λ (m : ℕ). nat_eq m n) ms found in
+      let f : get_or ms a.0 a.1 ≡ n = a.3 ∙ eqb-true a.1 n a.4 in
+      list_any_at (λ (m : ℕ). nat_eq m s && nat_eq m n) ms a.0 a.1 a.2 (and_from _ _ (eq-eqb _ s (f ∙ sym e)) (eq-eqb _ n f))
 
 -- a slot that is not the number names nothing
 pub unnamed : (s n : ℕ) (b : Bool) → (s ≡ n → ⊥) → nat_eq s n ≡ (nat_eq s n && b)

@@ -1,5 +1,5 @@
 -- A register after the opening of a node.
-use Rattle.std.proofs.Common.{◌≡◌, ℕ, ◌+◌, ◌*◌, ◌<◌, ◌≤◌, Bool, true, false, List, [], ◌∷◌, ◌++◌, length, map, Option, Some, None, cond, refl, sym, ap, ◌∙◌, arith, vec_len, vec_capacity, length-append}
+use Rattle.std.proofs.Common.{◌≡◌, ℕ, ◌+◌, ◌≤◌, Bool, true, false, List, [], ◌∷◌, ◌++◌, length, Option, None, refl, sym, ap, ◌∙◌, arith, vec_len, vec_capacity, length-append}
 use Rattle.std.proofs.Math.Bool.{not}
 use Rattle.std.specs.List.{list_all}
 use Rattle.std.proofs.lemmas.Bool.{false≢true, or_parts}
@@ -11,20 +11,20 @@ use Rattle.rx_event.specs.declared.event.Event.{Event}
 use Rattle.rx_event.specs.declared.event.Event.TheVariants.{Open}
 use Rattle.rx_event.specs.declared.refusal.Refusal.{Refusal}
 use Rattle.rx_event.specs.declared.refusal.Refusal.TheVariants.{Full, Gone, WrongKind, PlaceTaken, TooMany}
-use Rattle.rx_event.specs.Tree.{is_open, open_nodes, places}
+use Rattle.rx_event.specs.Tree.{is_open, places}
 use Rattle.rx_event.specs.Allowed.{IsFree, most_nodes}
-use Rattle.rx_event.specs.Totals.{debt, open_count, held_count, waiting_count}
-use Rattle.rx_event.specs.Lawful.{MayFollow, IsLawful, IsStep, stays}
+use Rattle.rx_event.specs.Totals.{debt, open_count}
+use Rattle.rx_event.specs.Lawful.{MayFollow, IsLawful}
 use Rattle.rx_event.specs.Forced.{IsSettled}
-use Rattle.rx_event.specs.Calls.{Opening, IsStepOf}
+use Rattle.rx_event.specs.Calls.{Opening}
 use Rattle.rx_event.specs.Refusals.{first_cause}
 use Rattle.rx_event.specs.Laws.Lawful.{IsLawful-push}
 use Rattle.rx_event.specs.Laws.Resources.{moves_none}
 use Rattle.rx_event.specs.Laws.Totals.{open_count_made, held_count_unchanged, waiting_count_unchanged, item_count-push, accepted_count-push}
 use Rattle.rx_book.specs.declared.register.Register.TheInside.{Inside}
 use Rattle.rx_book.specs.Plain.{is_plain}
-use Rattle.rx_book.specs.Causes.{causes, opening_causes, is_gone, is_wrong_place, is_taken_place, is_built}
-use Rattle.rx_book.specs.Kept.{Kept, untaken_resources}
+use Rattle.rx_book.specs.Causes.{causes, is_wrong_place, is_built}
+use Rattle.rx_book.specs.Kept.{Kept}
 use Rattle.rx_book.specs.Ties.{IsRegistered, kept_of}
 use Rattle.rx_book.proofs.Clear.{clear, free_where, plain_where, room_where, few_where}
 use Rattle.rx_book.proofs.Plain.{open_follows, plain-push, settled_after_open}

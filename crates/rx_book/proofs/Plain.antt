@@ -1,5 +1,5 @@
 -- Histories of leaves and passes alone: what they force.
-use Rattle.std.proofs.Common.{◌≡◌, ℕ, zero, suc, ◌+◌, ◌<◌, ◌≤◌, Bool, true, false, List, [], ◌∷◌, ◌++◌, length, drop, take, Option, Some, None, refl, sym, ap, ◌∙◌, arith, inl, inr, ◌⊎◌, nat_lt, slice_get}
+use Rattle.std.proofs.Common.{◌≡◌, ℕ, zero, suc, ◌+◌, ◌<◌, ◌≤◌, Bool, true, false, List, [], ◌∷◌, ◌++◌, length, take, Option, Some, None, refl, sym, ap, ◌∙◌, arith, inl, inr, ◌⊎◌, nat_lt, slice_get}
 use Rattle.std.specs.List.{list_all}
 use Rattle.std.specs.Option.{option_and_then, option_map_or}
 use Rattle.std.proofs.lemmas.Bool.{ltb-true, and_parts, and_from, both_ways, false≢true}
@@ -16,7 +16,7 @@ use Rattle.rx_event.specs.Events.{makes_node, parent_named, is_merging, is_mirro
 use Rattle.rx_event.specs.Tree.{at, parent, if_less, is_open, open_nodes}
 use Rattle.rx_event.specs.Forced.{mirrored, fired, failed, completed, cut, left, connecting, due, Has, ChildEnded, IsDue, IsConnectDue, IsForced, IsSettled}
 use Rattle.rx_event.specs.Allowed.{opened, most_nodes, IsAllowed, IsFree, IsHubbed}
-use Rattle.rx_event.specs.Lawful.{forced, allowed, opened_with, MayFollow, IsLawful}
+use Rattle.rx_event.specs.Lawful.{forced, allowed, MayFollow, IsLawful}
 use Rattle.rx_event.specs.Laws.Places.{slice_get_last, at-take, cases_push}
 use Rattle.rx_event.specs.Laws.Parents.{parent-lt, parent-append, old_child}
 use Rattle.rx_event.specs.Laws.Openness.{is_open-push, open_before, open_before_end}

@@ -57,5 +57,5 @@ box_waits s view entries i r x stocked at_i waits is =
 
     there : get_or (map view entries) i (view x) ≡ view x
     there =
-      let a = within_boxes s view entries i r stocked at_i in
-      same_Some _ _ (sym (slice_get-get_or (map view entries) i (view x) within) ∙ rw (slice_get-map, slice_get-get_or entries i x a, ← is) refl)
+        let a = within_boxes s view entries i r stocked at_i in
+        same_Some _ _ (sym (slice_get-get_or (map view entries) i (view x) within) ∙ rw (slice_get-map, slice_get-get_or entries i x a, ← is) refl)

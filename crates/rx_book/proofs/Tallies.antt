@@ -1,18 +1,17 @@
 -- The counts and the debt of what a register keeps.
-use Rattle.std.proofs.Common.{◌≡◌, ℕ, ◌+◌, ◌-◌, ◌*◌, ◌<◌, ◌≤◌, Bool, true, false, List, [], ◌∷◌, ◌++◌, length, map, cond, refl, sym, ap, ◌∙◌, arith, vec_len, add-one, nat_lt, nat_le}
+use Rattle.std.proofs.Common.{◌≡◌, ℕ, ◌+◌, ◌*◌, ◌≤◌, Bool, true, false, List, length, map, cond, refl, sym, ◌∙◌, arith, vec_len, add-one, nat_lt, nat_le}
 use Rattle.std.proofs.Math.Bool.{◌&&◌}
-use Rattle.std.specs.List.{list_all, count_by}
+use Rattle.std.specs.List.{list_all}
 use Rattle.std.proofs.Math.Dec.{leb-suc-suc}
 use Rattle.std.proofs.lemmas.List.{length-map}
 use Rattle.rx_event.specs.declared.event.Event.{Event}
-use Rattle.rx_event.specs.Events.{is_merging, is_item}
-use Rattle.rx_event.specs.Tree.{at, places, is_open}
+use Rattle.rx_event.specs.Events.{is_merging}
+use Rattle.rx_event.specs.Tree.{is_open}
 use Rattle.rx_event.specs.Moments.{owed}
-use Rattle.rx_event.specs.Totals.{debt, open_count, held_count, waiting_count, accepted_count, taken_count, item_count, owed_count, owed_open}
+use Rattle.rx_event.specs.Totals.{debt, open_count, held_count, waiting_count, taken_count, owed_count, owed_open}
 use Rattle.rx_event.specs.Laws.Sums.{sum_by_none}
 use Rattle.rx_event.specs.Laws.Totals.{accepted_count-parts}
 use Rattle.rx_event.specs.Laws.Debt.{debt-counts}
-use Rattle.rx_book.specs.declared.register.Untaken.{Untaken}
 use Rattle.rx_book.specs.declared.register.Register.TheInside.{Inside}
 use Rattle.rx_book.specs.Plain.{is_plain}
 use Rattle.rx_book.specs.Kept.{Kept, IsUpheld}

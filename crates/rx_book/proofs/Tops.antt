@@ -1,6 +1,6 @@
 -- The way up from a node.
-use Rattle.std.proofs.Common.{◌≡◌, ℕ, zero, suc, ◌+◌, ◌<◌, ◌≤◌, Bool, true, false, List, [], ◌∷◌, ◌++◌, length, Option, Some, None, refl, sym, ap, ◌∙◌, arith, ◌==◌, ◌⊎◌, inl, inr}
-use Rattle.std.proofs.Math.Bool.{not, ◌&&◌}
+use Rattle.std.proofs.Common.{◌≡◌, ℕ, zero, suc, ◌<◌, true, false, List, [], Option, Some, None, refl, ap, arith, ◌==◌, ◌⊎◌, inl, inr}
+use Rattle.std.proofs.Math.Bool.{not}
 use Rattle.std.specs.List.{list_all}
 use Rattle.std.specs.Option.{option_map_or}
 use Rattle.std.proofs.lemmas.Bool.{cases_Bool, eq-eqb, eqb-true, both_ways, and_parts, and_from, not_from_false}
@@ -8,7 +8,7 @@ use Rattle.rx_event.specs.declared.event.Event.{Event}
 use Rattle.rx_event.specs.Tree.{parent, ancestors}
 use Rattle.rx_event.specs.Laws.Parents.{ancestors_step, parent-lt}
 use Rattle.rx_event.specs.Laws.Openness.{self_tested}
-use Rattle.rx_book.specs.Ties.{top, last_of}
+use Rattle.rx_book.specs.Ties.{top}
 
 -- the way up from the node above leads to the same end
 pub top_above : (h : List Event) (n p : ℕ) → parent h n ≡ Some p → top h n ≡ top h p

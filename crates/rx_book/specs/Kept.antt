@@ -1,12 +1,11 @@
 -- What a register of a book's numbers is to its callers, and what it keeps.
-use Rattle.std.specs.Prelude.{◌≡◌, ℕ, ◌+◌, ◌≤◌, Bool, true, ◌&&◌, ◌==◌, Option, Some, None, List, length, filter, if◌then◌else◌}
+use Rattle.std.specs.Prelude.{◌≡◌, ℕ, ◌+◌, ◌≤◌, Bool, true, ◌&&◌, None, List, length, filter}
 use Rattle.std.specs.List.{list_all}
-use Rattle.std.specs.Option.{option_and_then}
 use Rattle.std.proofs.Math.Bool.{not}
 use Rattle.rx_event.specs.declared.event.Event.{Event}
 use Rattle.rx_event.specs.declared.refusal.Refusal.{Refusal}
 use Rattle.rx_event.specs.Events.{makes_resource, is_root}
-use Rattle.rx_event.specs.Tree.{at, places, is_open, ancestors, parent}
+use Rattle.rx_event.specs.Tree.{at, places, is_open}
 use Rattle.rx_event.specs.Resources.{is_taken}
 use Rattle.rx_event.specs.Notes.{Mail, notes}
 use Rattle.rx_event.specs.Totals.{debt, accepted_count, taken_count}

@@ -1,6 +1,6 @@
 -- The histories of a book that has sources and mirroring nodes alone.
 use Rattle.std.specs.Prelude.{Bool, true, false}
-use Rattle.rx_event.specs.declared.event.Place.TheVariants.{Root, Source, Inner, Notifier}
+use Rattle.rx_event.specs.declared.event.Place.TheVariants.{Root, Source}
 use Rattle.rx_event.specs.declared.event.Kind.TheVariants.{Leaf, Pass}
 use Rattle.rx_event.specs.declared.event.Event.{Event}
 use Rattle.rx_event.specs.declared.event.Event.TheVariants.{Open, Hub, Connect, Use, Remove, Decline}

@@ -1,12 +1,12 @@
 -- How what a register keeps beside its history is tied to it.
-use Rattle.std.specs.Prelude.{◌≡◌, ℕ, ◌+◌, ◌≤◌, Bool, true, false, ◌&&◌, ◌==◌, Option, Some, None, List, [], ◌∷◌, ◌++◌, length, map, take, slice_get, slice_index_or, vec_len, vec_capacity, if◌then◌else◌}
+use Rattle.std.specs.Prelude.{◌≡◌, ℕ, ◌+◌, ◌≤◌, Bool, true, false, ◌&&◌, ◌==◌, Some, List, [], ◌∷◌, ◌++◌, length, map, take, slice_get, slice_index_or, vec_len, vec_capacity}
 use Rattle.std.specs.List.{AllByRecursion, list_all}
-use Rattle.std.specs.Option.{option_and_then}
+use Rattle.std.specs.Option.{option_and_then, option_map_or}
 use Rattle.std.proofs.Math.Bool.{not}
 use Rattle.rx_event.specs.declared.event.Event.{Event}
 use Rattle.rx_event.specs.Events.{node_of_accept}
 use Rattle.rx_event.specs.Tree.{is_open, ancestors}
-use Rattle.rx_event.specs.Notes.{notes}
+use Rattle.rx_event.specs.Notes.{Mail, notes, mail_of}
 use Rattle.rx_event.specs.Totals.{debt, open_count, held_count, item_count, accepted_count}
 use Rattle.rx_event.specs.Lawful.{IsStep}
 use Rattle.rx_book.specs.Plain.{is_plain}
@@ -65,3 +65,7 @@ pub record Closes (h outside k : List Event) : Type 0 where
   pub items : item_count k ≡ item_count h
   pub accepted : accepted_count k ≡ accepted_count h
   pub within : length k + debt k ≤ length h + debt h
+
+-- what the event at a place tells
+abbrev pub told_at : List Event → ℕ → List Mail
+told_at h i = option_map_or (mail_of (take i h)) (slice_get h i) []

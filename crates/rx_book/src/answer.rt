@@ -4,41 +4,53 @@ use crate::key::{Key, ResKey};
 use rx_event::Refusal;
 use rx_note::Note;
 
-/// Where a node is to be opened.
+/// Where a node is to be opened, by the key of the node above it.
 #[derive(Clone, Copy, Debug, PartialEq, Eq)]
 pub enum At {
+    /// Below no node: an observer outside subscribes.
     Root,
+    /// The source of a mirroring node, of which there is at most one, ever.
     Source(Key),
+    /// An inner observable of a FlatMap or a Switch; there are none yet, so it is refused `WrongKind`.
     Inner(Key),
+    /// The notifier of a TakeUntil; there are none yet, so it is refused `WrongKind`.
     Notifier(Key),
 }
 
-/// A node was opened, and a hub connected with it where that was forced.
+/// A node was opened, and a hub was connected with it where that was forced (RefCount).
 #[derive(Clone, Copy, Debug, PartialEq, Eq)]
 pub struct Opened {
+    /// The node's key.
     pub key: Key,
+    /// The key of the connection that came with it; None, as there are no hubs yet.
     pub connected: Option<Key>,
 }
 
-/// A node was opened with a resource.
+/// A node was opened with a resource (Using).
 #[derive(Clone, Copy, Debug, PartialEq, Eq)]
 pub struct OpenedUsing {
+    /// The node's key.
     pub key: Key,
+    /// The resource's key; its number is the one after the node's.
     pub res: ResKey,
 }
 
 /// A resource that was handed in and comes back, with the cause.
 #[derive(Drop)]
 pub struct Refused<R> {
+    /// The first cause that stood against the call.
     pub why: Refusal,
+    /// The resource, as it came.
     pub back: R,
 }
 
-/// A note for an observer: the place of the event that gave it, the number of the node that it
-/// goes to, and what it says.
+/// A note for an observer.
 #[derive(Clone, Copy, Debug, PartialEq, Eq)]
 pub struct Mail {
+    /// The place of the event that gave it, from 0.
     pub place: u64,
+    /// The number of the node that it goes to: of the root where the observer subscribed.
     pub to: u64,
+    /// What it says.
     pub note: Note,
 }

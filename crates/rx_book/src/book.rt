@@ -49,14 +49,10 @@ impl<R: Resource> Model for Book<R> {
 
     ghost Value = { State };
 
-    ghost view = {
-        λ b. state_of b.register (map (λ e. box_of e.number (R.tag_of e.resource) (R.uses_of e.resource)) b.entries.items)
-    };
+    ghost view = { λ b. state_of b.register (map (λ e. box_of e.number (R.tag_of e.resource) (R.uses_of e.resource)) b.entries.items) };
 
-    ghost invariant = {
-        λ b. IsStocked b.register (map (λ e. box_of e.number (R.tag_of e.resource) (R.uses_of e.resource)) b.entries.items)
-            × All (λ e. R.life_of e.resource ≡ Live) b.entries.items
-    };
+    ghost invariant = { λ b. IsStocked b.register (map (λ e. box_of e.number (R.tag_of e.resource) (R.uses_of e.resource)) b.entries.items)
+        × All (λ e. R.life_of e.resource ≡ Live) b.entries.items };
 }
 
 /// The key of an open node: its slot is its number.
@@ -134,12 +130,10 @@ impl<R: Resource> Book<R> {
         self.register.promise();
         let number = self.register.open(place, kind)?;
         self.register.promise();
-        Ok(
-            Opened {
-                key: key_of(number),
-                connected: None,
-            },
-        )
+        Ok(Opened {
+            key: key_of(number),
+            connected: None,
+        })
     }
 
     /// Opens a mirroring node that holds a resource (Using). Refused, in this order: `Gone`,
@@ -154,11 +148,17 @@ impl<R: Resource> Book<R> {
     {
         let place = match self.place(at) {
             Ok(place) => place,
-            Err(why) => return Err(Refused { why, back: resource }),
+            Err(why) => return Err(Refused {
+                why,
+                back: resource,
+            }),
         };
         let fresh = is_fresh(&resource);
         if let Some(why) = self.register.using_cause(place, resource.tag(), fresh) {
-            return Err(Refused { why, back: resource });
+            return Err(Refused {
+                why,
+                back: resource,
+            });
         }
         if self.entries.reserve(1).is_err() {
             return Err(Refused {
@@ -171,14 +171,15 @@ impl<R: Resource> Book<R> {
             Ok(number) => {
                 self.register.promise();
                 keep(&mut self.entries, number + 1, resource);
-                Ok(
-                    OpenedUsing {
-                        key: key_of(number),
-                        res: res_key_of(number + 1),
-                    },
-                )
+                Ok(OpenedUsing {
+                    key: key_of(number),
+                    res: res_key_of(number + 1),
+                })
             }
-            Err(why) => Err(Refused { why, back: resource }),
+            Err(why) => Err(Refused {
+                why,
+                back: resource,
+            }),
         }
     }
 
@@ -199,8 +200,14 @@ impl<R: Resource> Book<R> {
             });
         }
         let fresh = is_fresh(&resource);
-        if let Some(why) = self.register.holding_cause(node.number, resource.tag(), fresh) {
-            return Err(Refused { why, back: resource });
+        if let Some(why) = self
+            .register
+            .holding_cause(node.number, resource.tag(), fresh)
+        {
+            return Err(Refused {
+                why,
+                back: resource,
+            });
         }
         if self.entries.reserve(1).is_err() {
             return Err(Refused {
@@ -214,7 +221,10 @@ impl<R: Resource> Book<R> {
                 keep(&mut self.entries, number, resource);
                 Ok(res_key_of(number))
             }
-            Err(why) => Err(Refused { why, back: resource }),
+            Err(why) => Err(Refused {
+                why,
+                back: resource,
+            }),
         }
     }
 

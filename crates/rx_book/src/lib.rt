@@ -1,10 +1,49 @@
-//! The book of subscriptions.
+//! The book of subscriptions: which nodes are open, which resources they hold, and what happened.
+//!
+//! A program that drives observables asks the book to open nodes, to hold resources at them, to pass
+//! on what a source emits and how it ends, and to unsubscribe. The book writes down each accepted call
+//! as events of one history, does what the Observable Contract and the operators then require, and
+//! hands each resource back for its release once the node that holds it is closed.
+//!
+//! # Vocabulary
+//!
+//! - A **node** is one subscription; its **place** is at the root, where an observer outside subscribes,
+//!   or below another node. A `Leaf` is a source that the caller drives; a `Pass` mirrors its source.
+//!   With a resource it is the node of Using. Nodes and resources are numbered by the place of their
+//!   event in the history, and named by a [`Key`] and a [`ResKey`].
+//! - A **resource** is **held** as long as its node is open, **waits** from then on, and is **taken** by
+//!   [`Book::take`], which gives it as an `rx_resource::Handed` that can only be released.
+//! - A **note** tells the observer at a root of an item or of the end. [`Book::take_mail`] hands the
+//!   notes out as [`Mail`].
+//! - A contract sees a [`Book`] as a `State` of `specs/`: the history and its limit, the keys of what
+//!   is open and held, the resources held and waiting, each by number, tag and uses, and the number of
+//!   notes handed out. `Accepts` says what an accepted call does, `against` which causes stand against
+//!   a call, and `IsKept` what holds of every book.
+//!
+//! # Promised, and not
+//!
+//! - At each moment the resources held are exactly those that the history leaves open, and those
+//!   waiting exactly the ones closed and not yet taken, each in one place; the history is lawful, and
+//!   no operator's rule is left undone (`IsKept`, which [`Book::promise`] states).
+//! - An accepted call adds its own events, and then only what these force. A refused call changes
+//!   nothing, and gives a resource that was handed in back as it came. The refusals of each call, and
+//!   their order, are exact; that want of memory is given only where memory was really refused is
+//!   tested and not proved, as no contract can say what memory is left.
+//! - `end`, `dispose`, `take` and `take_mail` take no memory. They are refused for no want of room: each
+//!   opening call keeps room for all that closing needs.
+//! - A key is its node's as long as that is open, and nobody's afterwards, also where it was made up.
+//! - Which of several waiting resources is taken is left open.
+//! - A book that is dropped drops its resources unreleased.
+//! - There are leaves and mirroring nodes so far: other kinds, and inner and notifier places, are refused
+//!   `WrongKind`.
 #![tactic(auto)]
 
 mod answer;
 mod book;
 mod key;
 mod register;
+#[cfg(test)]
+mod tests;
 
 pub use answer::{At, Mail, Opened, OpenedUsing, Refused};
 pub use book::Book;

@@ -7,8 +7,8 @@ ghost use Rattle.rx_event.specs.Calls.{Opening, OpeningUsing, Holding, Emitting,
 ghost use Rattle.rx_event.specs.Refusals.{first_cause};
 ghost use Rattle.rx_book.specs.Causes.{causes, is_built as is_built_in, is_gone as is_gone_in, is_wrong_place as is_wrong_place_in, is_taken_place as is_taken_place_in, is_crowded as is_crowded_in, is_over as is_over_in};
 
-use super::nodes::{count_visits, had_source, has_source, is_leaf, is_root};
 use super::Register;
+use super::nodes::{count_visits, had_source, has_source, is_leaf, is_root};
 use rx_event::{Kind, Place, Refusal, Terminal};
 
 /// The greatest number of nodes that are open at once.

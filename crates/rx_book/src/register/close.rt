@@ -15,7 +15,7 @@ ghost use Rattle.rx_book.specs.Plain.{is_plain};
 ghost use Rattle.rx_book.specs.Kept.{Follows};
 ghost use Rattle.rx_book.specs.Ties.{Closes, IsTied};
 
-use super::nodes::{clear_below, count_marks, parent_of, top_of};
+use super::nodes::{clear_below, count_marks, is_marked, parent_of, top_of};
 use super::room::push;
 use super::{Register, Untaken};
 use rx_event::{Event, History, Refusal, Terminal};
@@ -24,10 +24,7 @@ use rx_event::{Event, History, Refusal, Terminal};
 fn count_held(untaken: &[Untaken], marks: &[bool]) -> usize
     ensures { result ≡ count_by (λ u. slice_index_or marks.now u.node false) untaken.now }
 {
-    untaken
-        .iter()
-        .filter(|u| (u.node as usize) < marks.len() && marks[u.node as usize])
-        .count()
+    untaken.iter().filter(|u| is_marked(marks, u.node)).count()
 }
 
 /// Ends an open leaf, and each node above it in turn: each passes on the end of the one below. The

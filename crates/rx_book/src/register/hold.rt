@@ -46,7 +46,12 @@ impl Register {
 
     /// Opens a mirroring node with a resource (Using), and answers the node's number. The
     /// resource's number is the next one, and comes last in the list of those that are not taken.
-    pub(crate) fn open_using(&mut self, place: Place, tag: u64, is_fresh: bool) -> Result<u64, Refusal>
+    pub(crate) fn open_using(
+        &mut self,
+        place: Place,
+        tag: u64,
+        is_fresh: bool,
+    ) -> Result<u64, Refusal>
         ensures ok { IfOk result (λ n. n ≡ length self.old.history) }
         ensures accepted { OnOk result (Follows self.old (causes self.old.history self.old.limit is_fresh (OpeningUsing place tag)) (OpeningUsing place tag) self.new) }
         ensures untaken { OnOk result (self.new.untaken ≡ self.old.untaken ++ (length self.old.history + 1) ∷ []) }

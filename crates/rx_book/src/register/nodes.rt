@@ -137,6 +137,13 @@ pub(super) fn count_visits(history: &History, node: u64) -> u64
     seen
 }
 
+/// Whether the node is marked.
+pub(super) fn is_marked(marks: &[bool], node: u64) -> bool
+    ensures { result ≡ slice_index_or marks.now node false }
+{
+    (node as usize) < marks.len() && marks[node as usize]
+}
+
 /// How many marks are set.
 pub(super) fn count_marks(marks: &[bool]) -> usize
     ensures { result ≡ count_by (λ b. b) marks.now }

@@ -6,8 +6,8 @@ ghost use Rattle.rx_event.specs.Refusals.{IsRefusal};
 ghost use Rattle.rx_book.specs.Causes.{causes};
 ghost use Rattle.rx_book.specs.Kept.{Follows};
 
-use super::room::{make_room, push};
 use super::Register;
+use super::room::{make_room, push};
 use rx_event::{Event, Kind, Place, Refusal};
 
 impl Register {

@@ -7,7 +7,7 @@ ghost use Rattle.rx_event.specs.Resources.{is_held as is_held_in};
 ghost use Rattle.rx_event.specs.Totals.{open_count as open_count_in, held_count, waiting_count, accepted_count, taken_count, item_count};
 ghost use Rattle.rx_book.specs.Kept.{is_open_root as is_open_root_in};
 
-use super::nodes::is_root;
+use super::nodes::{is_marked, is_root};
 use super::{Register, Untaken};
 use rx_event::Event;
 
@@ -84,7 +84,7 @@ impl Register {
     pub(crate) fn is_open(&self, node: u64) -> bool
         ensures { result ≡ is_open_in self.now.history node }
     {
-        (node as usize) < self.marks.len() && self.marks[node as usize]
+        is_marked(&self.marks, node)
     }
 
     /// Whether the number is a held resource's.

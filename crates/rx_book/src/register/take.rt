@@ -1,20 +1,25 @@
 //! Handing resources out for their release.
 
-ghost use Rattle.std.specs.Prelude.{◌≡◌, true, Some, [], slice_get, IfNone, IfSome, MatchOption, IsTrue};
-ghost use Rattle.std.specs.List.{remove};
+ghost use Rattle.std.specs.Prelude.{◌≡◌, ◌<◌, true, false, Some, [], length, slice_get, slice_index_or, IfNone, IfSome, MatchOption, IsTrue};
+ghost use Rattle.std.specs.List.{list_all, remove};
 ghost use Rattle.rx_event.specs.Resources.{is_waiting, waiting_resources};
 ghost use Rattle.rx_event.specs.Calls.{Taking};
 ghost use Rattle.rx_book.specs.Causes.{causes};
 ghost use Rattle.rx_book.specs.Kept.{Follows};
 
+use super::nodes::is_marked;
 use super::room::push;
 use super::{Register, Taken, Untaken};
 use rx_event::Event;
 
 /// The first of the resources that stands at a node that is not marked.
-fn first_waiting(untaken: &[Untaken], marks: &[bool]) -> Option<usize> {
+fn first_waiting(untaken: &[Untaken], marks: &[bool]) -> Option<usize>
+    ensures none { IfNone result (IsTrue (list_all (λ u. slice_index_or marks.now u.node false) untaken.now)) }
+    ensures some { IfSome result (λ i. i < length untaken.now) }
+    ensures unmarked { IfSome result (λ i. slice_index_or marks.now (slice_index_or untaken.now i (record { number = 0; node = 0 })).node false ≡ false) }
+{
     for (i, entry) in untaken.iter().enumerate() {
-        if !((entry.node as usize) < marks.len() && marks[entry.node as usize]) {
+        if !is_marked(marks, entry.node) {
             return Some(i);
         }
     }
@@ -40,12 +45,10 @@ impl Register {
                     Event::Take(entry.number),
                     false,
                 );
-                Some(
-                    Taken {
-                        index,
-                        number: entry.number,
-                    },
-                )
+                Some(Taken {
+                    index,
+                    number: entry.number,
+                })
             }
             None => None,
         }

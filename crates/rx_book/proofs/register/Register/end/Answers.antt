@@ -1,12 +1,6 @@
-use Rattle.std.proofs.Common.{◌≡◌, ◌∷◌, [], Bool, true, refl, sym, ap, ◌∙◌, count_by}
-use Rattle.std.proofs.lemmas.Bool.{not-false}
+use Rattle.std.proofs.Common.{◌∷◌, [], Bool, refl, ap, ◌∙◌, count_by}
 use Rattle.rx_event.specs.declared.event.Event.TheVariants.{End}
-use Rattle.rx_event.specs.declared.refusal.Refusal.TheVariants.{Gone, WrongKind}
-use Rattle.rx_event.specs.Refusals.{first_cause}
 use Rattle.rx_event.specs.Calls.{Ending}
-use Rattle.rx_book.specs.Causes.{causes}
-use Rattle.rx_book.specs.Kept.{Kept}
-use Rattle.rx_book.proofs.Clear.{clear}
 use Rattle.rx_book.proofs.Held.{marked_count}
 use Rattle.rx_book.proofs.Closings.{closed_after, closes_forced}
 use Rattle.rx_book.proofs.After.{IsAfter, registered_after, follows_after}

@@ -1,6 +1,5 @@
 use Rattle.std.proofs.Common.{◌+◌, ◌∙◌, sym, ap, ℕ, nat_lt}
 use Rattle.rx_event.specs.Allowed.{most_nodes}
-use Rattle.rx_event.specs.Totals.{open_count}
 use Rattle.rx_book.proofs.Tallies.{one_more}
 use Rattle.rx_book.proofs.register.Register.is_crowded.Goals as goal
 

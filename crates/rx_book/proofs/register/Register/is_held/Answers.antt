@@ -2,7 +2,6 @@ use Rattle.std.proofs.Common.{sym, ap, ◌∙◌, ℕ, ◌==◌, ◌≡◌, List
 use Rattle.std.specs.List.{find}
 use Rattle.std.proofs.lemmas.Bool.{eqb-true}
 use Rattle.rx_event.specs.Resources.{is_held}
-use Rattle.rx_event.specs.Tree.{is_open}
 use Rattle.rx_book.specs.declared.register.Untaken.{Untaken}
 use Rattle.rx_book.specs.Ties.{IsAtNode}
 use Rattle.rx_book.proofs.Searches.{found}

@@ -1,4 +1,4 @@
-use Rattle.std.proofs.Common.{◌≡◌, ◌+◌, Bool, true, false, ◌∷◌, [], ◌++◌, List, ℤ, refl, sym, ap, ◌∙◌, arith, w64}
+use Rattle.std.proofs.Common.{◌≡◌, ◌+◌, Bool, false, ◌∷◌, [], ◌++◌, List, refl, sym, ap, ◌∙◌, arith, w64}
 use Rattle.std.proofs.lemmas.Int.{to_z-of_z}
 use Rattle.std.proofs.lemmas.List.Sums.{count_by-le-length}
 use Rattle.rx_event.specs.declared.event.Event.{Event}

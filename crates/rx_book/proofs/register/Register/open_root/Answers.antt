@@ -1,4 +1,4 @@
-use Rattle.std.proofs.Common.{sym, arith, ◌∙◌, length, ◌<◌, ◌≤◌, ◌≡◌, ap}
+use Rattle.std.proofs.Common.{sym, arith, ◌∙◌, length, ◌≡◌, ap}
 use Rattle.rx_book.specs.Kept.{Kept, is_open_root}
 use Rattle.rx_book.proofs.Searches.{find-range, find-range_none}
 use Rattle.rx_book.proofs.register.Register.open_root.Goals as goal

@@ -1,6 +1,4 @@
-use Rattle.std.proofs.Common.{arith, ap, ◌∙◌}
-use Rattle.rx_event.specs.Totals.{waiting_count}
-use Rattle.rx_book.specs.Kept.{Kept}
+use Rattle.std.proofs.Common.{arith}
 use Rattle.rx_book.proofs.Tallies.{waiting_is}
 use Rattle.rx_book.proofs.register.Register.waiting.Goals as goal
 

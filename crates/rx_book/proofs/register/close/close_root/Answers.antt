@@ -1,4 +1,4 @@
-use Rattle.std.proofs.Common.{◌≡◌, ◌∷◌, [], ◌++◌, refl, sym, ap, ◌∙◌, arith}
+use Rattle.std.proofs.Common.{arith}
 use Rattle.rx_event.specs.declared.event.Event.TheVariants.{Close}
 use Rattle.rx_event.specs.Laws.Debt.{debt_falls-close}
 use Rattle.rx_book.proofs.Marks.{tied_after, shuts_close}

@@ -1,11 +1,9 @@
-use Rattle.std.proofs.Common.{◌≡◌, ◌+◌, ◌≤◌, ◌∷◌, [], ◌++◌, false, refl, sym, ap, ◌∙◌, arith, length, length-append, get_or}
+use Rattle.std.proofs.Common.{◌∷◌, [], false, refl, sym, ◌∙◌, arith, length-append}
 use Rattle.rx_event.specs.declared.event.Event.TheVariants.{End}
 use Rattle.rx_event.specs.Allowed.{leaf_ended}
 use Rattle.rx_event.specs.Lawful.{allowed}
-use Rattle.rx_event.specs.Totals.{debt}
 use Rattle.rx_event.specs.Laws.Parents.{parent-lt}
 use Rattle.rx_event.specs.Laws.Debt.{debt_falls-end}
-use Rattle.rx_book.specs.Ties.{outlives, top}
 use Rattle.rx_book.proofs.Marks.{get_or-push_false}
 use Rattle.rx_book.proofs.Closings.{chain_first, chain_open, chain_next, chain_closes, chain_tied, chain_up}
 use Rattle.rx_book.proofs.register.close.end_chain.Goals as goal

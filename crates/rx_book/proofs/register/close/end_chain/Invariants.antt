@@ -1,4 +1,4 @@
-use Rattle.std.proofs.Common.{◌≡◌, ◌+◌, ◌<◌, ◌≤◌, ℕ, true, false, [], ◌∷◌, ◌++◌, length, get_or, vec_len, vec_capacity}
+use Rattle.std.proofs.Common.{◌≡◌, ◌+◌, ◌≤◌, ℕ, true, false, length, get_or, vec_len, vec_capacity}
 use Rattle.rx_event.specs.Tree.{is_open}
 use Rattle.rx_event.specs.Totals.{debt}
 use Rattle.rx_book.specs.Ties.{outlives, top}

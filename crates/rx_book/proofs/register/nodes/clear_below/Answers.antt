@@ -1,4 +1,4 @@
-use Rattle.std.proofs.Common.{◌≡◌, length, drop, sym, ◌∙◌, arith}
+use Rattle.std.proofs.Common.{◌≡◌, length, drop, arith}
 use Rattle.rx_book.proofs.Marks.{written_back}
 use Rattle.rx_book.proofs.register.nodes.clear_below.Goals as goal
 

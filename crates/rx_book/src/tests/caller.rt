@@ -1,0 +1,49 @@
+//! A caller of the book that is proved: which words it needs, and what it can promise in its turn.
+
+ghost use Rattle.std.specs.Prelude.{◌≡◌, true, IfOk, IfErr, IfSome, OnErr};
+ghost use Rattle.rx_event.specs.declared.event.Place.{Place};
+ghost use Rattle.rx_event.specs.Calls.{OpeningUsing};
+ghost use Rattle.rx_event.specs.Refusals.{IsRefusal};
+ghost use Rattle.rx_resource.specs.declared.Life.{Life};
+ghost use Rattle.rx_book.specs.Answers.{against};
+ghost use Rattle.rx_book.specs.Boxes.{is_fresh_box};
+
+use super::lamps::new_lamp;
+use crate::{At, Book, Refused};
+use rx_resource::{Released, Resource};
+use std::test::Fail;
+
+// Subscribes with a resource and unsubscribes at once, which nothing can refuse; then takes one of
+// the resources that wait and releases it. What is refused comes back as it was.
+fn use_once<R: Resource>(book: &mut Book<R>, resource: R) -> Result<Option<Released<R>>, Refused<R>>
+    ensures released { IfOk result (λ taken. IfSome taken (λ left. R.life_of left.spent ≡ Life.Released)) }
+    ensures refused { IfErr result (λ e. IsRefusal (against book.old true (is_fresh_box (R.life_of resource) (R.uses_of resource)) (OpeningUsing Place.Root (R.tag_of resource))) e.why) }
+    ensures given_back { IfErr result (λ e. e.back ≡ resource) }
+    ensures kept { OnErr result (book.new ≡ book.old) }
+{
+    let opened = book.open_using(At::Root, resource)?;
+    book.promise();
+    match book.dispose(opened.key) {
+        Ok(_) => {}
+        Err(_) => unreachable!(),
+    }
+    let taken = match book.take() {
+        Some(handed) => Some(handed.release()),
+        None => None,
+    };
+    Ok(taken)
+}
+
+#[test]
+fn a_resource_is_used_for_one_subscription(rt: HostRuntime) -> Result<(), Fail> {
+    let mut book = Book::new(rt.alloc(), 1000);
+    match use_once(&mut book, new_lamp(7)) {
+        Ok(taken) => {
+            let left = taken.ok_or("nothing waits")?;
+            assert_eq!(rt; (left.number, left.tag, left.fault), (1, 7, None));
+        }
+        Err(refused) => assert_eq!(rt; Err(refused.why), Ok(())),
+    }
+    assert_eq!(rt; (book.len(), book.taken()), (4, 1));
+    Ok(())
+}
