@@ -13,6 +13,14 @@ pub enum Case {
     Trampoline,
     /// A sorted list in place of the timeline, to compare it with.
     Sorted,
+    /// Subscriptions that come and go on a book.
+    Cycle,
+    /// Items through one leaf of a book.
+    Items,
+    /// Mirroring nodes of a book below one another.
+    Chain,
+    /// Resources at one node of a book.
+    Hold,
 }
 
 impl Case {
@@ -24,6 +32,10 @@ impl Case {
             Case::Timeline => "timeline",
             Case::Trampoline => "trampoline",
             Case::Sorted => "sorted",
+            Case::Cycle => "cycle",
+            Case::Items => "items",
+            Case::Chain => "chain",
+            Case::Hold => "hold",
         }
     }
 
@@ -32,8 +44,10 @@ impl Case {
         ensures { result ≡ most_of self }
     {
         match self {
-            Case::Timeline | Case::Trampoline => 10_000_000,
+            Case::Timeline | Case::Trampoline | Case::Cycle | Case::Items => 10_000_000,
             Case::Sorted => 1_000_000,
+            Case::Chain => 100_000,
+            Case::Hold => 1_000_000,
         }
     }
 }
@@ -47,6 +61,10 @@ pub fn case_named(word: &str) -> Option<Case>
         "timeline" => Some(Case::Timeline),
         "trampoline" => Some(Case::Trampoline),
         "sorted" => Some(Case::Sorted),
+        "cycle" => Some(Case::Cycle),
+        "items" => Some(Case::Items),
+        "chain" => Some(Case::Chain),
+        "hold" => Some(Case::Hold),
         _ => None,
     }
 }

@@ -28,8 +28,13 @@
 #![tactic(auto)]
 
 mod agenda;
+mod calls;
 mod case;
+mod chain;
+mod cycle;
 mod done;
+mod hold;
+mod items;
 mod measure;
 mod order;
 mod program;
@@ -39,6 +44,7 @@ mod sorted;
 mod tests;
 mod timeline;
 mod times;
+mod token;
 mod trampoline;
 mod words;
 
