@@ -5,4 +5,4 @@ pub mod Order
 pub mod Done
 pub mod Sorted
 pub mod Served
-pub mod Idle
+pub mod Books

@@ -1,16 +1,22 @@
 //! Calls of a book, each of which is to be accepted.
 
-ghost use Rattle.std.specs.Prelude.{◌≡◌, ◌<◌, ◌^◌, OnOk};
-ghost use Rattle.rx_bench.specs.Idle.{IsIdle};
+ghost use Rattle.std.specs.Prelude.{◌≡◌, ◌+◌, ◌<◌, ◌^◌, pos, true, OnOk, OnErr, IfOk, IsTrue};
+ghost use Rattle.rx_event.specs.Calls.{Opening, OpeningUsing, Holding, Emitting, Disposing};
+ghost use Rattle.rx_event.specs.declared.event.Place.{Place};
+ghost use Rattle.rx_book.specs.State.{has_key};
+ghost use Rattle.rx_book.specs.Answers.{place_of, is_known};
+ghost use Rattle.rx_bench.specs.Books.{IsIdle, Does, Tells, Releases, halt_of};
 
 use crate::done::Halt;
 use crate::token::Token;
-use rx_book::{At, Book, Key, Mail, Refused};
+use rx_book::{At, Book, Key, Refused};
 use rx_event::{Kind, Refusal};
 use rx_note::Note;
 
 /// Why a call was refused.
-pub fn refused(why: Refusal) -> Halt {
+pub fn refused(why: Refusal) -> Halt
+    ensures { result ≡ halt_of why }
+{
     match why {
         Refusal::NoMemory => Halt::Memory,
         _ => Halt::Refused,
@@ -18,7 +24,11 @@ pub fn refused(why: Refusal) -> Halt {
 }
 
 /// Opens a node.
-pub fn open(book: &mut Book<Token>, at: At, kind: Kind) -> Result<Key, Halt> {
+pub fn open(book: &mut Book<Token>, at: At, kind: Kind) -> Result<Key, Halt>
+    ensures ok { OnOk result (Does book.old (is_known book.old.keys at) (Opening (place_of at) kind) book.new) }
+    ensures key { IfOk result (λ key. IsTrue (has_key book.new.keys key)) }
+    ensures kept { OnErr result (book.new ≡ book.old) }
+{
     match book.open(at, kind) {
         Ok(opened) => Ok(opened.key),
         Err(why) => Err(refused(why)),
@@ -26,7 +36,11 @@ pub fn open(book: &mut Book<Token>, at: At, kind: Kind) -> Result<Key, Halt> {
 }
 
 /// Opens a mirroring root that holds a resource with this tag.
-pub fn open_using(book: &mut Book<Token>, tag: u64) -> Result<Key, Halt> {
+pub fn open_using(book: &mut Book<Token>, tag: u64) -> Result<Key, Halt>
+    ensures ok { OnOk result (Does book.old true (OpeningUsing Place.Root tag) book.new) }
+    ensures key { IfOk result (λ key. IsTrue (has_key book.new.keys key)) }
+    ensures kept { OnErr result (book.new ≡ book.old) }
+{
     match book.open_using(At::Root, Token::new(tag)) {
         Ok(opened) => Ok(opened.key),
         Err(Refused { why, back: _ }) => Err(refused(why)),
@@ -34,7 +48,10 @@ pub fn open_using(book: &mut Book<Token>, tag: u64) -> Result<Key, Halt> {
 }
 
 /// Holds a resource with this tag at a node.
-pub fn hold(book: &mut Book<Token>, node: Key, tag: u64) -> Result<(), Halt> {
+pub fn hold(book: &mut Book<Token>, node: Key, tag: u64) -> Result<(), Halt>
+    ensures ok { OnOk result (Does book.old (has_key book.old.keys node) (Holding node.number tag) book.new) }
+    ensures kept { OnErr result (book.new ≡ book.old) }
+{
     match book.hold(node, Token::new(tag)) {
         Ok(_) => Ok(()),
         Err(Refused { why, back: _ }) => Err(refused(why)),
@@ -44,6 +61,8 @@ pub fn hold(book: &mut Book<Token>, node: Key, tag: u64) -> Result<(), Halt> {
 /// Emits an item at a leaf.
 pub fn emit(book: &mut Book<Token>, leaf: Key, number: u64) -> Result<(), Halt>
     requires { number < 2 ^ 63 }
+    ensures ok { OnOk result (Does book.old (has_key book.old.keys leaf) (Emitting leaf.number (pos number)) book.new) }
+    ensures kept { OnErr result (book.new ≡ book.old) }
 {
     match book.next(leaf, number as i64) {
         Ok(_) => Ok(()),
@@ -51,19 +70,26 @@ pub fn emit(book: &mut Book<Token>, leaf: Key, number: u64) -> Result<(), Halt>
     }
 }
 
-/// Takes the next note, which is to be this item, and answers it.
-pub fn told(book: &mut Book<Token>, number: u64) -> Result<u64, Halt> {
+/// Takes the next note, which is to be this item.
+pub fn told(book: &mut Book<Token>, number: u64) -> Result<(), Halt>
+    requires { number < 2 ^ 63 }
+    ensures { OnOk result (Tells book.old number book.new) }
+{
     match book.take_mail() {
-        Some(Mail {
-            note: Note::Next(value),
-            ..
-        }) if value.unsigned_abs() == number => Ok(number),
-        _ => Err(Halt::Refused),
+        Some(mail) => {
+            match mail.note {
+                Note::Next(value) if value == number as i64 => Ok(()),
+                _ => Err(Halt::Refused),
+            }
+        }
+        None => Err(Halt::Refused),
     }
 }
 
 /// Takes a resource that waits and releases it, and answers its tag.
-pub fn release(book: &mut Book<Token>) -> Result<u64, Halt> {
+pub fn release(book: &mut Book<Token>) -> Result<u64, Halt>
+    ensures { IfOk result (λ tag. Releases book.old tag book.new) }
+{
     match book.take() {
         Some(handed) => {
             let released = handed.release();
@@ -77,7 +103,10 @@ pub fn release(book: &mut Book<Token>) -> Result<u64, Halt> {
 }
 
 /// Disposes of a root.
-pub fn dispose(book: &mut Book<Token>, root: Key) -> Result<(), Halt> {
+pub fn dispose(book: &mut Book<Token>, root: Key) -> Result<(), Halt>
+    ensures ok { OnOk result (Does book.old (has_key book.old.keys root) (Disposing root.number) book.new) }
+    ensures kept { OnErr result (book.new ≡ book.old) }
+{
     match book.dispose(root) {
         Ok(_) => Ok(()),
         Err(why) => Err(refused(why)),

@@ -21,7 +21,8 @@ pub fn run_items(alloc: Global, count: u64) -> Result<Done, Halt>
     let mut done = Done::NOTHING;
     for number in 0..count {
         emit(&mut book, leaf, number)?;
-        done = done.and(told(&mut book, number)?);
+        told(&mut book, number)?;
+        done = done.and(number);
     }
     dispose(&mut book, root)?;
     check_idle(&book)?;

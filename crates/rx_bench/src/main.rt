@@ -11,6 +11,10 @@
 //! | `timeline` | N entries scheduled on a timeline in falling, rising and equal order, and taken out | 6N: each call |
 //! | `trampoline` | the same on a trampoline | 6N: each call |
 //! | `sorted` | the same on a sorted list, which stands here to be compared with the timeline | 6N: each call |
+//! | `cycle` | a Using subscription opened with one resource and a leaf below it, one item, the disposal, the resource taken and released, the note taken; N times on one book, with a new one where its history is full | N: each cycle |
+//! | `items` | N items of a leaf below a mirroring root, whose notes are taken as they come | N: each item |
+//! | `chain` | N mirroring nodes, each at the source of the one before, and a leaf at the last; one item; the disposal of the root | N: each node |
+//! | `hold` | N resources held at one node, the disposal of the root, each resource taken and released | N: each resource |
 //!
 //! The exit status is 0 where the case was run and what it did is written, 1 where memory, a call,
 //! the clock or the output refused, and 2 where the words are refused: a case that is not known, a
@@ -20,8 +24,9 @@
 //!
 //! - The words are read exactly as stated, in the order of the refusals; refused words write nothing
 //!   to standard output.
-//! - A line on standard output tells the operations that the case states for that size, and an
-//!   agenda that is drained is empty.
+//! - A line on standard output tells the operations that the case states for that size. An agenda
+//!   that is drained is empty, and a book that is left has no open node and no resource that is held
+//!   or waits.
 //! - The median is the middle one of the five times, and the spread the greatest less the least.
 //! - The order in which a case's items come out is tested here by the mark; what orders them is
 //!   proved where it is kept. No time is promised.

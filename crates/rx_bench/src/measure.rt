@@ -7,7 +7,7 @@ ghost use Rattle.rx_bench.specs.Cases.{operations_of};
 use crate::agenda::run_orders;
 use crate::case::Case;
 use crate::chain::run_chain;
-use crate::cycle::run_cycles;
+use crate::cycle::{HISTORY, run_cycles};
 use crate::done::{Done, Halt};
 use crate::hold::run_hold;
 use crate::items::run_items;
@@ -38,7 +38,7 @@ pub fn run(alloc: Global, request: Request) -> Result<Done, Halt>
         Case::Timeline => run_orders::<Timeline<u64>>(alloc, request.size),
         Case::Trampoline => run_orders::<Trampoline<u64>>(alloc, request.size),
         Case::Sorted => run_orders::<SortedList>(alloc, request.size),
-        Case::Cycle => run_cycles(alloc, request.size),
+        Case::Cycle => run_cycles(alloc, request.size, HISTORY),
         Case::Items => run_items(alloc, request.size),
         Case::Chain => run_chain(alloc, request.size),
         Case::Hold => run_hold(alloc, request.size),

@@ -1,6 +1,7 @@
 //! The lines and statuses over memory and a clock of stated readings, refusals, and streams and
 //! clocks that fail.
 
+use crate::cycle::run_cycles;
 use crate::program::serve;
 use rx_scarce::Scarce;
 use std::alloc::Global;
@@ -70,7 +71,7 @@ fn call(alloc: Global, words: &[&str]) -> Left {
 
 #[test]
 fn a_run_tells_its_work_and_its_times(rt: HostRuntime) {
-    let cases: [(&[&str], &str, &str); 4] = [
+    let cases: [(&[&str], &str, &str); 8] = [
         (
             &["rx_bench", "timeline", "1"],
             "timeline 1: 6 operations, mark 993\n",
@@ -91,6 +92,26 @@ fn a_run_tells_its_work_and_its_times(rt: HostRuntime) {
             "trampoline 1: 6 operations, mark 1954\n",
             "trampoline 1: median 400.0 ns, spread 900.0 ns for each operation, of 5 runs\n",
         ),
+        (
+            &["rx_bench", "cycle", "3"],
+            "cycle 3: 3 operations, mark 1026\n",
+            "cycle 3: median 800.0 ns, spread 1800.0 ns for each operation, of 5 runs\n",
+        ),
+        (
+            &["rx_bench", "items", "3"],
+            "items 3: 3 operations, mark 1026\n",
+            "items 3: median 800.0 ns, spread 1800.0 ns for each operation, of 5 runs\n",
+        ),
+        (
+            &["rx_bench", "chain", "3"],
+            "chain 3: 3 operations, mark 1026\n",
+            "chain 3: median 800.0 ns, spread 1800.0 ns for each operation, of 5 runs\n",
+        ),
+        (
+            &["rx_bench", "hold", "1"],
+            "hold 1: 1 operations, mark 1\n",
+            "hold 1: median 2400.0 ns, spread 5400.0 ns for each operation, of 5 runs\n",
+        ),
     ];
     for (words, output, errors) in cases {
         let left = call(rt.alloc(), words);
@@ -98,6 +119,14 @@ fn a_run_tells_its_work_and_its_times(rt: HostRuntime) {
         assert_eq!(rt; left.output.as_slice(), output.as_bytes());
         assert_eq!(rt; left.errors.as_slice(), errors.as_bytes());
     }
+}
+
+#[test]
+fn a_full_history_is_followed_by_a_new_book(rt: HostRuntime) {
+    let one_book = run_cycles(rt.alloc(), 10, 68);
+    let many_books = run_cycles(rt.alloc(), 10, 8);
+    assert!(rt; one_book.is_ok());
+    assert_eq!(rt; many_books, one_book);
 }
 
 #[test]
