@@ -1,0 +1,70 @@
+//! The cases, and their names.
+
+ghost use Rattle.std.specs.Prelude.{◌≡◌, ◌≢◌, IfSome, IfNone};
+ghost use Rattle.rx_bench.specs.declared.case.Case.{Case};
+ghost use Rattle.rx_bench.specs.Cases.{name_of, most_of};
+
+/// What can be measured. The operations of each are in the crate's head.
+#[derive(Clone, Copy, Debug, PartialEq, Eq)]
+pub enum Case {
+    /// Virtual time: work scheduled on a timeline, and drained.
+    Timeline,
+    /// A trampoline: the same work pushed, and drained.
+    Trampoline,
+    /// A sorted list in place of the timeline, to compare it with.
+    Sorted,
+    /// Subscriptions that come and go on a book.
+    Cycle,
+    /// Items through one leaf of a book.
+    Items,
+    /// Mirroring nodes of a book below one another.
+    Chain,
+    /// Resources at one node of a book.
+    Hold,
+}
+
+impl Case {
+    /// The word that asks for the case.
+    pub fn name(self) -> &'static str
+        ensures { result.now ≡ name_of self }
+    {
+        match self {
+            Case::Timeline => "timeline",
+            Case::Trampoline => "trampoline",
+            Case::Sorted => "sorted",
+            Case::Cycle => "cycle",
+            Case::Items => "items",
+            Case::Chain => "chain",
+            Case::Hold => "hold",
+        }
+    }
+
+    /// The greatest size that the case is run at.
+    pub fn most(self) -> u64
+        ensures { result ≡ most_of self }
+    {
+        match self {
+            Case::Timeline | Case::Trampoline | Case::Cycle | Case::Items => 10_000_000,
+            Case::Sorted => 1_000_000,
+            Case::Chain => 100_000,
+            Case::Hold => 1_000_000,
+        }
+    }
+}
+
+/// The case of this name, or `None` where no case has it.
+pub fn case_named(word: &str) -> Option<Case>
+    ensures some { IfSome result (λ case. name_of case ≡ word.now) }
+    ensures none { IfNone result ((case : Case) → name_of case ≢ word.now) }
+{
+    match word {
+        "timeline" => Some(Case::Timeline),
+        "trampoline" => Some(Case::Trampoline),
+        "sorted" => Some(Case::Sorted),
+        "cycle" => Some(Case::Cycle),
+        "items" => Some(Case::Items),
+        "chain" => Some(Case::Chain),
+        "hold" => Some(Case::Hold),
+        _ => None,
+    }
+}

@@ -1,0 +1,54 @@
+//! The case `cycle`: subscriptions that come and go.
+
+ghost use Rattle.std.specs.Prelude.{◌≡◌, ◌≤◌, ◌<◌, ◌^◌, OnOk, IfOk};
+ghost use Rattle.rx_bench.specs.Books.{IsIdle};
+
+use crate::calls::{check_idle, dispose, emit, open, open_using, release, told};
+use crate::done::{Done, Halt};
+use crate::token::Token;
+use rx_book::{At, Book};
+use rx_event::Kind;
+use std::alloc::Global;
+
+/// How many events the book of the case has at most.
+pub const HISTORY: u64 = 1_048_576;
+
+/// The history of a book is full where it has no room for a whole cycle.
+const ROOM: u64 = 8;
+
+/// Opens a mirroring root with a resource and a leaf below it, emits an item, disposes of the
+/// root, releases the resource, and takes the note.
+fn cycle(book: &mut Book<Token>, number: u64) -> Result<(), Halt>
+    requires { number < 2 ^ 63 }
+    ensures { OnOk result (IsIdle book.new) }
+{
+    let root = open_using(book, number)?;
+    let leaf = open(book, At::Source(root), Kind::Leaf)?;
+    emit(book, leaf, number)?;
+    dispose(book, root)?;
+    if release(book)? != number {
+        return Err(Halt::Refused);
+    }
+    told(book, number)?;
+    check_idle(book)
+}
+
+/// So many cycles on one book of at most so many events, with a new one each time its history is
+/// full: an operation each.
+pub fn run_cycles(alloc: Global, count: u64, limit: u64) -> Result<Done, Halt>
+    requires counted { count ≤ 10000000 }
+    requires room { 8 ≤ limit }
+    requires limited { limit ≤ 4294967295 }
+    ensures { IfOk result (λ done. done.operations ≡ count) }
+{
+    let mut book = Book::new(alloc, limit);
+    let mut done = Done::NOTHING;
+    for number in 0..count {
+        if book.len() > limit - ROOM {
+            book = Book::new(alloc, limit);
+        }
+        cycle(&mut book, number)?;
+        done = done.and(number);
+    }
+    Ok(done)
+}

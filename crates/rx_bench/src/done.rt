@@ -1,0 +1,61 @@
+//! What a run did.
+
+ghost use Rattle.std.specs.Prelude.{◌≡◌, ◌+◌, ◌<◌, ◌^◌};
+ghost use Rattle.rx_bench.specs.Done.{marked};
+
+use std::alloc::AllocError;
+
+/// What one run of a case did.
+#[derive(Clone, Copy, Debug, PartialEq, Eq)]
+pub struct Done {
+    /// How many operations it did.
+    pub operations: u64,
+    /// A mark of all that came out, in its order.
+    pub mark: u64,
+}
+
+impl Done {
+    /// Before a run.
+    pub const NOTHING: Done = Done {
+        operations: 0,
+        mark: 0,
+    };
+
+    /// After one operation more, by which this value came out.
+    pub fn and(self, value: u64) -> Done
+        requires { self.operations + 1 < 2 ^ 64 }
+        ensures operations { result.operations ≡ self.operations + 1 }
+        ensures mark { result.mark ≡ marked self.mark value }
+    {
+        let shifted = self.mark.wrapping_mul(31);
+        Done {
+            operations: self.operations + 1,
+            mark: shifted.wrapping_add(value).wrapping_add(1),
+        }
+    }
+}
+
+/// Why a run was broken off.
+#[derive(Clone, Copy, Debug, PartialEq, Eq)]
+pub enum Halt {
+    /// Memory was refused.
+    Memory,
+    /// A call refused what it is to take, or left something over.
+    Refused,
+    /// A run did something else than the one before.
+    Differs,
+    /// The clock could not be read.
+    Clock,
+    /// A stream refused what was written.
+    Write,
+}
+
+impl From<AllocError> for Halt {
+    ghost use Rattle.rx_bench.specs.declared.done.Halt.TheVariants.{Memory};
+
+    ghost from_gives = { λ _ e. e ≡ Memory };
+
+    fn from(_error: AllocError) -> Halt {
+        Halt::Memory
+    }
+}

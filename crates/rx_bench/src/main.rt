@@ -1,0 +1,75 @@
+//! Does stated work on the public calls of the runtime, and tells how long it took.
+//!
+//! `rx_bench CASE SIZE` runs a case five times at a size. What was done goes to standard output:
+//! the operations, and a mark of all that came out, in its order. How long it took goes to standard
+//! error: the median and the spread of the five runs, as nanoseconds for each operation.
+//!
+//! # Vocabulary
+//!
+//! | Case | Work at the size N | Operations |
+//! |---|---|---|
+//! | `timeline` | N entries scheduled on a timeline in falling, rising and equal order, and taken out | 6N: each call |
+//! | `trampoline` | the same on a trampoline | 6N: each call |
+//! | `sorted` | the same on a sorted list, which stands here to be compared with the timeline | 6N: each call |
+//! | `cycle` | a Using subscription opened with one resource and a leaf below it, one item, the disposal, the resource taken and released, the note taken; N times on one book, with a new one where its history is full | N: each cycle |
+//! | `items` | N items of a leaf below a mirroring root, whose notes are taken as they come | N: each item |
+//! | `chain` | N mirroring nodes, each at the source of the one before, and a leaf at the last; one item; the disposal of the root | N: each node |
+//! | `hold` | N resources held at one node, the disposal of the root, each resource taken and released | N: each resource |
+//!
+//! The exit status is 0 where the case was run and what it did is written, 1 where memory, a call,
+//! the clock or the output refused, and 2 where the words are refused: a case that is not known, a
+//! size that is no number or out of its range, or a word too many or too few.
+//!
+//! # Promised, and not
+//!
+//! - The words are read exactly as stated, in the order of the refusals; refused words write nothing
+//!   to standard output.
+//! - A line on standard output tells the operations that the case states for that size. An agenda
+//!   that is drained is empty, and a book that is left has no open node and no resource that is held
+//!   or waits.
+//! - The median is the middle one of the five times, and the spread the greatest less the least.
+//! - The order in which a case's items come out is tested here by the mark; what orders them is
+//!   proved where it is kept. No time is promised.
+#![tactic(auto)]
+
+mod agenda;
+mod calls;
+mod case;
+mod chain;
+mod cycle;
+mod done;
+mod hold;
+mod items;
+mod measure;
+mod order;
+mod program;
+mod reading;
+mod sorted;
+#[cfg(test)]
+mod tests;
+mod timeline;
+mod times;
+mod token;
+mod trampoline;
+mod words;
+
+use program::{REFUSED, serve};
+use std::env::Env;
+use std::io::Write;
+use std::process::ExitCode;
+use std::{env, io};
+
+// The words of the command line, of which the first is the program's name.
+fn gather<R: Env + AllocGlobal>(rt: &R) -> io::Result<Vec<String>> {
+    Ok(env::args(rt)?.collect(rt.alloc())?)
+}
+
+fn main(rt: HostRuntime) -> ExitCode {
+    let mut errors = rt.stderr();
+    let Ok(words) = gather(&rt) else {
+        let _ = errors.write_all(b"rx_bench: the words could not be read\n");
+        return ExitCode::from(REFUSED);
+    };
+    let mut output = io::writer(&rt);
+    ExitCode::from(serve(rt.alloc(), words.as_slice(), &rt, &mut output, &mut errors))
+}

@@ -1,0 +1,137 @@
+//! The program over any streams and clock.
+
+ghost use Rattle.std.specs.Prelude.{◌≡◌, Result, map, OnOk};
+ghost use Rattle.std.specs.Io.KnownBytes.{Appends};
+ghost use Rattle.rx_bench.specs.declared.words.Fault.{Fault};
+ghost use Rattle.rx_bench.specs.declared.words.Request.{Request};
+ghost use Rattle.rx_bench.specs.Words.{Reads};
+ghost use Rattle.rx_bench.specs.Served.{Benches, Serves, done_line};
+
+use crate::done::{Done, Halt};
+use crate::measure::{Measured, RUNS, measure};
+use crate::reading::request;
+use crate::words::{Fault, Request};
+use std::alloc::Global;
+use std::convert::AsStr;
+use std::io;
+use std::io::Write;
+use std::time::Clock;
+
+/// The status where the case was run.
+const DONE: u8 = 0;
+
+/// The status where memory, a call, the clock or the output refused.
+const HALTED: u8 = 1;
+
+/// The status where the words are refused.
+pub const REFUSED: u8 = 2;
+
+/// Writes what a run did.
+fn write_done<O: Write>(output: &mut O, request: Request, done: Done) -> io::Result<()>
+    ensures { OnOk result (Appends (O.contents output.old) (O.contents output.new) (done_line request done)) }
+{
+    let name = request.case.name();
+    let size = request.size;
+    let operations = done.operations;
+    let mark = done.mark;
+    writeln!(
+        output,
+        "{name} {size}: {operations} operations, mark {mark}"
+    )
+}
+
+/// Writes how long the operations took.
+fn write_times<E: Write>(errors: &mut E, request: Request, measured: Measured) -> io::Result<()> {
+    let name = request.case.name();
+    let size = request.size;
+    let median = measured.times.median;
+    let spread = measured.times.spread;
+    writeln!(
+        errors,
+        "{name} {size}: median {}.{} ns, spread {}.{} ns for each operation, of {RUNS} runs",
+        median / 10,
+        median % 10,
+        spread / 10,
+        spread % 10
+    )
+}
+
+/// Writes why the words are refused; the second one is the name of the case.
+fn write_fault<E: Write>(errors: &mut E, fault: Fault, name: &str) -> io::Result<()> {
+    match fault {
+        Fault::NoCase => writeln!(errors, "rx_bench: no case is named"),
+        Fault::UnknownCase => writeln!(errors, "rx_bench: there is no case '{name}'"),
+        Fault::NoSize => writeln!(errors, "rx_bench: the case '{name}' has no size"),
+        Fault::TooMany => writeln!(errors, "rx_bench: there are too many words"),
+        Fault::NoNumber => writeln!(errors, "rx_bench: the size is no number below 2^64"),
+        Fault::OutOfRange => {
+            writeln!(errors, "rx_bench: the size is out of the range of '{name}'")
+        }
+    }
+}
+
+/// Writes why a run was broken off.
+fn write_halt<E: Write>(errors: &mut E, halt: Halt) -> io::Result<()> {
+    match halt {
+        Halt::Memory => writeln!(errors, "rx_bench: out of memory"),
+        Halt::Refused => writeln!(errors, "rx_bench: a call refused"),
+        Halt::Differs => writeln!(errors, "rx_bench: two runs differ"),
+        Halt::Clock => writeln!(errors, "rx_bench: the clock could not be read"),
+        Halt::Write => writeln!(errors, "rx_bench: write fault"),
+    }
+}
+
+/// Measures what is asked for, and writes what was done.
+fn bench<C: Clock, O: Write>(
+    alloc: Global,
+    request: Request,
+    clock: &C,
+    output: &mut O,
+) -> Result<Measured, Halt>
+    ensures { Benches request (O.contents output.old) (O.contents output.new) result }
+{
+    let measured = measure(clock, alloc, request)?;
+    if write_done(output, request, measured.done).is_err() {
+        return Err(Halt::Write);
+    }
+    Ok(measured)
+}
+
+/// Does what the words ask for, by this clock and over these streams, and answers the exit status.
+/// The first word is the program's name.
+///
+/// The status is 0 where the case was run and what it did is written, 2 where the words are
+/// refused, and 1 where memory, a call, the clock or the output refused. What is said beside it
+/// goes to `errors`; what `errors` refuses is lost, and the status stays.
+pub fn serve<S: AsStr, C: Clock, O: Write, E: Write>(
+    alloc: Global,
+    words: &[S],
+    clock: &C,
+    output: &mut O,
+    errors: &mut E,
+) -> u8
+    ensures { (asked : Result Request Fault) × Reads (map S.text words.now) asked
+        × Serves asked (O.contents output.old) (O.contents output.new) result }
+{
+    match request(words) {
+        Ok(request) => match bench(alloc, request, clock, output) {
+            Ok(measured) => {
+                let _ = write_times(errors, request, measured);
+                DONE
+            }
+            Err(halt) => {
+                let _ = write_halt(errors, halt);
+                HALTED
+            }
+        },
+        Err(fault) => {
+            let name = if words.len() > 1 {
+                words[1].as_str()
+            } else {
+                ""
+            };
+            let _ = write_fault(errors, fault, name);
+            REFUSED
+        }
+    }
+}

@@ -1,0 +1,39 @@
+//! The reading of the words of a command line.
+
+ghost use Rattle.std.specs.Prelude.{map};
+ghost use Rattle.rx_bench.specs.Words.{Reads, ReadsSize};
+
+use crate::case::case_named;
+use crate::words::{Fault, Request};
+use std::convert::AsStr;
+
+/// The size that the word is, from 1 to `most`.
+fn size_of(word: &str, most: u64) -> Result<u64, Fault>
+    ensures { ReadsSize most word.now result }
+{
+    match word.parse::<u64>() {
+        Ok(size) if 0 < size && size <= most => Ok(size),
+        Ok(_) => Err(Fault::OutOfRange),
+        Err(_) => Err(Fault::NoNumber),
+    }
+}
+
+/// What the words ask for, of which the first is the program's name.
+pub fn request<S: AsStr>(words: &[S]) -> Result<Request, Fault>
+    ensures { Reads (map S.text words.now) result }
+{
+    if words.len() < 2 {
+        return Err(Fault::NoCase);
+    }
+    let Some(case) = case_named(words[1].as_str()) else {
+        return Err(Fault::UnknownCase);
+    };
+    if words.len() == 2 {
+        return Err(Fault::NoSize);
+    }
+    if words.len() > 3 {
+        return Err(Fault::TooMany);
+    }
+    let size = size_of(words[2].as_str(), case.most())?;
+    Ok(Request { case, size })
+}

@@ -1,0 +1,32 @@
+//! What the words of a command line ask for, and why they are refused.
+
+ghost use Rattle.std.specs.Prelude.{◌<◌, ◌≤◌};
+ghost use Rattle.rx_bench.specs.Cases.{most_of};
+
+use crate::case::Case;
+
+/// What the words ask for: a case, at a size from 1 to the greatest of the case.
+#[derive(Clone, Copy, Debug, PartialEq, Eq)]
+pub struct Request {
+    pub case: Case,
+    pub size: u64,
+    ghost from_one: { 0 < size },
+    ghost in_range: { size ≤ most_of case },
+}
+
+/// Why the words are refused. The first of these in this order is given.
+#[derive(Clone, Copy, Debug, PartialEq, Eq)]
+pub enum Fault {
+    /// There is no word beside the program's name.
+    NoCase,
+    /// No case has that name.
+    UnknownCase,
+    /// The case has no size.
+    NoSize,
+    /// There is a word beyond the size.
+    TooMany,
+    /// The size is no decimal number below 2^64.
+    NoNumber,
+    /// The size is 0, or above the greatest of the case.
+    OutOfRange,
+}
