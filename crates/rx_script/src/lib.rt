@@ -66,13 +66,10 @@ mod verdict;
 
 pub use checking::check;
 pub use closing::{Closed, close};
-<<<<<<< HEAD
-pub use device::{MOST_BYTES, MOST_TURNS, Watched};
-pub use dump_laws::a_dump_is_read_back;
-=======
 pub use device::{MOST_BYTES, MOST_TURNS, Watched, WriteFault, write_text};
->>>>>>> cli
+pub use dump_laws::a_dump_is_read_back;
 pub use running::run;
+
 use thiserror::Error;
 
 /// Why a run or a check ended early.
