@@ -115,7 +115,8 @@ impl<R: Resource> Book<R> {
         self.register.promise();
     }
 
-    /// Opens a node. Refused, in this order: `Gone` where the node of the place is not open,
+    /// Opens a node, as an observer that subscribes does, or an operator that subscribes to its source
+    /// (Observable Contract). The key's number is the place of the event. Refused, in this order: `Gone` where the node of the place is not open,
     /// `WrongKind` where it has no such place or the kind is not there yet, `PlaceTaken` where that
     /// place was opened before, `TooMany` at 1,048,576 open nodes, `Full`, `NoMemory`. A refusal
     /// changes nothing.
@@ -136,7 +137,8 @@ impl<R: Resource> Book<R> {
         })
     }
 
-    /// Opens a mirroring node that holds a resource (Using). Refused, in this order: `Gone`,
+    /// Opens a mirroring node that holds a resource, which waits for its release once the node ends or
+    /// is unsubscribed (Using, at reactivex.io). Refused, in this order: `Gone`,
     /// `WrongKind`, `PlaceTaken`, `NotFresh` where the resource was released or used, `TooMany`,
     /// `Full`, `NoMemory`. A refusal changes nothing and gives the resource back.
     pub fn open_using(&mut self, at: At, resource: R) -> Result<OpenedUsing, Refused<R>>
@@ -183,7 +185,8 @@ impl<R: Resource> Book<R> {
         }
     }
 
-    /// Holds a resource at a node. Refused, in this order: `Gone`, `NotFresh` where the resource
+    /// Holds a resource at a node, one more disposable of a composite; as Finally does where its release
+    /// is the action. It waits for its release once the node is closed. Refused, in this order: `Gone`, `NotFresh` where the resource
     /// was released or used, `Full`, `NoMemory`. A refusal changes nothing and gives the resource
     /// back.
     pub fn hold(&mut self, node: Key, resource: R) -> Result<ResKey, Refused<R>>
@@ -228,7 +231,7 @@ impl<R: Resource> Book<R> {
         }
     }
 
-    /// A leaf emits an item; answers the place of its event. Refused, in this order: `Gone`,
+    /// A leaf emits an item (OnNext), which goes up to its root; answers the place of its event. Refused, in this order: `Gone`,
     /// `WrongKind` where the node is no leaf, `TooMany` where the item would visit more than
     /// 1,048,576 nodes, `Full`, `NoMemory`. A refusal changes nothing.
     pub fn next(&mut self, leaf: Key, value: i64) -> Result<u64, Refusal>
@@ -243,7 +246,8 @@ impl<R: Resource> Book<R> {
         self.register.next(leaf.number, value)
     }
 
-    /// A leaf ends; answers the place of its event. Refused, in this order: `Gone`, `WrongKind`
+    /// A leaf ends (OnCompleted or OnError), and each node that mirrors it after it; answers the place of
+    /// the leaf's end. Refused, in this order: `Gone`, `WrongKind`
     /// where the node is no leaf. It takes no memory. A refusal changes nothing.
     pub fn end(&mut self, leaf: Key, terminal: Terminal) -> Result<u64, Refusal>
         ensures ok { IfOk result (λ place. place ≡ length self.old.history) }
@@ -257,7 +261,8 @@ impl<R: Resource> Book<R> {
         self.register.end(leaf.number, terminal)
     }
 
-    /// Unsubscribes a root, and closes all below it; answers the place of its event. Refused, in
+    /// Unsubscribes a root, and closes all below it; answers the place of its event. Notes from before
+    /// are still handed out. A root that is closed already is `Gone`. Refused, in
     /// this order: `Gone`, `NotRoot`. It takes no memory. A refusal changes nothing.
     pub fn dispose(&mut self, root: Key) -> Result<u64, Refusal>
         ensures ok { IfOk result (λ place. place ≡ length self.old.history) }

@@ -8,5 +8,5 @@ mod fates;
 mod lamps;
 mod lives;
 mod load;
-mod sights;
+mod probe;
 mod want;

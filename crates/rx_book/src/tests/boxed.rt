@@ -1,12 +1,8 @@
 //! A book of boxes with resources of two kinds.
 
-ghost use Rattle.std.specs.Prelude.{◌≡◌};
-
 use super::lamps::{new_faulty, new_lamp};
-use super::sights::{
-    Back, Given, Totals, counts, hold_at, open_with, take_and_release, totals_of, unused,
-};
-use crate::{At, Book};
+use super::probe::{Back, Given, Probe, Totals, counts, unused};
+use crate::At;
 use rx_event::Refusal;
 use rx_resource::{Life, Resource};
 use std::alloc::Global;
@@ -15,6 +11,7 @@ use std::test::Fail;
 // What came of three resources, of which the first two go in and the third comes back.
 #[derive(Clone, Copy, Debug, PartialEq, Eq)]
 struct Course {
+    closed: Result<u64, Refusal>,
     totals: Totals,
     given: [Option<Given>; 3],
     back: Option<Back>,
@@ -22,26 +19,19 @@ struct Course {
 
 // Opens a root with a resource, holds another there, unsubscribes and takes both; the third is
 // handed in too late.
-fn course_of<R: Resource>(alloc: Global, first: R, second: R, third: R) -> Result<Course, Refusal> {
-    let mut book = Book::new(alloc, 100);
-    let root = open_with(&mut book, At::Root, first).map_err(why_of)?.key;
-    let _held = hold_at(&mut book, root, second).map_err(why_of)?;
-    let _place = book.dispose(root)?;
-    let given = [
-        take_and_release(&mut book),
-        take_and_release(&mut book),
-        take_and_release(&mut book),
-    ];
-    let back = hold_at(&mut book, root, third).err();
+fn course_of<R: Resource>(alloc: Global, first: R, second: R, third: R) -> Result<Course, Back> {
+    let mut book = Probe::new(alloc, 100);
+    let root = book.open_using(At::Root, first)?.key;
+    let _held = book.hold(root, second)?;
+    let closed = book.dispose(root);
+    let given = [book.take(), book.take(), book.take()];
+    let back = book.hold(root, third).err();
     Ok(Course {
-        totals: totals_of(&book),
+        closed,
+        totals: book.totals(),
         given,
         back,
     })
-}
-
-fn why_of(back: Back) -> Refusal {
-    back.why
 }
 
 #[test]
@@ -50,6 +40,7 @@ fn boxes_of_two_kinds_stand_in_one_book(rt: HostRuntime) -> Result<(), Fail> {
     let second: Box<dyn Resource> = Box::new(rt.alloc(), new_faulty(6))?;
     let third: Box<dyn Resource> = Box::new(rt.alloc(), new_lamp(7))?;
     let course = course_of(rt.alloc(), first, second, third)?;
+    assert_eq!(rt; course.closed, Ok(3));
     assert_eq!(rt; course.totals, counts(6, 0, [2, 0, 0, 2]));
     let faulty = Given {
         number: 2,

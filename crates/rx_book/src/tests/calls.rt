@@ -1,11 +1,8 @@
 //! Each call where it is refused for another cause than room or memory, and ends by an error.
 
 use super::lamps::new_lamp;
-use super::sights::{
-    Back, assert_events, assert_mail, hold_at, mail, open_with, opening, take_and_release,
-    untouched, unused,
-};
-use crate::{At, Book, Key, ResKey};
+use super::probe::{Back, Probe, mail, opening, untouched, unused};
+use crate::{At, Key, ResKey};
 use rx_event::{Event, Kind, Place, Refusal, Terminal};
 use rx_note::Note;
 use rx_resource::{Life, Resource};
@@ -15,21 +12,21 @@ use std::test::Fail;
 fn an_error_ends_every_node_above_and_hands_back_all_resources(
     rt: HostRuntime,
 ) -> Result<(), Fail> {
-    let mut book = Book::new(rt.alloc(), 1000);
-    let root = open_with(&mut book, At::Root, new_lamp(21))?;
-    let middle = open_with(&mut book, At::Source(root.key), new_lamp(22))?;
+    let mut book = Probe::new(rt.alloc(), 1000);
+    let root = book.open_using(At::Root, new_lamp(21))?;
+    let middle = book.open_using(At::Source(root.key), new_lamp(22))?;
     assert_eq!(rt; (middle.key.number, middle.res.number), (2, 3));
     let leaf = book.open(At::Source(middle.key), Kind::Leaf)?;
     assert_eq!(rt; book.next(leaf.key, i64::MIN), Ok(5));
     assert_eq!(rt; book.end(leaf.key, Terminal::Error(9)), Ok(6));
-    assert_eq!(rt; (book.held(), book.waiting()), (0, 2));
-    let given = [take_and_release(&mut book), take_and_release(&mut book)];
+    assert_eq!(rt; (book.totals().held, book.totals().waiting), (0, 2));
+    let given = [book.take(), book.take()];
     let (first, second) = (Some(unused(1, 21)), Some(unused(3, 22)));
     assert!(rt;
         given == [first, second] || given == [second, first],
         "{given:?}"
     );
-    assert_eq!(rt; (book.waiting(), book.taken()), (0, 2));
+    assert_eq!(rt; (book.totals().waiting, book.totals().taken), (0, 2));
     assert_eq!(rt; book.event(0), Some(opening(Place::Root, Kind::Pass)));
     assert_eq!(rt; book.event(2), Some(opening(Place::Source(0), Kind::Pass)));
     for (place, node) in [(6, 4), (7, 2), (8, 0)] {
@@ -38,10 +35,9 @@ fn an_error_ends_every_node_above_and_hands_back_all_resources(
             Some(Event::End(node, Terminal::Error(9)))
         );
     }
-    assert_eq!(rt; book.len(), 11);
-    assert_mail(
+    assert_eq!(rt; book.totals().len, 11);
+    book.assert_mail(
         &rt,
-        &mut book,
         &[
             mail(5, 0, Note::Next(i64::MIN)),
             mail(8, 0, Note::End(Terminal::Error(9))),
@@ -52,7 +48,7 @@ fn an_error_ends_every_node_above_and_hands_back_all_resources(
 
 #[test]
 fn a_node_takes_no_call_that_its_kind_or_place_has_not(rt: HostRuntime) -> Result<(), Fail> {
-    let mut book = Book::new(rt.alloc(), 1000);
+    let mut book = Probe::new(rt.alloc(), 1000);
     let root = book.open(At::Root, Kind::Pass)?.key;
     let leaf = book.open(At::Source(root), Kind::Leaf)?.key;
     for (at, kind, why) in [
@@ -65,11 +61,11 @@ fn a_node_takes_no_call_that_its_kind_or_place_has_not(rt: HostRuntime) -> Resul
         assert_eq!(rt; book.open(at, kind), Err(why), "{kind:?} at {at:?}");
     }
     assert_eq!(rt;
-        open_with(&mut book, At::Source(root), new_lamp(3)),
+        book.open_using(At::Source(root), new_lamp(3)),
         Err(untouched(Refusal::PlaceTaken, 3))
     );
     assert_eq!(rt;
-        open_with(&mut book, At::Source(leaf), new_lamp(3)),
+        book.open_using(At::Source(leaf), new_lamp(3)),
         Err(untouched(Refusal::WrongKind, 3))
     );
     assert_eq!(rt; book.next(root, 1), Err(Refusal::WrongKind));
@@ -78,9 +74,8 @@ fn a_node_takes_no_call_that_its_kind_or_place_has_not(rt: HostRuntime) -> Resul
         Err(Refusal::WrongKind)
     );
     assert_eq!(rt; book.dispose(leaf), Err(Refusal::NotRoot));
-    assert_events(
+    book.assert_events(
         &rt,
-        &book,
         &[
             opening(Place::Root, Kind::Pass),
             opening(Place::Source(0), Kind::Leaf),
@@ -91,8 +86,8 @@ fn a_node_takes_no_call_that_its_kind_or_place_has_not(rt: HostRuntime) -> Resul
 
 #[test]
 fn a_key_that_was_made_up_is_nobodys(rt: HostRuntime) -> Result<(), Fail> {
-    let mut book = Book::new(rt.alloc(), 1000);
-    let opened = open_with(&mut book, At::Root, new_lamp(1))?;
+    let mut book = Probe::new(rt.alloc(), 1000);
+    let opened = book.open_using(At::Root, new_lamp(1))?;
     let leaf = book.open(At::Source(opened.key), Kind::Leaf)?.key;
     let other_slot = Key {
         slot: leaf.slot.wrapping_add(1),
@@ -124,7 +119,7 @@ fn a_key_that_was_made_up_is_nobodys(rt: HostRuntime) -> Result<(), Fail> {
             "{key:?}"
         );
         assert_eq!(rt;
-            hold_at(&mut book, key, new_lamp(2)),
+            book.hold(key, new_lamp(2)),
             Err(untouched(Refusal::Gone, 2)),
             "{key:?}"
         );
@@ -143,13 +138,13 @@ fn a_key_that_was_made_up_is_nobodys(rt: HostRuntime) -> Result<(), Fail> {
             number: res.number.wrapping_add(1)
         })
     );
-    assert_eq!(rt; book.len(), 3);
+    assert_eq!(rt; book.totals().len, 3);
     Ok(())
 }
 
 #[test]
 fn a_resource_that_was_used_or_released_comes_back_so(rt: HostRuntime) -> Result<(), Fail> {
-    let mut book = Book::new(rt.alloc(), 1000);
+    let mut book = Probe::new(rt.alloc(), 1000);
     let root = book.open(At::Root, Kind::Pass)?.key;
     let mut used = new_lamp(5);
     assert_eq!(rt; used.apply(1), 2);
@@ -159,10 +154,7 @@ fn a_resource_that_was_used_or_released_comes_back_so(rt: HostRuntime) -> Result
         uses: 1,
         life: Life::Live,
     };
-    assert_eq!(rt;
-        open_with(&mut book, At::Source(root), used),
-        Err(came_used)
-    );
+    assert_eq!(rt; book.open_using(At::Source(root), used), Err(came_used));
     let mut spent = new_lamp(6);
     assert_eq!(rt; spent.release(), Ok(()));
     let came_spent = Back {
@@ -171,8 +163,7 @@ fn a_resource_that_was_used_or_released_comes_back_so(rt: HostRuntime) -> Result
         uses: 0,
         life: Life::Released,
     };
-    assert_eq!(rt; hold_at(&mut book, root, spent), Err(came_spent));
-    assert_eq!(rt; (book.len(), book.accepted()), (1, 0));
-    book.promise();
+    assert_eq!(rt; book.hold(root, spent), Err(came_spent));
+    assert_eq!(rt; (book.totals().len, book.totals().accepted), (1, 0));
     Ok(())
 }

@@ -1,7 +1,7 @@
 //! What becomes of the resources of a book that is dropped.
 
-use super::sights::{hold_at, take_and_release};
-use crate::{At, Book};
+use super::probe::Probe;
+use crate::At;
 use rx_event::Kind;
 use rx_resource::{Life, Resource};
 use std::alloc::Global;
@@ -74,7 +74,7 @@ fn a_book_that_is_dropped_drops_its_resources_unreleased(rt: HostRuntime) -> Res
             dropped: AtomicU32::new(0),
         },
     )?;
-    let mut book = Book::new(rt.alloc(), 1000);
+    let mut book = Probe::new(rt.alloc(), 1000);
     let closed = book.open(At::Root, Kind::Leaf)?.key;
     let open = book.open(At::Root, Kind::Leaf)?.key;
     for node in [closed, closed, open, open] {
@@ -83,14 +83,14 @@ fn a_book_that_is_dropped_drops_its_resources_unreleased(rt: HostRuntime) -> Res
             uses: 0,
             fates: Arc::try_clone(&fates)?,
         };
-        let _res = hold_at(&mut book, node, watched)?;
+        let _res = book.hold(node, watched)?;
     }
     assert_eq!(rt; book.dispose(closed), Ok(6));
-    assert_eq!(rt; (book.held(), book.waiting()), (2, 2));
-    assert!(rt; take_and_release(&mut book).is_some());
+    assert_eq!(rt; (book.totals().held, book.totals().waiting), (2, 2));
+    assert!(rt; book.take().is_some());
     assert_eq!(rt; fates.released.load(Ordering::SeqCst), 1);
     assert_eq!(rt; fates.dropped.load(Ordering::SeqCst), 1);
-    assert_eq!(rt; (book.held(), book.waiting()), (2, 1));
+    assert_eq!(rt; (book.totals().held, book.totals().waiting), (2, 1));
     drop(book);
     assert_eq!(rt; fates.released.load(Ordering::SeqCst), 1);
     assert_eq!(rt; fates.dropped.load(Ordering::SeqCst), 4);

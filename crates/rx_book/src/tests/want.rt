@@ -1,11 +1,8 @@
 //! Memory refused, at many of the places where a call asks for some; and the calls that take none.
 
 use super::lamps::{Lamp, new_lamp};
-use super::sights::{
-    assert_alike, assert_mail, counts, hold_at, mail, open_with, take_and_release, totals_of,
-    untouched, unused,
-};
-use crate::{At, Book, Key, Opened, OpenedUsing, ResKey};
+use super::probe::{Probe, counts, mail, untouched, unused};
+use crate::{At, Key, Opened, OpenedUsing, ResKey};
 use rx_event::{Kind, Refusal, Terminal};
 use rx_note::Note;
 use rx_scarce::{MOST_BLOCKS, Scarce};
@@ -20,8 +17,8 @@ const CALLS: u64 = 20;
 // A book, its twin that is never refused memory, and the keys of what is open and held in both.
 #[derive(Drop)]
 struct Pair {
-    book: Book<Lamp>,
-    twin: Book<Lamp>,
+    book: Probe<Lamp>,
+    twin: Probe<Lamp>,
     leaf: Key,
     roots: Vec<Key>,
     resources: Vec<ResKey>,
@@ -29,8 +26,8 @@ struct Pair {
 
 // A book with a leaf at its root 0, whose items stand at 1 and 2 and the first of whose notes was
 // handed out.
-fn book_of_two_items(alloc: Global) -> Result<(Book<Lamp>, Key), Refusal> {
-    let mut book = Book::new(alloc, 1000);
+fn book_of_two_items(alloc: Global) -> Result<(Probe<Lamp>, Key), Refusal> {
+    let mut book = Probe::new(alloc, 1000);
     let leaf = book.open(At::Root, Kind::Leaf)?.key;
     let _first = book.next(leaf, 10)?;
     let _second = book.next(leaf, 20)?;
@@ -52,7 +49,7 @@ fn new_pair(alloc: Global) -> Result<Pair, Refusal> {
 
 // All that a caller sees of the two is the same, and what was opened and held still is.
 fn assert_same(rt: &impl Abort, pair: &Pair) {
-    assert_alike(rt, &pair.book, &pair.twin);
+    pair.book.assert_alike(rt, &pair.twin);
     assert!(rt; pair.book.is_open(pair.leaf));
     for root in &pair.roots {
         assert!(rt; pair.book.is_open(*root), "{root:?}");
@@ -72,19 +69,18 @@ fn assert_same_rest(rt: &impl Abort, pair: &mut Pair) {
     let closed = pair.twin.dispose(pair.leaf);
     assert_eq!(rt; pair.book.dispose(pair.leaf), closed);
     assert_eq!(rt; pair.book.open_root(), None);
-    for _ in 0..pair.twin.accepted() {
-        let given = take_and_release(&mut pair.twin);
-        assert_eq!(rt; take_and_release(&mut pair.book), given);
-        let number = given.map_or(0, |g| g.number);
-        assert_eq!(rt; given, Some(unused(number, number.wrapping_add(100))));
+    for _ in 0..pair.twin.totals().accepted {
+        let given = pair.twin.take().expect(rt, "a resource waits");
+        assert_eq!(rt; given, unused(given.number, given.number.wrapping_add(100)));
+        assert_eq!(rt; pair.book.take(), Some(given));
     }
-    assert_eq!(rt; take_and_release(&mut pair.book), None);
-    for _ in 0..=pair.twin.items() {
+    assert_eq!(rt; pair.book.take(), None);
+    for _ in 0..=pair.twin.totals().items {
         let note = pair.twin.take_mail();
         assert_eq!(rt; pair.book.take_mail(), note);
     }
     assert_eq!(rt; pair.book.take_mail(), None);
-    assert_alike(rt, &pair.book, &pair.twin);
+    pair.book.assert_alike(rt, &pair.twin);
 }
 
 // Opens a root in the first book, and answers how often that was refused before.
@@ -129,7 +125,7 @@ fn open_with_in_the_end(
     tag: u64,
 ) -> (OpenedUsing, usize) {
     for refusals in 0..MOST_BLOCKS {
-        match open_with(&mut pair.book, At::Root, new_lamp(tag)) {
+        match pair.book.open_using(At::Root, new_lamp(tag)) {
             Ok(opened) => return (opened, refusals),
             Err(back) => {
                 assert_eq!(rt; back, untouched(Refusal::NoMemory, tag));
@@ -148,16 +144,13 @@ fn a_refused_open_using_changes_nothing_and_gives_the_resource_back(
     let mut pair = new_pair(rt.alloc())?;
     let mut refused = 0usize;
     for _ in 0..CALLS {
-        let tag = pair.twin.len().wrapping_add(101);
+        let tag = pair.twin.totals().len.wrapping_add(101);
         let (opened, refusals) = {
             let mut scarce = Scarce::new(rt.alloc())?;
             open_with_in_the_end(&rt, &mut pair, &mut scarce, tag)
         };
         refused = refused.saturating_add(refusals);
-        assert_eq!(rt;
-            Ok(opened),
-            open_with(&mut pair.twin, At::Root, new_lamp(tag))
-        );
+        assert_eq!(rt; Ok(opened), pair.twin.open_using(At::Root, new_lamp(tag)));
         pair.roots.push(opened.key)?;
         pair.resources.push(opened.res)?;
         assert_same(&rt, &pair);
@@ -175,7 +168,7 @@ fn hold_in_the_end(
     tag: u64,
 ) -> (ResKey, usize) {
     for refusals in 0..MOST_BLOCKS {
-        match hold_at(&mut pair.book, pair.leaf, new_lamp(tag)) {
+        match pair.book.hold(pair.leaf, new_lamp(tag)) {
             Ok(resource) => return (resource, refusals),
             Err(back) => {
                 assert_eq!(rt; back, untouched(Refusal::NoMemory, tag));
@@ -192,16 +185,13 @@ fn a_refused_hold_changes_nothing_and_gives_the_resource_back(rt: HostRuntime) -
     let mut pair = new_pair(rt.alloc())?;
     let mut refused = 0usize;
     for _ in 0..CALLS {
-        let tag = pair.twin.len().wrapping_add(100);
+        let tag = pair.twin.totals().len.wrapping_add(100);
         let (resource, refusals) = {
             let mut scarce = Scarce::new(rt.alloc())?;
             hold_in_the_end(&rt, &mut pair, &mut scarce, tag)
         };
         refused = refused.saturating_add(refusals);
-        assert_eq!(rt;
-            Ok(resource),
-            hold_at(&mut pair.twin, pair.leaf, new_lamp(tag))
-        );
+        assert_eq!(rt; Ok(resource), pair.twin.hold(pair.leaf, new_lamp(tag)));
         pair.resources.push(resource)?;
         assert_same(&rt, &pair);
     }
@@ -256,34 +246,29 @@ fn has_memory(alloc: Global) -> bool {
 
 #[test]
 fn closing_and_handing_out_take_no_memory(rt: HostRuntime) -> Result<(), Fail> {
-    let mut book = Book::new(rt.alloc(), 1000);
-    let ending = open_with(&mut book, At::Root, new_lamp(1))?.key;
+    let mut book = Probe::new(rt.alloc(), 1000);
+    let ending = book.open_using(At::Root, new_lamp(1))?.key;
     let leaf = book.open(At::Source(ending), Kind::Leaf)?.key;
-    let closing = open_with(&mut book, At::Root, new_lamp(4))?.key;
-    let _below = open_with(&mut book, At::Source(closing), new_lamp(6))?.key;
+    let closing = book.open_using(At::Root, new_lamp(4))?.key;
+    let _below = book.open_using(At::Source(closing), new_lamp(6))?.key;
     assert_eq!(rt; book.next(leaf, 8), Ok(7));
     let _scarce = Scarce::new(rt.alloc())?;
     assert!(rt; !has_memory(rt.alloc()));
     assert_eq!(rt; book.end(leaf, Terminal::Completed), Ok(8));
     assert_eq!(rt; book.dispose(closing), Ok(10));
-    let given = [
-        take_and_release(&mut book),
-        take_and_release(&mut book),
-        take_and_release(&mut book),
-    ];
+    let given = [book.take(), book.take(), book.take()];
     for number in [1, 4, 6] {
         assert!(rt; given.contains(&Some(unused(number, number))), "{given:?}");
     }
-    assert_eq!(rt; take_and_release(&mut book), None);
-    assert_mail(
+    assert_eq!(rt; book.take(), None);
+    book.assert_mail(
         &rt,
-        &mut book,
         &[
             mail(7, 0, Note::Next(8)),
             mail(9, 0, Note::End(Terminal::Completed)),
         ],
     );
-    assert_eq!(rt; totals_of(&book), counts(14, 1, [3, 0, 0, 3]));
+    assert_eq!(rt; book.totals(), counts(14, 1, [3, 0, 0, 3]));
     assert!(rt; !has_memory(rt.alloc()));
     Ok(())
 }

@@ -1,0 +1,210 @@
+//! A book as the tests see it: its calls with answers that can be compared. They have no contract, as
+//! a test compares values when it runs.
+
+use crate::{At, Book, Key, Mail, Opened, OpenedUsing, Refused, ResKey};
+use rx_event::{Event, Kind, Place, Refusal, Terminal};
+use rx_note::Note;
+use rx_resource::{Life, Resource};
+use std::alloc::Global;
+use std::process::Abort;
+
+#[derive(Drop)]
+pub(super) struct Probe<R: Resource> {
+    book: Book<R>,
+}
+
+// The numbers that a book answers.
+#[derive(Clone, Copy, Debug, PartialEq, Eq)]
+pub(super) struct Totals {
+    pub len: u64,
+    pub items: u64,
+    pub accepted: u64,
+    pub held: u64,
+    pub waiting: u64,
+    pub taken: u64,
+}
+
+// A resource that was handed out and then released.
+#[derive(Clone, Copy, Debug, PartialEq, Eq)]
+pub(super) struct Given {
+    pub number: u64,
+    pub tag: u64,
+    pub uses: u64,
+    pub fault: Option<u32>,
+    pub life: Life,
+}
+
+// A resource that came back with the cause.
+#[derive(Clone, Copy, Debug, PartialEq, Eq)]
+pub(super) struct Back {
+    pub why: Refusal,
+    pub tag: u64,
+    pub uses: u64,
+    pub life: Life,
+}
+
+impl<R: Resource> Probe<R> {
+    pub(super) fn new(alloc: Global, max_events: u32) -> Self {
+        Probe {
+            book: Book::new(alloc, u64::from(max_events)),
+        }
+    }
+
+    pub(super) fn open(&mut self, at: At, kind: Kind) -> Result<Opened, Refusal> {
+        self.book.open(at, kind)
+    }
+
+    pub(super) fn open_using(&mut self, at: At, resource: R) -> Result<OpenedUsing, Back> {
+        match self.book.open_using(at, resource) {
+            Ok(opened) => Ok(opened),
+            Err(refused) => Err(back_of(refused)),
+        }
+    }
+
+    pub(super) fn hold(&mut self, node: Key, resource: R) -> Result<ResKey, Back> {
+        match self.book.hold(node, resource) {
+            Ok(key) => Ok(key),
+            Err(refused) => Err(back_of(refused)),
+        }
+    }
+
+    pub(super) fn next(&mut self, leaf: Key, value: i64) -> Result<u64, Refusal> {
+        self.book.next(leaf, value)
+    }
+
+    pub(super) fn end(&mut self, leaf: Key, terminal: Terminal) -> Result<u64, Refusal> {
+        self.book.end(leaf, terminal)
+    }
+
+    pub(super) fn dispose(&mut self, root: Key) -> Result<u64, Refusal> {
+        self.book.dispose(root)
+    }
+
+    // Takes a resource and releases it.
+    pub(super) fn take(&mut self) -> Option<Given> {
+        match self.book.take() {
+            Some(handed) => {
+                let uses = handed.uses();
+                let released = handed.release();
+                Some(Given {
+                    number: released.number,
+                    tag: released.tag,
+                    uses,
+                    fault: released.fault,
+                    life: released.spent.life(),
+                })
+            }
+            None => None,
+        }
+    }
+
+    pub(super) fn take_mail(&mut self) -> Option<Mail> {
+        self.book.take_mail()
+    }
+
+    pub(super) fn totals(&self) -> Totals {
+        Totals {
+            len: self.book.len(),
+            items: self.book.items(),
+            accepted: self.book.accepted(),
+            held: self.book.held(),
+            waiting: self.book.waiting(),
+            taken: self.book.taken(),
+        }
+    }
+
+    pub(super) fn event(&self, place: u64) -> Option<Event> {
+        self.book.event(place)
+    }
+
+    pub(super) fn is_open(&self, node: Key) -> bool {
+        self.book.is_open(node)
+    }
+
+    pub(super) fn is_held(&self, resource: ResKey) -> bool {
+        self.book.is_held(resource)
+    }
+
+    pub(super) fn open_root(&self) -> Option<Key> {
+        self.book.open_root()
+    }
+
+    // It has these events, and no others.
+    pub(super) fn assert_events(&self, rt: &impl Abort, expected: &[Event]) {
+        for (place, event) in expected.iter().enumerate() {
+            assert_eq!(rt; self.event(place as u64), Some(*event), "at {place}");
+        }
+        assert_eq!(rt; self.totals().len, expected.len() as u64);
+        assert_eq!(rt; self.event(expected.len() as u64), None);
+    }
+
+    // It hands out these notes, and then none.
+    pub(super) fn assert_mail(&mut self, rt: &impl Abort, expected: &[Mail]) {
+        for (i, mail) in expected.iter().enumerate() {
+            assert_eq!(rt; self.take_mail(), Some(*mail), "note {i}");
+        }
+        assert_eq!(rt; self.take_mail(), None);
+    }
+
+    // It has the same numbers, events and open root as the other one.
+    pub(super) fn assert_alike(&self, rt: &impl Abort, other: &Probe<R>) {
+        let totals = other.totals();
+        assert_eq!(rt; self.totals(), totals);
+        assert_eq!(rt; self.open_root(), other.open_root());
+        for place in 0..totals.len {
+            assert_eq!(rt; self.event(place), other.event(place), "at {place}");
+        }
+        assert_eq!(rt; self.event(totals.len), None);
+    }
+}
+
+fn back_of<R: Resource>(refused: Refused<R>) -> Back {
+    Back {
+        why: refused.why,
+        tag: refused.back.tag(),
+        uses: refused.back.uses(),
+        life: refused.back.life(),
+    }
+}
+
+// The numbers of events and of items, and of the resources that were accepted, are held, wait and
+// were taken.
+pub(super) fn counts(len: u64, items: u64, [accepted, held, waiting, taken]: [u64; 4]) -> Totals {
+    Totals {
+        len,
+        items,
+        accepted,
+        held,
+        waiting,
+        taken,
+    }
+}
+
+// What is given where a resource was never used and its release met no fault.
+pub(super) fn unused(number: u64, tag: u64) -> Given {
+    Given {
+        number,
+        tag,
+        uses: 0,
+        fault: None,
+        life: Life::Released,
+    }
+}
+
+// What comes back where the resource is as it was made.
+pub(super) fn untouched(why: Refusal, tag: u64) -> Back {
+    Back {
+        why,
+        tag,
+        uses: 0,
+        life: Life::Live,
+    }
+}
+
+pub(super) fn opening(place: Place, kind: Kind) -> Event {
+    Event::Open { place, kind }
+}
+
+pub(super) fn mail(place: u64, to: u64, note: Note) -> Mail {
+    Mail { place, to, note }
+}
