@@ -44,6 +44,8 @@ mod line;
 mod running;
 mod scenario;
 mod stock;
+#[cfg(test)]
+mod tests;
 mod text;
 
 pub use closing::{Closed, close};
