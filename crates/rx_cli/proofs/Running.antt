@@ -1,5 +1,5 @@
 -- A run that was not begun.
-use Rattle.std.proofs.Common.{◌≡◌, List, Err, refl, ap, true≢false, Bool, true, false, Result, sym}
+use Rattle.std.proofs.Common.{List, Err, refl, ap, true≢false, Bool, true, false, Result}
 use Rattle.rx_script.specs.declared.ScriptError.{ScriptError}
 use Rattle.rx_script.specs.declared.ScriptError.TheVariants.{Memory}
 use Rattle.rx_script.specs.declared.device.Watched.{Watched}

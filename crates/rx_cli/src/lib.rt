@@ -8,6 +8,8 @@
 //! - An [`Order`] is what the words of a command line ask for; [`order`] reads it by `clap`.
 //! - The stock is the list of resources that a scenario may hold, [`STOCK`] of them, of the kinds
 //!   [`Plain`], [`Tally`] and [`Faulty`], by [`ResourceKind::by_tag`]. [`fill`] makes it.
+//! - A [`Watched`] input or output notes whether the stream behind it failed, so that the contract of
+//!   [`serve`] can say when a stream is at fault.
 //! - [`serve`] does what the words order, and answers the exit status:
 //!
 //! | Status | Cause | Line on the error stream |
@@ -22,8 +24,12 @@
 //!
 //! - The order is the one that `clap` matches in the words, a run where they name no subcommand; it is
 //!   refused only where `clap` refuses the words or memory is.
+//! - Where the words order a run that is done, the output got the report of a course of the scenario that
+//!   the input is, with this stock, and nothing else. With a write fault it got a front of one, and with
+//!   any other fault nothing; each fault but want of memory comes only for its cause.
 //! - The status and the line are those of the outcome, exactly; where the words are refused, nothing is
 //!   read, and only a request for help writes to the output.
+//! - No contract says that memory was really refused where the status is 4.
 //! - The words of help and of usage errors are `clap`'s, and are tested alone.
 //! - A line that the error stream refuses is lost, and the status stays.
 #![tactic(auto)]

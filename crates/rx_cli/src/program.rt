@@ -22,6 +22,9 @@ use std::io::{Read, Write};
 /// Does what the words order, over these streams and with this stock, and answers the exit status. The
 /// first word is the program's name.
 ///
+/// A run writes to `output` the report of the scenario that `input` has left, or a front of one where
+/// `output` fails, or nothing. Neither stream was used through its watch before.
+///
 /// A run's status is 0 where it is done, 1 where a stream failed, 3 where the input is no scenario, 4
 /// where memory was refused. Words that `clap` refuses give 2, and a request for help 0, or 1 where the
 /// output refuses its text, or 4 where memory is refused for it; then nothing is read. Each status but
