@@ -6,11 +6,14 @@ ghost use Rattle.rx_event.specs.Events.{is_subscriber_of};
 ghost use Rattle.rx_event.specs.Tree.{at, is_open, open_subscribers, parent};
 ghost use Rattle.rx_event.specs.Climb.{stop_at, onward_from, onward};
 ghost use Rattle.rx_audit.specs.Tables.{IsMarked};
+ghost use Rattle.std.specs.Option.{ForSome};
+ghost use Rattle.rx_audit.specs.Chain.{IsChained};
 ghost use Rattle.rx_audit.specs.Rules.{fired_by, projected_by};
 
 use crate::event_tests::{at, hub_subscribed, is_merging};
 use crate::marks::is_marked;
 use crate::openness::parent_of;
+use crate::subscribers::{Subscribers, chained};
 use rx_event::{Event, Place};
 use std::alloc::{AllocError, Global};
 
@@ -104,33 +107,60 @@ fn parents(alloc: Global, past: &[Event], n: u64) -> Result<Vec<u64>, AllocError
     }
 }
 
+/// The open subscribers of hub `g`, by the lists that lead to them where there are such.
+fn subscribers_of(
+    alloc: Global,
+    past: &[Event],
+    live: &[bool],
+    chain: Option<&Subscribers>,
+    g: u64,
+) -> Result<Vec<u64>, AllocError>
+    requires live { IsMarked live.now (is_open past.now) }
+    requires chain { ForSome chain (λ c. IsChained past.now c.now) }
+    ensures { IfOk result (λ v. v.items ≡ open_subscribers past.now g) }
+{
+    match chain {
+        Some(chain) if (g as usize) < past.len() => chained(alloc, past, chain, g),
+        _ => open_subscribers(alloc, past, live, g),
+    }
+}
+
 /// Where an item goes on from node `n`, which the event made.
 fn onward_from(
     alloc: Global,
     past: &[Event],
     live: &[bool],
+    chain: Option<&Subscribers>,
     n: u64,
     event: Event,
 ) -> Result<Vec<u64>, AllocError>
-    requires { IsMarked live.now (is_open past.now) }
+    requires live { IsMarked live.now (is_open past.now) }
+    requires chain { ForSome chain (λ c. IsChained past.now c.now) }
     ensures { IfOk result (λ v. v.items ≡ onward_from past.now n event) }
 {
     match event {
-        Event::Connect(g) => open_subscribers(alloc, past, live, g),
+        Event::Connect(g) => subscribers_of(alloc, past, live, chain, g),
         _ => parents(alloc, past, n),
     }
 }
 
 /// Where an item goes on from node `n`.
-pub fn onward(alloc: Global, past: &[Event], live: &[bool], n: u64) -> Result<Vec<u64>, AllocError>
-    requires { IsMarked live.now (is_open past.now) }
+pub fn onward(
+    alloc: Global,
+    past: &[Event],
+    live: &[bool],
+    chain: Option<&Subscribers>,
+    n: u64,
+) -> Result<Vec<u64>, AllocError>
+    requires live { IsMarked live.now (is_open past.now) }
+    requires chain { ForSome chain (λ c. IsChained past.now c.now) }
     ensures { IfOk result (λ v. v.items ≡ onward past.now n) }
 {
     if stops_at(past, n) {
         return Ok(Vec::new(alloc));
     }
     match past.get(n as usize).copied() {
-        Some(event) => onward_from(alloc, past, live, n, event),
+        Some(event) => onward_from(alloc, past, live, chain, n, event),
         None => Ok(Vec::new(alloc)),
     }
 }

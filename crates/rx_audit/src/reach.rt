@@ -7,9 +7,14 @@ ghost use Rattle.std.specs.Prelude.{◌≡◌, ℕ, ◌+◌, ◌*◌, ◌^◌, �
 ghost use Rattle.rx_event.specs.Tree.{is_open};
 ghost use Rattle.rx_event.specs.Climb.{onward, visits};
 ghost use Rattle.rx_audit.specs.Tables.{IsMarked};
+ghost use Rattle.std.specs.Option.{ForSome};
+ghost use Rattle.rx_audit.specs.Chain.{IsChained};
 ghost use Rattle.rx_audit.specs.Flow.{times, IsOften, IsReached};
 
 use crate::climb::{MOST_VISITS, onward};
+use crate::openness::parent_of;
+use crate::subscribers::{Subscribers, chain_subscribers};
+use crate::survey::hub_connected_at;
 use rx_event::Event;
 use std::alloc::{AllocError, Global};
 
@@ -89,6 +94,30 @@ fn spread(
     Ok(())
 }
 
+/// The lists that lead to the subscribers of each hub, where an item of this leaf reaches a
+/// connection. Whether there are any decides how the visits are found, and never what they are.
+fn chain_from(
+    alloc: Global,
+    past: &[Event],
+    live: &[bool],
+    leaf: u64,
+) -> Result<Option<Subscribers>, AllocError>
+    requires { IsMarked live.now (is_open past.now) }
+    ensures { IfOk result (λ o. ForSome o (IsChained past.now)) }
+{
+    let mut n = leaf;
+    for _step in 0..past.len() {
+        if hub_connected_at(past, n).is_some() {
+            return Ok(Some(chain_subscribers(alloc, past, live)?));
+        }
+        match parent_of(past, n as usize) {
+            Some(above) => n = above,
+            None => return Ok(None),
+        }
+    }
+    Ok(None)
+}
+
 /// How often an item of this leaf reaches each node; `None` where it makes more visits than it may.
 pub fn reached(
     alloc: Global,
@@ -106,12 +135,14 @@ pub fn reached(
     let mut log = vec![in alloc; first]?;
     let mut entries = vec![in alloc; 0; past.len()]?;
     let mut total: u64 = 1;
+    let chain = chain_from(alloc, past, live, leaf)?;
+    let lists = chain.as_ref();
     for i in 0..MOST_VISITS {
         if i >= log.len() {
             return Ok(Some(log));
         }
         let visit = log[i];
-        let next = onward(alloc, past, live, visit.node)?;
+        let next = onward(alloc, past, live, lists, visit.node)?;
         let more = u128::from(visit.count) * next.len() as u128;
         if more > u128::from(1_048_576 - total) {
             return Ok(None);

@@ -1,4 +1,5 @@
 use Rattle.std.proofs.Common.{◌≡◌, ℕ, ◌+◌, ◌*◌, ◌-◌, ◌<◌, ◌≤◌, List, drop, length, refl, sym, ap, ◌∙◌, arith}
+use Rattle.std.specs.Option.{option_copied}
 use Rattle.rx_event.specs.Climb.{onward}
 use Rattle.std.specs.List.{sum_by}
 use Rattle.rx_audit.specs.Flow.{times}
@@ -49,3 +50,6 @@ loop-i-preserved c =
     let few : c.loop-i.total + v.count * length next.items ≤ 1048576 = omega arith in
     let more : (number : ℕ → ℕ) → sum_by (times number) (drop (i + 1) c.spread.new.log.items) ≡ sum_by (times number) (drop (i + 1) log) + v.count * sum_by number next.items = λ number. c.in_ok-spread.ensures.more number ∙ ap (λ (xs : List ℕ). sum_by (times number) (drop (i + 1) log) + v.count * sum_by number xs) c.as_slice.ensures.value in
     rw product (flow_step c.args.past.now c.args.leaf i log c.spread.new.log.items c.loop-i.total v next.items (omega arith) c.index-visit.ensures c.in_ok-next.ensures c.in_ok-spread.ensures.kept more c.in_ok-spread.ensures.often c.in_ok-spread.ensures.grows few inv)
+
+pub onward-requires-clause-chain : goal.onward-requires-clause-chain
+onward-requires-clause-chain c = λ x e. c.in_ok-chain.ensures x.now (sym c.as_ref-lists.ensures.value ∙ ap option_copied e)
