@@ -1,8 +1,9 @@
 //! Several runs of a case, and how long they took.
 
-ghost use Rattle.std.specs.Prelude.{◌≡◌, ◌+◌, ◌-◌, ◌*◌, ◌/◌, ◌^◌, ◌<◌, ◌≤◌, min, IfOk};
+ghost use Rattle.std.specs.Prelude.{◌≡◌, ◌+◌, ◌-◌, ◌*◌, ◌/◌, ◌^◌, ◌<◌, ◌≤◌, min, ℕ, List, length, IfOk};
 ghost use Rattle.std.specs.Duration.{as_nanos};
 ghost use Rattle.rx_bench.specs.Cases.{operations_of};
+ghost use Rattle.rx_bench.specs.Times.{Summarizes};
 
 use crate::agenda::run_orders;
 use crate::case::Case;
@@ -73,7 +74,8 @@ fn time_run<C: Clock>(clock: &C, alloc: Global, request: Request) -> Result<(Don
 
 /// Runs a case [`RUNS`] times by this clock.
 pub fn measure<C: Clock>(clock: &C, alloc: Global, request: Request) -> Result<Measured, Halt>
-    ensures { IfOk result (λ m. m.done.operations ≡ operations_of request.case request.size) }
+    ensures done { IfOk result (λ m. m.done.operations ≡ operations_of request.case request.size) }
+    ensures times { IfOk result (λ m. (times : List ℕ) × (length times ≡ RUNS) × Summarizes times m.times) }
 {
     let (done, first) = time_run(clock, alloc, request)?;
     let mut times = [first; RUNS];
