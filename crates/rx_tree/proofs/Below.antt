@@ -57,9 +57,9 @@ module _ {T : Type 0} (tree : Tree T) where
   unfolding ancestors
   is_below_step top n =
       ap (list_any (λ a. top == a)) (climb_step (up tree) up-lt n) ∙ ap (λ b. (top == n) || b) (mapped (up tree n)) where
-    mapped : (o : Option ℕ) → list_any (λ a. top == a) (option_map_or (λ p. ancestors_within p (up tree) p) o []) ≡ option_map_or (is_below tree top) o false
-    mapped None = refl
-    mapped (Some p) = refl
+        mapped : (o : Option ℕ) → list_any (λ a. top == a) (option_map_or (λ p. ancestors_within p (up tree) p) o []) ≡ option_map_or (is_below tree top) o false
+        mapped None = refl
+        mapped (Some p) = refl
 
   -- the record of a number is the one that its key finds
   record_here : (n : ℕ) (node : Node T) (es : List (Option (Entry (Node T)))) (i : ℕ) → get_or es i None ≡ Some (entry_of n node) → ((j : ℕ) (e : Entry (Node T)) → get_or es j None ≡ Some e → e.number ≡ n → j ≡ i) → record_in es n ≡ Some node
@@ -91,9 +91,9 @@ module _ {T : Type 0} (tree : Tree T) where
     pub is_below_found : (top : ℕ) (key : Key) (node : Node T) → find tree key ≡ Some node → is_below tree top key.number ≡ ((top == key.number) || option_map_or (λ p. is_below tree top p.number) node.above false)
     is_below_found top key node found =
         is_below_step top key.number ∙ ap (λ o. (top == key.number) || option_map_or (is_below tree top) o false) (up_found key node found) ∙ ap (λ b. (top == key.number) || b) (mapped node.above) where
-      mapped : (o : Option Key) → option_map_or (is_below tree top) (option_map (λ p. p.number) o) false ≡ option_map_or (λ p. is_below tree top p.number) o false
-      mapped None = refl
-      mapped (Some p) = refl
+          mapped : (o : Option Key) → option_map_or (is_below tree top) (option_map (λ p. p.number) o) false ≡ option_map_or (λ p. is_below tree top p.number) o false
+          mapped None = refl
+          mapped (Some p) = refl
 
     pub below_itself : (key : Key) (node : Node T) → find tree key ≡ Some node → is_below tree key.number key.number ≡ true
     below_itself key node found = is_below_found key.number key node found ∙ itself (option_map_or (λ p. is_below tree key.number p.number) node.above false) where
@@ -103,16 +103,17 @@ module _ {T : Type 0} (tree : Tree T) where
     pub below_child : (top : ℕ) (key p : Key) (node : Node T) → find tree key ≡ Some node → node.above ≡ Some p → is_below tree top p.number ≡ true → is_below tree top key.number ≡ true
     below_child top key p node found above below =
         is_below_found top key node found ∙ ap (λ o. (top == key.number) || option_map_or (λ k. is_below tree top k.number) o false) above ∙ ap (λ b. (top == key.number) || b) below ∙ either (top == key.number) where
-      either : (b : Bool) → (b || true) ≡ true
-      either true = refl
-      either false = refl
+          either : (b : Bool) → (b || true) ≡ true
+          either true = refl
+          either false = refl
 
     -- neither the top nor below it
     pub not_below : (top : ℕ) (key : Key) (node : Node T) → find tree key ≡ Some node → top ≢ key.number → ((p : Key) → node.above ≡ Some p → is_below tree top p.number ≡ false) → is_below tree top key.number ≡ false
     not_below top key node found other above =
         is_below_found top key node found ∙ apart (option_map_or (λ p. is_below tree top p.number) node.above false) (of node.above refl) where
-      of : (o : Option Key) → node.above ≡ o → option_map_or (λ p. is_below tree top p.number) o false ≡ false
-      of None e = refl
-      of (Some p) e = above p e
-      apart : (b : Bool) → b ≡ false → ((top == key.number) || b) ≡ false
-      apart b none = rw none (grind (arith, nat_tests, other))
+          of : (o : Option Key) → node.above ≡ o → option_map_or (λ p. is_below tree top p.number) o false ≡ false
+          of None e = refl
+          of (Some p) e = above p e
+
+          apart : (b : Bool) → b ≡ false → ((top == key.number) || b) ≡ false
+          apart b none = rw none (grind (arith, nat_tests, other))

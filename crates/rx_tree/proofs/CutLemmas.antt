@@ -55,6 +55,7 @@ module _ {T : Type 0} where
         let position : slot ≡ key.slot = ap (λ k. k.slot) same in
         let stands : entry_at s key.slot ≡ Some (entry_of key.number e.value) = ap (entry_at s) (sym position) ∙ read ∙ ap (λ (x : Entry (Node T)). Some x) (same_entry e (entry_of key.number e.value) number refl) in
         (e.value, sym position, found_entry s key e.value stands, orphan)
+
     of : (o : Option (Entry (Node T))) → entry_at s slot ≡ o → option_and_then (orphan_in s slot) o ≡ Some key → (node : Node T) × (key.slot ≡ slot) × (find s key ≡ Some node) × (is_orphan s node ≡ true)
     of None read at = absurd (true≢false (ap is_some (sym at)))
     of (Some e) read at = here e (is_orphan s e.value) read refl at
@@ -64,9 +65,9 @@ module _ {T : Type 0} where
   no_orphan s none key node found =
       let read = entry_found s key node found in
       of (is_orphan s node) (sym (ap (option_and_then (orphan_in s key.slot)) read) ∙ none key.slot) where
-    of : (b : Bool) → cond {A = Option Key} b (Some (record { slot = key.slot; number = key.number })) None ≡ None → b ≡ false
-    of false e = refl
-    of true e = absurd (true≢false (ap is_some e))
+        of : (b : Bool) → cond {A = Option Key} b (Some (record { slot = key.slot; number = key.number })) None ≡ None → b ≡ false
+        of false e = refl
+        of true e = absurd (true≢false (ap is_some e))
 
   pub above_found : (s : Tree T) (node : Node T) (p : Key) → is_orphan s node ≡ false → node.above ≡ Some p → IsSome (find s p)
   above_found s node p orphan above = of (is_some (find s p)) (ap (λ o. option_map_or (λ key. not (is_some (find s key))) o false) (sym above) ∙ orphan) where
@@ -79,6 +80,7 @@ module _ {T : Type 0} where
     nothing : (o : Option (Node T)) → not (is_some o) ≡ true → o ≡ None
     nothing None e = refl
     nothing (Some x) e = absurd (true≢false (sym e))
+
     of : (o : Option Key) → node.above ≡ o → option_map_or (λ key. not (is_some (find s key))) o false ≡ true → (p : Key) × (node.above ≡ Some p) × (find s p ≡ None)
     of None e orphan = absurd (true≢false (sym orphan))
     of (Some p) e orphan = (p, e, nothing (find s p) orphan)
@@ -110,22 +112,26 @@ module _ {T : Type 0} where
             | inr other ↦ kept_elsewhere s t key changes top other ∙ part.top_gone
           ];
         } where
-      there : (o : Option Key) (p : Key) → o ≡ Some p → IfSome o (λ k. IsSome (find whole k)) → IsSome (find whole p)
-      there o p e some = subst (λ x. IfSome x (λ k. IsSome (find whole k))) e some
-      out : (m : Closed T) → Contains moved m ⊎ (record { key = key; node = node } ≡ m) → IsInside whole top.number (record { key = key; node = node }) → IsInside whole top.number m × (find t m.key ≡ None)
-      out m (inl has) below =
-          let o = part.out m has in
-          (o.0, elim (cases_eq m.key.slot key.slot) [
-            | inl same ↦ gone_here s t key changes m.key same
-            | inr other ↦ kept_elsewhere s t key changes m.key other ∙ o.1
-          ])
-      out m (inr same) below = subst (λ (x : Closed T). IsInside whole top.number x × (find t x.key ≡ None)) same (below, gone_here s t key changes key refl)
-      gone : (k : Key) (n : Node T) → find whole k ≡ Some n → find t k ≡ None → (k.slot ≡ key.slot) ⊎ (k.slot ≢ key.slot) → Contains (moved ++ record { key = key; node = node } ∷ []) (record { key = k; node = n })
-      gone k n at none (inr other) =
-          Contains-append_left moved (record { key = key; node = node } ∷ []) (record { key = k; node = n }) (part.gone k n at (sym (kept_elsewhere s t key changes k other) ∙ none))
-      gone k n at none (inl same) =
-          let one = one_key whole k key n node same at (sym (part.left key (ap is_some found)) ∙ found) in
-          subst (λ (m : Closed T). Contains (moved ++ record { key = key; node = node } ∷ []) m) (λ i. record { key = (sym one.0) i; node = (sym one.1) i }) (Contains-push moved (record { key = key; node = node }))
+          there : (o : Option Key) (p : Key) → o ≡ Some p → IfSome o (λ k. IsSome (find whole k)) → IsSome (find whole p)
+          there o p e some = subst (λ x. IfSome x (λ k. IsSome (find whole k))) e some
+
+          out : (m : Closed T) → Contains moved m ⊎ (record { key = key; node = node } ≡ m) → IsInside whole top.number (record { key = key; node = node }) → IsInside whole top.number m × (find t m.key ≡ None)
+          out m (inl has) below =
+              let o = part.out m has in (
+                o.0,
+                elim (cases_eq m.key.slot key.slot) [
+                  | inl same ↦ gone_here s t key changes m.key same
+                  | inr other ↦ kept_elsewhere s t key changes m.key other ∙ o.1
+                ],
+              )
+          out m (inr same) below = subst (λ (x : Closed T). IsInside whole top.number x × (find t x.key ≡ None)) same (below, gone_here s t key changes key refl)
+
+          gone : (k : Key) (n : Node T) → find whole k ≡ Some n → find t k ≡ None → (k.slot ≡ key.slot) ⊎ (k.slot ≢ key.slot) → Contains (moved ++ record { key = key; node = node } ∷ []) (record { key = k; node = n })
+          gone k n at none (inr other) =
+              Contains-append_left moved (record { key = key; node = node } ∷ []) (record { key = k; node = n }) (part.gone k n at (sym (kept_elsewhere s t key changes k other) ∙ none))
+          gone k n at none (inl same) =
+              let one = one_key whole k key n node same at (sym (part.left key (ap is_some found)) ∙ found) in
+              subst (λ (m : Closed T). Contains (moved ++ record { key = key; node = node } ∷ []) m) (λ i. record { key = (sym one.0) i; node = (sym one.1) i }) (Contains-push moved (record { key = key; node = node }))
 
     -- the top's record is moved out first
     pub IsPart-start : (s : Tree T) (node : Node T) → find whole top ≡ Some node → Changes whole s top.slot None → IsPart whole top s (record { key = top; node = node } ∷ [])
@@ -137,17 +143,18 @@ module _ {T : Type 0} where
           once = λ i j d before within. absurd (omega arith);
           top_gone = gone_here whole s top changes top refl;
         } where
-      alone : (m : Closed T) → Contains {X = Closed T} (record { key = top; node = node } ∷ []) m → record { key = top; node = node } ≡ m
-      alone m has =
-          elim (Contains-push_cases [] (record { key = top; node = node }) m has) [
-            | inl none ↦ absurd (let l = none.1 in omega arith)
-            | inr same ↦ same
-          ]
-      gone : (k : Key) (n : Node T) → find whole k ≡ Some n → find s k ≡ None → (k.slot ≡ top.slot) ⊎ (k.slot ≢ top.slot) → Contains {X = Closed T} (record { key = top; node = node } ∷ []) (record { key = k; node = n })
-      gone k n at none (inr other) = absurd (none_not_some (find whole k) (sym (kept_elsewhere whole s top changes k other) ∙ none) (ap is_some at))
-      gone k n at none (inl same) =
-          let one = one_key whole k top n node same at found in
-          subst (λ (m : Closed T). Contains {X = Closed T} (record { key = top; node = node } ∷ []) m) (λ i. record { key = (sym one.0) i; node = (sym one.1) i }) (Contains-push [] (record { key = top; node = node }))
+          alone : (m : Closed T) → Contains {X = Closed T} (record { key = top; node = node } ∷ []) m → record { key = top; node = node } ≡ m
+          alone m has =
+              elim (Contains-push_cases [] (record { key = top; node = node }) m has) [
+                | inl none ↦ absurd (let l = none.1 in omega arith)
+                | inr same ↦ same
+              ]
+
+          gone : (k : Key) (n : Node T) → find whole k ≡ Some n → find s k ≡ None → (k.slot ≡ top.slot) ⊎ (k.slot ≢ top.slot) → Contains {X = Closed T} (record { key = top; node = node } ∷ []) (record { key = k; node = n })
+          gone k n at none (inr other) = absurd (none_not_some (find whole k) (sym (kept_elsewhere whole s top changes k other) ∙ none) (ap is_some at))
+          gone k n at none (inl same) =
+              let one = one_key whole k top n node same at found in
+              subst (λ (m : Closed T). Contains {X = Closed T} (record { key = top; node = node } ∷ []) m) (λ i. record { key = (sym one.0) i; node = (sym one.1) i }) (Contains-push [] (record { key = top; node = node }))
 
     -- and then the orphans, one after another
     pub IsPart-cuts : (s : Tree T) (list before moved : List (Closed T)) (t : Tree T) (later : List (Closed T)) → IsPart whole top s moved → list ≡ before ++ moved → Cuts s list t later → (all : List (Closed T)) × (later ≡ before ++ all) × IsPart whole top t all
@@ -165,13 +172,14 @@ module _ {T : Type 0} where
           let was : find whole key ≡ Some node = sym (part.left key (ap is_some found)) ∙ found in
           let placed = sound.placed key node was in
           not_below whole sound top.number key node was (λ same. none_not_some (find s key) (ap (find s) (sym (is_top was same)) ∙ part.top_gone) (ap is_some found)) (λ p above.
-            let parent = some_of (find s p) (above_found s node p (no_orphan s none key node found) above) in
-            let less : p.number < key.number = lower node.above p above placed.lower in
-            left_within limit p parent.0 (omega arith) parent.1) where
-        is_top : find whole key ≡ Some node → top.number ≡ key.number → top ≡ key
-        is_top was same = sound.apart top key there (ap is_some was) same
-        lower : (o : Option Key) (p : Key) → o ≡ Some p → IfSome o (λ k. k.number < key.number) → p.number < key.number
-        lower o p e some = subst (λ x. IfSome x (λ k. k.number < key.number)) e some
+          let parent = some_of (find s p) (above_found s node p (no_orphan s none key node found) above) in
+          let less : p.number < key.number = lower node.above p above placed.lower in
+          left_within limit p parent.0 (omega arith) parent.1) where
+            is_top : find whole key ≡ Some node → top.number ≡ key.number → top ≡ key
+            is_top was same = sound.apart top key there (ap is_some was) same
+
+            lower : (o : Option Key) (p : Key) → o ≡ Some p → IfSome o (λ k. k.number < key.number) → p.number < key.number
+            lower o p e some = subst (λ x. IfSome x (λ k. k.number < key.number)) e some
 
       pub left_not_below : (key : Key) (node : Node T) → find s key ≡ Some node → is_below whole top.number key.number ≡ false
       left_not_below key node found = left_within (suc key.number) key node (omega arith) found
@@ -182,11 +190,13 @@ module _ {T : Type 0} where
         both : (b : Bool) (o : Option (Node T)) → o ≡ None → None ≡ cond b None o
         both true o e = refl
         both false o e = sym e
+
         missing : (o : Option (Node T)) → find whole other ≡ o → find s other ≡ None → None ≡ cond (is_below whole top.number other.number) None (find whole other)
         missing None was gone = both (is_below whole top.number other.number) (find whole other) was
         missing (Some n) was gone =
             let inside = (part.out (record { key = other; node = n }) (part.gone other n was gone)).0 in
             ap (λ b. cond b None (find whole other)) (sym inside.below)
+
         of : (o : Option (Node T)) → find s other ≡ o → find s other ≡ cond (is_below whole top.number other.number) None (find whole other)
         of None now = now ∙ missing (find whole other) refl now
         of (Some n) now =
@@ -199,9 +209,9 @@ module _ {T : Type 0} where
             exactly = λ m. (λ has. (part.out m has).0, λ inside. found m inside (find s m.key) refl);
             once = part.once;
           } where
-        found : (m : Closed T) → IsInside whole top.number m → (o : Option (Node T)) → find s m.key ≡ o → Contains moved m
-        found m inside None gone = part.gone m.key m.node inside.found gone
-        found m inside (Some n) now = absurd (true≢false (sym inside.below ∙ left_not_below m.key n now))
+            found : (m : Closed T) → IsInside whole top.number m → (o : Option (Node T)) → find s m.key ≡ o → Contains moved m
+            found m inside None gone = part.gone m.key m.node inside.found gone
+            found m inside (Some n) now = absurd (true≢false (sym inside.below ∙ left_not_below m.key n now))
 
       -- what is left is a tree
       pub sound_left : IsSound s
@@ -210,17 +220,18 @@ module _ {T : Type 0} where
             apart = λ a b found_a found_b numbers. sound.apart a b (ap is_some (sym (part.left a found_a)) ∙ found_a) (ap is_some (sym (part.left b found_b)) ∙ found_b) numbers;
             placed = λ key node found. stays key node found (sound.placed key node (sym (part.left key (ap is_some found)) ∙ found));
           } where
-        stands : (key : Key) (node : Node T) → find s key ≡ Some node → (o : Option Key) → node.above ≡ o → IfSome o (λ p. IsSome (find s p))
-        stands key node found None e = tt
-        stands key node found (Some p) e = above_found s node p (no_orphan s none key node found) e
-        stays : (key : Key) (node : Node T) → find s key ≡ Some node → IsPlaced whole key.number node.made node.above → IsPlaced s key.number node.made node.above
-        stays key node found placed =
-            record {
-              makes = placed.makes;
-              named = placed.named;
-              lower = placed.lower;
-              there = stands key node found node.above refl;
-            }
+            stands : (key : Key) (node : Node T) → find s key ≡ Some node → (o : Option Key) → node.above ≡ o → IfSome o (λ p. IsSome (find s p))
+            stands key node found None e = tt
+            stands key node found (Some p) e = above_found s node p (no_orphan s none key node found) e
+
+            stays : (key : Key) (node : Node T) → find s key ≡ Some node → IsPlaced whole key.number node.made node.above → IsPlaced s key.number node.made node.above
+            stays key node found placed =
+                record {
+                  makes = placed.makes;
+                  named = placed.named;
+                  lower = placed.lower;
+                  there = stands key node found node.above refl;
+                }
 
 -- one run of cuts after another
 module _ {T : Type 0} (a : Tree T) (xs : List (Closed T)) (b : Tree T) (ys : List (Closed T)) where

@@ -69,14 +69,15 @@ module _ {T : Type 0} where
           apart = λ a b found_a found_b numbers. sound.apart a b (sym (same_found a) ∙ found_a) (sym (same_found b) ∙ found_b) numbers;
           placed = λ k node found. stays k node found (cases_key k key);
         } where
-      more : (k : Key) → IsSome (find s k) → IsSome (find t k)
-      more k found = same_found k ∙ found
-      stays : (k : Key) (n : Node T) → find t k ≡ Some n → (k ≡ key) ⊎ (k ≢ key) → IsPlaced t k.number n.made n.above
-      stays k n found (inl at) =
-          let same : n ≡ after = let e : find t key ≡ Some n = ap (find t) (sym at) ∙ found in cc in
-          let placed : IsPlaced t k.number before.made before.above = IsPlaced-kept s t k.number before.made before.above more (sound.placed k before (ap (find s) at ∙ was)) in
-          subst (λ (m : Node T). IsPlaced t k.number m.made m.above) (sym same) (subst (λ a. IsPlaced t k.number after.made a) (sym above) (subst (λ m. IsPlaced t k.number m before.above) (sym made) placed))
-      stays k n found (inr at) = IsPlaced-kept s t k.number n.made n.above more (sound.placed k n (sym (kept k at) ∙ found))
+          more : (k : Key) → IsSome (find s k) → IsSome (find t k)
+          more k found = same_found k ∙ found
+
+          stays : (k : Key) (n : Node T) → find t k ≡ Some n → (k ≡ key) ⊎ (k ≢ key) → IsPlaced t k.number n.made n.above
+          stays k n found (inl at) =
+              let same : n ≡ after = let e : find t key ≡ Some n = ap (find t) (sym at) ∙ found in cc in
+              let placed : IsPlaced t k.number before.made before.above = IsPlaced-kept s t k.number before.made before.above more (sound.placed k before (ap (find s) at ∙ was)) in
+              subst (λ (m : Node T). IsPlaced t k.number m.made m.above) (sym same) (subst (λ a. IsPlaced t k.number after.made a) (sym above) (subst (λ m. IsPlaced t k.number m before.above) (sym made) placed))
+          stays k n found (inr at) = IsPlaced-kept s t k.number n.made n.above more (sound.placed k n (sym (kept k at) ∙ found))
 
   module _ (s t : Tree T) (key : Key) (node : Node T) (free : find s key ≡ None) (opened : find t key ≡ Some node) (kept : KeepsOthers s t key) where
     -- what was found still is
@@ -94,23 +95,26 @@ module _ {T : Type 0} where
           apart = λ a b found_a found_b numbers. apart a b found_a found_b numbers (cases_key a key) (cases_key b key);
           placed = λ k n found. stays k n found (cases_key k key);
         } where
-      fresh : (k : Key) → k ≢ key → k.number ≡ key.number → IsSome (find t k) → ⊥
-      fresh k other number found = none_not_some (find t k) (kept k other ∙ unused k number) found
-      apart : (a b : Key) → IsSome (find t a) → IsSome (find t b) → a.number ≡ b.number → (a ≡ key) ⊎ (a ≢ key) → (b ≡ key) ⊎ (b ≢ key) → a ≡ b
-      apart a b found_a found_b numbers (inl at_a) (inl at_b) = at_a ∙ sym at_b
-      apart a b found_a found_b numbers (inl at_a) (inr at_b) =
-          absurd (fresh b at_b (sym numbers ∙ ap (λ k. k.number) at_a) found_b)
-      apart a b found_a found_b numbers (inr at_a) (inl at_b) =
-          absurd (fresh a at_a (numbers ∙ ap (λ k. k.number) at_b) found_a)
-      apart a b found_a found_b numbers (inr at_a) (inr at_b) =
-          sound.apart a b (ap is_some (sym (kept a at_a)) ∙ found_a) (ap is_some (sym (kept b at_b)) ∙ found_b) numbers
-      more : (k : Key) → IsSome (find s k) → IsSome (find t k)
-      more k found = ap is_some (opened_keeps k found) ∙ found
-      stays : (k : Key) (n : Node T) → find t k ≡ Some n → (k ≡ key) ⊎ (k ≢ key) → IsPlaced t k.number n.made n.above
-      stays k n found (inl at) =
-          let same : n ≡ node = let e : find t key ≡ Some n = ap (find t) (sym at) ∙ found in cc in
-          subst (λ (m : Node T). IsPlaced t k.number m.made m.above) (sym same) (subst (λ (j : Key). IsPlaced t j.number node.made node.above) (sym at) (IsPlaced-kept s t key.number node.made node.above more placed))
-      stays k n found (inr at) = IsPlaced-kept s t k.number n.made n.above more (sound.placed k n (sym (kept k at) ∙ found))
+          fresh : (k : Key) → k ≢ key → k.number ≡ key.number → IsSome (find t k) → ⊥
+          fresh k other number found = none_not_some (find t k) (kept k other ∙ unused k number) found
+
+          apart : (a b : Key) → IsSome (find t a) → IsSome (find t b) → a.number ≡ b.number → (a ≡ key) ⊎ (a ≢ key) → (b ≡ key) ⊎ (b ≢ key) → a ≡ b
+          apart a b found_a found_b numbers (inl at_a) (inl at_b) = at_a ∙ sym at_b
+          apart a b found_a found_b numbers (inl at_a) (inr at_b) =
+              absurd (fresh b at_b (sym numbers ∙ ap (λ k. k.number) at_a) found_b)
+          apart a b found_a found_b numbers (inr at_a) (inl at_b) =
+              absurd (fresh a at_a (numbers ∙ ap (λ k. k.number) at_b) found_a)
+          apart a b found_a found_b numbers (inr at_a) (inr at_b) =
+              sound.apart a b (ap is_some (sym (kept a at_a)) ∙ found_a) (ap is_some (sym (kept b at_b)) ∙ found_b) numbers
+
+          more : (k : Key) → IsSome (find s k) → IsSome (find t k)
+          more k found = ap is_some (opened_keeps k found) ∙ found
+
+          stays : (k : Key) (n : Node T) → find t k ≡ Some n → (k ≡ key) ⊎ (k ≢ key) → IsPlaced t k.number n.made n.above
+          stays k n found (inl at) =
+              let same : n ≡ node = let e : find t key ≡ Some n = ap (find t) (sym at) ∙ found in cc in
+              subst (λ (m : Node T). IsPlaced t k.number m.made m.above) (sym same) (subst (λ (j : Key). IsPlaced t j.number node.made node.above) (sym at) (IsPlaced-kept s t key.number node.made node.above more placed))
+          stays k n found (inr at) = IsPlaced-kept s t k.number n.made n.above more (sound.placed k n (sym (kept k at) ∙ found))
 
   -- what an insert leaves
   pub IsSound-inserted : (s t : Tree T) (r : Result Key (Node T)) (number : ℕ) (node : Node T) → IfOk r (λ key. key.number ≡ number) → IfOk r (λ key. entry_at s key.slot ≡ None) → IfOk r (λ key. find t key ≡ Some node) → IfOk r (λ key. KeepsOthers s t key) → OnErr r (t ≡ record s { room = t.room }) → IsUnused s number → IsPlaced s number node.made node.above → IsSound s → IsSound t
@@ -124,9 +128,9 @@ module _ {T : Type 0} where
   named_parent s key node found sound =
       let placed = sound.placed key node found in
       sym (ap (option_and_then (named_above key.number)) found ∙ ap (option_and_then (if_less key.number)) placed.named ∙ less node.above placed.lower) where
-    less : (above : Option Key) → IfSome above (λ p. p.number < key.number) → option_and_then (if_less key.number) (option_map (λ p. p.number) above) ≡ option_map (λ p. p.number) above
-    less None lower = refl
-    less (Some p) lower = grind (arith, nat_tests, lower)
+        less : (above : Option Key) → IfSome above (λ p. p.number < key.number) → option_and_then (if_less key.number) (option_map (λ p. p.number) above) ≡ option_map (λ p. p.number) above
+        less None lower = refl
+        less (Some p) lower = grind (arith, nat_tests, lower)
 
   -- a key that stands below one finds a record
   pub child_found : (s : Tree T) (key : Key) (n : ℕ) → parent_number s key ≡ Some n → IsSome (find s key)

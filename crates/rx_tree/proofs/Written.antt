@@ -61,10 +61,10 @@ module _ {X : Type 0} where
     KeepsOthers-written k differs =
         elim (cases_eq k.slot key.slot) [
           | inl same ↦
-            let other : key.number ≢ k.number = λ n. differs (same_key k key same (sym n)) in
-            let now = ap (entry_at t) same ∙ entry_found t key after find-written in
-            let was = ap (entry_at s) same ∙ entry_found s key before found in
-            (ap (with_number k.number) now ∙ with_number-other k.number (entry_of key.number after) other) ∙ sym (ap (with_number k.number) was ∙ with_number-other k.number (entry_of key.number before) other)
+              let other : key.number ≢ k.number = λ n. differs (same_key k key same (sym n)) in
+              let now = ap (entry_at t) same ∙ entry_found t key after find-written in
+              let was = ap (entry_at s) same ∙ entry_found s key before found in
+              (ap (with_number k.number) now ∙ with_number-other k.number (entry_of key.number after) other) ∙ sym (ap (with_number k.number) was ∙ with_number-other k.number (entry_of key.number before) other)
           | inr apart ↦ ap (with_number k.number) (elsewhere k.slot apart)
         ]
 

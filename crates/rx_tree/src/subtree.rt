@@ -3,11 +3,10 @@
 ghost use Rattle.std.specs.Prelude.{◌≡◌, ℕ, ◌+◌, ◌<◌, ◌≤◌, ◌∷◌, [], ◌++◌, IsSome, IsTrue, Some, None, vec_len, vec_capacity, true, false};
 ghost use Rattle.rx_slots.specs.declared.Key.{Key};
 ghost use Rattle.rx_slots.specs.Slots.{find, slot_count, Changes};
+ghost use Rattle.rx_tree.specs.Cuts.{orphan_at, Cuts};
 
 use crate::node::{Closed, Node};
 use rx_slots::{Key, Slots};
-
-ghost use Rattle.rx_tree.specs.Cuts.{orphan_at, Cuts};
 
 // Moves one record out.
 pub(crate) fn move_out<R: Drop>(nodes: &mut Slots<Node<R>>, key: Key, closed: &mut Vec<Closed<R>>)

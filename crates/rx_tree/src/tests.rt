@@ -62,7 +62,6 @@ fn fresh_tally(tag: u64) -> Tally {
     }
 }
 
-
 fn pass_at(place: Place) -> Event {
     Event::Open {
         place,
@@ -179,10 +178,16 @@ fn a_record_is_as_it_was_opened(rt: HostRuntime) -> Result<(), Fail> {
         assert!(rt; tree.contains(key) && !tree.is_unused(key.number));
     }
     assert_eq!(rt; tree.children(top, 0), Some(source));
-    assert_eq!(rt; tree.children(top, source.slot.wrapping_add(1)), Some(notifier));
+    assert_eq!(rt;
+        tree.children(top, source.slot.wrapping_add(1)),
+        Some(notifier)
+    );
     assert_eq!(rt; tree.children(top, notifier.slot.wrapping_add(1)), None);
     assert_eq!(rt; tree.children(source, 0), Some(inner));
-    assert_eq!(rt; tree.children(source, inner.slot.wrapping_add(1)), Some(other));
+    assert_eq!(rt;
+        tree.children(source, inner.slot.wrapping_add(1)),
+        Some(other)
+    );
     assert_eq!(rt; tree.children(inner, 0), None);
     assert_eq!(rt; tree.children(connection, 0), Some(below));
     Ok(())
@@ -232,7 +237,12 @@ fn a_resource_is_used_and_taken_out_by_its_number(rt: HostRuntime) -> Result<(),
     let node = opened(&mut tree, 0, pass_at(Place::Root), None)?;
     let mut keys = Vec::new(rt.alloc());
     for number in [1u64, 2, 5, 6, 8, 9] {
-        match held(&mut tree, node, number, fresh_tally(number.wrapping_mul(10))) {
+        match held(
+            &mut tree,
+            node,
+            number,
+            fresh_tally(number.wrapping_mul(10)),
+        ) {
             Ok(res) => keys.push(res)?,
             Err(back) => {
                 let _tag = back.tag;
@@ -241,7 +251,13 @@ fn a_resource_is_used_and_taken_out_by_its_number(rt: HostRuntime) -> Result<(),
         }
     }
     let second = *keys.get(1).ok_or("a key is lost")?;
-    assert_eq!(rt; second, ResKey { slot: node.slot, number: 2 });
+    assert_eq!(rt;
+        second,
+        ResKey {
+            slot: node.slot,
+            number: 2
+        }
+    );
     for (word, answer) in [(5, 5), (3, 6)] {
         match tree.box_mut(second) {
             Some(resource) => {
@@ -294,7 +310,10 @@ fn an_old_key_finds_nothing_at_a_slot_used_again(rt: HostRuntime) -> Result<(), 
             ..Marks::blank()
         },
     );
-    assert_eq!(rt; (tree.made(old), tree.marks(old), tree.parent(old)), (None, None, None));
+    assert_eq!(rt;
+        (tree.made(old), tree.marks(old), tree.parent(old)),
+        (None, None, None)
+    );
     assert!(rt; !tree.contains(old) && !tree.holds(old_res) && tree.unhold(old_res).is_none());
     assert_eq!(rt; tree.marks(new), Some(Marks::blank()));
     assert!(rt; tree.holds(ResKey { slot: 0, number: 4 }));
@@ -308,7 +327,12 @@ fn chain(alloc: Global, count: u64) -> Result<(Tree<Tally>, Key), Fail> {
     let mut above = top;
     for step in 1..count {
         let number = step.wrapping_mul(2);
-        above = opened(&mut tree, number, pass_at(Place::Source(above.number)), Some(above))?;
+        above = opened(
+            &mut tree,
+            number,
+            pass_at(Place::Source(above.number)),
+            Some(above),
+        )?;
         if held(&mut tree, above, number.wrapping_add(1), fresh_tally(step)).is_err() {
             return Err(Fail::from("no memory"));
         }
@@ -361,7 +385,10 @@ fn children_at_lower_slots_are_closed_too(rt: HostRuntime) -> Result<(), Fail> {
     let middle = opened(&mut tree, 11, pass_at(Place::Source(10)), Some(top))?;
     let other = opened(&mut tree, 12, pass_at(Place::Root), None)?;
     let lowest = opened(&mut tree, 13, pass_at(Place::Source(11)), Some(middle))?;
-    assert_eq!(rt; (top.slot, middle.slot, other.slot, lowest.slot), (3, 2, 1, 0));
+    assert_eq!(rt;
+        (top.slot, middle.slot, other.slot, lowest.slot),
+        (3, 2, 1, 0)
+    );
     closed.clear();
     if tree.len() <= closed.capacity() && tree.contains(top) {
         tree.close_below(top, &mut closed);
@@ -435,18 +462,35 @@ fn a_refused_hold_gives_the_resource_back(rt: HostRuntime) -> Result<(), Fail> {
         let number = holds.wrapping_add(1);
         match held(&mut tree, node, number, fresh_tally(number.wrapping_mul(3))) {
             Ok(res) => {
-                assert_eq!(rt; res, ResKey { slot: node.slot, number });
+                assert_eq!(rt;
+                    res,
+                    ResKey {
+                        slot: node.slot,
+                        number
+                    }
+                );
                 holds = number;
             }
             Err(back) => {
                 refused = refused.wrapping_add(1);
-                assert_eq!(rt; (back.tag, back.uses, back.life), (number.wrapping_mul(3), 0, Life::Live));
+                assert_eq!(rt;
+                    (back.tag, back.uses, back.life),
+                    (number.wrapping_mul(3), 0, Life::Live)
+                );
                 assert!(rt; scarce.give_back_one());
             }
         }
-        assert!(rt; !tree.holds(ResKey { slot: node.slot, number: holds.wrapping_add(1) }));
+        assert!(rt;
+            !tree.holds(ResKey {
+                slot: node.slot,
+                number: holds.wrapping_add(1)
+            })
+        );
         for number in 1..=holds {
-            match tree.box_mut(ResKey { slot: node.slot, number }) {
+            match tree.box_mut(ResKey {
+                slot: node.slot,
+                number,
+            }) {
                 Some(resource) => assert_eq!(rt; resource.tag, number.wrapping_mul(3)),
                 None => return Err(Fail::from("a resource is lost")),
             }

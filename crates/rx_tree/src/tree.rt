@@ -1,4 +1,4 @@
-//! The tree.
+//! The tree, and the calls on its records.
 
 ghost use Rattle.std.specs.Prelude.{◌≡◌, ℕ, ◌+◌, ◌<◌, ◌≤◌, ◌↔◌, [], ◌++◌, IsOk, IsSome, IsTrue, IfOk, IfErr, IfSome, IfNone, OnOk, OnErr, OnSome, Some, None, option_map, vec_len, vec_capacity, take, drop, length, cond, is_some, count_by};
 ghost use Rattle.std.specs.Option.{option_and_then, option_copied_mut};
@@ -28,7 +28,11 @@ fn names(place: Place, number: u64) -> bool
     }
 }
 
-/// The open nodes.
+/// The records of the open nodes, with their resources.
+///
+/// What stands below a node is closed with it (Observable Contract: an end and an unsubscription stop
+/// the observable, and so all that it subscribed to), and what is held at it comes out then, as the
+/// resource of Using does.
 #[derive(Drop)]
 pub struct Tree<R: Resource> {
     nodes: Slots<Node<R>>,

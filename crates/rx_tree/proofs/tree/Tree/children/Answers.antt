@@ -17,13 +17,13 @@ loop-slot-preserved g c other from below is =
     elim (cases_lt other.slot c.loop-slot.slot) [
       | inl earlier ↦ c.loop-slot.invariant other from earlier is
       | inr here ↦
-        let same : other.slot ≡ c.loop-slot.slot = omega arith in
-        elim c.match-key_at.branch [
-          | in-Some+else-eq w ↦
-            no_child c.args.self.now c.args.key c.loop-slot.slot c.key_at.result (rw c.self.view_is at c.self.invariant) (rw c.self.view_is at c.key_at.ensures) (λ child at.
-              let same_child : w.in-Some.child ≡ child = let e = w.in-Some.is in cc in
-              rw (← same_child) (w.parent.result, w.parent.ensures.number, w.parent.ensures.found, λ e. equal_keys c.args.key (rw e at (sym w.eq.ensures ∙ w.if-eq.false)))) other same is
-          | in_default w ↦
-            no_child c.args.self.now c.args.key c.loop-slot.slot c.key_at.result (rw c.self.view_is at c.self.invariant) (rw c.self.view_is at c.key_at.ensures) (λ child at. absurd (w.in_default.not-Some child at)) other same is
-        ]
+          let same : other.slot ≡ c.loop-slot.slot = omega arith in
+          elim c.match-key_at.branch [
+            | in-Some+else-eq w ↦
+                no_child c.args.self.now c.args.key c.loop-slot.slot c.key_at.result (rw c.self.view_is at c.self.invariant) (rw c.self.view_is at c.key_at.ensures) (λ child at.
+                let same_child : w.in-Some.child ≡ child = let e = w.in-Some.is in cc in
+                rw (← same_child) (w.parent.result, w.parent.ensures.number, w.parent.ensures.found, λ e. equal_keys c.args.key (rw e at (sym w.eq.ensures ∙ w.if-eq.false)))) other same is
+            | in_default w ↦
+                no_child c.args.self.now c.args.key c.loop-slot.slot c.key_at.result (rw c.self.view_is at c.self.invariant) (rw c.self.view_is at c.key_at.ensures) (λ child at. absurd (w.in_default.not-Some child at)) other same is
+          ]
     ]

@@ -8,6 +8,6 @@ pub returns-then-eq : goal.returns-then-eq
 returns-then-eq g c =
     let at : c.number_at.result ≡ Some c.args.number = search rules in
     let read : number_at c.args.self.now c.loop-slot.slot ≡ Some c.args.number = rw (← c.self.view_is) (sym c.number_at.ensures ∙ at) in (
-  λ no. absurd (true≢false (sym no)),
-  λ unused. absurd (none_not_some _ (unused (record { slot = c.loop-slot.slot; number = c.args.number }) refl) (number_found c.args.self.now c.loop-slot.slot c.args.number read)),
-)
+      λ no. absurd (true≢false (sym no)),
+      λ unused. absurd (none_not_some _ (unused (record { slot = c.loop-slot.slot; number = c.args.number }) refl) (number_found c.args.self.now c.loop-slot.slot c.args.number read)),
+    )
