@@ -1,5 +1,5 @@
 -- What the cases ask of a book.
-use Rattle.std.specs.Prelude.{◌≡◌, ℕ, ◌+◌, Bool, true, Option, Some, slice_get, pos, List}
+use Rattle.std.specs.Prelude.{◌≡◌, ℕ, ◌+◌, Bool, true, Some, slice_get, pos}
 use Rattle.std.specs.List.{Contains}
 use Rattle.std.specs.Option.{option_map}
 use Rattle.rx_note.specs.declared.note.Note.TheVariants.{Next}
