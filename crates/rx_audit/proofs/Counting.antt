@@ -76,14 +76,16 @@ flow_ends h leaf i log total l s = record {
     all f = let a = whole_sum f log i in let b = none f in omega arith
 
     whole : (number : ℕ → ℕ) → IsWhole h (leaf ∷ []) i number (sum_by (times number) log)
-    whole number = record { same = λ d m. (
-      let u = s.upper number (suc d) in
-      let w = s.lower number (suc d - i) (suc d) (omega arith) in
-      let a = all number in
-      let b = none (flow (suc d) h number) in
-      let c = none (flow (suc d - i) h number) in
-      let e = sum_by-cons (flow (suc d) h number) leaf [] in
-      omega arith) }
+    whole number = record {
+      same = λ d m. (
+          let u = s.upper number (suc d) in
+          let w = s.lower number (suc d - i) (suc d) (omega arith) in
+          let a = all number in
+          let b = none (flow (suc d) h number) in
+          let c = none (flow (suc d - i) h number) in
+          let e = sum_by-cons (flow (suc d) h number) leaf [] in
+          omega arith);
+    }
 
     sums : (number : ℕ → ℕ) → sum_by number (visited 1048577 h (leaf ∷ [])) ≡ sum_by (times number) log
     sums number = visits_whole 1048577 h (leaf ∷ []) i (λ f. sum_by (times f) log) whole (let t = s.total in let f = s.few in omega arith) number

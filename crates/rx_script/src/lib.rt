@@ -69,7 +69,6 @@ pub use closing::{Closed, close};
 pub use device::{MOST_BYTES, MOST_TURNS, Watched, WriteFault, write_text};
 pub use dump_laws::a_dump_is_read_back;
 pub use running::run;
-
 use thiserror::Error;
 
 /// Why a run or a check ended early.
