@@ -1,7 +1,7 @@
 //! Each call where it is refused for another cause than room or memory, and ends by an error.
 
 use super::lamps::new_lamp;
-use super::probe::{Back, Probe, mail, opening, untouched, unused};
+use super::probe::{Back, Probe, counts, mail, opening, untouched, unused};
 use crate::{At, Key, ResKey};
 use rx_event::{Event, Kind, Place, Refusal, Terminal};
 use rx_note::Note;
@@ -19,23 +19,23 @@ fn an_error_ends_every_node_above_and_hands_back_all_resources(
     let leaf = book.open(At::Source(middle.key), Kind::Leaf)?;
     assert_eq!(rt; book.next(leaf.key, i64::MIN), Ok(5));
     assert_eq!(rt; book.end(leaf.key, Terminal::Error(9)), Ok(6));
-    assert_eq!(rt; (book.totals().held, book.totals().waiting), (0, 2));
+    assert_eq!(rt; book.totals(), counts(9, 1, [2, 0, 2, 0]));
     let given = [book.take(), book.take()];
     let (first, second) = (Some(unused(1, 21)), Some(unused(3, 22)));
     assert!(rt;
         given == [first, second] || given == [second, first],
         "{given:?}"
     );
-    assert_eq!(rt; (book.totals().waiting, book.totals().taken), (0, 2));
-    assert_eq!(rt; book.event(0), Some(opening(Place::Root, Kind::Pass)));
-    assert_eq!(rt; book.event(2), Some(opening(Place::Source(0), Kind::Pass)));
-    for (place, node) in [(6, 4), (7, 2), (8, 0)] {
-        assert_eq!(rt;
-            book.event(place),
-            Some(Event::End(node, Terminal::Error(9)))
-        );
+    assert_eq!(rt; book.totals(), counts(11, 1, [2, 0, 0, 2]));
+    for (place, event) in [
+        (0, opening(Place::Root, Kind::Pass)),
+        (2, opening(Place::Source(0), Kind::Pass)),
+        (6, Event::End(4, Terminal::Error(9))),
+        (7, Event::End(2, Terminal::Error(9))),
+        (8, Event::End(0, Terminal::Error(9))),
+    ] {
+        assert_eq!(rt; book.event(place), Some(event), "at {place}");
     }
-    assert_eq!(rt; book.totals().len, 11);
     book.assert_mail(
         &rt,
         &[
@@ -60,20 +60,17 @@ fn a_node_takes_no_call_that_its_kind_or_place_has_not(rt: HostRuntime) -> Resul
     ] {
         assert_eq!(rt; book.open(at, kind), Err(why), "{kind:?} at {at:?}");
     }
-    assert_eq!(rt;
-        book.open_using(At::Source(root), new_lamp(3)),
-        Err(untouched(Refusal::PlaceTaken, 3))
-    );
-    assert_eq!(rt;
-        book.open_using(At::Source(leaf), new_lamp(3)),
-        Err(untouched(Refusal::WrongKind, 3))
-    );
-    assert_eq!(rt; book.next(root, 1), Err(Refusal::WrongKind));
-    assert_eq!(rt;
+    for (node, why) in [(root, Refusal::PlaceTaken), (leaf, Refusal::WrongKind)] {
+        let refused = book.open_using(At::Source(node), new_lamp(3));
+        assert_eq!(rt; refused, Err(untouched(why, 3)));
+    }
+    let answers = [
+        book.next(root, 1),
         book.end(root, Terminal::Completed),
-        Err(Refusal::WrongKind)
-    );
-    assert_eq!(rt; book.dispose(leaf), Err(Refusal::NotRoot));
+        book.dispose(leaf),
+    ];
+    let (wrong, no_root) = (Err(Refusal::WrongKind), Err(Refusal::NotRoot));
+    assert_eq!(rt; answers, [wrong, wrong, no_root]);
     book.assert_events(
         &rt,
         &[
@@ -106,13 +103,12 @@ fn a_key_that_was_made_up_is_nobodys(rt: HostRuntime) -> Result<(), Fail> {
         },
     ] {
         assert!(rt; !book.is_open(key), "{key:?}");
-        assert_eq!(rt; book.next(key, 1), Err(Refusal::Gone), "{key:?}");
-        assert_eq!(rt;
+        let answers = [
+            book.next(key, 1),
             book.end(key, Terminal::Completed),
-            Err(Refusal::Gone),
-            "{key:?}"
-        );
-        assert_eq!(rt; book.dispose(key), Err(Refusal::Gone), "{key:?}");
+            book.dispose(key),
+        ];
+        assert_eq!(rt; answers, [Err(Refusal::Gone); 3], "{key:?}");
         assert_eq!(rt;
             book.open(At::Source(key), Kind::Leaf),
             Err(Refusal::Gone),
@@ -125,19 +121,20 @@ fn a_key_that_was_made_up_is_nobodys(rt: HostRuntime) -> Result<(), Fail> {
         );
     }
     let res = opened.res;
-    assert!(rt; book.is_held(res));
-    assert!(rt;
-        !book.is_held(ResKey {
-            slot: res.slot.wrapping_add(1),
-            number: res.number
-        })
-    );
-    assert!(rt;
-        !book.is_held(ResKey {
-            slot: res.slot,
-            number: res.number.wrapping_add(1)
-        })
-    );
+    let other_slot = ResKey {
+        slot: res.slot.wrapping_add(1),
+        number: res.number,
+    };
+    let other_number = ResKey {
+        slot: res.slot,
+        number: res.number.wrapping_add(1),
+    };
+    let held = [
+        book.is_held(res),
+        book.is_held(other_slot),
+        book.is_held(other_number),
+    ];
+    assert_eq!(rt; held, [true, false, false]);
     assert_eq!(rt; book.totals().len, 3);
     Ok(())
 }

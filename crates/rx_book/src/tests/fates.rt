@@ -16,6 +16,13 @@ struct Fates {
     dropped: AtomicU32,
 }
 
+fn released_and_dropped(fates: &Fates) -> (u32, u32) {
+    (
+        fates.released.load(Ordering::SeqCst),
+        fates.dropped.load(Ordering::SeqCst),
+    )
+}
+
 // A resource that counts what becomes of it.
 struct Watched {
     life: Life,
@@ -88,11 +95,9 @@ fn a_book_that_is_dropped_drops_its_resources_unreleased(rt: HostRuntime) -> Res
     assert_eq!(rt; book.dispose(closed), Ok(6));
     assert_eq!(rt; (book.totals().held, book.totals().waiting), (2, 2));
     assert!(rt; book.take().is_some());
-    assert_eq!(rt; fates.released.load(Ordering::SeqCst), 1);
-    assert_eq!(rt; fates.dropped.load(Ordering::SeqCst), 1);
+    assert_eq!(rt; released_and_dropped(&fates), (1, 1));
     assert_eq!(rt; (book.totals().held, book.totals().waiting), (2, 1));
     drop(book);
-    assert_eq!(rt; fates.released.load(Ordering::SeqCst), 1);
-    assert_eq!(rt; fates.dropped.load(Ordering::SeqCst), 4);
+    assert_eq!(rt; released_and_dropped(&fates), (1, 4));
     Ok(())
 }

@@ -21,16 +21,10 @@ fn many_items_of_one_leaf_are_emitted_and_read(rt: HostRuntime) -> Result<(), Fa
     }
     assert_eq!(rt; book.end(leaf, Terminal::Completed), Ok(ITEMS + 2));
     for i in 0..ITEMS {
-        assert_eq!(rt;
-            book.take_mail(),
-            Some(mail(i + 2, 0, Note::Next(i as i64)))
-        );
+        let note = mail(i + 2, 0, Note::Next(i as i64));
+        assert_eq!(rt; book.take_mail(), Some(note));
     }
-    assert_eq!(rt;
-        book.take_mail(),
-        Some(mail(ITEMS + 3, 0, Note::End(Terminal::Completed)))
-    );
-    assert_eq!(rt; book.take_mail(), None);
+    book.assert_mail(&rt, &[mail(ITEMS + 3, 0, Note::End(Terminal::Completed))]);
     assert_eq!(rt; book.totals(), counts(ITEMS + 4, ITEMS, [0, 0, 0, 0]));
     Ok(())
 }

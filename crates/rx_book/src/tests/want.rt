@@ -254,8 +254,8 @@ fn closing_and_handing_out_take_no_memory(rt: HostRuntime) -> Result<(), Fail> {
     assert_eq!(rt; book.next(leaf, 8), Ok(7));
     let _scarce = Scarce::new(rt.alloc())?;
     assert!(rt; !has_memory(rt.alloc()));
-    assert_eq!(rt; book.end(leaf, Terminal::Completed), Ok(8));
-    assert_eq!(rt; book.dispose(closing), Ok(10));
+    let closed = [book.end(leaf, Terminal::Completed), book.dispose(closing)];
+    assert_eq!(rt; closed, [Ok(8), Ok(10)]);
     let given = [book.take(), book.take(), book.take()];
     for number in [1, 4, 6] {
         assert!(rt; given.contains(&Some(unused(number, number))), "{given:?}");
