@@ -1,10 +1,10 @@
 -- The log of visits, followed entry by entry, says how often each node is visited.
-use Rattle.std.proofs.Common.{◌≡◌, ℕ, zero, suc, ◌+◌, ◌*◌, ◌-◌, ◌<◌, ◌≤◌, List, [], ◌∷◌, ◌++◌, length, take, drop, get_or, Some, slice_get, refl, sym, ap, ◌∙◌, arith, inl, inr, ◌⊎◌, add-one, take-append-drop}
+use Rattle.std.proofs.Common.{◌≡◌, ℕ, zero, suc, ◌+◌, ◌*◌, ◌-◌, ◌<◌, ◌≤◌, List, [], ◌∷◌, length, take, drop, get_or, refl, sym, ap, ◌∙◌, arith, take-append-drop}
 use Rattle.std.proofs.lemmas.Option.{same_Some, none-some}
 use Rattle.std.specs.List.{sum_by}
 use Rattle.std.proofs.Math.Nat.{mul-le-mul_left}
 use Rattle.std.proofs.Math.Seq.{drop-cons}
-use Rattle.std.proofs.lemmas.List.{take_more, drop_all}
+use Rattle.std.proofs.lemmas.List.{drop_all}
 use Rattle.std.proofs.lemmas.List.Sums.{sum_by-append, sum_by-cons, sum_by_more}
 use Rattle.rx_event.specs.declared.event.Event.{Event}
 use Rattle.rx_event.specs.Climb.{visited, onward, climb, visits, most_visits}
@@ -76,14 +76,16 @@ flow_ends h leaf i log total l s = record {
     all f = let a = whole_sum f log i in let b = none f in omega arith
 
     whole : (number : ℕ → ℕ) → IsWhole h (leaf ∷ []) i number (sum_by (times number) log)
-    whole number = record { same = λ d m. (
-      let u = s.upper number (suc d) in
-      let w = s.lower number (suc d - i) (suc d) (omega arith) in
-      let a = all number in
-      let b = none (flow (suc d) h number) in
-      let c = none (flow (suc d - i) h number) in
-      let e = sum_by-cons (flow (suc d) h number) leaf [] in
-      omega arith) }
+    whole number = record {
+      same = λ d m. (
+          let u = s.upper number (suc d) in
+          let w = s.lower number (suc d - i) (suc d) (omega arith) in
+          let a = all number in
+          let b = none (flow (suc d) h number) in
+          let c = none (flow (suc d - i) h number) in
+          let e = sum_by-cons (flow (suc d) h number) leaf [] in
+          omega arith);
+    }
 
     sums : (number : ℕ → ℕ) → sum_by number (visited 1048577 h (leaf ∷ [])) ≡ sum_by (times number) log
     sums number = visits_whole 1048577 h (leaf ∷ []) i (λ f. sum_by (times f) log) whole (let t = s.total in let f = s.few in omega arith) number
