@@ -1,14 +1,11 @@
 -- The subscribers of a hub, one after another.
-use Rattle.std.proofs.Common.{◌≡◌, ℕ, zero, suc, ◌+◌, ◌-◌, ◌<◌, ◌≤◌, Bool, true, false, List, [], ◌∷◌, ◌++◌, length, Option, Some, None, refl, sym, ap, ◌∙◌, arith, cond, get_or, set, get_or-set_other, get_or-set_same, ◌≢◌, ◌==◌, ◌⊎◌, inl, inr, filter, replicate, append_assoc, append-nil, slice_get}
-use Rattle.std.proofs.Math.Bool.{◌&&◌}
-use Rattle.std.specs.List.{range_with_len}
-use Rattle.std.specs.Option.{option_map_or, option_and_then}
-use Rattle.std.proofs.lemmas.Bool.{cases_Bool, cases_lt, cases_order, both_ways, eq-eqb, eqb-true, ne_eqb}
+use Rattle.std.proofs.Common.{◌≡◌, ℕ, zero, suc, ◌+◌, ◌-◌, ◌<◌, ◌≤◌, true, false, List, [], ◌∷◌, ◌++◌, length, Some, None, refl, sym, ap, ◌∙◌, arith, cond, get_or, set, get_or-set_other, get_or-set_same, ◌≢◌, ◌==◌, ◌⊎◌, inl, inr, replicate, append_assoc, append-nil, slice_get}
+use Rattle.std.proofs.lemmas.Bool.{cases_Bool, cases_order, both_ways, eq-eqb, eqb-true, ne_eqb}
 use Rattle.std.proofs.lemmas.List.{length-replicate, get_or-replicate}
 use Rattle.std.proofs.Math.ListN.{length-set}
 use Rattle.rx_event.specs.declared.event.Event.{Event}
 use Rattle.rx_event.specs.Events.{is_subscriber_of}
-use Rattle.rx_event.specs.Tree.{at, is_open, open_subscribers}
+use Rattle.rx_event.specs.Tree.{is_open, open_subscribers}
 use Rattle.rx_audit.specs.Rules.{is_key, hub_subscribed, open_subscribed}
 use Rattle.rx_audit.specs.declared.subscribers.Subscribers.{Subscribers}
 use Rattle.rx_audit.specs.Chain.{subscribes, subscribers_from, first_or, subscriber_from, IsChained}

@@ -1,13 +1,13 @@
 -- Marks and counts by a key.
-use Rattle.std.proofs.Common.{◌≡◌, ℕ, zero, suc, ◌+◌, ◌<◌, ◌≤◌, Bool, true, false, List, [], ◌∷◌, ◌++◌, length, Option, Some, None, refl, sym, ap, ◌∙◌, arith, ◌==◌, ◌≢◌, get_or, set, get_or-set_other, get_or-set_same, ◌⊎◌, inl, inr, cond, take, count_by, add_assoc, add-zero}
-use Rattle.std.proofs.Math.Bool.{not, ◌&&◌, ◌||◌}
+use Rattle.std.proofs.Common.{◌≡◌, ℕ, zero, suc, ◌+◌, ◌<◌, ◌≤◌, Bool, true, false, List, [], ◌∷◌, length, Option, Some, None, refl, sym, ap, ◌∙◌, arith, ◌==◌, ◌≢◌, get_or, set, get_or-set_other, get_or-set_same, ◌⊎◌, inl, inr, cond, take, add_assoc, add-zero}
+use Rattle.std.proofs.Math.Bool.{◌||◌}
 use Rattle.std.proofs.Math.ListN.{length-set}
 use Rattle.std.proofs.lemmas.Bool.{cases_order, eq-eqb, ne_eqb}
 use Rattle.std.specs.List.{list_any, sum_by}
 use Rattle.rx_audit.specs.declared.reach.Visit.{Visit}
 use Rattle.std.proofs.lemmas.List.Folds.{list_any_more}
 use Rattle.std.proofs.lemmas.List.Sums.{sum_by_more}
-use Rattle.rx_audit.specs.Tables.{IsTable, IsTally, marks_with, counts_with, counts_plus, IsTold, IsCounted}
+use Rattle.rx_audit.specs.Tables.{marks_with, counts_with, counts_plus, IsTold, IsCounted}
 use Rattle.rx_audit.specs.Rules.{is_key}
 
 or_false : (b : Bool) → (b || false) ≡ b

@@ -1,4 +1,4 @@
-use Rattle.std.proofs.Common.{◌≡◌, ℕ, ◌+◌, ◌≤◌, length, take, get_or}
+use Rattle.std.proofs.Common.{ℕ, ◌+◌, ◌≤◌, take, get_or}
 use Rattle.std.specs.List.{sum_by}
 use Rattle.std.specs.Option.{option_and_then}
 use Rattle.rx_event.specs.Climb.{stop_at}

@@ -1,4 +1,4 @@
-use Rattle.std.proofs.Common.{arith, refl, length, ap}
+use Rattle.std.proofs.Common.{arith, refl, ap}
 use Rattle.rx_event.specs.Moments.{stops_of}
 use Rattle.rx_audit.proofs.Finding.{fired_item, projected_item, fired_same, projected_same}
 use Rattle.rx_audit.proofs.found.find_item.Goals as goal

@@ -1,4 +1,4 @@
-use Rattle.std.proofs.Common.{◌≡◌, ℕ, ◌≤◌, ap, ◌∙◌, length, arith}
+use Rattle.std.proofs.Common.{ap, arith}
 use Rattle.std.specs.List.{sum_by}
 use Rattle.rx_audit.specs.Flow.{times, IsReached}
 use Rattle.rx_audit.proofs.Finding.{few_times, has_stops}

@@ -1,4 +1,4 @@
-use Rattle.std.proofs.Common.{◌≡◌, ℕ, ◌≤◌, length, take, drop, ◌++◌, arith, refl, sym, ap, ◌∙◌, length-append}
+use Rattle.std.proofs.Common.{◌≡◌, length, arith, ap, ◌∙◌, length-append}
 use Rattle.rx_event.specs.declared.event.Event.{Event}
 use Rattle.rx_audit.specs.Rules.{ended_of, failed_of, completed_of, removed_of, taken_of, paid_of}
 use Rattle.rx_audit.proofs.Finding.{back, table_field, tally_field}

@@ -1,4 +1,4 @@
-use Rattle.std.proofs.Common.{◌≡◌, ℕ, length, take}
+use Rattle.std.proofs.Common.{take}
 use Rattle.std.specs.Option.{option_and_then}
 use Rattle.rx_event.specs.Climb.{stop_at}
 use Rattle.rx_audit.specs.Tables.{IsTold}

@@ -1,6 +1,4 @@
-use Rattle.std.proofs.Common.{◌≡◌, ℕ, ◌+◌, ◌*◌, ◌<◌, ◌≤◌, Some, length, drop, take, get_or, slice_get, sym, ap, ◌∙◌, arith}
-use Rattle.std.specs.List.{sum_by}
-use Rattle.rx_audit.specs.Flow.{times}
+use Rattle.std.proofs.Common.{◌∙◌, arith}
 use Rattle.rx_audit.proofs.Logging.{taken_few, times_more}
 use Rattle.rx_audit.proofs.reach.spread.Goals as goal
 

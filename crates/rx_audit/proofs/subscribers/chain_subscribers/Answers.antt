@@ -1,4 +1,4 @@
-use Rattle.std.proofs.Common.{◌≡◌, ℕ, ◌-◌, suc, length, sym, ap, ◌∙◌, arith}
+use Rattle.std.proofs.Common.{◌≡◌, ◌-◌, suc, sym, arith}
 use Rattle.std.proofs.lemmas.List.{get_or_read}
 use Rattle.rx_audit.proofs.Chaining.{IsChaining, chain_starts, chain_skip, chain_more, chain_whole, not_subscribed, not_any}
 use Rattle.rx_audit.proofs.subscribers.chain_subscribers.Goals as goal

@@ -1,4 +1,4 @@
-use Rattle.std.proofs.Common.{◌≡◌, ℕ, ◌-◌, ◌<◌, ◌++◌, true, length}
+use Rattle.std.proofs.Common.{◌≡◌, ◌-◌, ◌<◌, ◌++◌, true, length}
 use Rattle.rx_event.specs.Tree.{open_subscribers}
 use Rattle.rx_audit.specs.Chain.{subscribes, subscribers_from}
 use Rattle.rx_audit.proofs.subscribers.chained.Given as goal
