@@ -67,6 +67,13 @@ pub fn key_of<K: Copy>(names: &[Named<K>], name: &str) -> Option<K>
         .map(|named| named.key)
 }
 
+/// Whether a name stands for a key.
+pub fn is_bound<K: Copy>(names: &[Named<K>], name: &str) -> bool
+    ensures { result ≡ is_some (key_of names.now name.now) }
+{
+    key_of(names, name).is_some()
+}
+
 /// The place that a site stands for.
 pub fn place_of(names: &[Named<Key>], site: &Site) -> Option<At>
     ensures { result ≡ at_of names.now (spot_of site.now) }
@@ -160,7 +167,7 @@ pub fn open<R: Resource>(
     let Some(place) = place_of(engine.nodes.as_slice(), site) else {
         return Ok(Answer::Refused(Cause::NoName));
     };
-    if key_of(engine.nodes.as_slice(), name.as_str()).is_some() {
+    if is_bound(engine.nodes.as_slice(), name.as_str()) {
         return Ok(Answer::Refused(Cause::NameTaken));
     }
     match engine.book.open(place, kind) {
@@ -189,10 +196,10 @@ pub fn using<R: Resource>(
     let Some(place) = place_of(engine.nodes.as_slice(), site) else {
         return Ok(Answer::Refused(Cause::NoName));
     };
-    if key_of(engine.nodes.as_slice(), name.as_str()).is_some() {
+    if is_bound(engine.nodes.as_slice(), name.as_str()) {
         return Ok(Answer::Refused(Cause::NameTaken));
     }
-    if key_of(engine.resources.as_slice(), res.as_str()).is_some() {
+    if is_bound(engine.resources.as_slice(), res.as_str()) {
         return Ok(Answer::Refused(Cause::NameTaken));
     }
     let Some(resource) = engine.stock.take() else {
@@ -230,7 +237,7 @@ pub fn hold<R: Resource>(
     let Some(key) = key_of(engine.nodes.as_slice(), node) else {
         return Ok(Answer::Refused(Cause::NoName));
     };
-    if key_of(engine.resources.as_slice(), res.as_str()).is_some() {
+    if is_bound(engine.resources.as_slice(), res.as_str()) {
         return Ok(Answer::Refused(Cause::NameTaken));
     }
     let Some(resource) = engine.stock.take() else {

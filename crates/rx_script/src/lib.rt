@@ -59,6 +59,8 @@ mod line;
 mod running;
 mod scenario;
 mod stock;
+#[cfg(test)]
+mod tests;
 mod text;
 mod verdict;
 

@@ -11,8 +11,8 @@ returns-in_default g c =
     let unbound : key_of c.args.engine.now.nodes.items c.args.node.now ≡ None = cc in
     hold_nameless c.args.engine.now c.args.node.now (string_bytes c.args.res) c.requires unbound
 
-pub returns-then-is_some : goal.returns-then-is_some
-returns-then-is_some g c =
+pub returns-then-is_bound : goal.returns-then-is_bound
+returns-then-is_bound g c =
     let at : key_of c.args.engine.now.nodes.items c.args.node.now ≡ Some c.in-Some.key = cc in
     let taken : is_some (key_of c.args.engine.now.resources.items (string_bytes c.args.res)) ≡ true = cc in
     hold_taken c.args.engine.now c.args.node.now (string_bytes c.args.res) c.requires c.in-Some.key at taken

@@ -11,8 +11,8 @@ returns-in_default g c =
     let none : at_of c.args.engine.now.nodes.items (spot_of c.args.site.now) ≡ None = cc in
     open_nameless c.args.engine.now (string_bytes c.args.name) (spot_of c.args.site.now) c.args.kind c.requires none
 
-pub returns-then-is_some : goal.returns-then-is_some
-returns-then-is_some g c =
+pub returns-then-is_bound : goal.returns-then-is_bound
+returns-then-is_bound g c =
     let at : at_of c.args.engine.now.nodes.items (spot_of c.args.site.now) ≡ Some c.in-Some.place = cc in
     let taken : is_some (key_of c.args.engine.now.nodes.items (string_bytes c.args.name)) ≡ true = cc in
     open_taken c.args.engine.now (string_bytes c.args.name) (spot_of c.args.site.now) c.args.kind c.requires c.in-Some.place at taken

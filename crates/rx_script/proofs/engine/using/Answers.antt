@@ -13,14 +13,14 @@ returns-in_default g c =
     let none : at_of c.args.engine.now.nodes.items (spot_of c.args.site.now) ≡ None = cc in
     using_nameless c.args.engine.now (string_bytes c.args.name) (spot_of c.args.site.now) (string_bytes c.args.res) c.requires none
 
-pub returns-then-is_some : goal.returns-then-is_some
-returns-then-is_some g c =
+pub returns-then-is_bound : goal.returns-then-is_bound
+returns-then-is_bound g c =
     let at : at_of c.args.engine.now.nodes.items (spot_of c.args.site.now) ≡ Some c.in-Some.place = cc in
     let node_taken : is_some (key_of c.args.engine.now.nodes.items (string_bytes c.args.name)) ≡ true = cc in
     using_taken c.args.engine.now (string_bytes c.args.name) (spot_of c.args.site.now) (string_bytes c.args.res) c.requires c.in-Some.place at (or_left _ _ node_taken)
 
-pub returns-then-is_some-2 : goal.returns-then-is_some-2
-returns-then-is_some-2 g c =
+pub returns-then-is_bound-2 : goal.returns-then-is_bound-2
+returns-then-is_bound-2 g c =
     let at : at_of c.args.engine.now.nodes.items (spot_of c.args.site.now) ≡ Some c.in-Some.place = cc in
     let res_taken : is_some (key_of c.args.engine.now.resources.items (string_bytes c.args.res)) ≡ true = cc in
     using_taken c.args.engine.now (string_bytes c.args.name) (spot_of c.args.site.now) (string_bytes c.args.res) c.requires c.in-Some.place at (or_right _ _ res_taken)

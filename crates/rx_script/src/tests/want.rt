@@ -1,0 +1,125 @@
+//! Memory refused, at many of the places where a run asks for some, and a closing that takes none.
+
+use super::sights::{Counted, Releases};
+use crate::{Closed, Form, ScriptError, Watched, close, run};
+use rx_book::{At, Book};
+use rx_event::Kind;
+use rx_resource::Resource;
+use rx_scarce::{MOST_BLOCKS, Scarce};
+use std::alloc::Global;
+use std::test::Fail;
+
+// More runs than are refused.
+const RUNS: u32 = 2000;
+
+const SCENARIO: &str = "{\"steps\":[
+    {\"do\":\"using\",\"name\":\"a\",\"place\":\"root\",\"res\":\"r\"},
+    {\"do\":\"open\",\"name\":\"l\",\"place\":\"source\",\"of\":\"a\",\"kind\":\"leaf\"},
+    {\"do\":\"hold\",\"node\":\"l\",\"res\":\"s\"},
+    {\"do\":\"next\",\"node\":\"l\",\"value\":5},
+    {\"do\":\"next\",\"node\":\"x\",\"value\":5},
+    {\"do\":\"end\",\"node\":\"l\"},
+    {\"do\":\"using\",\"name\":\"b\",\"place\":\"root\",\"res\":\"t\"}]}";
+
+const REPORT: &str = "refused 4 NoName
+node a closed: next=5 completed
+node b open:
+res r tag=0 uses=0 waiting
+res s tag=1 uses=0 waiting
+res t tag=2 uses=0 held
+totals nodes=3 open=1 accepted=3 held=1 waiting=2 taken=0
+closed 3 faults 0
+";
+
+#[test]
+fn a_run_without_memory_writes_nothing_and_keeps_nothing(rt: HostRuntime) -> Result<(), Fail> {
+    let mut output: Vec<u8> = Vec::with_capacity(rt.alloc(), 4096)?;
+    let mut stocks: Vec<Vec<Counted>> = Vec::new(rt.alloc());
+    let releases = Releases::new(rt.alloc())?;
+    for _ in 0..RUNS {
+        stocks.push(releases.stock(rt.alloc(), &[0, 1, 2])?)?;
+    }
+    let mut refused = 0u32;
+    let mut kept = 0u32;
+    let mut scarce = Scarce::new(rt.alloc())?;
+    for _ in 0..RUNS {
+        let Some(stock) = stocks.pop() else { break };
+        let before = releases.count();
+        let mut input = SCENARIO.as_bytes();
+        let outcome = run(
+            rt.alloc(),
+            &mut Watched::new(&mut input),
+            &mut Watched::new(&mut output),
+            stock,
+            Form::Report,
+        );
+        if outcome.is_ok() {
+            break;
+        }
+        assert!(rt; matches!(outcome, Err(ScriptError::Memory)), "{outcome:?}");
+        assert!(rt; output.is_empty());
+        let released = releases.count().wrapping_sub(before);
+        assert!(rt; released <= 3);
+        kept = kept.max(released);
+        refused = refused.wrapping_add(1);
+        assert!(rt; scarce.give_back_one());
+    }
+    assert_eq!(rt; output.as_slice(), REPORT.as_bytes());
+    assert!(rt; refused > 3, "refused {refused}");
+    assert!(rt; kept > 0, "released {kept} of a run that was refused");
+    assert!(rt; scarce.block_count() < MOST_BLOCKS);
+    Ok(())
+}
+
+// A book with two roots, one of which holds a resource and one of which is closed and held one.
+fn open_book(alloc: Global, releases: &Releases) -> Result<Book<Counted>, Fail> {
+    let mut book = Book::new(alloc, 1000);
+    for tag in [1, 3] {
+        if book
+            .open_using(At::Root, releases.resource(tag, 0)?)
+            .is_err()
+        {
+            return Err(Fail::from("a using node is refused"));
+        }
+    }
+    let below = book.open(At::Root, Kind::Leaf)?.key;
+    if book.hold(below, releases.resource(4, 0)?).is_err() {
+        return Err(Fail::from("a resource is refused"));
+    }
+    let _place = book.dispose(below)?;
+    Ok(book)
+}
+
+// Closes a book, and closes it again.
+fn close_twice<R: Resource>(book: &mut Book<R>) -> (Closed, Closed) {
+    let first = close(book);
+    (first, close(book))
+}
+
+#[test]
+fn a_closing_takes_no_memory(rt: HostRuntime) -> Result<(), Fail> {
+    let releases = Releases::new(rt.alloc())?;
+    let mut book = open_book(rt.alloc(), &releases)?;
+    assert_eq!(rt; (book.held(), book.waiting(), book.open_count()), (2, 1, 2));
+    let (first, second) = {
+        let _scarce = Scarce::new(rt.alloc())?;
+        close_twice(&mut book)
+    };
+    let three = Closed {
+        released: 3,
+        faults: 1,
+    };
+    let none = Closed {
+        released: 0,
+        faults: 0,
+    };
+    assert_eq!(rt; first, three);
+    assert_eq!(rt; second, none);
+    assert_eq!(rt;
+        (book.held(), book.waiting(), book.taken(), book.open_count()),
+        (0, 0, 3, 0)
+    );
+    assert!(rt; book.open_root().is_none());
+    assert_eq!(rt; releases.count(), 3);
+    Ok(())
+}
