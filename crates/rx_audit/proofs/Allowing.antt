@@ -1,26 +1,17 @@
 -- The tests that compute decide what callers may do.
-use Rattle.std.proofs.Common.{◌≡◌, ℕ, zero, suc, ◌+◌, ◌<◌, ◌≤◌, Bool, true, false, List, [], ◌∷◌, ◌++◌, length, Option, Some, None, refl, sym, ap, ◌∙◌, arith, ◌==◌, slice_get, inl, inr, ◌⊎◌, nat_lt, nat_le, IsTrue, ◌↔◌, filter}
-use Rattle.std.proofs.Math.Bool.{not, ◌&&◌, ◌||◌}
-use Rattle.std.specs.List.{list_any, list_all, range_with_len}
-use Rattle.std.specs.Option.{option_map_or, option_and_then}
-use Rattle.std.proofs.lemmas.Bool.{cases_Bool, cases_lt, and_parts, or_parts, both_ways, false≢true, ltb-true, lt-ltb, eqb-true, eq-eqb}
-use Rattle.std.proofs.lemmas.Option.{slice_get_within, same_Some, none-some, option_and_then_some}
-use Rattle.rx_note.specs.declared.note.Terminal.{Terminal}
-use Rattle.rx_note.specs.declared.note.Terminal.TheVariants.{Completed, Error}
-use Rattle.rx_event.specs.declared.event.Place.{Place}
-use Rattle.rx_event.specs.declared.event.Place.TheVariants.{Root, Source, Inner, Notifier}
-use Rattle.rx_event.specs.declared.event.Kind.{Kind}
-use Rattle.rx_event.specs.declared.event.Kind.TheVariants.{Leaf, Pass, Flat, Switch, Until, Sub}
+use Rattle.std.proofs.Common.{◌≡◌, ℕ, ◌<◌, Bool, true, false, List, [], ◌∷◌, length, Some, None, refl, ap, ◌∙◌, slice_get}
+use Rattle.std.proofs.Math.Bool.{not, ◌&&◌}
+use Rattle.std.specs.List.{list_any}
+use Rattle.std.specs.Option.{option_and_then}
+use Rattle.std.proofs.lemmas.Option.{slice_get_within, option_and_then_some}
 use Rattle.rx_event.specs.declared.event.Event.{Event}
 use Rattle.rx_event.specs.declared.event.Event.TheVariants.{Open, Hub, Connect, Accept, Use, Remove, Item, Decline, End, Close, Take}
-use Rattle.rx_event.specs.Events.{makes_resource, node_of_accept, is_remove_of, is_take_of, makes_hub, has_source, is_leaf, is_merging, is_until, is_root, is_manual_hub, is_source_of, is_notifier_of}
-use Rattle.rx_event.specs.Tree.{at, hubs, is_open, open_nodes, ancestors, parent, is_within, has_open_child, is_open_child_of, open_connections}
+use Rattle.rx_event.specs.Events.{makes_resource, node_of_accept, is_remove_of, is_take_of}
+use Rattle.rx_event.specs.Tree.{at, is_open, parent}
 use Rattle.rx_event.specs.Resources.{is_held, is_taken, is_waiting}
-use Rattle.rx_event.specs.Moments.{owed}
 use Rattle.rx_event.specs.Laws.Parents.{ancestors_step}
-use Rattle.rx_audit.specs.Rules.{is_key, removed_of, taken_of, was_removed, was_taken, hub_connected_at, is_owing}
-use Rattle.rx_audit.specs.Allowing.{connects_later, is_in_order_at, is_in_order, is_hubbed, is_free, failure_allowed, end_allowed, close_allowed}
-use Rattle.rx_audit.proofs.Deciding.{connection_at, at_connection, is_key_of}
+use Rattle.rx_audit.specs.Rules.{is_key, removed_of, taken_of, was_removed, was_taken}
+use Rattle.rx_audit.specs.Allowing.{connects_later, is_in_order_at}
 
 list_any-same : {X : Type 0} (p q : X → Bool) → ((x : X) → p x ≡ q x) → (xs : List X) → list_any p xs ≡ list_any q xs
 list_any-same p q same [] = refl

@@ -1,22 +1,20 @@
 -- The tests that compute decide the rules: ends, sources and connections.
-use Rattle.std.proofs.Common.{◌≡◌, ℕ, zero, suc, ◌+◌, ◌<◌, ◌≤◌, Bool, true, false, List, [], ◌∷◌, ◌++◌, length, Option, Some, None, refl, sym, ap, ◌∙◌, arith, ◌==◌, cond, drop, slice_get, inl, inr, ◌⊎◌}
+use Rattle.std.proofs.Common.{◌≡◌, ℕ, zero, suc, ◌+◌, ◌<◌, ◌≤◌, Bool, true, false, List, [], ◌∷◌, Option, Some, None, refl, sym, ap, ◌∙◌, arith, cond, drop, slice_get, inl, inr, ◌⊎◌}
 use Rattle.std.proofs.Math.Bool.{not, ◌&&◌, ◌||◌}
 use Rattle.std.specs.List.{list_any, range_with_len, filter}
 use Rattle.std.specs.Option.{option_map_or, option_and_then}
-use Rattle.std.proofs.lemmas.Bool.{cases_Bool, and_parts, or_parts, both_ways, eqb-true, eq-eqb, false≢true}
-use Rattle.std.proofs.lemmas.Option.{slice_get_within, slice_get_past, same_Some, none-some, option_and_then_some}
+use Rattle.std.proofs.lemmas.Bool.{cases_Bool, and_parts, or_parts, eqb-true, eq-eqb, false≢true}
+use Rattle.std.proofs.lemmas.Option.{same_Some, none-some, option_and_then_some}
 use Rattle.std.proofs.lemmas.Map.Keys.{any_passes_from_place}
 use Rattle.rx_note.specs.declared.note.Terminal.{Terminal}
 use Rattle.rx_note.specs.declared.note.Terminal.TheVariants.{Completed, Error}
-use Rattle.rx_event.specs.declared.event.Place.TheVariants.{Root, Source, Inner, Notifier}
 use Rattle.rx_event.specs.declared.event.Kind.TheVariants.{Leaf, Pass, Flat, Switch, Until, Sub}
 use Rattle.rx_event.specs.declared.event.Event.{Event}
 use Rattle.rx_event.specs.declared.event.Event.TheVariants.{Open, Hub, Connect, Accept, Use, Remove, Item, Decline, End, Close, Take}
-use Rattle.rx_event.specs.Events.{is_subscriber_of, is_connect_of, is_auto_hub}
-use Rattle.rx_event.specs.Tree.{at, places, parent, is_open, open_subscribers, open_connections}
-use Rattle.rx_event.specs.Forced.{Has, ChildEnded, SourceEnded, IsConnectDue}
-use Rattle.rx_audit.specs.Rules.{is_key, same_terminal, has_ended, has_failed, has_completed, ended_of, failed_of, completed_of, hub_subscribed, hub_connected, hub_subscribed_at, hub_connected_at, hub_ended, joins, ends_source, ends_source_so, is_cut, is_cut_so, ends_child_so, fails_child, open_subscribed, open_connected, open_waiting, has_key, connect_due}
-use Rattle.rx_audit.proofs.Surveying.{any_found, at_within}
+use Rattle.rx_event.specs.Events.{is_subscriber_of, is_connect_of}
+use Rattle.rx_event.specs.Tree.{at, places, parent, is_open}
+use Rattle.rx_event.specs.Forced.{Has, ChildEnded, SourceEnded}
+use Rattle.rx_audit.specs.Rules.{is_key, same_terminal, has_ended, has_failed, has_completed, ended_of, failed_of, completed_of, hub_subscribed, hub_connected, hub_subscribed_at, hub_connected_at, joins, ends_source, ends_source_so, is_cut, is_cut_so, ends_child_so, fails_child, open_subscribed, open_connected, has_key}
 
 -- tests ----------------------------------------------------------------------------------------------
 
@@ -288,7 +286,7 @@ same_connected (End m t) g = refl
 same_connected (Close m) g = refl
 same_connected (Take r) g = refl
 
-same_subscribed : (e : Event) (g : ℕ) → is_key (hub_subscribed e) g ≡ is_subscriber_of g e
+pub same_subscribed : (e : Event) (g : ℕ) → is_key (hub_subscribed e) g ≡ is_subscriber_of g e
 same_subscribed (Open place (Sub k)) g = refl
 same_subscribed (Open place Leaf) g = refl
 same_subscribed (Open place Pass) g = refl
@@ -407,7 +405,7 @@ and_false : (b : Bool) → (b && false) ≡ false
 and_false true = refl
 and_false false = refl
 
-guarded : (key : Event → Option ℕ) (test : ℕ → Event → Bool) (g : ℕ) → ((e : Event) → is_key (key e) g ≡ test g e) → (b : Bool) (o : Option Event) → is_key (cond b (option_and_then key o) None) g ≡ (option_map_or (test g) o false && b)
+pub guarded : (key : Event → Option ℕ) (test : ℕ → Event → Bool) (g : ℕ) → ((e : Event) → is_key (key e) g ≡ test g e) → (b : Bool) (o : Option Event) → is_key (cond b (option_and_then key o) None) g ≡ (option_map_or (test g) o false && b)
 guarded key test g same true None = refl
 guarded key test g same true (Some e) = same e ∙ sym (and_true (test g e))
 guarded key test g same false None = refl

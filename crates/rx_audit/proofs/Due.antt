@@ -1,9 +1,9 @@
 -- The tests that compute decide what is due, what is forced, and what is settled.
-use Rattle.std.proofs.Common.{◌≡◌, ℕ, zero, suc, ◌+◌, ◌<◌, ◌≤◌, Bool, true, false, List, [], ◌∷◌, length, Option, Some, None, refl, sym, ap, ◌∙◌, arith, ◌==◌, cond, slice_get, inl, inr, ◌⊎◌, nat_lt, IsTrue, ◌↔◌}
+use Rattle.std.proofs.Common.{◌≡◌, ℕ, ◌<◌, Bool, true, false, List, [], length, Option, Some, None, refl, sym, ap, ◌∙◌, arith, ◌==◌, cond, slice_get, inl, inr, ◌⊎◌, nat_lt, IsTrue, ◌↔◌}
 use Rattle.std.proofs.Math.Bool.{not, ◌&&◌, ◌||◌}
-use Rattle.std.specs.List.{list_any, range_with_len}
+use Rattle.std.specs.List.{list_any}
 use Rattle.std.specs.Option.{option_map_or, option_and_then}
-use Rattle.std.proofs.lemmas.Bool.{cases_Bool, cases_lt, and_parts, or_parts, both_ways, false≢true, ltb-false, lt-ltb, le-ltb, eqb-true}
+use Rattle.std.proofs.lemmas.Bool.{cases_Bool, and_parts, both_ways, false≢true, ltb-false, eqb-true}
 use Rattle.std.proofs.lemmas.Option.{slice_get_within, same_Some, none-some, option_and_then_some}
 use Rattle.std.proofs.lemmas.Map.Keys.{any_passes_from_place}
 use Rattle.rx_note.specs.declared.note.Terminal.{Terminal}
@@ -12,9 +12,9 @@ use Rattle.rx_event.specs.declared.event.Place.TheVariants.{Root, Source, Inner,
 use Rattle.rx_event.specs.declared.event.Event.{Event}
 use Rattle.rx_event.specs.declared.event.Event.TheVariants.{Open, Hub, Connect, Accept, Use, Remove, Item, Decline, End, Close, Take}
 use Rattle.rx_event.specs.Events.{is_subscriber_of, is_connect_of, is_auto_hub, is_source_of, is_mirroring, is_merging, is_until}
-use Rattle.rx_event.specs.Tree.{at, places, parent, is_open, is_open_child_of, has_open_child, open_subscribers, open_connections}
+use Rattle.rx_event.specs.Tree.{at, places, parent, is_open, is_open_child_of, has_open_child, open_subscribers}
 use Rattle.rx_event.specs.Moments.{is_fired, owed}
-use Rattle.rx_event.specs.Forced.{Has, ChildEnded, SourceEnded, IsConnectDue, IsDue, mirrored, fired, failed, completed, cut, left, IsForced, connecting, due, IsSettled}
+use Rattle.rx_event.specs.Forced.{Has, IsConnectDue, IsDue, mirrored, fired, failed, completed, cut, left, IsForced, connecting, due, IsSettled}
 use Rattle.rx_event.specs.Laws.Parents.{parent_within}
 use Rattle.rx_audit.specs.Rules.{is_key, has_ended, has_failed, has_completed, source_named, source_named_at, hub_subscribed_at, hub_connected_at, is_cut, is_cut_so, ends_child_so, fails_child, completes_source, open_subscribed, open_connected, open_waiting, has_key, connect_due, any_connect_due, passes_on, completes, is_left, is_owing, must_go, makes_due, any_due, completion_due, end_due_by_kind, open_end_due, end_due, close_due, is_forced}
 use Rattle.rx_audit.proofs.Surveying.{any_found, at_within}

@@ -1,5 +1,5 @@
 -- What one event adds to what was found.
-use Rattle.std.proofs.Common.{◌≡◌, ℕ, zero, suc, ◌+◌, ◌*◌, ◌-◌, nat_lt, ◌⊎◌, inl, inr, ◌<◌, ◌≤◌, Bool, true, false, List, [], ◌∷◌, ◌++◌, length, Option, Some, None, refl, sym, ap, ◌∙◌, arith, ◌==◌, get_or, cond, count_by, add-zero, replicate, Result, Ok, Err, OnOk, ℤ, take, drop, length-append}
+use Rattle.std.proofs.Common.{◌≡◌, ℕ, zero, suc, ◌+◌, ◌*◌, ◌-◌, nat_lt, ◌⊎◌, inl, inr, ◌<◌, ◌≤◌, Bool, true, false, List, [], ◌∷◌, ◌++◌, length, Option, Some, None, refl, sym, ap, ◌∙◌, arith, get_or, cond, count_by, add-zero, replicate, ℤ, take, drop, length-append}
 use Rattle.std.proofs.Math.Seq.{take-append_seam}
 use Rattle.std.proofs.Math.Bool.{◌||◌}
 use Rattle.std.specs.List.{list_any, filter_map, sum_by, cons_option}
@@ -9,7 +9,7 @@ use Rattle.std.proofs.lemmas.List.Sums.{sum_by-append, sum_by-cons}
 use Rattle.rx_event.specs.declared.event.Place.TheVariants.{Root, Source, Inner, Notifier}
 use Rattle.rx_event.specs.declared.event.Event.{Event}
 use Rattle.rx_event.specs.declared.event.Event.TheVariants.{Open, Hub, Connect, Accept, Use, Remove, Item, Decline, End, Close, Take}
-use Rattle.rx_event.specs.Climb.{Stop, Delivery, Projection, Firing, stop_at, climb, visited, onward, stops, most_visits}
+use Rattle.rx_event.specs.Climb.{Stop, Delivery, Projection, Firing, stop_at, climb, stops, visits}
 use Rattle.rx_event.specs.Moments.{Moment, moments, is_fired, projections, owed, stops_of, is_firing_of, is_projection_to}
 use Rattle.rx_event.specs.Laws.Lawful.{moments-push}
 use Rattle.rx_event.specs.Laws.Counts.{projections-push}
@@ -17,21 +17,12 @@ use Rattle.rx_event.specs.Tree.{is_open}
 use Rattle.rx_event.specs.Laws.Openness.{is_open_past}
 use Rattle.rx_audit.specs.Tables.{IsMarked, IsTable, IsTally, IsTold, IsCounted, marks_with, counts_with}
 use Rattle.rx_audit.specs.Rules.{is_key, fired_by, projected_by, paid_of, is_owing}
-use Rattle.rx_audit.specs.Found.{payments}
+use Rattle.rx_audit.specs.Found.{payments, HasStops}
+use Rattle.rx_audit.specs.declared.reach.Visit.{Visit}
+use Rattle.rx_audit.specs.Flow.{times, IsOften, IsReached}
 use Rattle.rx_event.specs.Events.{pays}
-use Rattle.std.proofs.lemmas.Bool.{cases_lt, lt-ltb, le-ltb}
+use Rattle.std.proofs.lemmas.Bool.{cases_lt, cases_Bool, lt-ltb, le-ltb}
 use Rattle.rx_audit.proofs.Keys.{length-marks_with, length-counts_with, marks_with_at, counts_with_at, counts_few}
-
--- the climb ----------------------------------------------------------------------------------------
-
-length-visited : (k : ℕ) (h : List Event) (todo : List ℕ) → length (visited k h todo) ≤ k
-length-visited zero h todo = omega arith
-length-visited (suc k) h [] = omega arith
-length-visited (suc k) h (n ∷ todo) = let l = length-visited k h (onward h n ++ todo) in omega arith
-
-pub length-climb : (h : List Event) (leaf : ℕ) → length (climb h leaf) ≤ 1048577
-unfolding climb most_visits
-length-climb h leaf = length-visited 1048577 h (leaf ∷ [])
 
 -- firings and projections --------------------------------------------------------------------------
 
@@ -66,16 +57,58 @@ projection_stops s f [] = refl
 projection_stops s f (n ∷ nodes) =
     projection_cons f (s n) (filter_map s nodes) ∙ ap (λ (k : ℕ). cond (is_key (option_and_then projected_by (s n)) f) 1 0 + k) (projection_stops s f nodes) ∙ sym (sum_by-cons (λ m. cond (is_key (option_and_then projected_by (s m)) f) 1 0) n nodes)
 
--- what an item finds
-pub fired_item : (h : List Event) (l : ℕ) (e : Event) (old new : List Bool) → stops_of h e ≡ stops h l → length new ≡ length old → IsTable old (is_fired h) → IsTold old new (λ n u. is_key (option_and_then fired_by (stop_at h n)) u) (climb h l) → IsTable new (is_fired (h ++ e ∷ []))
-unfolding stops
-fired_item h l e old new is same tied told u m =
-    told u (omega arith) ∙ ap (λ b. b || list_any (λ n. is_key (option_and_then fired_by (stop_at h n)) u) (climb h l)) (tied u (omega arith)) ∙ ap (λ b. is_fired h u || b) (sym (ap (list_any (is_firing_of u)) is ∙ firing_stops (stop_at h) u (climb h l))) ∙ sym (is_fired-push h e u)
+-- visits, counted and listed
+any_count : (q : ℕ → Bool) (xs : List ℕ) → list_any q xs ≡ nat_lt 0 (sum_by (λ n. cond (q n) 1 0) xs)
+any_count q [] = refl
+any_count q (x ∷ xs) = by_first (any_count q xs) (cases_Bool (q x)) where
+  by_first : list_any q xs ≡ nat_lt 0 (sum_by (λ n. cond (q n) 1 0) xs) → (q x ≡ true) ⊎ (q x ≡ false) → (q x || list_any q xs) ≡ nat_lt 0 (sum_by (λ n. cond (q n) 1 0) (x ∷ xs))
+  by_first rest (inl y) = let s : sum_by (λ n. cond (q n) 1 0) (x ∷ xs) ≡ 1 + sum_by (λ n. cond (q n) 1 0) xs = sum_by-cons (λ n. cond (q n) 1 0) x xs ∙ ap (λ b. cond b 1 0 + sum_by (λ n. cond (q n) 1 0) xs) y in ap (λ b. b || list_any q xs) y ∙ sym (ap (nat_lt 0) s ∙ lt-ltb 0 (1 + sum_by (λ n. cond (q n) 1 0) xs) (omega arith))
+  by_first rest (inr z) = let s : sum_by (λ n. cond (q n) 1 0) (x ∷ xs) ≡ 0 + sum_by (λ n. cond (q n) 1 0) xs = sum_by-cons (λ n. cond (q n) 1 0) x xs ∙ ap (λ b. cond b 1 0 + sum_by (λ n. cond (q n) 1 0) xs) z in let t : 0 + sum_by (λ n. cond (q n) 1 0) xs ≡ sum_by (λ n. cond (q n) 1 0) xs = omega arith in ap (λ b. b || list_any q xs) z ∙ rest ∙ sym (ap (nat_lt 0) (s ∙ t))
 
-pub projected_item : (h : List Event) (l : ℕ) (e : Event) (old new : List ℕ) → stops_of h e ≡ stops h l → length new ≡ length old → IsTally old (projections h) → IsCounted old new (λ n f. is_key (option_and_then projected_by (stop_at h n)) f) (climb h l) → IsTally new (projections (h ++ e ∷ []))
+any_log : (q : ℕ → Bool) (log : List Visit) → IsOften log → list_any (λ v. q v.node) log ≡ nat_lt 0 (sum_by (times (λ n. cond (q n) 1 0)) log)
+any_log q [] often = refl
+any_log q (v ∷ log) often = by_first (any_log q log (λ i u e. often (suc i) u e)) (cases_Bool (q v.node)) where
+  here : sum_by (times (λ n. cond (q n) 1 0)) (v ∷ log) ≡ v.count * cond (q v.node) 1 0 + sum_by (times (λ n. cond (q n) 1 0)) log
+  here = sum_by-cons (times (λ n. cond (q n) 1 0)) v log
+
+  by_first : list_any (λ v. q v.node) log ≡ nat_lt 0 (sum_by (times (λ n. cond (q n) 1 0)) log) → (q v.node ≡ true) ⊎ (q v.node ≡ false) → (q v.node || list_any (λ v. q v.node) log) ≡ nat_lt 0 (sum_by (times (λ n. cond (q n) 1 0)) (v ∷ log))
+  by_first rest (inl y) = let p = often 0 v refl in let s : sum_by (times (λ n. cond (q n) 1 0)) (v ∷ log) ≡ v.count * 1 + sum_by (times (λ n. cond (q n) 1 0)) log = here ∙ ap (λ b. v.count * cond b 1 0 + sum_by (times (λ n. cond (q n) 1 0)) log) y in ap (λ b. b || list_any (λ v. q v.node) log) y ∙ sym (ap (nat_lt 0) s ∙ lt-ltb 0 (v.count * 1 + sum_by (times (λ n. cond (q n) 1 0)) log) (omega arith))
+  by_first rest (inr z) = let s : sum_by (times (λ n. cond (q n) 1 0)) (v ∷ log) ≡ v.count * 0 + sum_by (times (λ n. cond (q n) 1 0)) log = here ∙ ap (λ b. v.count * cond b 1 0 + sum_by (times (λ n. cond (q n) 1 0)) log) z in let t : v.count * 0 + sum_by (times (λ n. cond (q n) 1 0)) log ≡ sum_by (times (λ n. cond (q n) 1 0)) log = omega arith in ap (λ b. b || list_any (λ v. q v.node) log) z ∙ rest ∙ sym (ap (nat_lt 0) (s ∙ t))
+
+same_any : (h : List Event) (leaf : ℕ) (log : List Visit) (q : ℕ → Bool) → IsReached h leaf log → list_any (λ v. q v.node) log ≡ list_any q (climb h leaf)
+same_any h leaf log q r = any_log q log r.often ∙ ap (nat_lt 0) (r.sums (λ n. cond (q n) 1 0)) ∙ sym (any_count q (climb h leaf))
+
+cond_times : (b : Bool) (c : ℕ) → cond b c 0 ≡ c * cond b 1 0
+cond_times true c = omega arith
+cond_times false c = omega arith
+
+times_cond : (q : ℕ → Bool) (log : List Visit) → sum_by (λ v. cond (q v.node) v.count 0) log ≡ sum_by (times (λ n. cond (q n) 1 0)) log
+times_cond q [] = refl
+times_cond q (v ∷ log) = sum_by-cons (λ v. cond (q v.node) v.count 0) v log ∙ ap (λ (k : ℕ). k + sum_by (λ v. cond (q v.node) v.count 0) log) (cond_times (q v.node) v.count) ∙ ap (λ (k : ℕ). v.count * cond (q v.node) 1 0 + k) (times_cond q log) ∙ sym (sum_by-cons (times (λ n. cond (q n) 1 0)) v log)
+
+pub few_times : (h : List Event) (leaf : ℕ) (log : List Visit) → IsReached h leaf log → sum_by (times (λ n. 1)) log ≤ 1048576
+unfolding visits
+few_times h leaf log r = let s = r.sums (λ n. 1) in let e = count_all (climb h leaf) in let f = r.few in omega arith where
+  count_all : (xs : List ℕ) → sum_by (λ n. 1) xs ≡ length xs
+  count_all [] = refl
+  count_all (x ∷ xs) = let s = sum_by-cons (λ n. 1) x xs in let r = count_all xs in omega arith
+
+pub has_stops : (h : List Event) (leaf : ℕ) (log : List Visit) (fired fired_now : List Bool) (projected projected_now : List ℕ) → IsReached h leaf log → IsTold fired fired_now (λ n u. is_key (option_and_then fired_by (stop_at h n)) u) log → IsCounted projected projected_now (λ n f. is_key (option_and_then projected_by (stop_at h n)) f) log → HasStops h leaf fired fired_now projected projected_now
+has_stops h leaf log fired fired_now projected projected_now r told counted = record {
+  fires = λ k l. told k l ∙ ap (λ b. get_or fired k false || b) (same_any h leaf log (λ n. is_key (option_and_then fired_by (stop_at h n)) k) r);
+  projects = λ k l. counted k l ∙ ap (λ a. get_or projected k 0 + a) (times_cond (λ n. is_key (option_and_then projected_by (stop_at h n)) k) log ∙ r.sums (λ n. cond (is_key (option_and_then projected_by (stop_at h n)) k) 1 0));
+}
+
+-- what an item finds
+pub fired_item : (h : List Event) (l : ℕ) (e : Event) (old new : List Bool) (projected projected_now : List ℕ) → stops_of h e ≡ stops h l → length new ≡ length old → IsTable old (is_fired h) → HasStops h l old new projected projected_now → IsTable new (is_fired (h ++ e ∷ []))
 unfolding stops
-projected_item h l e old new is same tied told f m =
-    told f (omega arith) ∙ ap (λ a. a + count_by (λ n. is_key (option_and_then projected_by (stop_at h n)) f) (climb h l)) (tied f (omega arith)) ∙ ap (λ a. projections h f + a) (sym (ap (count_by (is_projection_to f)) is ∙ projection_stops (stop_at h) f (climb h l))) ∙ sym (projections-push h e f)
+fired_item h l e old new projected projected_now is same tied told u m =
+    told.fires u (omega arith) ∙ ap (λ b. b || list_any (λ n. is_key (option_and_then fired_by (stop_at h n)) u) (climb h l)) (tied u (omega arith)) ∙ ap (λ b. is_fired h u || b) (sym (ap (list_any (is_firing_of u)) is ∙ firing_stops (stop_at h) u (climb h l))) ∙ sym (is_fired-push h e u)
+
+pub projected_item : (h : List Event) (l : ℕ) (e : Event) (old new : List ℕ) (fired fired_now : List Bool) → stops_of h e ≡ stops h l → length new ≡ length old → IsTally old (projections h) → HasStops h l fired fired_now old new → IsTally new (projections (h ++ e ∷ []))
+unfolding stops
+projected_item h l e old new fired fired_now is same tied told f m =
+    told.projects f (omega arith) ∙ ap (λ a. a + count_by (λ n. is_key (option_and_then projected_by (stop_at h n)) f) (climb h l)) (tied f (omega arith)) ∙ ap (λ a. projections h f + a) (sym (ap (count_by (is_projection_to f)) is ∙ projection_stops (stop_at h) f (climb h l))) ∙ sym (projections-push h e f)
 
 no_stops : (h : List Event) (e : Event) → ((l : ℕ) (v : ℤ) → e ≡ Item l v → ⊥) → stops_of h e ≡ []
 no_stops h (Item l v) n = absurd (n l v refl)

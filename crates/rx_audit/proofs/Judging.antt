@@ -1,18 +1,17 @@
 -- From the tests to the verdict.
 use Rattle.std.proofs.Common.{◌≡◌, ℕ, ℤ, zero, suc, ◌+◌, ◌<◌, ◌≤◌, Bool, true, false, List, [], ◌∷◌, ◌++◌, length, take, Option, Some, None, refl, sym, ap, ◌∙◌, arith, ◌==◌, slice_get, get_or, inl, inr, ◌⊎◌, IsTrue, ◌↔◌, length-append}
-use Rattle.std.proofs.Math.Bool.{not, ◌&&◌, ◌||◌}
+use Rattle.std.proofs.Math.Bool.{not, ◌&&◌}
 use Rattle.std.specs.Option.{option_map_or, option_and_then}
-use Rattle.std.proofs.lemmas.Bool.{cases_Bool, cases_order, and_parts, both_ways, false≢true, eqb-true, eq-eqb}
-use Rattle.std.proofs.lemmas.Option.{slice_get_within, slice_get_past, same_Some, none-some, option_and_then_some}
+use Rattle.std.proofs.lemmas.Bool.{cases_order, and_parts, both_ways, false≢true, eqb-true, eq-eqb}
+use Rattle.std.proofs.lemmas.Option.{slice_get_past, none-some}
 use Rattle.rx_event.specs.declared.event.Place.{Place}
-use Rattle.rx_event.specs.declared.event.Place.TheVariants.{Root, Source, Inner, Notifier}
 use Rattle.rx_event.specs.declared.event.Kind.{Kind}
 use Rattle.rx_event.specs.declared.event.Kind.TheVariants.{Leaf, Pass, Flat, Switch, Until, Sub}
 use Rattle.rx_event.specs.declared.event.Event.{Event}
 use Rattle.rx_event.specs.declared.event.Event.TheVariants.{Open, Hub, Connect, Accept, Use, Remove, Item, Decline, End, Close, Take}
 use Rattle.rx_event.specs.Tree.{at, is_open, open_nodes}
-use Rattle.rx_event.specs.Forced.{IsConnectDue, IsForced, IsSettled, connecting, due}
-use Rattle.rx_event.specs.Allowed.{IsAllowed}
+use Rattle.rx_event.specs.Forced.{IsConnectDue, IsSettled, due}
+use Rattle.rx_event.specs.Allowed.{IsAllowed, emitted}
 use Rattle.rx_event.specs.Lawful.{IsLawful, MayFollow, forced, allowed, opened_with as accepted_with}
 use Rattle.rx_event.specs.Laws.Lawful.{IsLawful-push}
 use Rattle.rx_event.specs.Laws.Places.{slice_get-append, slice_get_last}
@@ -21,10 +20,11 @@ use Rattle.rx_audit.specs.Survey.{AreHubsNamed, IsSized}
 use Rattle.std.proofs.lemmas.List.{take_more}
 use Rattle.rx_audit.specs.declared.found.Found.{Found}
 use Rattle.rx_audit.specs.declared.survey.Survey.{Survey}
-use Rattle.rx_audit.specs.Found.{IsFound}
+use Rattle.rx_audit.specs.Found.{IsFound, HasFewVisits}
+use Rattle.rx_event.specs.Climb.{visits, most_visits}
 use Rattle.rx_audit.specs.Verdict.{IsFoundUnlawful, opens_pass, opened_with}
 use Rattle.rx_audit.specs.Allowing.{allowed_simply, item_allowed, open_allowed}
-use Rattle.rx_audit.proofs.Deciding.{both, not_true}
+use Rattle.rx_audit.proofs.Deciding.{both}
 use Rattle.rx_audit.proofs.Due.{some_connect_due, no_connect_due, forced_is, is_forced_of}
 use Rattle.rx_audit.proofs.Permitting.{open_may, open_may_of, open_fits, item_may, item_may_of, simply_may, simply_may_of}
 
@@ -145,3 +145,11 @@ found_more h i d size found l same f = rw (take_more h i d l, ← same) f
 
 pub sized_as : (n size : ℕ) (survey : Survey) → size ≡ n → IsSized size survey → IsSized n survey
 sized_as n size survey same s = rw (← same) s
+
+few_visits : (h : List Event) (l : ℕ) (v : ℤ) → MayFollow h (Item l v) → visits h l ≤ 1048576
+unfolding most_visits
+few_visits h l v (forced (due n d)) = elim d [ ]
+few_visits h l v (allowed s (emitted o m few)) = few
+
+pub has_few_visits : (h : List Event) (e : Event) (b : Bool) → b ≡ true → (IsTrue b) ↔ MayFollow h e → HasFewVisits h e
+has_few_visits h e b follows w l v is = few_visits h l v (rw is at (w.0 follows))

@@ -1,5 +1,4 @@
 pub mod StaysOpen
-pub mod Climbing
 pub mod Keys
 pub mod Finding
 pub mod Surveying
@@ -8,3 +7,7 @@ pub mod Due
 pub mod Allowing
 pub mod Permitting
 pub mod Judging
+pub mod Flowing
+pub mod Logging
+pub mod Counting
+pub mod Chaining

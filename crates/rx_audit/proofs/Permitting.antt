@@ -1,9 +1,9 @@
 -- The tests that compute decide which events callers may add.
-use Rattle.std.proofs.Common.{◌≡◌, ℕ, ℤ, zero, suc, ◌+◌, ◌<◌, ◌≤◌, Bool, true, false, List, [], ◌∷◌, ◌++◌, length, Option, Some, None, refl, sym, ap, ◌∙◌, arith, ◌==◌, slice_get, inl, inr, ◌⊎◌, nat_lt, nat_le, IsTrue, filter}
+use Rattle.std.proofs.Common.{◌≡◌, ℕ, ℤ, ◌+◌, ◌<◌, ◌≤◌, Bool, true, false, List, [], ◌∷◌, ◌++◌, length, Option, Some, None, refl, sym, ap, ◌∙◌, arith, ◌==◌, slice_get, inl, inr, ◌⊎◌, nat_lt, nat_le, is_some, MatchOption}
 use Rattle.std.proofs.Math.Bool.{not, ◌&&◌, ◌||◌}
 use Rattle.std.specs.List.{list_any, list_all}
-use Rattle.std.specs.Option.{option_map_or, option_and_then}
-use Rattle.std.proofs.lemmas.Bool.{cases_Bool, cases_lt, and_parts, both_ways, false≢true, ltb-true, lt-ltb, eqb-true, eq-eqb, leb-true, le-leb}
+use Rattle.std.specs.Option.{option_map_or}
+use Rattle.std.proofs.lemmas.Bool.{and_parts, false≢true, ltb-true, lt-ltb, eqb-true, eq-eqb, leb-true, le-leb, lt-leb}
 use Rattle.rx_note.specs.declared.note.Terminal.{Terminal}
 use Rattle.rx_note.specs.declared.note.Terminal.TheVariants.{Completed, Error}
 use Rattle.rx_event.specs.declared.event.Place.{Place}
@@ -14,22 +14,22 @@ use Rattle.rx_event.specs.declared.event.Mode.{Mode}
 use Rattle.rx_event.specs.declared.event.Event.{Event}
 use Rattle.rx_event.specs.declared.event.Event.TheVariants.{Open, Hub, Connect, Accept, Use, Remove, Item, Decline, End, Close, Take}
 use Rattle.rx_event.specs.Events.{makes_hub, has_source, is_leaf, is_merging, is_until, is_root, is_manual_hub, is_source_of, is_notifier_of, is_connect_of}
-use Rattle.rx_event.specs.Tree.{at, places, hubs, is_open, open_nodes, ancestors, parent, is_within, has_open_child, open_connections}
-use Rattle.rx_event.specs.Resources.{is_held, is_waiting}
-use Rattle.rx_event.specs.Climb.{climb, visits, most_visits}
+use Rattle.rx_event.specs.Tree.{at, places, hubs, is_open, open_nodes, ancestors, has_open_child}
+use Rattle.rx_event.specs.Climb.{visits, most_visits}
 use Rattle.rx_event.specs.Moments.{owed}
 use Rattle.rx_event.specs.Forced.{IsConnectDue}
 use Rattle.rx_event.specs.Allowed.{most_nodes, most_hubs, IsFree, IsInOrderAt, IsInOrder, IsHubbed, may_abort, IsAllowed, opened, published, connected, accepted, used, removed, emitted, declined, leaf_ended, aborted, projection_failed, root_closed, disconnected, taken}
 use Rattle.rx_audit.specs.Rules.{hub_connected_at, has_key, open_connected, is_owing}
 use Rattle.rx_audit.specs.Allowing.{connects_later, is_in_order_at, is_in_order, is_hubbed, is_free, failure_allowed, failing_allowed, end_allowed, close_allowed, connect_allowed, decline_allowed, allowed_simply, item_allowed, open_allowed}
-use Rattle.rx_audit.proofs.Deciding.{both, left, right, either, not_not, is_false, not_true, connection_at, at_connection, filter_none, none_filtered, connected_key}
+use Rattle.rx_audit.proofs.Deciding.{both, left, right, either, not_not, is_false, connection_at, at_connection, filter_none, none_filtered, connected_key}
 use Rattle.rx_audit.proofs.Due.{child_closed, no_child_open}
 
 -- items ------------------------------------------------------------------------------------------------
 
-pub item_test : (h : List Event) (l n : ℕ) → n ≡ length (climb h l) → (is_open h l && at is_leaf h l) ≡ true → nat_le n 1048576 ≡ item_allowed h l
-unfolding item_allowed visits
-item_test h l n e o = rw (o, e) refl
+pub item_test : {X : Type 0} (h : List Event) (l : ℕ) (o : Option X) (P : X → Type 0) → ((x : X) → P x → visits h l ≤ 1048576) → MatchOption o (1048576 < visits h l) P → (is_open h l && at is_leaf h l) ≡ true → is_some o ≡ item_allowed h l
+unfolding item_allowed
+item_test h l None P few m leaf = rw leaf (sym (lt-leb (visits h l) 1048576 m))
+item_test h l (Some x) P few m leaf = rw leaf (sym (le-leb (visits h l) 1048576 (few x m)))
 
 pub no_item : (h : List Event) (l : ℕ) → (is_open h l && at is_leaf h l) ≡ false → false ≡ item_allowed h l
 unfolding item_allowed

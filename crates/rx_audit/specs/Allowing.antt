@@ -1,8 +1,8 @@
 -- What callers may do, as tests that compute.
-use Rattle.std.specs.Prelude.{ℕ, Bool, true, false, ◌+◌, ◌&&◌, ◌||◌, Option, Some, None, List, length, slice_get, nat_lt, nat_le}
+use Rattle.std.specs.Prelude.{ℕ, Bool, true, false, ◌&&◌, ◌||◌, List, length, nat_lt, nat_le}
 use Rattle.std.proofs.Math.Bool.{not}
 use Rattle.std.specs.List.{list_any, list_all}
-use Rattle.std.specs.Option.{option_and_then, option_map_or}
+use Rattle.std.specs.Option.{option_map_or}
 use Rattle.rx_note.specs.declared.note.Terminal.{Terminal}
 use Rattle.rx_note.specs.declared.note.Terminal.TheVariants.{Completed, Error}
 use Rattle.rx_event.specs.declared.event.Place.{Place}

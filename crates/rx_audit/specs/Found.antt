@@ -1,11 +1,15 @@
 -- What was found of a list of events.
-use Rattle.std.specs.Prelude.{◌≡◌, ℕ, ◌*◌, ◌≤◌, List, length, slice_index_or, count_by}
+use Rattle.std.specs.Prelude.{◌≡◌, ℕ, ◌*◌, ◌≤◌, ◌<◌, ◌+◌, ◌||◌, ℤ, Bool, false, List, length, slice_index_or, count_by}
+use Rattle.std.specs.List.{list_any}
+use Rattle.std.specs.Option.{option_and_then}
 use Rattle.rx_event.specs.declared.event.Event.{Event}
+use Rattle.rx_event.specs.declared.event.Event.TheVariants.{Item}
+use Rattle.rx_event.specs.Climb.{climb, stop_at, visits}
 use Rattle.rx_event.specs.Tree.{is_open}
 use Rattle.rx_event.specs.Moments.{is_fired, projections}
 use Rattle.rx_audit.specs.declared.found.Found.{Found}
 use Rattle.rx_audit.specs.Tables.{IsMarked, IsTable, IsTally}
-use Rattle.rx_audit.specs.Rules.{has_ended, has_failed, has_completed, was_removed, was_taken, paid_of, is_key}
+use Rattle.rx_audit.specs.Rules.{has_ended, has_failed, has_completed, was_removed, was_taken, paid_of, is_key, fired_by, projected_by}
 
 -- how many projected items of f were paid
 abbrev pub payments : List Event → ℕ → ℕ
@@ -33,3 +37,12 @@ pub record IsFound (h : List Event) (size : ℕ) (found : Found) : Type 0 where
   pub paid : IsTally found.paid.items (payments h)
   pub paid_size : length found.paid.items ≡ size
   pub paid_few : (n : ℕ) → slice_index_or found.paid.items n 0 ≤ length h
+
+-- the event, if it is an item, makes no more visits than it may
+abbrev pub HasFewVisits : List Event → Event → Type 0
+HasFewVisits h e = (leaf : ℕ) (value : ℤ) → e ≡ Item leaf value → visits h leaf ≤ 1048576
+
+-- an item of the leaf fires and projects these
+pub record HasStops (h : List Event) (leaf : ℕ) (fired fired_now : List Bool) (projected projected_now : List ℕ) : Type 0 where
+  pub fires : (k : ℕ) → k < length fired → slice_index_or fired_now k false ≡ (slice_index_or fired k false || list_any (λ n. is_key (option_and_then fired_by (stop_at h n)) k) (climb h leaf))
+  pub projects : (k : ℕ) → k < length projected → slice_index_or projected_now k 0 ≡ slice_index_or projected k 0 + count_by (λ n. is_key (option_and_then projected_by (stop_at h n)) k) (climb h leaf)

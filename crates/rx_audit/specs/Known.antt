@@ -1,5 +1,5 @@
 -- What is known of a list of events.
-use Rattle.std.specs.Prelude.{ℕ, ◌≤◌, List, length}
+use Rattle.std.specs.Prelude.{◌≤◌, List, length}
 use Rattle.rx_event.specs.declared.event.Event.{Event}
 use Rattle.rx_audit.specs.declared.found.Found.{Found}
 use Rattle.rx_audit.specs.declared.survey.Survey.{Survey}

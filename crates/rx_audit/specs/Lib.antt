@@ -5,3 +5,5 @@ pub mod Survey
 pub mod Known
 pub mod Allowing
 pub mod Verdict
+pub mod Flow
+pub mod Chain

@@ -14,7 +14,6 @@ ghost use Rattle.rx_audit.specs.Known.{IsFoundHere, IsSurveyed};
 ghost use Rattle.rx_audit.specs.Rules.{was_removed, was_taken};
 ghost use Rattle.rx_audit.specs.Allowing.{connects_later, is_in_order_at, is_in_order, is_hubbed, is_free, failure_allowed, end_allowed, close_allowed, connect_allowed, decline_allowed, allowed_simply, item_allowed, open_allowed};
 
-use crate::climb::{MOST_VISITS, climb};
 use crate::event_tests::{
     at, has_source, is_leaf, is_manual_hub, is_merging, is_notifier_of, is_root, is_until,
     makes_hub, source_named,
@@ -22,6 +21,7 @@ use crate::event_tests::{
 use crate::found::{self, Found};
 use crate::marks::is_marked;
 use crate::openness::parent_of;
+use crate::reach::reached;
 use crate::survey::{self, Survey, hub_connected_at};
 use rx_event::{Event, Kind, Place, Terminal};
 use std::alloc::{AllocError, Global};
@@ -303,8 +303,8 @@ pub fn is_item_allowed(
     if !is_open_leaf(past, found, l) {
         return Ok(false);
     }
-    let nodes = climb(alloc, past, found.live.as_slice(), l)?;
-    Ok(nodes.len() <= MOST_VISITS)
+    let log = reached(alloc, past, found.live.as_slice(), l)?;
+    Ok(log.is_some())
 }
 
 /// Whether `l` is an open leaf.

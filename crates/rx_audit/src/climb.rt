@@ -1,16 +1,19 @@
 //! Where an item goes.
 
-ghost use Rattle.std.specs.Prelude.{◌≡◌, ℕ, ◌+◌, ◌-◌, ◌<◌, ◌≤◌, ◌==◌, ◌&&◌, false, true, Some, None, [], ◌∷◌, ◌++◌, IfOk, length, filter, reverse, slice_index_or, is_some};
+ghost use Rattle.std.specs.Prelude.{◌≡◌, ℕ, ◌+◌, ◌-◌, ◌<◌, ◌≤◌, ◌==◌, ◌&&◌, false, true, Some, None, [], ◌∷◌, ◌++◌, IfOk, length, filter, slice_index_or, is_some};
 ghost use Rattle.std.specs.Option.{option_and_then, option_map_or, option_to_list};
 ghost use Rattle.rx_event.specs.Events.{is_subscriber_of};
 ghost use Rattle.rx_event.specs.Tree.{at, is_open, open_subscribers, parent};
-ghost use Rattle.rx_event.specs.Climb.{stop_at, onward_from, onward, climb};
+ghost use Rattle.rx_event.specs.Climb.{stop_at, onward_from, onward};
 ghost use Rattle.rx_audit.specs.Tables.{IsMarked};
+ghost use Rattle.std.specs.Option.{ForSome};
+ghost use Rattle.rx_audit.specs.Chain.{IsChained};
 ghost use Rattle.rx_audit.specs.Rules.{fired_by, projected_by};
 
 use crate::event_tests::{at, hub_subscribed, is_merging};
 use crate::marks::is_marked;
 use crate::openness::parent_of;
+use crate::subscribers::{Subscribers, chained};
 use rx_event::{Event, Place};
 use std::alloc::{AllocError, Global};
 
@@ -22,10 +25,12 @@ pub fn projected_at(past: &[Event], n: u64) -> Option<u64>
     ensures { result ≡ option_and_then projected_by (stop_at past.now n) }
 {
     match past.get(n as usize).copied() {
-        Some(Event::Open {
-            place: Place::Source(f),
-            ..
-        }) => {
+        Some(
+            Event::Open {
+                place: Place::Source(f),
+                ..
+            },
+        ) => {
             if at(is_merging, past, f) {
                 Some(f)
             } else {
@@ -41,10 +46,12 @@ pub fn fired_at(past: &[Event], n: u64) -> Option<u64>
     ensures { result ≡ option_and_then fired_by (stop_at past.now n) }
 {
     match past.get(n as usize).copied() {
-        Some(Event::Open {
-            place: Place::Notifier(u),
-            ..
-        }) => Some(u),
+        Some(
+            Event::Open {
+                place: Place::Notifier(u),
+                ..
+            },
+        ) => Some(u),
         _ => None,
     }
 }
@@ -100,65 +107,60 @@ fn parents(alloc: Global, past: &[Event], n: u64) -> Result<Vec<u64>, AllocError
     }
 }
 
+/// The open subscribers of hub `g`, by the lists that lead to them where there are such.
+fn subscribers_of(
+    alloc: Global,
+    past: &[Event],
+    live: &[bool],
+    chain: Option<&Subscribers>,
+    g: u64,
+) -> Result<Vec<u64>, AllocError>
+    requires live { IsMarked live.now (is_open past.now) }
+    requires chain { ForSome chain (λ c. IsChained past.now c.now) }
+    ensures { IfOk result (λ v. v.items ≡ open_subscribers past.now g) }
+{
+    match chain {
+        Some(chain) if (g as usize) < past.len() => chained(alloc, past, chain, g),
+        _ => open_subscribers(alloc, past, live, g),
+    }
+}
+
 /// Where an item goes on from node `n`, which the event made.
 fn onward_from(
     alloc: Global,
     past: &[Event],
     live: &[bool],
+    chain: Option<&Subscribers>,
     n: u64,
     event: Event,
 ) -> Result<Vec<u64>, AllocError>
-    requires { IsMarked live.now (is_open past.now) }
+    requires live { IsMarked live.now (is_open past.now) }
+    requires chain { ForSome chain (λ c. IsChained past.now c.now) }
     ensures { IfOk result (λ v. v.items ≡ onward_from past.now n event) }
 {
     match event {
-        Event::Connect(g) => open_subscribers(alloc, past, live, g),
+        Event::Connect(g) => subscribers_of(alloc, past, live, chain, g),
         _ => parents(alloc, past, n),
     }
 }
 
 /// Where an item goes on from node `n`.
-fn onward(alloc: Global, past: &[Event], live: &[bool], n: u64) -> Result<Vec<u64>, AllocError>
-    requires { IsMarked live.now (is_open past.now) }
+pub fn onward(
+    alloc: Global,
+    past: &[Event],
+    live: &[bool],
+    chain: Option<&Subscribers>,
+    n: u64,
+) -> Result<Vec<u64>, AllocError>
+    requires live { IsMarked live.now (is_open past.now) }
+    requires chain { ForSome chain (λ c. IsChained past.now c.now) }
     ensures { IfOk result (λ v. v.items ≡ onward past.now n) }
 {
     if stops_at(past, n) {
         return Ok(Vec::new(alloc));
     }
     match past.get(n as usize).copied() {
-        Some(event) => onward_from(alloc, past, live, n, event),
+        Some(event) => onward_from(alloc, past, live, chain, n, event),
         None => Ok(Vec::new(alloc)),
     }
-}
-
-/// The list from its end.
-fn reversed(mut list: Vec<u64>) -> Vec<u64>
-    ensures { result.items ≡ reverse list.items }
-{
-    list.as_mut_slice().reverse();
-    list
-}
-
-/// The nodes that an item of this leaf visits, in order, each as often as it is reached: at most
-/// one more than it may visit.
-pub fn climb(
-    alloc: Global,
-    past: &[Event],
-    live: &[bool],
-    leaf: u64,
-) -> Result<Vec<u64>, AllocError>
-    requires { IsMarked live.now (is_open past.now) }
-    ensures { IfOk result (λ v. v.items ≡ climb past.now leaf) }
-{
-    let mut seen = Vec::new(alloc);
-    let mut todo = vec![in alloc; leaf]?;
-    for _turn in 0..MOST_VISITS + 1 {
-        let Some(n) = todo.pop() else {
-            return Ok(seen);
-        };
-        seen.push(n)?;
-        let next = reversed(onward(alloc, past, live, n)?);
-        todo.extend_from_slice(next.as_slice())?;
-    }
-    Ok(seen)
 }

@@ -181,7 +181,8 @@ pub fn is_root(event: Event) -> bool
 {
     match event {
         Event::Open {
-            place: Place::Root, ..
+            place: Place::Root,
+            ..
         } => true,
         _ => false,
     }
@@ -193,7 +194,8 @@ pub fn is_leaf(event: Event) -> bool
 {
     match event {
         Event::Open {
-            kind: Kind::Leaf, ..
+            kind: Kind::Leaf,
+            ..
         } => true,
         _ => false,
     }
@@ -205,7 +207,8 @@ pub fn is_switch(event: Event) -> bool
 {
     match event {
         Event::Open {
-            kind: Kind::Switch, ..
+            kind: Kind::Switch,
+            ..
         } => true,
         _ => false,
     }
@@ -217,7 +220,8 @@ pub fn is_until(event: Event) -> bool
 {
     match event {
         Event::Open {
-            kind: Kind::Until, ..
+            kind: Kind::Until,
+            ..
         } => true,
         _ => false,
     }

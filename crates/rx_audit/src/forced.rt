@@ -8,9 +8,7 @@ ghost use Rattle.rx_event.specs.Forced.{IsSettled};
 ghost use Rattle.rx_audit.specs.Known.{IsFoundHere, IsSurveyed};
 ghost use Rattle.rx_audit.specs.Rules.{same_terminal, connect_due, any_connect_due, passes_on, completes, is_left, must_go, source_named_at, makes_due, any_due, ends_child_so, fails_child, completes_source, ends_source_so, is_cut_so, completion_due, failure_due, end_due_by_kind, open_end_due, end_due, close_due, is_forced, hub_connected_at};
 
-use crate::event_tests::{
-    at, is_auto_hub, is_merging, is_mirroring, is_until, source_named,
-};
+use crate::event_tests::{at, is_auto_hub, is_merging, is_mirroring, is_until, source_named};
 use crate::found::{self, Found};
 use crate::marks::is_marked;
 use crate::openness::parent_of;
@@ -204,9 +202,7 @@ fn ends_source_so(past: &[Event], s: u64, terminal: Terminal, event: Event) -> b
 fn any_ends_source_so(past: &[Event], s: u64, terminal: Terminal, events: &[Event]) -> bool
     ensures { result ≡ list_any (ends_source_so past.now s terminal) events.now }
 {
-    events
-        .iter()
-        .any(|e| ends_source_so(past, s, terminal, *e))
+    events.iter().any(|e| ends_source_so(past, s, terminal, *e))
 }
 
 /// Whether a connection of the hub of subscriber `s` ended so after `s` was opened.
@@ -252,13 +248,7 @@ fn end_due_by_kind(
 }
 
 /// Whether node `n` of the history, if it is open, has to end so.
-fn open_end_due(
-    past: &[Event],
-    found: &Found,
-    survey: &Survey,
-    n: u64,
-    terminal: Terminal,
-) -> bool
+fn open_end_due(past: &[Event], found: &Found, survey: &Survey, n: u64, terminal: Terminal) -> bool
     requires found { IsFoundHere past.now found.now }
     requires survey { IsSurveyed past.now survey.now }
     requires within { n < length past.now }

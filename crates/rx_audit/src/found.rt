@@ -1,20 +1,21 @@
 //! What was found of the events so far.
 
-ghost use Rattle.std.specs.Prelude.{◌≡◌, ℕ, ◌+◌, ◌*◌, ◌^◌, ◌<◌, ◌≤◌, ◌||◌, false, true, [], ◌∷◌, ◌++◌, IfOk, OnOk, length, slice_index_or, count_by, replicate};
+ghost use Rattle.std.specs.Prelude.{◌≡◌, ℕ, ◌+◌, ◌*◌, ◌^◌, ◌<◌, ◌≤◌, ◌||◌, false, true, [], ◌∷◌, ◌++◌, IfOk, OnOk, length, slice_index_or, sum_by, replicate};
 ghost use Rattle.std.specs.List.{list_any};
 ghost use Rattle.std.specs.Option.{option_and_then};
 ghost use Rattle.rx_event.specs.Tree.{is_open};
-ghost use Rattle.rx_event.specs.Climb.{stop_at, climb};
+ghost use Rattle.rx_event.specs.Climb.{stop_at, visits};
 ghost use Rattle.rx_event.specs.Moments.{is_fired, projections};
-ghost use Rattle.rx_audit.specs.Found.{IsFound};
+ghost use Rattle.rx_audit.specs.Found.{IsFound, HasStops, HasFewVisits};
+ghost use Rattle.rx_audit.specs.Flow.{times};
 ghost use Rattle.rx_audit.specs.Rules.{fired_by, projected_by, is_key, has_ended, has_failed, has_completed, was_removed, was_taken, is_owing};
 ghost use Rattle.rx_audit.specs.Tables.{IsMarked, IsTable, IsTally, IsTold, IsCounted};
 
 use crate::climb::{fired_at, projected_at};
-use crate::marks::{count, count_of, is_marked, mark};
-use crate::climb::climb;
 use crate::event_tests::{completed_of, ended_of, failed_of, paid_of, removed_of, taken_of};
+use crate::marks::{count, count_more, count_of, is_marked, mark};
 use crate::openness::mark_open;
+use crate::reach::{Visit, reached};
 use rx_event::Event;
 use std::alloc::{AllocError, Global};
 
@@ -73,29 +74,29 @@ pub fn nothing_found(alloc: Global, size: usize) -> Result<Found, AllocError>
     })
 }
 
-/// Marks each TakeUntil that an item fires at one of these nodes.
-fn mark_fired(past: &[Event], nodes: &[u64], fired: &mut [bool])
+/// Marks each TakeUntil that an item fires on these visits.
+fn mark_fired(past: &[Event], log: &[Visit], fired: &mut [bool])
     ensures len { length fired.new ≡ length fired.old }
-    ensures told { IsTold fired.old fired.new (λ n u. is_key (option_and_then fired_by (stop_at past.now n)) u) nodes.now }
+    ensures told { IsTold fired.old fired.new (λ n u. is_key (option_and_then fired_by (stop_at past.now n)) u) log.now }
 {
-    for n in nodes {
-        mark(fired, fired_at(past, *n));
+    for visit in log {
+        mark(fired, fired_at(past, visit.node));
     }
 }
 
-/// Counts each projection of an item at one of these nodes.
-fn count_projected(past: &[Event], nodes: &[u64], projected: &mut [u128])
-    requires { (n : ℕ) → slice_index_or projected.old n 0 + length nodes.now < 2 ^ 128 }
+/// Counts each projection of an item on these visits.
+fn count_projected(past: &[Event], log: &[Visit], projected: &mut [u128])
+    requires { (n : ℕ) → slice_index_or projected.old n 0 + sum_by (times (λ n. 1)) log.now < 2 ^ 128 }
     ensures len { length projected.new ≡ length projected.old }
-    ensures counted { IsCounted projected.old projected.new (λ n f. is_key (option_and_then projected_by (stop_at past.now n)) f) nodes.now }
-    ensures few { (n : ℕ) → slice_index_or projected.new n 0 ≤ slice_index_or projected.old n 0 + length nodes.now }
+    ensures counted { IsCounted projected.old projected.new (λ n f. is_key (option_and_then projected_by (stop_at past.now n)) f) log.now }
+    ensures few { (n : ℕ) → slice_index_or projected.new n 0 ≤ slice_index_or projected.old n 0 + sum_by (times (λ n. 1)) log.now }
 {
-    for n in nodes {
-        count(projected, projected_at(past, *n));
+    for visit in log {
+        count_more(projected, projected_at(past, visit.node), visit.count);
     }
 }
 
-/// Finds what an item of this leaf fires and projects.
+/// Finds what an item of this leaf, which makes no more visits than it may, fires and projects.
 fn find_stops(
     alloc: Global,
     past: &[Event],
@@ -105,17 +106,21 @@ fn find_stops(
     projected: &mut [u128],
 ) -> Result<(), AllocError>
     requires live { IsMarked live.now (is_open past.now) }
+    requires visits { visits past.now leaf ≤ 1048576 }
     requires few { (n : ℕ) → slice_index_or projected.old n 0 + 1048577 < 2 ^ 128 }
-    ensures fired { OnOk result (IsTold fired.old fired.new (λ n u. is_key (option_and_then fired_by (stop_at past.now n)) u) (climb past.now leaf)) }
     ensures fired_len { length fired.new ≡ length fired.old }
-    ensures projected { OnOk result (IsCounted projected.old projected.new (λ n f. is_key (option_and_then projected_by (stop_at past.now n)) f) (climb past.now leaf)) }
     ensures projected_len { length projected.new ≡ length projected.old }
+    ensures found { OnOk result (HasStops past.now leaf fired.old fired.new projected.old projected.new) }
     ensures few { (n : ℕ) → slice_index_or projected.new n 0 ≤ slice_index_or projected.old n 0 + 1048577 }
 {
-    let nodes = climb(alloc, past, live, leaf)?;
-    mark_fired(past, nodes.as_slice(), fired);
-    count_projected(past, nodes.as_slice(), projected);
-    Ok(())
+    match reached(alloc, past, live, leaf)? {
+        Some(log) => {
+            mark_fired(past, log.as_slice(), fired);
+            count_projected(past, log.as_slice(), projected);
+            Ok(())
+        }
+        None => unreachable!(),
+    }
 }
 
 /// Finds what the event fires and projects.
@@ -128,6 +133,7 @@ fn find_item(
     projected: &mut [u128],
 ) -> Result<(), AllocError>
     requires live { IsMarked live.now (is_open past.now) }
+    requires visits { HasFewVisits past.now event }
     requires fired { IsTable fired.old (is_fired past.now) }
     requires projected { IsTally projected.old (projections past.now) }
     requires few { (n : ℕ) → slice_index_or projected.old n 0 ≤ length past.now * 1048577 }
@@ -155,6 +161,7 @@ pub fn follow(
 ) -> Result<(), AllocError>
     requires found { IsFound past.now (length found.old.live.items) found.old }
     requires room { length past.now < length found.old.live.items }
+    requires visits { HasFewVisits past.now event }
     ensures { OnOk result (IsFound (past.now ++ event ∷ []) (length found.old.live.items) found.new) }
 {
     find_item(

@@ -2,7 +2,7 @@
 
 ghost use Rattle.std.specs.Prelude.{◌≡◌, ℕ, ◌+◌, ◌<◌, ◌≤◌, ◌^◌, false, true, Some, None, length, slice_index_or, slice_set, replicate};
 ghost use Rattle.std.specs.Option.{option_map_or};
-ghost use Rattle.rx_audit.specs.Tables.{marks_with, counts_with};
+ghost use Rattle.rx_audit.specs.Tables.{marks_with, counts_with, counts_plus};
 
 /// Whether the mark of number `n` is set.
 pub fn is_marked(marks: &[bool], n: u64) -> bool
@@ -48,6 +48,19 @@ pub fn count(counts: &mut [u128], key: Option<u64>)
         let n = n as usize;
         if n < counts.len() {
             counts[n] += 1;
+        }
+    }
+}
+
+/// Makes the count of the number so many more, if there is a number and the list has it.
+pub fn count_more(counts: &mut [u128], key: Option<u64>, by: u64)
+    requires { (n : ℕ) → slice_index_or counts.old n 0 + by < 2 ^ 128 }
+    ensures { counts.new ≡ counts_plus counts.old key by }
+{
+    if let Some(n) = key {
+        let n = n as usize;
+        if n < counts.len() {
+            counts[n] += u128::from(by);
         }
     }
 }

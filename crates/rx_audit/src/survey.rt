@@ -76,7 +76,7 @@ fn open_parent(past: &[Event], live: &[bool], k: u64) -> Option<u64>
 }
 
 /// The hub of node `k`, where `k` is an open subscriber.
-fn open_subscribed(past: &[Event], live: &[bool], k: u64) -> Option<u64>
+pub fn open_subscribed(past: &[Event], live: &[bool], k: u64) -> Option<u64>
     requires { IsMarked live.now (is_open past.now) }
     ensures { result ≡ open_subscribed past.now k }
 {

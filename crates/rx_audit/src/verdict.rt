@@ -12,8 +12,8 @@ ghost use Rattle.rx_audit.specs.Found.{IsFound};
 ghost use Rattle.rx_audit.specs.Verdict.{IsVerdict, IsFoundUnlawful, IsAllFound, opens_pass, opened_with};
 
 use crate::allowed::{
-    is_allowed_simply, is_held, is_item_allowed, is_open_allowed, is_waiting, open_count,
-    MOST_NODES,
+    MOST_NODES, is_allowed_simply, is_held, is_item_allowed, is_open_allowed, is_waiting,
+    open_count,
 };
 use crate::event_tests::at;
 use crate::forced::{any_connect_due, is_forced, is_settled};
@@ -137,7 +137,8 @@ fn opens_pass(event: Event) -> bool
 {
     match event {
         Event::Open {
-            kind: Kind::Pass, ..
+            kind: Kind::Pass,
+            ..
         } => true,
         _ => false,
     }
@@ -216,11 +217,7 @@ fn first_unlawful(
 }
 
 /// The open nodes.
-fn open_nodes(
-    alloc: Global,
-    events: &[Event],
-    found: &Found,
-) -> Result<Vec<u64>, AllocError>
+fn open_nodes(alloc: Global, events: &[Event], found: &Found) -> Result<Vec<u64>, AllocError>
     requires { IsFoundHere events.now found.now }
     ensures { IfOk result (λ v. v.items ≡ open_nodes events.now) }
 {
@@ -230,11 +227,7 @@ fn open_nodes(
 }
 
 /// The held resources.
-fn held_resources(
-    alloc: Global,
-    events: &[Event],
-    found: &Found,
-) -> Result<Vec<u64>, AllocError>
+fn held_resources(alloc: Global, events: &[Event], found: &Found) -> Result<Vec<u64>, AllocError>
     requires { IsFoundHere events.now found.now }
     ensures { IfOk result (λ v. v.items ≡ held_resources events.now) }
 {
@@ -244,11 +237,7 @@ fn held_resources(
 }
 
 /// The resources that wait.
-fn waiting_resources(
-    alloc: Global,
-    events: &[Event],
-    found: &Found,
-) -> Result<Vec<u64>, AllocError>
+fn waiting_resources(alloc: Global, events: &[Event], found: &Found) -> Result<Vec<u64>, AllocError>
     requires { IsFoundHere events.now found.now }
     ensures { IfOk result (λ v. v.items ≡ waiting_resources events.now) }
 {

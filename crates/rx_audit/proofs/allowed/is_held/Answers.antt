@@ -1,5 +1,5 @@
 use Rattle.std.proofs.Common.{sym, ◌∙◌}
-use Rattle.rx_audit.proofs.Allowing.{node_within, held_at, not_held}
+use Rattle.rx_audit.proofs.Allowing.{held_at, not_held}
 use Rattle.rx_audit.proofs.allowed.is_held.Goals as goal
 
 pub returns-in-Some : goal.returns-in-Some

@@ -1,4 +1,4 @@
-use Rattle.std.proofs.Common.{sym, ◌∙◌}
+use Rattle.std.proofs.Common.{sym}
 use Rattle.rx_event.specs.Events.{makes_resource}
 use Rattle.rx_audit.proofs.Surveying.{at_within}
 use Rattle.rx_audit.proofs.Allowing.{waiting_at, not_waiting}

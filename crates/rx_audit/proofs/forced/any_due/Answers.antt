@@ -1,5 +1,4 @@
-use Rattle.std.proofs.Common.{◌≡◌, length, sym, ap, ◌∙◌, arith}
-use Rattle.std.specs.List.{list_any, range_with_len}
+use Rattle.std.proofs.Common.{◌≡◌, length, sym, arith}
 use Rattle.rx_audit.specs.Rules.{makes_due, any_due}
 use Rattle.rx_audit.proofs.Surveying.{any_found, any_none}
 use Rattle.rx_audit.proofs.forced.any_due.Goals as goal

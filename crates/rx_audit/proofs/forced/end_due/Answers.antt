@@ -1,4 +1,4 @@
-use Rattle.std.proofs.Common.{◌<◌, length, sym, ap, ◌∙◌, arith, get_or, false}
+use Rattle.std.proofs.Common.{sym, ap, ◌∙◌, get_or, false}
 use Rattle.rx_event.specs.Laws.Openness.{is_open_within}
 use Rattle.rx_audit.proofs.forced.end_due.Goals as goal
 

@@ -1,4 +1,4 @@
-use Rattle.std.proofs.Common.{arith, refl, length, ap}
+use Rattle.std.proofs.Common.{arith, refl, ap}
 use Rattle.rx_event.specs.Moments.{stops_of}
 use Rattle.rx_audit.proofs.Finding.{fired_item, projected_item, fired_same, projected_same}
 use Rattle.rx_audit.proofs.found.find_item.Goals as goal
@@ -13,7 +13,7 @@ returns-in_default c = record {
 }
 
 pub returns-in_ok-find_stops-in-Item-clause-fired : goal.returns-in_ok-find_stops-in-Item-clause-fired
-returns-in_ok-find_stops-in-Item-clause-fired c = fired_item c.args.past.now c.in-Item.leaf c.args.event c.args.fired.now c.find_stops.new.fired (ap (stops_of c.args.past.now) c.in-Item.is) c.in_ok-find_stops-in-Item.ensures.fired_len c.requires.fired c.in_ok-find_stops-in-Item.ensures.fired
+returns-in_ok-find_stops-in-Item-clause-fired c = fired_item c.args.past.now c.in-Item.leaf c.args.event c.args.fired.now c.find_stops.new.fired c.args.projected.now c.find_stops.new.projected (ap (stops_of c.args.past.now) c.in-Item.is) c.in_ok-find_stops-in-Item.ensures.fired_len c.requires.fired c.in_ok-find_stops-in-Item.ensures.found
 
 pub returns-in_ok-find_stops-in-Item-clause-projected : goal.returns-in_ok-find_stops-in-Item-clause-projected
-returns-in_ok-find_stops-in-Item-clause-projected c = projected_item c.args.past.now c.in-Item.leaf c.args.event c.args.projected.now c.find_stops.new.projected (ap (stops_of c.args.past.now) c.in-Item.is) c.in_ok-find_stops-in-Item.ensures.projected_len c.requires.projected c.in_ok-find_stops-in-Item.ensures.projected
+returns-in_ok-find_stops-in-Item-clause-projected c = projected_item c.args.past.now c.in-Item.leaf c.args.event c.args.projected.now c.find_stops.new.projected c.args.fired.now c.find_stops.new.fired (ap (stops_of c.args.past.now) c.in-Item.is) c.in_ok-find_stops-in-Item.ensures.projected_len c.requires.projected c.in_ok-find_stops-in-Item.ensures.found

@@ -1,4 +1,4 @@
-use Rattle.std.proofs.Common.{◌≡◌, ℕ, ◌≤◌, length, take, drop, ◌++◌, arith, refl, sym, ap, ◌∙◌, length-append}
+use Rattle.std.proofs.Common.{◌≡◌, length, arith, ap, ◌∙◌, length-append}
 use Rattle.rx_event.specs.declared.event.Event.{Event}
 use Rattle.rx_audit.specs.Rules.{ended_of, failed_of, completed_of, removed_of, taken_of, paid_of}
 use Rattle.rx_audit.proofs.Finding.{back, table_field, tally_field}
@@ -23,15 +23,22 @@ returns c =
     record {
       live = rw (back f.live.len c.mark_open.new.marks f.live.items f.live.ok.0 live_same) c.mark_open.ensures;
       live_size = rw (back f.live.len c.mark_open.new.marks f.live.items f.live.ok.0 live_same) (live_same ∙ r.live_size);
-      ended = ended.0; ended_size = ended.1;
-      failed = failed.0; failed_size = failed.1;
-      completed = completed.0; completed_size = completed.1;
-      removed = removed.0; removed_size = removed.1;
-      taken = taken.0; taken_size = taken.1;
+      ended = ended.0;
+      ended_size = ended.1;
+      failed = failed.0;
+      failed_size = failed.1;
+      completed = completed.0;
+      completed_size = completed.1;
+      removed = removed.0;
+      removed_size = removed.1;
+      taken = taken.0;
+      taken_size = taken.1;
       fired = rw (back f.fired.len c.find_item.new.fired f.fired.items f.fired.ok.0 fired_same) c.in_ok-find_item.ensures.fired;
       fired_size = rw (back f.fired.len c.find_item.new.fired f.fired.items f.fired.ok.0 fired_same) (fired_same ∙ r.fired_size);
       projected = rw (back f.projected.len c.find_item.new.projected f.projected.items f.projected.ok.0 projected_same) c.in_ok-find_item.ensures.projected;
       projected_size = rw (back f.projected.len c.find_item.new.projected f.projected.items f.projected.ok.0 projected_same) (projected_same ∙ r.projected_size);
       projected_few = rw (back f.projected.len c.find_item.new.projected f.projected.items f.projected.ok.0 projected_same) (λ n. let few = c.in_ok-find_item.ensures.few n in omega (arith, length-append {A = Event}));
-      paid = paid.0; paid_size = paid.1; paid_few = paid.2;
+      paid = paid.0;
+      paid_size = paid.1;
+      paid_few = paid.2;
     }

@@ -1,4 +1,4 @@
-use Rattle.std.proofs.Common.{◌≡◌, false, get_or, ap, ◌∙◌, arith}
+use Rattle.std.proofs.Common.{get_or, ap, ◌∙◌, arith}
 use Rattle.rx_audit.proofs.Finding.{owing_by_counts}
 use Rattle.rx_audit.proofs.found.is_owing.Goals as goal
 

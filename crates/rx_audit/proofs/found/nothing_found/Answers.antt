@@ -1,4 +1,4 @@
-use Rattle.std.proofs.Common.{◌≡◌, ℕ, ◌≤◌, false, length, arith, refl, sym, ap, ◌∙◌}
+use Rattle.std.proofs.Common.{false, length, arith, refl, sym, ap, ◌∙◌}
 use Rattle.std.proofs.lemmas.List.{length-replicate}
 use Rattle.rx_audit.proofs.Finding.{no_table, no_tally, nothing_fired, nothing_projected, nothing_live}
 use Rattle.rx_audit.proofs.found.nothing_found.Goals as goal

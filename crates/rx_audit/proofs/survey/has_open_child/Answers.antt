@@ -1,4 +1,4 @@
-use Rattle.std.proofs.Common.{◌≡◌, false, get_or, ap, ◌∙◌, arith}
+use Rattle.std.proofs.Common.{false, get_or, ap, ◌∙◌, arith}
 use Rattle.rx_audit.proofs.Surveying.{open_child_key}
 use Rattle.rx_audit.proofs.survey.has_open_child.Goals as goal
 

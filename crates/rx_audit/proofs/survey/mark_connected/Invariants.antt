@@ -1,4 +1,3 @@
-use Rattle.std.proofs.Common.{ℕ}
 use Rattle.std.specs.List.{list_any, range_with_len}
 use Rattle.rx_audit.specs.Tables.{IsTable}
 use Rattle.rx_audit.specs.Rules.{is_key, open_connected}

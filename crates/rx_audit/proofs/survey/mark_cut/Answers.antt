@@ -1,4 +1,4 @@
-use Rattle.std.proofs.Common.{◌≡◌, ℕ, ◌+◌, ◌-◌, suc, arith, length, sym, ◌∙◌}
+use Rattle.std.proofs.Common.{◌≡◌, ◌-◌, suc, arith, ◌∙◌}
 use Rattle.rx_audit.specs.Tables.{IsMarked}
 use Rattle.rx_audit.proofs.Surveying.{ended_from, ended_more, is_cut_here, cut_more}
 use Rattle.rx_audit.proofs.survey.mark_cut.Goals as goal

@@ -1,4 +1,4 @@
-use Rattle.std.proofs.Common.{◌≡◌, length, arith, ap, sym, ◌∙◌}
+use Rattle.std.proofs.Common.{length, arith}
 use Rattle.rx_audit.specs.Rules.{open_waiting}
 use Rattle.rx_audit.proofs.Surveying.{range_none, range_more, range_whole}
 use Rattle.rx_audit.proofs.survey.mark_waiting.Goals as goal

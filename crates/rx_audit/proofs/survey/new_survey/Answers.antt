@@ -1,4 +1,4 @@
-use Rattle.std.proofs.Common.{◌≡◌, length, false, ap, ◌∙◌}
+use Rattle.std.proofs.Common.{length, false, ap, ◌∙◌}
 use Rattle.std.proofs.lemmas.List.{length-replicate}
 use Rattle.rx_audit.proofs.survey.new_survey.Goals as goal
 

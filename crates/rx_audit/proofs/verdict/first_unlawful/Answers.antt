@@ -1,10 +1,10 @@
-use Rattle.std.proofs.Common.{◌≡◌, length, arith}
+use Rattle.std.proofs.Common.{length, take, get_or, arith}
 use Rattle.rx_event.specs.declared.event.Place.TheVariants.{Root}
 use Rattle.rx_event.specs.declared.event.Kind.TheVariants.{Leaf}
 use Rattle.rx_event.specs.declared.event.Event.{Event}
 use Rattle.rx_event.specs.declared.event.Event.TheVariants.{Open}
 use Rattle.rx_event.specs.Laws.Lawful.{IsLawful_empty}
-use Rattle.rx_audit.proofs.Judging.{unlawful_here, lawful_more, found_more, sized_as}
+use Rattle.rx_audit.proofs.Judging.{unlawful_here, lawful_more, found_more, sized_as, has_few_visits}
 use Rattle.rx_audit.proofs.verdict.first_unlawful.Goals as goal
 
 any_event : Event
@@ -24,3 +24,7 @@ loop-i-preserved c = record {
   found = found_more c.args.events.now c.loop-i.i any_event (length c.loop-i.found.live.items) c.follow.new.found (omega arith) c.loop-i.invariant.found.live_size c.in_ok-follow.ensures;
   sized = sized_as (length c.args.events.now) (length c.loop-i.survey.parents.items) c.may_follow.new.survey c.loop-i.invariant.sized.parents c.in_ok-may_follow.ensures.sized;
 }
+
+pub follow-requires-clause-visits : goal.follow-requires-clause-visits
+unfolding any_event
+follow-requires-clause-visits c = has_few_visits (take c.loop-i.i c.args.events.now) (get_or c.args.events.now c.loop-i.i any_event) c.in_ok-may_follow.field-0 c.if-not-branch.false c.in_ok-may_follow.ensures.answer

@@ -1,4 +1,4 @@
-use Rattle.std.proofs.Common.{◌≡◌, length, take}
+use Rattle.std.proofs.Common.{length, take}
 use Rattle.rx_event.specs.Lawful.{IsLawful}
 use Rattle.rx_audit.specs.Found.{IsFound}
 use Rattle.rx_audit.specs.Survey.{IsSized}

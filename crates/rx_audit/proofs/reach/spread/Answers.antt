@@ -1,0 +1,17 @@
+use Rattle.std.proofs.Common.{◌∙◌, arith}
+use Rattle.rx_audit.proofs.Logging.{taken_few, times_more}
+use Rattle.rx_audit.proofs.reach.spread.Goals as goal
+
+pub reach-requires-clause-few : goal.reach-requires-clause-few
+reach-requires-clause-few c =
+    let m = c.loop-m.invariant.more (λ n. 1) in
+    let f = taken_few c.args.count c.args.next.now c.loop-m.m-index (omega arith) in
+    omega arith
+
+pub loop-m-preserved : goal.loop-m-preserved
+loop-m-preserved c = record {
+  kept = c.in_ok-reach.ensures.kept ∙ c.loop-m.invariant.kept;
+  more = λ number. (let a = c.in_ok-reach.ensures.more number in let b = c.loop-m.invariant.more number in let t = times_more c.args.count c.args.next.now c.loop-m.m-index 0 number (omega arith) in omega arith);
+  often = c.in_ok-reach.ensures.often;
+  grows = let a = c.in_ok-reach.ensures.grows in let b = c.loop-m.invariant.grows in omega arith;
+}
