@@ -7,7 +7,10 @@ use Rattle.rx_event.specs.declared.event.Mode.TheVariants.{Auto, Manual}
 use Rattle.rx_event.specs.declared.event.Event.{Event}
 use Rattle.rx_event.specs.declared.event.Event.TheVariants.{Open, Hub, Connect, End, Close}
 use Rattle.rx_event.specs.Tree.{parent, ancestors, is_shut, is_open, open_nodes}
+use Rattle.rx_event.specs.Resources.{is_held, is_taken, is_waiting}
 use Rattle.rx_event.specs.Climb.{Delivery, most_visits, climb, stops}
+use Rattle.rx_event.specs.Moments.{projections, owed, moments}
+use Rattle.rx_event.specs.Totals.{debt}
 use Rattle.rx_event.specs.Forced.{mirrored, cut, left, IsDue}
 
 -- two hubs, one subscribed to inside a connection of the other: the last subscriber's leaving takes both connections down
@@ -63,3 +66,19 @@ late_open = refl
 late_stops : stops late 9 ≡ Delivery 7 ∷ []
 unfolding stops climb most_visits is_open is_shut ancestors parent
 late_stops = refl
+
+-- an opening that forces a connection: two events, and room for two closings, which is five in all. The disposal uses it up
+abbrev connected_by_opening : List Event
+connected_by_opening = Hub Auto ∷ Open Root (Sub 0) ∷ Connect 0 ∷ []
+
+opening_debt : debt connected_by_opening ≡ 2
+unfolding debt owed projections moments stops climb most_visits is_held is_taken is_waiting is_open is_shut ancestors parent
+opening_debt = refl
+
+disposal_debt : debt (connected_by_opening ++ Close 1 ∷ Close 2 ∷ []) ≡ 0
+unfolding debt owed projections moments stops climb most_visits is_held is_taken is_waiting is_open is_shut ancestors parent
+disposal_debt = refl
+
+connection_left : IsDue (connected_by_opening ++ Close 1 ∷ []) (Close 2)
+unfolding is_open is_shut ancestors parent
+connection_left = left {g = 0} refl refl refl refl
