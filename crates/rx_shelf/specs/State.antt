@@ -1,0 +1,72 @@
+-- What a book is to its callers.
+use Rattle.std.specs.Prelude.{◌≡◌, ◌≢◌, ℕ, ◌+◌, ◌≤◌, Bool, [], ◌&&◌, ◌==◌, Option, Some, None, List, length, map, slice_get, IsTrue}
+use Rattle.std.specs.List.{All, AllPairs, Contains, list_any}
+use Rattle.std.specs.Option.{option_and_then}
+use Rattle.rx_note.specs.Notes.{IsGrammatical}
+use Rattle.rx_event.specs.declared.event.Event.{Event}
+use Rattle.rx_event.specs.declared.event.Event.TheVariants.{Accept}
+use Rattle.rx_event.specs.Tree.{is_open, hubs}
+use Rattle.rx_event.specs.Resources.{is_held, is_waiting, uses}
+use Rattle.rx_event.specs.Notes.{notes, notes_to}
+use Rattle.rx_event.specs.Totals.{debt, accepted_count, taken_count}
+use Rattle.rx_event.specs.Lawful.{IsLawful}
+use Rattle.rx_event.specs.Forced.{IsSettled}
+use Rattle.rx_shelf.specs.declared.key.Key.{Key}
+use Rattle.rx_shelf.specs.declared.key.ResKey.{ResKey}
+
+-- a resource that is kept: the number of its acceptance, its tag, and how often it was used
+pub record Box : Type 0 where
+  pub number : ℕ
+  pub tag : ℕ
+  pub uses : ℕ
+
+-- a book: its history and limit, the keys of the open nodes and of the held resources, the boxes held and those waiting, and how
+-- many notes were handed out
+pub record State : Type 0 where
+  pub history : List Event
+  pub limit : ℕ
+  pub keys : List Key
+  pub res_keys : List ResKey
+  pub held : List Box
+  pub waiting : List Box
+  pub given : ℕ
+
+abbrev pub has_key : List Key → Key → Bool
+has_key keys k = list_any (λ j. j.slot == k.slot && j.number == k.number) keys
+
+abbrev pub has_res_key : List ResKey → ResKey → Bool
+has_res_key keys k = list_any (λ j. j.slot == k.slot && j.number == k.number) keys
+
+-- the numbers of the list are those that pass the test, each once
+pub record AreJust (test : ℕ → Bool) (numbers : List ℕ) : Type 0 where
+  pub each : All (λ n. IsTrue (test n)) numbers
+  pub every : (n : ℕ) → IsTrue (test n) → Contains numbers n
+  pub once : AllPairs (λ m n. m ≢ n) numbers
+
+-- the tag that the event accepts a resource with
+abbrev pub accepted_tag : Event → Option ℕ
+accepted_tag (Accept node tag) = Some tag
+accepted_tag _ = None
+
+-- the box has the tag of its acceptance, and the uses of the history
+pub record IsBoxOf (h : List Event) (b : Box) : Type 0 where
+  pub tag : option_and_then accepted_tag (slice_get h b.number) ≡ Some b.tag
+  pub uses : b.uses ≡ uses h b.number
+
+-- what every book keeps: the boxes that it holds are exactly the resources that its stored lawful history leaves open, those
+-- waiting are exactly the ones closed and not yet taken, each in one place, no operator's rule is left undone,
+-- and what each observer is told obeys the Observable Contract's grammar. Hubs are not there yet
+pub record IsKept (s : State) : Type 0 where
+  pub lawful : IsLawful s.history
+  pub settled : IsSettled s.history
+  pub unpublished : hubs s.history ≡ []
+  pub keys : AreJust (is_open s.history) (map (λ k. k.number) s.keys)
+  pub res_keys : AreJust (is_held s.history) (map (λ k. k.number) s.res_keys)
+  pub held : AreJust (is_held s.history) (map (λ b. b.number) s.held)
+  pub waiting : AreJust (is_waiting s.history) (map (λ b. b.number) s.waiting)
+  pub held_boxes : All (IsBoxOf s.history) s.held
+  pub waiting_boxes : All (IsBoxOf s.history) s.waiting
+  pub in_one_place : accepted_count s.history ≡ length s.held + length s.waiting + taken_count s.history
+  pub room : length s.history + debt s.history ≤ s.limit
+  pub given : s.given ≤ length (notes s.history)
+  pub in_order : (n : ℕ) → IsGrammatical (notes_to s.history n)

@@ -1,0 +1,6 @@
+//! A scratch crate.
+#![tactic(auto)]
+
+mod key;
+
+pub use key::{Key, ResKey};
