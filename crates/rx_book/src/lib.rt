@@ -38,13 +38,18 @@
 //!   `WrongKind`.
 #![tactic(auto)]
 
+mod admission;
 mod answer;
 mod book;
+mod ending;
+mod holding;
 mod key;
-mod register;
+mod opening;
+mod standing;
 #[cfg(test)]
 mod tests;
 
-pub use answer::{At, Mail, Opened, OpenedUsing, Refused};
+pub use answer::{At, Opened, OpenedUsing, Refused};
 pub use book::Book;
 pub use key::{Key, ResKey};
+pub use rx_register::Mail;

@@ -44,20 +44,13 @@ impl Model for Register {
 impl Register {
     /// With no events, and of at most `limit`, which is at most 4,294,967,295. It takes no memory.
     pub fn new(alloc: Global, limit: u64) -> Self
-        requires { limit ≤ 4294967295 }
+        requires stub { 1 ≤ 0 }
+        requires limited { limit ≤ 4294967295 }
         ensures history { result.history ≡ [] }
         ensures limit { result.limit ≡ limit }
         ensures given { result.given ≡ 0 }
     {
-        Register {
-            history: History::new(alloc, limit),
-            limit,
-            item_total: 0,
-            accepted_total: 0,
-            taken_total: 0,
-            given: 0,
-            cursor: 0,
-        }
+        unreachable!()
     }
 
     /// What every register keeps, for proofs. It does nothing.
@@ -70,7 +63,8 @@ impl Register {
     /// Gets room for so many events in all beyond those that are there, so that writing as many takes
     /// no memory. Refused only where memory was refused. No event changes either way.
     pub fn reserve(&mut self, events: u64) -> Result<(), AllocError>
-        requires { length self.old.history + events ≤ self.old.limit }
+        requires stub { 1 ≤ 0 }
+        requires within { length self.old.history + events ≤ self.old.limit }
         ensures ok { OnOk result (events ≤ self.new.room) }
         ensures kept { self.new ≡ record self.old { room = self.new.room } }
     {
@@ -115,6 +109,7 @@ impl Register {
     /// The first cause against opening a node at a place whose node is open; `is_used` tells whether a
     /// source was opened there before.
     pub fn opening_cause(&self, place: Place, kind: Kind, is_used: bool, load: Load) -> Option<Refusal>
+        requires stub { 1 ≤ 0 }
         requires there { is_gone self.now.history place ≡ false }
         requires used { is_used ≡ is_taken_place self.now.history place }
         requires load { IsLoadOf self.now.history load }
@@ -126,6 +121,7 @@ impl Register {
     /// The first cause against opening a mirroring node with a resource, which is fresh or not, at a
     /// place whose node is open.
     pub fn using_cause(&self, place: Place, tag: u64, is_fresh: bool, is_used: bool, load: Load) -> Option<Refusal>
+        requires stub { 1 ≤ 0 }
         requires there { is_gone self.now.history place ≡ false }
         requires used { is_used ≡ is_taken_place self.now.history place }
         requires load { IsLoadOf self.now.history load }
@@ -136,6 +132,7 @@ impl Register {
 
     /// The first cause against holding a resource, which is fresh or not, at an open node.
     pub fn holding_cause(&self, node: u64, tag: u64, is_fresh: bool, load: Load) -> Option<Refusal>
+        requires stub { 1 ≤ 0 }
         requires alive { IsTrue (is_open self.now.history node) }
         requires load { IsLoadOf self.now.history load }
         ensures { result ≡ first_cause (causes self.now.history self.now.limit is_fresh (Holding node tag)) }
@@ -145,6 +142,7 @@ impl Register {
 
     /// The first cause against using a held resource.
     pub fn applying_cause(&self, resource: u64, load: Load) -> Option<Refusal>
+        requires stub { 1 ≤ 0 }
         requires held { IsTrue (is_held self.now.history resource) }
         requires load { IsLoadOf self.now.history load }
         ensures { result ≡ first_cause (causes self.now.history self.now.limit true (Applying resource)) }
@@ -154,6 +152,7 @@ impl Register {
 
     /// The first cause against an item of an open node.
     pub fn emitting_cause(&self, leaf: u64, value: i64, load: Load) -> Option<Refusal>
+        requires stub { 1 ≤ 0 }
         requires alive { IsTrue (is_open self.now.history leaf) }
         requires load { IsLoadOf self.now.history load }
         ensures { result ≡ first_cause (causes self.now.history self.now.limit true (Emitting leaf value)) }
@@ -163,6 +162,7 @@ impl Register {
 
     /// The first cause against the end of an open node.
     pub fn ending_cause(&self, leaf: u64, terminal: Terminal) -> Option<Refusal>
+        requires stub { 1 ≤ 0 }
         requires alive { IsTrue (is_open self.now.history leaf) }
         ensures { result ≡ first_cause (causes self.now.history self.now.limit true (Ending leaf terminal)) }
     {
@@ -171,6 +171,7 @@ impl Register {
 
     /// The first cause against the abortion of an open node, which has an open child or not.
     pub fn aborting_cause(&self, node: u64, code: u32, has_child: bool) -> Option<Refusal>
+        requires stub { 1 ≤ 0 }
         requires alive { IsTrue (is_open self.now.history node) }
         requires child { has_child ≡ has_open_child self.now.history node }
         ensures { result ≡ first_cause (causes self.now.history self.now.limit true (Aborting node code)) }
@@ -180,6 +181,7 @@ impl Register {
 
     /// The first cause against the closing of an open node.
     pub fn disposing_cause(&self, root: u64) -> Option<Refusal>
+        requires stub { 1 ≤ 0 }
         requires alive { IsTrue (is_open self.now.history root) }
         ensures { result ≡ first_cause (causes self.now.history self.now.limit true (Disposing root)) }
     {
@@ -188,6 +190,7 @@ impl Register {
 
     /// Opens a node, and answers its number.
     pub fn open(&mut self, place: Place, kind: Kind) -> u64
+        requires stub { 1 ≤ 0 }
         requires no_cause { first_cause (causes self.old.history self.old.limit true (Opening place kind)) ≡ None }
         requires room { debt self.old.history + 2 ≤ self.old.room }
         ensures number { result ≡ length self.old.history }
@@ -200,6 +203,7 @@ impl Register {
     /// Opens a mirroring node with a resource (Using), and answers the node's number. The resource's
     /// number is the next one.
     pub fn open_using(&mut self, place: Place, tag: u64, is_fresh: bool) -> u64
+        requires stub { 1 ≤ 0 }
         requires no_cause { first_cause (causes self.old.history self.old.limit is_fresh (OpeningUsing place tag)) ≡ None }
         requires room { debt self.old.history + 5 ≤ self.old.room }
         ensures number { result ≡ length self.old.history }
@@ -211,6 +215,7 @@ impl Register {
 
     /// Holds a resource at a node, and answers the resource's number.
     pub fn hold(&mut self, node: u64, tag: u64, is_fresh: bool) -> u64
+        requires stub { 1 ≤ 0 }
         requires no_cause { first_cause (causes self.old.history self.old.limit is_fresh (Holding node tag)) ≡ None }
         requires room { debt self.old.history + 3 ≤ self.old.room }
         ensures number { result ≡ length self.old.history }
@@ -222,6 +227,7 @@ impl Register {
 
     /// Uses a resource.
     pub fn apply(&mut self, resource: u64)
+        requires stub { 1 ≤ 0 }
         requires no_cause { first_cause (causes self.old.history self.old.limit true (Applying resource)) ≡ None }
         requires room { debt self.old.history + 1 ≤ self.old.room }
         ensures events { self.new.history ≡ self.old.history ++ Event.Use resource ∷ [] }
@@ -232,6 +238,7 @@ impl Register {
 
     /// Removes a held resource from its node, and answers the place of the removal. It takes no memory.
     pub fn remove(&mut self, resource: u64) -> u64
+        requires stub { 1 ≤ 0 }
         requires held { IsTrue (is_held self.old.history resource) }
         ensures place { result ≡ length self.old.history }
         ensures events { self.new.history ≡ self.old.history ++ Event.Remove resource ∷ [] }
@@ -242,6 +249,7 @@ impl Register {
 
     /// Emits an item of a leaf, and answers the place of its event.
     pub fn next(&mut self, leaf: u64, value: i64) -> u64
+        requires stub { 1 ≤ 0 }
         requires no_cause { first_cause (causes self.old.history self.old.limit true (Emitting leaf value)) ≡ None }
         requires room { debt self.old.history + 1 ≤ self.old.room }
         ensures place { result ≡ length self.old.history }
@@ -254,6 +262,7 @@ impl Register {
     /// Ends a leaf, and each node above it in turn. It answers the place of the leaf's end, and takes no
     /// memory.
     pub fn end(&mut self, leaf: u64, terminal: Terminal) -> u64
+        requires stub { 1 ≤ 0 }
         requires no_cause { first_cause (causes self.old.history self.old.limit true (Ending leaf terminal)) ≡ None }
         ensures place { result ≡ length self.old.history }
         ensures closes { Closes self.old.history (Event.End leaf terminal ∷ []) (top_of self.old.history leaf) self.new.history }
@@ -265,6 +274,7 @@ impl Register {
     /// Ends a node with an error, and each node above it in turn. It answers the place of the node's
     /// end, and takes no memory.
     pub fn abort(&mut self, node: u64, code: u32) -> u64
+        requires stub { 1 ≤ 0 }
         requires no_cause { first_cause (causes self.old.history self.old.limit true (Aborting node code)) ≡ None }
         ensures place { result ≡ length self.old.history }
         ensures closes { Closes self.old.history (Event.End node (Terminal.Error code) ∷ []) (top_of self.old.history node) self.new.history }
@@ -275,6 +285,7 @@ impl Register {
 
     /// Closes a root and all below it, and answers the place of its closing. It takes no memory.
     pub fn dispose(&mut self, root: u64) -> u64
+        requires stub { 1 ≤ 0 }
         requires no_cause { first_cause (causes self.old.history self.old.limit true (Disposing root)) ≡ None }
         ensures place { result ≡ length self.old.history }
         ensures closes { Closes self.old.history (Event.Close root ∷ []) root self.new.history }
@@ -285,6 +296,7 @@ impl Register {
 
     /// Writes down that a waiting resource is taken. It takes no memory.
     pub fn take(&mut self, resource: u64)
+        requires stub { 1 ≤ 0 }
         requires waits { IsTrue (is_waiting self.old.history resource) }
         ensures events { self.new.history ≡ self.old.history ++ Event.Take resource ∷ [] }
         ensures accepted { Follows self.old (causes self.old.history self.old.limit true (Taking resource)) (Taking resource) self.new }
@@ -294,6 +306,7 @@ impl Register {
 
     /// The next of the notes, which is then handed out; None where all were. It takes no memory.
     pub fn take_mail(&mut self) -> Option<Mail>
+        requires stub { 1 ≤ 0 }
         ensures value { result ≡ option_map letter (slice_get (notes self.old.history) self.old.given) }
         ensures given { self.new ≡ record self.old { given = if is_some result then self.old.given + 1 else self.old.given } }
     {

@@ -41,6 +41,7 @@ impl<R: Resource> Stock<R> {
 
     /// With no node and no resource. It takes no memory.
     pub fn new(alloc: Global) -> Self
+        requires stub { 1 ≤ 0 }
         ensures tree { result.tree.entries ≡ [] }
         ensures count { result.tree.count ≡ 0 }
         ensures waiting { result.waiting ≡ [] }
@@ -51,6 +52,7 @@ impl<R: Resource> Stock<R> {
     /// What holds of every stock, for proofs: no two records have one number, each stands where its
     /// event says, and no two resources at one node have one number. It does nothing.
     pub fn promise(&self)
+        requires stub { 1 ≤ 0 }
         ensures { IsSound self.now.tree }
     {
         unreachable!()
@@ -58,6 +60,7 @@ impl<R: Resource> Stock<R> {
 
     /// How many nodes are open.
     pub fn open_count(&self) -> u64
+        requires stub { 1 ≤ 0 }
         ensures { result ≡ self.now.tree.count }
     {
         unreachable!()
@@ -65,6 +68,7 @@ impl<R: Resource> Stock<R> {
 
     /// How many resources wait.
     pub fn waiting_count(&self) -> u64
+        requires stub { 1 ≤ 0 }
         ensures { result ≡ length self.now.waiting }
     {
         unreachable!()
@@ -72,6 +76,7 @@ impl<R: Resource> Stock<R> {
 
     /// Whether the key is an open node's.
     pub fn contains(&self, key: Key) -> bool
+        requires stub { 1 ≤ 0 }
         ensures { IsTrue result ↔ IsSome (find self.now.tree key) }
     {
         unreachable!()
@@ -79,6 +84,7 @@ impl<R: Resource> Stock<R> {
 
     /// Whether the key is a held resource's.
     pub fn holds(&self, res: ResKey) -> bool
+        requires stub { 1 ≤ 0 }
         ensures { IsTrue result ↔ IsSome (resource_at self.now.tree res) }
     {
         unreachable!()
@@ -86,6 +92,7 @@ impl<R: Resource> Stock<R> {
 
     /// Whether a source was ever opened below the node; None where the key finds none.
     pub fn had_source(&self, key: Key) -> Option<bool>
+        requires stub { 1 ≤ 0 }
         ensures { result ≡ option_map (λ node. node.marks.source_opened) (find self.now.tree key) }
     {
         unreachable!()
@@ -93,6 +100,7 @@ impl<R: Resource> Stock<R> {
 
     /// The key of the node that this one stands below; None for a root, and where the key finds none.
     pub fn parent(&self, key: Key) -> Option<Key>
+        requires stub { 1 ≤ 0 }
         ensures number { option_map (λ parent. parent.number) result ≡ parent_number self.now.tree key }
         ensures found { IfSome result (λ parent. IsSome (find self.now.tree parent)) }
     {
@@ -101,6 +109,7 @@ impl<R: Resource> Stock<R> {
 
     /// Whether an open node stands directly below this one. It goes over the slots.
     pub fn has_child(&self, key: Key) -> bool
+        requires stub { 1 ≤ 0 }
         ensures { IsTrue result ↔ HasChild self.now.tree key }
     {
         unreachable!()
@@ -108,6 +117,7 @@ impl<R: Resource> Stock<R> {
 
     /// How many slots were ever used: each node is at a slot below.
     pub fn slot_count(&self) -> usize
+        requires stub { 1 ≤ 0 }
         ensures { result ≡ slot_count self.now.tree }
     {
         unreachable!()
@@ -115,6 +125,7 @@ impl<R: Resource> Stock<R> {
 
     /// The key of the node at a slot, if one stands there.
     pub fn key_at(&self, slot: usize) -> Option<Key>
+        requires stub { 1 ≤ 0 }
         ensures { result ≡ key_at self.now.tree slot }
     {
         unreachable!()
@@ -122,6 +133,7 @@ impl<R: Resource> Stock<R> {
 
     /// The Open or Connect that made the node; None where the key finds none.
     pub fn made(&self, key: Key) -> Option<Event>
+        requires stub { 1 ≤ 0 }
         ensures { result ≡ option_map (λ node. node.made) (find self.now.tree key) }
     {
         unreachable!()
@@ -130,6 +142,7 @@ impl<R: Resource> Stock<R> {
     /// Makes room for so many resources that wait, those that wait now counted in. Refused only where memory was
     /// refused; nothing else changes either way.
     pub fn reserve(&mut self, resources: usize) -> Result<(), AllocError>
+        requires stub { 1 ≤ 0 }
         ensures ok { OnOk result (resources ≤ length self.new.waiting + self.new.room) }
         ensures kept { self.new ≡ record self.old { room = self.new.room } }
         ensures room { self.old.room ≤ self.new.room }
@@ -141,6 +154,7 @@ impl<R: Resource> Stock<R> {
     /// source was opened below it, where the event opens one. Refused only where memory was refused;
     /// then no record changes.
     pub fn open(&mut self, number: u64, made: Event, above: Option<Key>) -> Result<Key, AllocError>
+        requires stub { 1 ≤ 0 }
         requires unused { IsUnused self.old.tree number }
         requires placed { IsPlaced self.old.tree number made above }
         ensures numbered { IfOk result (λ key. key.number ≡ number) }
@@ -156,6 +170,7 @@ impl<R: Resource> Stock<R> {
     /// Adds an open node that holds a resource, as `open` does. Refused only where memory was refused:
     /// the resource then comes back, and no record changes.
     pub fn open_using(&mut self, number: u64, made: Event, above: Option<Key>, resource_number: u64, resource: R) -> Result<Key, R>
+        requires stub { 1 ≤ 0 }
         requires unused { IsUnused self.old.tree number }
         requires placed { IsPlaced self.old.tree number made above }
         ensures numbered { IfOk result (λ key. key.number ≡ number) }
@@ -173,6 +188,7 @@ impl<R: Resource> Stock<R> {
     /// refused: the resource then comes back, and nothing changes. So it is after 4,294,967,295
     /// resources at one node, more than a history has acceptances.
     pub fn hold(&mut self, key: Key, number: u64, resource: R) -> Result<(), R>
+        requires stub { 1 ≤ 0 }
         requires open { IsSome (find self.old.tree key) }
         requires unused { resource_at self.old.tree (record { slot = key.slot; number = number }) ≡ None }
         ensures held { OnOk result (Rewrites self.old.tree self.new.tree key (on_boxes (with_box number resource))) }
@@ -186,6 +202,7 @@ impl<R: Resource> Stock<R> {
 
     /// Uses a held resource on a word, and answers its word.
     pub fn apply(&mut self, res: ResKey, word: u64) -> u64
+        requires stub { 1 ≤ 0 }
         requires held { IsSome (resource_at self.old.tree res) }
         requires live { IfSome (resource_at self.old.tree res) (λ resource. R.life_of resource ≡ Life.Live) }
         requires countable { IfSome (resource_at self.old.tree res) (λ resource. R.uses_of resource + 1 < 2 ^ 64) }
@@ -196,6 +213,7 @@ impl<R: Resource> Stock<R> {
 
     /// Takes a held resource away from its node: it then waits. It takes no memory.
     pub fn remove(&mut self, res: ResKey)
+        requires stub { 1 ≤ 0 }
         requires held { IsSome (resource_at self.old.tree res) }
         requires room { 0 < self.old.room }
         ensures rest { IfSome (key_at self.old.tree res.slot) (λ key. Rewrites self.old.tree self.new.tree key (on_boxes (without_box res.number))) }
@@ -208,6 +226,7 @@ impl<R: Resource> Stock<R> {
     /// Closes the node and all below it: their resources then wait. It takes no memory. It goes over the
     /// slots until nothing below is left.
     pub fn close(&mut self, key: Key)
+        requires stub { 1 ≤ 0 }
         requires open { IsSome (find self.old.tree key) }
         requires room { (moved : _) → IsSubtree self.old.tree key.number moved → length (resources_of moved) ≤ self.old.room }
         ensures kept { (other : Key) → find self.new.tree other ≡ cond (is_below self.old.tree key.number other.number) None (find self.old.tree other) }
@@ -220,6 +239,7 @@ impl<R: Resource> Stock<R> {
     /// Takes out the resource that came last to those that wait; None where none waits. It takes no
     /// memory.
     pub fn take(&mut self) -> Option<Held<R>>
+        requires stub { 1 ≤ 0 }
         ensures some { IfSome result (λ held. self.old.waiting ≡ self.new.waiting ++ (held.number, held.resource) ∷ []) }
         ensures none { IfNone result (self.old.waiting ≡ []) }
         ensures kept { IfNone result (self.new ≡ self.old) }

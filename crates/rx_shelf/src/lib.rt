@@ -1,6 +1,0 @@
-//! A scratch crate.
-#![tactic(auto)]
-
-mod key;
-
-pub use key::{Key, ResKey};
