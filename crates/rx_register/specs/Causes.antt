@@ -8,7 +8,7 @@ use Rattle.rx_event.specs.declared.event.Kind.{Kind}
 use Rattle.rx_event.specs.declared.event.Kind.TheVariants.{Leaf, Pass, Flat, Switch, Until, Sub}
 use Rattle.rx_event.specs.declared.event.Event.{Event}
 use Rattle.rx_event.specs.declared.refusal.Refusal.{Refusal}
-use Rattle.rx_event.specs.declared.refusal.Refusal.TheVariants.{Full, Gone, WrongKind, PlaceTaken, NotRoot, NoHub, NotFresh, NotHeld, HasChild, TooMany}
+use Rattle.rx_event.specs.declared.refusal.Refusal.TheVariants.{Full, Gone, WrongKind, PlaceTaken, NotRoot, NotFresh, NotHeld, HasChild, TooMany}
 use Rattle.rx_event.specs.Events.{has_source, is_leaf, is_root, is_source_of}
 use Rattle.rx_event.specs.Tree.{at, is_open, has_open_child}
 use Rattle.rx_event.specs.Resources.{is_held}

@@ -16,10 +16,9 @@
 //! - There are leaves and mirroring nodes so far, at roots and sources.
 #![tactic(auto)]
 
-mod mail;
 mod load;
+mod mail;
 mod register;
-
 
 pub use load::Load;
 pub use mail::Mail;
