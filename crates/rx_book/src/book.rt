@@ -79,6 +79,7 @@ impl<R: Resource> Book<R> {
     pub fn open_count(&self) -> u64
         ensures { result ≡ open_count_in self.now.history }
     {
+        self.stock.promise();
         self.stock.open_count()
     }
 

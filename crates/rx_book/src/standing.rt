@@ -1,6 +1,6 @@
 //! What a register and the stock beside it tell together.
 
-ghost use Rattle.std.specs.Prelude.{◌≡◌, ◌+◌, ◌≤◌, false, None, Some, length, IsSome, IfOk, IfErr, IfSome, IfNone, OnOk};
+ghost use Rattle.std.specs.Prelude.{◌≡◌, ◌+◌, ◌≤◌, ◌&&◌, false, None, Some, cond, length, IsSome, IfOk, IfErr, IfSome, IfNone, OnOk};
 ghost use Rattle.rx_event.specs.declared.event.Event.{Event};
 ghost use Rattle.rx_event.specs.declared.refusal.Refusal.{Refusal};
 ghost use Rattle.rx_event.specs.Resources.{is_held};
@@ -106,6 +106,7 @@ pub(crate) fn make_space<R: Resource>(
     ensures room { stock.old.room ≤ stock.new.room }
     ensures refused { IfErr result (λ why. why ≡ Refusal.NoMemory) }
 {
+    register.promise();
     let untaken = register.accepted() - register.taken();
     match stock.reserve(untaken as usize + 1) {
         Ok(()) => make_room(register, load, more),
@@ -133,12 +134,21 @@ pub(crate) fn least_root<R: Resource>(stock: &Stock<R>) -> Option<Key>
     let mut least: Option<Key> = None;
     for slot in 0..stock.slot_count() {
         if let Some(key) = stock.key_at(slot) {
-            if is_root(stock, key) && comes_before(key, least) {
-                least = Some(key);
-            }
+            least = lesser(stock, key, least);
         }
     }
     least
+}
+
+/// The key where it is a root's and comes before the other, else the other.
+fn lesser<R: Resource>(stock: &Stock<R>, key: Key, other: Option<Key>) -> Option<Key>
+    ensures { result ≡ cond (is_root_record stock.now.tree key && is_before key other) (Some key) other }
+{
+    if is_root(stock, key) && comes_before(key, other) {
+        Some(key)
+    } else {
+        other
+    }
 }
 
 /// Whether the node is a root.
