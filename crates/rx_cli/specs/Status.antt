@@ -21,7 +21,7 @@ abbrev pub status_of : {T : Type 0} → Result T ScriptError → ℕ
 status_of (Ok x) = 0
 status_of (Err e) = fault_status e
 
--- of an audit, which answers whether the history is lawful
+-- of an audit, which answers whether its verdict is lawful
 abbrev pub audit_status_of : Result Bool ScriptError → ℕ
 audit_status_of (Ok true) = 0
 audit_status_of (Ok false) = 5

@@ -15,17 +15,18 @@
 //!
 //! | Status | Cause | Line on the error stream |
 //! |---|---|---|
-//! | 0 | a run is done, the history of a dump is lawful, or help was shown | none |
+//! | 0 | a run is done, the verdict on a dump is lawful, or help was shown | none |
 //! | 1 | a stream failed | `rxbook: read fault`, `rxbook: write fault` |
 //! | 2 | the words are no order | the text of `clap` |
 //! | 3 | the input is no scenario, or no dump | `rxbook: faulty input` |
 //! | 4 | memory was refused | `rxbook: out of memory` |
-//! | 5 | the history of a dump is not lawful, or operators have something left to do | none |
+//! | 5 | the verdict on a dump is another | none |
 //!
 //! # Promised, and not
 //!
 //! - The order is the one that `clap` matches in the words, a run where they name no subcommand; it is
-//!   refused only where `clap` refuses the words or memory is.
+//!   refused only where `clap` refuses the words or memory is. What `clap` matches in the words `rxbook`,
+//!   `rxbook run` and `rxbook audit` is proved too ([`words_have_their_orders`]).
 //! - Where the words order a run that is done, the output got the report of a course of the scenario that
 //!   the input is, with this stock, and nothing else. With a write fault it got a front of one, and with
 //!   any other fault nothing; each fault but want of memory comes only for its cause.
@@ -47,6 +48,7 @@ mod telling;
 #[cfg(test)]
 mod tests;
 mod usage;
+mod word_laws;
 mod words;
 
 pub use boxes::{Faulty, Plain, ResourceKind, STOCK, Tally, fill};
@@ -55,4 +57,5 @@ pub use request::Order;
 pub use rx_script::{Closed, Form, ScriptError, Watched, check, close, run};
 pub use statuses::out_of_memory;
 pub use usage::refuse_bytes;
+pub use word_laws::words_have_their_orders;
 pub use words::order;

@@ -29,8 +29,8 @@ use std::io::{Read, Write};
 /// left, or a front of it, or nothing. Neither stream was used through its watch before.
 ///
 /// A run's status is 0 where it is done, 1 where a stream failed, 3 where the input is no scenario, 4
-/// where memory was refused. An audit's is 0 where the history is lawful and 5 where it is not, and
-/// else as a run's, with 3 where the input is no dump. Words that `clap` refuses give 2, and a request for help 0, or 1 where the
+/// where memory was refused. An audit's is 0 where the verdict is lawful and 5 where it is another,
+/// and else as a run's, with 3 where the input is no dump. Words that `clap` refuses give 2, and a request for help 0, or 1 where the
 /// output refuses its text, or 4 where memory is refused for it; then nothing is read. Each status but
 /// 0 and 5 comes with its line on `errors`; what `errors` refuses is lost, and the status stays.
 pub fn serve<S: AsStr, R: Resource, I: Read, O: Write, E: Write>(

@@ -45,8 +45,8 @@ pub fn ended<E: Write>(errors: &mut E, outcome: Result<(), ScriptError>) -> u8
     }
 }
 
-/// The exit status of an audit that ended so: 0 where the history is lawful, 5 where it is not. Where
-/// the audit failed, the status and the line are those of its fault.
+/// The exit status of an audit that ended so: 0 where the verdict is lawful, 5 where it is another.
+/// Where the audit failed, the status and the line are those of its fault.
 pub fn judged<E: Write>(errors: &mut E, outcome: Result<bool, ScriptError>) -> u8
     ensures status { result ≡ audit_status_of outcome }
     ensures line { AppendsPrefix (E.contents errors.old) (E.contents errors.new) (line_of outcome) }
