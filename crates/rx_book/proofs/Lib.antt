@@ -24,3 +24,5 @@ pub mod Shut
 pub mod Items
 pub mod Removed
 pub mod Used
+pub mod Tops
+pub mod Closings
