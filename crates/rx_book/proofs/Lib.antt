@@ -24,3 +24,4 @@ pub mod Shut
 pub mod Items
 pub mod Removed
 pub mod Used
+pub mod Placed
