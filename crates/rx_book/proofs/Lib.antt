@@ -26,3 +26,4 @@ pub mod Removed
 pub mod Used
 pub mod Tops
 pub mod Closings
+pub mod Placed
