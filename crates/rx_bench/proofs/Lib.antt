@@ -1,1 +1,2 @@
 pub mod SortedLemmas
+pub mod ScenarioLemmas
