@@ -1,2 +1,3 @@
 pub mod SortedLemmas
 pub mod ScenarioLemmas
+pub mod Refusals

@@ -1,8 +1,9 @@
 -- The case `scenario`: the text of a scenario of so many steps, its stock, and what its run did.
-use Rattle.std.specs.Prelude.{◌≡◌, ℕ, ◌+◌, ◌/◌, ◌%◌, ◌==◌, nat_eq, nat_lt, if◌then◌else◌, false, List, ◌++◌, map, flat_map, fold, codes}
+use Rattle.std.specs.Prelude.{◌≡◌, ℕ, ◌+◌, ◌/◌, ◌%◌, ◌==◌, nat_lt, if◌then◌else◌, List, ◌++◌, map, flat_map, fold, codes}
 use Rattle.std.specs.Fmt.{decimal}
-use Rattle.std.specs.List.{range_with_len, starts_with}
+use Rattle.std.specs.List.{All, range_with_len}
 use Rattle.rx_resource.specs.declared.Life.TheVariants.{Live}
+use Rattle.rx_script.specs.declared.answer.Answer.TheVariants.{Accepted}
 use Rattle.rx_script.specs.Stage.{Ware, ware_of}
 use Rattle.rx_script.specs.Outcome.{IsReportOf}
 use Rattle.rx_script.specs.declared.ScriptError.{ScriptError}
@@ -64,16 +65,16 @@ cycles_of n = (n + 5) / 6
 
 -- its run ------------------------------------------------------------------------------------------
 
--- the report tells of no refused step, which it would begin with
-abbrev pub TellsNoRefusal : List ℕ → Type 0
-TellsNoRefusal report = starts_with nat_eq report (codes "refused") ≡ false
+-- the text is the report of a course of the scenario that the input is, in which each step was accepted
+pub record ReportsAccepted (input : List ℕ) (stock : List Ware) (text : List ℕ) : Type 0 where
+  pub report : IsReportOf input stock text
+  pub accepted : All (λ answer. answer ≡ Accepted) report.course.answers
 
--- each step of the scenario is an operation, none was refused, and the mark is that of its report
+-- each step of the scenario is an operation and was accepted, and the mark is that of its report
 pub record RunsScenario (steps : ℕ) (stock : List Ware) (d : Done) : Type 0 where
   pub operations : d.operations ≡ steps
   pub text : List ℕ
-  pub report : IsReportOf (scenario_text steps) stock text
-  pub accepted : TellsNoRefusal text
+  pub reports : ReportsAccepted (scenario_text steps) stock text
   pub mark : d.mark ≡ fold marked 0 text
 
 -- why a run is broken off: what it writes to refuses only for want of memory

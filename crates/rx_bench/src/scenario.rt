@@ -3,7 +3,7 @@
 ghost use Rattle.std.specs.Prelude.{◌≡◌, ◌++◌, ◌≤◌, ◌+◌, ◌<◌, ◌^◌, map, string_bytes, OnOk, IfOk};
 ghost use Rattle.rx_script.specs.Stage.{ware_of};
 ghost use Rattle.rx_script.specs.Outcome.{IsReportOf};
-ghost use Rattle.rx_bench.specs.Scenario.{using_text, leaf_text, next_text, close_text, step_text, placed_step, scenario_text, stock_of, cycles_of, TellsNoRefusal, RunsScenario, script_halt};
+ghost use Rattle.rx_bench.specs.Scenario.{using_text, leaf_text, next_text, close_text, step_text, placed_step, scenario_text, stock_of, cycles_of, ReportsAccepted, RunsScenario, script_halt};
 
 use crate::done::{Done, Halt, mark_of};
 use crate::token::Token;
@@ -138,10 +138,9 @@ fn broken_off(error: ScriptError) -> Halt
     }
 }
 
-/// The report of a scenario, none of whose steps may be refused.
-pub fn report_of(alloc: Global, scenario: Scenario) -> Result<Vec<u8>, Halt>
-    ensures report { IfOk result (λ v. IsReportOf (string_bytes scenario.text) (map (λ t. ware_of t.tag t.life t.uses) scenario.stock.items) v.items) }
-    ensures accepted { IfOk result (λ v. TellsNoRefusal v.items) }
+/// The report of a scenario.
+fn run_text(alloc: Global, scenario: Scenario) -> Result<Vec<u8>, Halt>
+    ensures { IfOk result (λ v. IsReportOf (string_bytes scenario.text) (map (λ t. ware_of t.tag t.life t.uses) scenario.stock.items) v.items) }
 {
     let Scenario { text, stock } = scenario;
     let mut input = text.as_str().as_bytes();
@@ -154,6 +153,14 @@ pub fn report_of(alloc: Global, scenario: Scenario) -> Result<Vec<u8>, Halt>
         Form::Report,
     )
     .map_err(broken_off)?;
+    Ok(report)
+}
+
+/// The report of a scenario, none of whose steps may be refused: the report would begin with it.
+pub fn report_of(alloc: Global, scenario: Scenario) -> Result<Vec<u8>, Halt>
+    ensures { IfOk result (λ v. ReportsAccepted (string_bytes scenario.text) (map (λ t. ware_of t.tag t.life t.uses) scenario.stock.items) v.items) }
+{
+    let report = run_text(alloc, scenario)?;
     if report.starts_with(b"refused") {
         return Err(Halt::Refused);
     }

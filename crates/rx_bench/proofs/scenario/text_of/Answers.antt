@@ -1,4 +1,3 @@
-use Rattle.std.proofs.Common.{string_bytes}
 use Rattle.std.specs.Prelude.{codes}
 use Rattle.rx_bench.proofs.ScenarioLemmas.{steps_more}
 use Rattle.rx_bench.proofs.scenario.text_of.Goals as goal
