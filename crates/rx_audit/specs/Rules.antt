@@ -3,10 +3,12 @@ use Rattle.std.specs.Prelude.{ℕ, Bool, true, false, ◌==◌, ◌&&◌, ◌||�
 use Rattle.std.proofs.Math.Bool.{not}
 use Rattle.std.specs.List.{list_all, list_any}
 use Rattle.std.specs.Option.{option_and_then, option_map_or}
+use Rattle.rx_event.specs.declared.event.Place.{Place}
 use Rattle.rx_event.specs.declared.event.Place.TheVariants.{Source, Inner}
+use Rattle.rx_event.specs.declared.event.Kind.{Kind}
 use Rattle.rx_event.specs.declared.event.Kind.TheVariants.{Sub}
 use Rattle.rx_event.specs.declared.event.Event.{Event}
-use Rattle.rx_event.specs.declared.event.Event.TheVariants.{Open, Connect, End, Close, Remove, Take, Decline}
+use Rattle.rx_event.specs.declared.event.Event.TheVariants.{Open, Connect, Accept, Use, Item, End, Close, Remove, Take, Decline}
 use Rattle.rx_note.specs.declared.note.Terminal.TheVariants.{Completed, Error}
 use Rattle.rx_event.specs.Climb.{Stop, Projection, Firing}
 use Rattle.rx_event.specs.Tree.{at, places, parent, is_open, shuts, ancestors, if_less, has_open_child}
@@ -235,3 +237,21 @@ is_forced h (Connect g) = connect_due h g
 is_forced h (End n t) = not (any_connect_due h) && end_due h n t
 is_forced h (Close c) = not (any_connect_due h) && close_due h c
 is_forced h _ = false
+
+-- the event shuts and ends nothing, pays nothing, subscribes to no hub, and makes and connects none
+abbrev pub calm_place : Place → Bool
+calm_place (Inner f) = false
+calm_place _ = true
+
+abbrev pub calm_kind : Kind → Bool
+calm_kind (Sub g) = false
+calm_kind _ = true
+
+abbrev pub is_calm : Event → Bool
+is_calm (Open place kind) = calm_place place && calm_kind kind
+is_calm (Accept n tag) = true
+is_calm (Use r) = true
+is_calm (Remove r) = true
+is_calm (Item l value) = true
+is_calm (Take r) = true
+is_calm _ = false

@@ -11,6 +11,7 @@ ghost use Rattle.rx_event.specs.Climb.{visits};
 ghost use Rattle.rx_event.specs.Allowed.{may_abort, IsAllowed};
 ghost use Rattle.rx_event.specs.Forced.{IsConnectDue};
 ghost use Rattle.rx_audit.specs.Known.{IsFoundHere, IsSurveyed};
+ghost use Rattle.rx_audit.specs.Survey.{AreHubsNamed, IsSized};
 ghost use Rattle.rx_audit.specs.Rules.{was_removed, was_taken};
 ghost use Rattle.rx_audit.specs.Allowing.{connects_later, is_in_order_at, is_in_order, is_hubbed, is_free, failure_allowed, end_allowed, close_allowed, connect_allowed, decline_allowed, allowed_simply, item_allowed, open_allowed};
 
@@ -22,7 +23,7 @@ use crate::found::{self, Found};
 use crate::marks::is_marked;
 use crate::openness::parent_of;
 use crate::reach::reached;
-use crate::survey::{self, Survey, hub_connected_at};
+use crate::survey::{self, Survey, hub_connected_at, look};
 use rx_event::{Event, Kind, Place, Terminal};
 use std::alloc::{AllocError, Global};
 
@@ -248,20 +249,30 @@ fn close_allowed(past: &[Event], found: &Found, n: u64) -> bool
             })
 }
 
-/// Whether a caller's event that opens nothing and is no item may come next.
-pub fn is_allowed_simply(past: &[Event], found: &Found, survey: &Survey, event: Event) -> bool
+/// Whether a caller's event that opens nothing and is no item may come next. The nodes are surveyed
+/// where that is asked.
+pub fn is_allowed_simply(past: &[Event], found: &Found, survey: &mut Survey, event: Event) -> bool
+    requires named { AreHubsNamed past.now }
     requires found { IsFoundHere past.now found.now }
-    requires survey { IsSurveyed past.now survey.now }
-    ensures { result ≡ allowed_simply past.now event }
+    requires sized { IsSized (length survey.old.parents.items) survey.old }
+    requires room { length past.now ≤ length survey.old.parents.items }
+    ensures answer { result ≡ allowed_simply past.now event }
+    ensures sized { IsSized (length survey.old.parents.items) survey.new }
 {
     match event {
         Event::Open { .. } | Event::Item(_, _) => false,
         Event::Hub(_) => hub_count(past) < MOST_HUBS,
-        Event::Connect(g) => connect_allowed(past, found, survey, g),
+        Event::Connect(g) => {
+            look(past, found.live.as_slice(), survey);
+            connect_allowed(past, found, survey, g)
+        }
         Event::Accept(n, _) => is_marked(found.live.as_slice(), n),
         Event::Use(r) | Event::Remove(r) => is_held(past, found, r),
         Event::Decline(f) => decline_allowed(past, found, f),
-        Event::End(n, t) => end_allowed(past, found, survey, n, t),
+        Event::End(n, t) => {
+            look(past, found.live.as_slice(), survey);
+            end_allowed(past, found, survey, n, t)
+        }
         Event::Close(n) => close_allowed(past, found, n),
         Event::Take(r) => is_waiting(past, found, r),
     }

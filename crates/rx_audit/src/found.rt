@@ -74,14 +74,19 @@ pub fn nothing_found(alloc: Global, size: usize) -> Result<Found, AllocError>
     })
 }
 
-/// Marks each TakeUntil that an item fires on these visits.
-fn mark_fired(past: &[Event], log: &[Visit], fired: &mut [bool])
+/// Marks each TakeUntil that an item fires on these visits, and answers whether there is one.
+fn mark_fired(past: &[Event], log: &[Visit], fired: &mut [bool]) -> bool
     ensures len { length fired.new ≡ length fired.old }
+    ensures none { result ≡ false → fired.new ≡ fired.old }
     ensures told { IsTold fired.old fired.new (λ n u. is_key (option_and_then fired_by (stop_at past.now n)) u) log.now }
 {
+    let mut any = false;
     for visit in log {
-        mark(fired, fired_at(past, visit.node));
+        let key = fired_at(past, visit.node);
+        any = any || key.is_some();
+        mark(fired, key);
     }
+    any
 }
 
 /// Counts each projection of an item on these visits.
@@ -96,7 +101,8 @@ fn count_projected(past: &[Event], log: &[Visit], projected: &mut [u128])
     }
 }
 
-/// Finds what an item of this leaf, which makes no more visits than it may, fires and projects.
+/// Finds what an item of this leaf, which makes no more visits than it may, fires and projects, and
+/// answers whether it fires something.
 fn find_stops(
     alloc: Global,
     past: &[Event],
@@ -104,26 +110,27 @@ fn find_stops(
     leaf: u64,
     fired: &mut [bool],
     projected: &mut [u128],
-) -> Result<(), AllocError>
+) -> Result<bool, AllocError>
     requires live { IsMarked live.now (is_open past.now) }
     requires visits { visits past.now leaf ≤ 1048576 }
     requires few { (n : ℕ) → slice_index_or projected.old n 0 + 1048577 < 2 ^ 128 }
     ensures fired_len { length fired.new ≡ length fired.old }
+    ensures none { IfOk result (λ fires. fires ≡ false → fired.new ≡ fired.old) }
     ensures projected_len { length projected.new ≡ length projected.old }
     ensures found { OnOk result (HasStops past.now leaf fired.old fired.new projected.old projected.new) }
     ensures few { (n : ℕ) → slice_index_or projected.new n 0 ≤ slice_index_or projected.old n 0 + 1048577 }
 {
     match reached(alloc, past, live, leaf)? {
         Some(log) => {
-            mark_fired(past, log.as_slice(), fired);
+            let fires = mark_fired(past, log.as_slice(), fired);
             count_projected(past, log.as_slice(), projected);
-            Ok(())
+            Ok(fires)
         }
         None => unreachable!(),
     }
 }
 
-/// Finds what the event fires and projects.
+/// Finds what the event fires and projects, and answers whether it fires something.
 fn find_item(
     alloc: Global,
     past: &[Event],
@@ -131,7 +138,7 @@ fn find_item(
     event: Event,
     fired: &mut [bool],
     projected: &mut [u128],
-) -> Result<(), AllocError>
+) -> Result<bool, AllocError>
     requires live { IsMarked live.now (is_open past.now) }
     requires visits { HasFewVisits past.now event }
     requires fired { IsTable fired.old (is_fired past.now) }
@@ -139,32 +146,31 @@ fn find_item(
     requires few { (n : ℕ) → slice_index_or projected.old n 0 ≤ length past.now * 1048577 }
     ensures fired { OnOk result (IsTable fired.new (is_fired (past.now ++ event ∷ []))) }
     ensures fired_len { length fired.new ≡ length fired.old }
+    ensures none { IfOk result (λ fires. fires ≡ false → fired.new ≡ fired.old) }
     ensures projected { OnOk result (IsTally projected.new (projections (past.now ++ event ∷ []))) }
     ensures projected_len { length projected.new ≡ length projected.old }
     ensures few { (n : ℕ) → slice_index_or projected.new n 0 ≤ (length past.now + 1) * 1048577 }
 {
     match event {
-        Event::Item(leaf, _) => {
-            find_stops(alloc, past, live, leaf, fired, projected)?;
-            Ok(())
-        }
-        _ => Ok(()),
+        Event::Item(leaf, _) => find_stops(alloc, past, live, leaf, fired, projected),
+        _ => Ok(false),
     }
 }
 
-/// Finds what the event adds.
+/// Finds what the event adds, and answers whether it fires something.
 pub fn follow(
     alloc: Global,
     past: &[Event],
     event: Event,
     found: &mut Found,
-) -> Result<(), AllocError>
+) -> Result<bool, AllocError>
     requires found { IsFound past.now (length found.old.live.items) found.old }
     requires room { length past.now < length found.old.live.items }
     requires visits { HasFewVisits past.now event }
-    ensures { OnOk result (IsFound (past.now ++ event ∷ []) (length found.old.live.items) found.new) }
+    ensures found { OnOk result (IsFound (past.now ++ event ∷ []) (length found.old.live.items) found.new) }
+    ensures fires { IfOk result (λ fires. fires ≡ false → (u : ℕ) → u ≤ length past.now → is_fired (past.now ++ event ∷ []) u ≡ is_fired past.now u) }
 {
-    find_item(
+    let fires = find_item(
         alloc,
         past,
         found.live.as_slice(),
@@ -179,7 +185,7 @@ pub fn follow(
     mark(found.removed.as_mut_slice(), removed_of(event));
     mark(found.taken.as_mut_slice(), taken_of(event));
     count(found.paid.as_mut_slice(), paid_of(event));
-    Ok(())
+    Ok(fires)
 }
 
 /// Whether node `k` ended.

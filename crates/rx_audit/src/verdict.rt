@@ -1,10 +1,12 @@
 //! The verdict on a list of events.
 
-ghost use Rattle.std.specs.Prelude.{◌≡◌, ℕ, ◌+◌, ◌<◌, ◌≤◌, ◌↔◌, IsTrue, IfOk, IsErr, [], ◌∷◌, ◌++◌, Some, None, MatchOption, length, slice_get, take};
+ghost use Rattle.std.specs.Prelude.{◌≡◌, ℕ, ◌+◌, ◌<◌, ◌≤◌, ◌↔◌, true, false, IsTrue, IfOk, IsErr, [], ◌∷◌, ◌++◌, Some, None, MatchOption, length, slice_get, take};
 ghost use Rattle.rx_event.specs.Tree.{is_open, open_nodes};
 ghost use Rattle.rx_event.specs.Resources.{held_resources, waiting_resources};
 ghost use Rattle.rx_event.specs.Allowed.{IsAllowed};
-ghost use Rattle.rx_event.specs.Forced.{IsConnectDue};
+ghost use Rattle.rx_event.specs.Forced.{IsConnectDue, IsSettled};
+ghost use Rattle.rx_event.specs.Moments.{is_fired};
+ghost use Rattle.rx_audit.specs.Rules.{is_calm};
 ghost use Rattle.rx_event.specs.Lawful.{IsLawful, MayFollow};
 ghost use Rattle.rx_audit.specs.Known.{IsFoundHere, IsSurveyed};
 ghost use Rattle.rx_audit.specs.Survey.{AreHubsNamed, IsSized};
@@ -15,9 +17,9 @@ use crate::allowed::{
     MOST_NODES, is_allowed_simply, is_held, is_item_allowed, is_open_allowed, is_waiting,
     open_count,
 };
-use crate::event_tests::at;
+use crate::event_tests::{at, is_calm};
 use crate::forced::{any_connect_due, is_forced, is_settled};
-use crate::found::{Found, follow, nothing_found};
+use crate::found::{self, Found, follow, nothing_found};
 use crate::marks::is_marked;
 use crate::openness::mark_open;
 use crate::survey::{Survey, look, new_survey};
@@ -117,7 +119,7 @@ fn is_allowed(
     requires named { AreHubsNamed past.now }
     requires found { IsFoundHere past.now found.now }
     requires found_room { length next.now ≤ length found.now.live.items }
-    requires survey { IsSurveyed past.now survey.old }
+    requires sized { IsSized (length survey.old.parents.items) survey.old }
     requires room { length next.now ≤ length survey.old.parents.items }
     ensures answer { IfOk result (λ b. IsTrue b ↔ IsAllowed past.now event) }
     ensures sized { IsSized (length survey.old.parents.items) survey.new }
@@ -160,6 +162,38 @@ fn is_opened_with(past: &[Event], found: &Found, event: Event) -> bool
     }
 }
 
+/// Whether operators have nothing left to do. The nodes are surveyed where that is not known, and
+/// the survey stands where they have something.
+fn find_settled(past: &[Event], found: &Found, survey: &mut Survey, known: bool) -> bool
+    requires named { AreHubsNamed past.now }
+    requires found { IsFoundHere past.now found.now }
+    requires sized { IsSized (length survey.old.parents.items) survey.old }
+    requires room { length past.now ≤ length survey.old.parents.items }
+    requires known { known ≡ true → IsSettled past.now }
+    ensures answer { IsTrue result ↔ IsSettled past.now }
+    ensures surveyed { result ≡ false → IsSurveyed past.now survey.new }
+    ensures sized { IsSized (length survey.old.parents.items) survey.new }
+{
+    if known {
+        return true;
+    }
+    look(past, found.live.as_slice(), survey);
+    is_settled(past, found, survey)
+}
+
+/// Whether the event may come next, where operators have something left to do.
+fn may_follow_unsettled(past: &[Event], event: Event, found: &Found, survey: &Survey) -> bool
+    requires found { IsFoundHere past.now found.now }
+    requires survey { IsSurveyed past.now survey.now }
+    requires unsettled { ¬ IsSettled past.now }
+    ensures { IsTrue result ↔ MayFollow past.now event }
+{
+    if is_forced(past, found, survey, event) {
+        return true;
+    }
+    is_opened_with(past, found, event)
+}
+
 /// Whether the event may come next.
 fn may_follow(
     alloc: Global,
@@ -168,6 +202,7 @@ fn may_follow(
     event: Event,
     found: &Found,
     survey: &mut Survey,
+    settled: bool,
 ) -> Result<bool, AllocError>
     requires next { next.now ≡ past.now ++ event ∷ [] }
     requires lawful { IsLawful past.now }
@@ -175,20 +210,32 @@ fn may_follow(
     requires found_room { length next.now ≤ length found.now.live.items }
     requires sized { IsSized (length survey.old.parents.items) survey.old }
     requires room { length next.now ≤ length survey.old.parents.items }
+    requires settled { IsTrue settled ↔ IsSettled past.now }
+    requires surveyed { settled ≡ false → IsSurveyed past.now survey.old }
     ensures answer { IfOk result (λ b. IsTrue b ↔ MayFollow past.now event) }
     ensures sized { IsSized (length survey.old.parents.items) survey.new }
 {
-    look(past, found.live.as_slice(), survey);
-    if is_forced(past, found, survey, event) {
-        return Ok(true);
+    if settled {
+        return is_allowed(alloc, past, next, event, found, survey);
     }
-    if is_opened_with(past, found, event) {
-        return Ok(true);
-    }
-    if !is_settled(past, found, survey) {
-        return Ok(false);
-    }
-    is_allowed(alloc, past, next, event, found, survey)
+    Ok(may_follow_unsettled(past, event, found, survey))
+}
+
+/// Whether the event leaves a settled history settled by itself: it is calm, and the node that it
+/// may make was not fired before.
+fn is_calm_here(past: &[Event], event: Event, found: &Found) -> bool
+    requires found { IsFoundHere past.now found.now }
+    requires room { length past.now < length found.now.live.items }
+    ensures { result ≡ true → (is_calm event ≡ true) × (is_fired past.now (length past.now) ≡ false) }
+{
+    is_calm(event) && !found::is_fired(past, found, past.len() as u64)
+}
+
+/// Whether a history is known to be settled: it was, and the event was calm and fired nothing.
+fn stays_settled(settled: bool, calm: bool, fires: bool) -> bool
+    ensures { result ≡ true → (settled ≡ true) × (calm ≡ true) × (fires ≡ false) }
+{
+    settled && calm && !fires
 }
 
 /// The first place whose event may not follow those before it, if there is one. Where there is
@@ -204,14 +251,18 @@ fn first_unlawful(
     ensures answer { IfOk result (λ place. MatchOption place (IsAllFound events.now found.new) (IsFoundUnlawful events.now)) }
     ensures sized { IsSized (length survey.old.parents.items) survey.new }
 {
+    let mut known = false;
     for i in 0..events.len() {
         let past = &events[..i];
         let next = &events[..i + 1];
         let event = events[i];
-        if !may_follow(alloc, past, next, event, found, survey)? {
+        let settled = find_settled(past, found, survey, known);
+        if !may_follow(alloc, past, next, event, found, survey, settled)? {
             return Ok(Some(i as u64));
         }
-        follow(alloc, past, event, found)?;
+        let calm = is_calm_here(past, event, found);
+        let fires = follow(alloc, past, event, found)?;
+        known = stays_settled(settled, calm, fires);
     }
     Ok(None)
 }
