@@ -4,7 +4,7 @@ use Rattle.std.proofs.Math.Bool.{not}
 use Rattle.std.specs.List.{list_all, list_any}
 use Rattle.std.specs.Option.{option_and_then, option_map_or}
 use Rattle.rx_event.specs.declared.event.Place.{Place}
-use Rattle.rx_event.specs.declared.event.Place.TheVariants.{Source, Inner}
+use Rattle.rx_event.specs.declared.event.Place.TheVariants.{Source, Inner, Notifier}
 use Rattle.rx_event.specs.declared.event.Kind.{Kind}
 use Rattle.rx_event.specs.declared.event.Kind.TheVariants.{Sub}
 use Rattle.rx_event.specs.declared.event.Event.{Event}
@@ -87,6 +87,19 @@ hub_subscribed _ = None
 abbrev pub source_named : Event → Option ℕ
 source_named (Open (Source f) kind) = Some f
 source_named _ = None
+
+-- the node whose notifier an event opens
+abbrev pub notifier_named : Event → Option ℕ
+notifier_named (Open (Notifier u) kind) = Some u
+notifier_named _ = None
+
+-- a source was opened below p
+abbrev pub was_sourced : List Event → ℕ → Bool
+was_sourced h p = list_any (λ e. is_key (source_named e) p) h
+
+-- a notifier was opened below p
+abbrev pub was_notified : List Event → ℕ → Bool
+was_notified h p = list_any (λ e. is_key (notifier_named e) p) h
 
 -- node n is open, and the event takes neither it nor a node above it away
 unfoldable pub stays_open : List Event → Event → ℕ → Bool

@@ -1,6 +1,6 @@
 //! What callers may do.
 
-ghost use Rattle.std.specs.Prelude.{◌≡◌, ℕ, ◌+◌, ◌<◌, ◌≤◌, ◌&&◌, ◌||◌, ◌↔◌, IsTrue, IfOk, IsErr, [], ◌∷◌, ◌++◌, false, true, Some, None, length, slice_get};
+ghost use Rattle.std.specs.Prelude.{◌≡◌, ℕ, ◌+◌, ◌<◌, ◌≤◌, ◌&&◌, ◌||◌, ◌↔◌, IsTrue, IfOk, IsErr, [], ◌∷◌, ◌++◌, false, true, Some, None, nat_lt, length, slice_get};
 ghost use Rattle.std.specs.List.{list_any, list_all};
 ghost use Rattle.std.specs.Option.{option_map_or, option_and_then};
 ghost use Rattle.std.proofs.Math.Bool.{not};
@@ -16,8 +16,7 @@ ghost use Rattle.rx_audit.specs.Rules.{was_removed, was_taken};
 ghost use Rattle.rx_audit.specs.Allowing.{connects_later, is_in_order_at, is_in_order, is_hubbed, is_free, failure_allowed, end_allowed, close_allowed, connect_allowed, decline_allowed, allowed_simply, item_allowed, open_allowed};
 
 use crate::event_tests::{
-    at, has_source, is_leaf, is_manual_hub, is_merging, is_notifier_of, is_root, is_until,
-    makes_hub, source_named,
+    at, has_source, is_leaf, is_manual_hub, is_merging, is_root, is_until, makes_hub,
 };
 use crate::found::{self, Found};
 use crate::marks::is_marked;
@@ -41,6 +40,17 @@ pub fn open_count(past: &[Event], found: &Found) -> usize
     (0..past.len() as u64)
         .filter(|k| is_marked(found.live.as_slice(), *k))
         .count()
+}
+
+/// Whether one node more may be open. No more nodes are open than there are events.
+fn has_room(past: &[Event], found: &Found) -> bool
+    requires { IsFoundHere past.now found.now }
+    ensures { result ≡ nat_lt (length (open_nodes past.now)) 1048576 }
+{
+    if past.len() < MOST_NODES {
+        return true;
+    }
+    open_count(past, found) < MOST_NODES
 }
 
 /// How many hubs there are.
@@ -99,20 +109,6 @@ fn is_hubbed(past: &[Event], place: Place, kind: Kind) -> bool
     }
 }
 
-/// Whether a source was ever opened below node `p`.
-fn has_had_source(past: &[Event], p: u64) -> bool
-    ensures { result ≡ list_any (is_source_of p) past.now }
-{
-    past.iter().any(|e| source_named(*e) == Some(p))
-}
-
-/// Whether a notifier was ever opened below node `p`.
-fn has_had_notifier(past: &[Event], p: u64) -> bool
-    ensures { result ≡ list_any (is_notifier_of p) past.now }
-{
-    past.iter().any(|e| is_notifier_of(p, *e))
-}
-
 /// Whether a node may be opened at the place.
 fn is_free(past: &[Event], found: &Found, place: Place) -> bool
     requires { IsFoundHere past.now found.now }
@@ -122,13 +118,13 @@ fn is_free(past: &[Event], found: &Found, place: Place) -> bool
     match place {
         Place::Root => true,
         Place::Source(p) => {
-            is_marked(live, p) && at(has_source, past, p) && !has_had_source(past, p)
+            is_marked(live, p) && at(has_source, past, p) && !found::was_sourced(past, found, p)
         }
         Place::Inner(p) => {
             is_marked(live, p) && at(is_merging, past, p) && found::is_owing(past, found, p)
         }
         Place::Notifier(p) => {
-            is_marked(live, p) && at(is_until, past, p) && !has_had_notifier(past, p)
+            is_marked(live, p) && at(is_until, past, p) && !found::was_notified(past, found, p)
         }
     }
 }
@@ -285,9 +281,7 @@ fn connect_allowed(past: &[Event], found: &Found, survey: &Survey, g: u64) -> bo
     requires survey { IsSurveyed past.now survey.now }
     ensures { result ≡ connect_allowed past.now g }
 {
-    at(is_manual_hub, past, g)
-        && !survey::is_connected(past, survey, g)
-        && open_count(past, found) < MOST_NODES
+    at(is_manual_hub, past, g) && !survey::is_connected(past, survey, g) && has_room(past, found)
 }
 
 /// Whether a caller may decline an item that was projected to `f`.
@@ -332,7 +326,5 @@ pub fn is_open_allowed(past: &[Event], found: &Found, place: Place, kind: Kind) 
     requires { IsFoundHere past.now found.now }
     ensures { result ≡ open_allowed past.now place kind }
 {
-    is_free(past, found, place)
-        && is_hubbed(past, place, kind)
-        && open_count(past, found) < MOST_NODES
+    is_free(past, found, place) && is_hubbed(past, place, kind) && has_room(past, found)
 }

@@ -5,7 +5,7 @@ ghost use Rattle.std.specs.Option.{MatchOption};
 ghost use Rattle.rx_event.specs.Events.{named_by, parent_named, makes_hub, is_root, is_source_of, is_inner_of, is_notifier_of, is_leaf, is_switch, is_until, is_merging, is_mirroring, has_source, is_auto_hub, is_manual_hub};
 ghost use Rattle.rx_event.specs.Tree.{at, parent};
 ghost use Rattle.rx_event.specs.Allowed.{may_abort};
-ghost use Rattle.rx_audit.specs.Rules.{hub_connected, hub_subscribed, source_named, ended_of, failed_of, completed_of, removed_of, taken_of, paid_of, calm_place, calm_kind, is_calm};
+ghost use Rattle.rx_audit.specs.Rules.{hub_connected, hub_subscribed, source_named, notifier_named, ended_of, failed_of, completed_of, removed_of, taken_of, paid_of, calm_place, calm_kind, is_calm};
 
 use rx_event::{Event, Kind, Mode, Place, Terminal};
 
@@ -49,6 +49,19 @@ pub fn source_named(event: Event) -> Option<u64>
     match event {
         Event::Open {
             place: Place::Source(n),
+            ..
+        } => Some(n),
+        _ => None,
+    }
+}
+
+/// The node whose notifier the event opens.
+pub fn notifier_named(event: Event) -> Option<u64>
+    ensures { result ≡ notifier_named event }
+{
+    match event {
+        Event::Open {
+            place: Place::Notifier(n),
             ..
         } => Some(n),
         _ => None,

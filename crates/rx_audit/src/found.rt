@@ -3,6 +3,7 @@
 ghost use Rattle.std.specs.Prelude.{◌≡◌, ℕ, ◌+◌, ◌*◌, ◌^◌, ◌<◌, ◌≤◌, ◌||◌, false, true, [], ◌∷◌, ◌++◌, IfOk, OnOk, length, slice_index_or, sum_by, replicate};
 ghost use Rattle.std.specs.List.{list_any};
 ghost use Rattle.std.specs.Option.{option_and_then};
+ghost use Rattle.rx_event.specs.Events.{is_source_of, is_notifier_of};
 ghost use Rattle.rx_event.specs.Tree.{is_open};
 ghost use Rattle.rx_event.specs.Climb.{stop_at, visits};
 ghost use Rattle.rx_event.specs.Moments.{is_fired, projections};
@@ -12,7 +13,9 @@ ghost use Rattle.rx_audit.specs.Rules.{fired_by, projected_by, is_key, has_ended
 ghost use Rattle.rx_audit.specs.Tables.{IsMarked, IsTable, IsTally, IsTold, IsCounted};
 
 use crate::climb::{fired_at, projected_at};
-use crate::event_tests::{completed_of, ended_of, failed_of, paid_of, removed_of, taken_of};
+use crate::event_tests::{
+    completed_of, ended_of, failed_of, notifier_named, paid_of, removed_of, source_named, taken_of,
+};
 use crate::marks::{count, count_more, count_of, is_marked, mark};
 use crate::openness::mark_open;
 use crate::reach::{Visit, reached};
@@ -41,6 +44,10 @@ pub struct Found {
     pub projected: Vec<u128>,
     /// How many of them were paid.
     pub paid: Vec<u128>,
+    /// A source was opened below the node.
+    pub sourced: Vec<bool>,
+    /// A notifier was opened below the TakeUntil.
+    pub notified: Vec<bool>,
 }
 
 /// A list of this many marks, none of which is set.
@@ -71,6 +78,8 @@ pub fn nothing_found(alloc: Global, size: usize) -> Result<Found, AllocError>
         fired: unmarked(alloc, size)?,
         projected: uncounted(alloc, size)?,
         paid: uncounted(alloc, size)?,
+        sourced: unmarked(alloc, size)?,
+        notified: unmarked(alloc, size)?,
     })
 }
 
@@ -185,6 +194,8 @@ pub fn follow(
     mark(found.removed.as_mut_slice(), removed_of(event));
     mark(found.taken.as_mut_slice(), taken_of(event));
     count(found.paid.as_mut_slice(), paid_of(event));
+    mark(found.sourced.as_mut_slice(), source_named(event));
+    mark(found.notified.as_mut_slice(), notifier_named(event));
     Ok(fires)
 }
 
@@ -236,6 +247,26 @@ pub fn was_taken(past: &[Event], found: &Found, r: u64) -> bool
 {
     let _ = past;
     is_marked(found.taken.as_slice(), r)
+}
+
+/// Whether a source was ever opened below node `p`.
+pub fn was_sourced(past: &[Event], found: &Found, p: u64) -> bool
+    requires found { IsFound past.now (length found.now.live.items) found.now }
+    requires within { p < length found.now.live.items }
+    ensures { result ≡ list_any (is_source_of p) past.now }
+{
+    let _ = past;
+    is_marked(found.sourced.as_slice(), p)
+}
+
+/// Whether a notifier was ever opened below node `p`.
+pub fn was_notified(past: &[Event], found: &Found, p: u64) -> bool
+    requires found { IsFound past.now (length found.now.live.items) found.now }
+    requires within { p < length found.now.live.items }
+    ensures { result ≡ list_any (is_notifier_of p) past.now }
+{
+    let _ = past;
+    is_marked(found.notified.as_slice(), p)
 }
 
 /// Whether an item fired the TakeUntil `k`.

@@ -80,6 +80,22 @@ fn may_shut(event: Event) -> bool
     }
 }
 
+/// The number of events, or an earlier place before which the event takes no node away.
+fn first_shut(past: &[Event], event: Event) -> usize
+    ensures within { result ≤ length past.now }
+    ensures none { (k : ℕ) → k < result → shuts past.now k event ≡ false }
+{
+    let first = match event {
+        Event::End(n, _) | Event::Close(n) => n,
+        Event::Open {
+            place: Place::Inner(f),
+            ..
+        } => f,
+        _ => 0,
+    };
+    (first as usize).min(past.len())
+}
+
 /// Takes away the marks of the nodes that the event takes away, and of all below them.
 fn close_shut(past: &[Event], event: Event, marks: &mut [bool])
     requires tied { IsMarked marks.old (is_open past.now) }
@@ -89,7 +105,7 @@ fn close_shut(past: &[Event], event: Event, marks: &mut [bool])
     if !may_shut(event) {
         return;
     }
-    for k in 0..past.len() {
+    for k in first_shut(past, event)..past.len() {
         if marks[k] {
             if shuts(past, k as u64, event) {
                 marks[k] = false;

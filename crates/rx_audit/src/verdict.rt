@@ -70,6 +70,9 @@ fn leaves_room(
     ensures answer { IfOk result (λ b. IsTrue b ↔ ((g : ℕ) → IsConnectDue next.now g → length (open_nodes past.now) + 2 ≤ 1048576)) }
     ensures sized { IsSized (length survey.old.parents.items) survey.new }
 {
+    if past.len() <= MOST_NODES - 2 {
+        return Ok(true);
+    }
     if open_count(past, found) <= MOST_NODES - 2 {
         return Ok(true);
     }
