@@ -16,7 +16,7 @@ use Rattle.rx_event.specs.Lawful.{IsLawful, MayFollow, forced, allowed, opened_w
 use Rattle.rx_event.specs.Laws.Lawful.{IsLawful-push}
 use Rattle.rx_event.specs.Laws.Places.{slice_get-append, slice_get_last}
 use Rattle.rx_event.specs.Moments.{is_fired}
-use Rattle.rx_audit.specs.Rules.{any_connect_due, is_forced, hub_connected, hub_connected_at, is_calm}
+use Rattle.rx_audit.specs.Rules.{any_connect_due, is_forced, hub_connected, hub_connected_at, IsQuiet}
 use Rattle.rx_audit.proofs.Calming.{settled_after}
 use Rattle.rx_audit.specs.Survey.{AreHubsNamed, IsSized}
 use Rattle.std.proofs.lemmas.List.{take_more}
@@ -146,8 +146,8 @@ unlawful_here h i d b l law refused w = record { before = law; event = get_or h 
 pub lawful_more : (h : List Event) (i : ℕ) (d : Event) (b : Bool) → i < length h → IsLawful (take i h) → b ≡ true → (IsTrue b) ↔ MayFollow (take i h) (get_or h i d) → IsLawful (take (i + 1) h)
 lawful_more h i d b l law follows w = rw (take_more h i d l) (IsLawful-push (take i h) (get_or h i d) law (w.0 follows))
 
-pub settled_more : (h : List Event) (i : ℕ) (d : Event) (b : Bool) → i < length h → IsLawful (take i h) → IsSettled (take i h) → b ≡ true → (IsTrue b) ↔ MayFollow (take i h) (get_or h i d) → is_calm (get_or h i d) ≡ true → is_fired (take i h) (length (take i h)) ≡ false → ((u : ℕ) → u ≤ length (take i h) → is_fired (take i h ++ get_or h i d ∷ []) u ≡ is_fired (take i h) u) → IsSettled (take (i + 1) h)
-settled_more h i d b l law settled follows w calm unfired fires = rw (take_more h i d l) (settled_after (take i h) (get_or h i d) (record { law = law; settled = settled; follows = w.0 follows; calm = calm; unfired = unfired; fires = fires }))
+pub settled_more : (h : List Event) (i : ℕ) (d : Event) (b : Bool) → i < length h → IsLawful (take i h) → IsSettled (take i h) → b ≡ true → (IsTrue b) ↔ MayFollow (take i h) (get_or h i d) → IsQuiet (take i h) (get_or h i d) → is_fired (take i h) (length (take i h)) ≡ false → ((u : ℕ) → u ≤ length (take i h) → is_fired (take i h ++ get_or h i d ∷ []) u ≡ is_fired (take i h) u) → IsSettled (take (i + 1) h)
+settled_more h i d b l law settled follows w quiet unfired fires = rw (take_more h i d l) (settled_after (take i h) (get_or h i d) (record { law = law; settled = settled; follows = w.0 follows; unfired = unfired; fires = fires }) quiet)
 
 pub found_more : (h : List Event) (i : ℕ) (d : Event) (size : ℕ) (found : Found) → i < length h → size ≡ length h → IsFound (take i h ++ get_or h i d ∷ []) size found → IsFound (take (i + 1) h) (length h) found
 found_more h i d size found l same f = rw (take_more h i d l, ← same) f

@@ -6,7 +6,7 @@ ghost use Rattle.rx_event.specs.Resources.{held_resources, waiting_resources};
 ghost use Rattle.rx_event.specs.Allowed.{IsAllowed};
 ghost use Rattle.rx_event.specs.Forced.{IsConnectDue, IsSettled};
 ghost use Rattle.rx_event.specs.Moments.{is_fired};
-ghost use Rattle.rx_audit.specs.Rules.{is_calm};
+ghost use Rattle.rx_audit.specs.Rules.{IsQuiet, open_subscribed};
 ghost use Rattle.rx_event.specs.Lawful.{IsLawful, MayFollow};
 ghost use Rattle.rx_audit.specs.Known.{IsFoundHere, IsSurveyed};
 ghost use Rattle.rx_audit.specs.Survey.{AreHubsNamed, IsSized};
@@ -17,12 +17,12 @@ use crate::allowed::{
     MOST_NODES, is_allowed_simply, is_held, is_item_allowed, is_open_allowed, is_waiting,
     open_count,
 };
-use crate::event_tests::{at, is_calm};
+use crate::event_tests::{at, is_calm, is_root};
 use crate::forced::{any_connect_due, is_forced, is_settled};
 use crate::found::{self, Found, follow, nothing_found};
 use crate::marks::is_marked;
 use crate::openness::mark_open;
-use crate::survey::{Survey, look, new_survey};
+use crate::survey::{Survey, look, new_survey, open_subscribed};
 use rx_event::{Event, Kind, Place};
 use std::alloc::{AllocError, Global};
 
@@ -224,21 +224,46 @@ fn may_follow(
     Ok(may_follow_unsettled(past, event, found, survey))
 }
 
-/// Whether the event leaves a settled history settled by itself: it is calm, and the node that it
-/// may make was not fired before.
-fn is_calm_here(past: &[Event], event: Event, found: &Found) -> bool
-    requires found { IsFoundHere past.now found.now }
-    requires room { length past.now < length found.now.live.items }
-    ensures { result ≡ true → (is_calm event ≡ true) × (is_fired past.now (length past.now) ≡ false) }
+/// Whether a node at this place or after it is an open subscriber.
+fn has_later_subscriber(past: &[Event], found: &Found, n: u64) -> bool
+    requires { IsFoundHere past.now found.now }
+    ensures { result ≡ false → (k : ℕ) → n ≤ k → open_subscribed past.now k ≡ None }
 {
-    is_calm(event) && !found::is_fired(past, found, past.len() as u64)
+    for k in (n as usize)..past.len() {
+        if open_subscribed(past, found.live.as_slice(), k as u64).is_some() {
+            return true;
+        }
+    }
+    false
 }
 
-/// Whether a history is known to be settled: it was, and the event was calm and fired nothing.
-fn stays_settled(settled: bool, calm: bool, fires: bool) -> bool
-    ensures { result ≡ true → (settled ≡ true) × (calm ≡ true) × (fires ≡ false) }
+/// Whether the event closes nothing but roots and what is below them, and no subscriber, and does
+/// nothing else that operators follow.
+fn is_quiet(past: &[Event], found: &Found, event: Event) -> bool
+    requires { IsFoundHere past.now found.now }
+    ensures { result ≡ true → IsQuiet past.now event }
 {
-    settled && calm && !fires
+    match event {
+        Event::Close(n) => at(is_root, past, n) && !has_later_subscriber(past, found, n),
+        _ => is_calm(event),
+    }
+}
+
+/// Whether the event leaves a settled history settled, where it fires nothing: it is quiet, and
+/// the node that it may make was not fired before.
+fn is_quiet_here(past: &[Event], found: &Found, event: Event) -> bool
+    requires found { IsFoundHere past.now found.now }
+    requires room { length past.now < length found.now.live.items }
+    ensures { result ≡ true → IsQuiet past.now event × (is_fired past.now (length past.now) ≡ false) }
+{
+    is_quiet(past, found, event) && !found::is_fired(past, found, past.len() as u64)
+}
+
+/// Whether a history is known to be settled: it was, and the event was quiet and fired nothing.
+fn stays_settled(settled: bool, quiet: bool, fires: bool) -> bool
+    ensures { result ≡ true → (settled ≡ true) × (quiet ≡ true) × (fires ≡ false) }
+{
+    settled && quiet && !fires
 }
 
 /// The first place whose event may not follow those before it, if there is one. Where there is
@@ -263,9 +288,9 @@ fn first_unlawful(
         if !may_follow(alloc, past, next, event, found, survey, settled)? {
             return Ok(Some(i as u64));
         }
-        let calm = is_calm_here(past, event, found);
+        let quiet = is_quiet_here(past, found, event);
         let fires = follow(alloc, past, event, found)?;
-        known = stays_settled(settled, calm, fires);
+        known = stays_settled(settled, quiet, fires);
     }
     Ok(None)
 }
