@@ -4,7 +4,7 @@ ghost use Rattle.std.specs.Prelude.{◌≡◌, ℕ, ◌+◌, ◌<◌, ◌≤◌,
 ghost use Rattle.std.specs.List.{list_any, list_all};
 ghost use Rattle.std.specs.Option.{option_map_or, option_and_then};
 ghost use Rattle.std.proofs.Math.Bool.{not};
-ghost use Rattle.rx_event.specs.Events.{is_leaf, is_source_of, is_notifier_of, makes_resource, node_of_accept};
+ghost use Rattle.rx_event.specs.Events.{is_leaf, makes_resource, node_of_accept};
 ghost use Rattle.rx_event.specs.Tree.{at, is_open, open_nodes, hubs, ancestors};
 ghost use Rattle.rx_event.specs.Resources.{is_held, is_waiting};
 ghost use Rattle.rx_event.specs.Climb.{visits};

@@ -2,7 +2,7 @@
 
 ghost use Rattle.std.specs.Prelude.{◌≡◌, ℕ, ◌==◌, false, Option, Some, None, length, slice_get, slice_index_or};
 ghost use Rattle.std.specs.Option.{MatchOption};
-ghost use Rattle.rx_event.specs.Events.{named_by, parent_named, makes_hub, is_root, is_source_of, is_inner_of, is_notifier_of, is_leaf, is_switch, is_until, is_merging, is_mirroring, has_source, is_auto_hub, is_manual_hub};
+ghost use Rattle.rx_event.specs.Events.{named_by, parent_named, makes_hub, is_root, is_source_of, is_inner_of, is_leaf, is_switch, is_until, is_merging, is_mirroring, has_source, is_auto_hub, is_manual_hub};
 ghost use Rattle.rx_event.specs.Tree.{at, parent};
 ghost use Rattle.rx_event.specs.Allowed.{may_abort};
 ghost use Rattle.rx_audit.specs.Rules.{hub_connected, hub_subscribed, source_named, notifier_named, ended_of, failed_of, completed_of, removed_of, taken_of, paid_of, calm_place, calm_kind, is_calm};
@@ -175,19 +175,6 @@ pub fn is_inner_of(node: u64, event: Event) -> bool
     match event {
         Event::Open {
             place: Place::Inner(n),
-            ..
-        } => n == node,
-        _ => false,
-    }
-}
-
-/// Whether the event opens the notifier of this node.
-pub fn is_notifier_of(node: u64, event: Event) -> bool
-    ensures { result ≡ is_notifier_of node event }
-{
-    match event {
-        Event::Open {
-            place: Place::Notifier(n),
             ..
         } => n == node,
         _ => false,

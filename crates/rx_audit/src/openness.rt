@@ -3,9 +3,8 @@
 ghost use Rattle.std.specs.Prelude.{◌≡◌, ℕ, ◌+◌, ◌<◌, ◌≤◌, ◌==◌, ◌&&◌, false, [], ◌∷◌, ◌++◌, length, slice_index_or, slice_get, IsTrue};
 ghost use Rattle.std.specs.Option.{option_map_or, option_and_then};
 ghost use Rattle.std.proofs.Math.Bool.{not};
-ghost use Rattle.std.specs.List.{list_any, range_with_len};
 ghost use Rattle.rx_event.specs.Events.{parent_named, is_switch, is_inner_of, makes_node, named_by};
-ghost use Rattle.rx_event.specs.Tree.{at, parent, shuts, is_open, ancestors, is_switched_inner, has_open_child, places, if_less};
+ghost use Rattle.rx_event.specs.Tree.{at, parent, shuts, is_open, ancestors, is_switched_inner, if_less};
 ghost use Rattle.rx_audit.specs.Tables.{IsMarked};
 ghost use Rattle.rx_audit.specs.Rules.{stays_open, opens};
 ghost use Rattle.rx_event.specs.Laws.Openness.{shuts_none};
@@ -27,22 +26,6 @@ pub fn parent_of(past: &[Event], n: usize) -> Option<u64>
         Some(p) if p < n as u64 => Some(p),
         _ => None,
     }
-}
-
-/// Whether node `k` is an open child of node `p`.
-fn is_open_child_of(past: &[Event], marks: &[bool], p: u64, k: usize) -> bool
-    requires { IsMarked marks.now (is_open past.now) }
-    ensures { result ≡ (is_open past.now k && option_map_or (λ q. q == p) (parent past.now k) false) }
-{
-    is_marked(marks, k as u64) && parent_of(past, k) == Some(p)
-}
-
-/// Whether node `p` has an open child.
-pub fn has_open_child(past: &[Event], marks: &[bool], p: u64) -> bool
-    requires { IsMarked marks.now (is_open past.now) }
-    ensures { result ≡ has_open_child past.now p }
-{
-    (0..past.len()).any(|k| is_open_child_of(past, marks, p, k))
 }
 
 /// Whether node `n` is an inner observable of node `f`, which is a Switch.
