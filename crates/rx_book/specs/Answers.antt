@@ -14,7 +14,7 @@ use Rattle.rx_book.specs.declared.key.ResKey.{ResKey}
 use Rattle.rx_book.specs.declared.answer.At.{At}
 use Rattle.rx_book.specs.declared.answer.At.TheVariants.{Root as AtRoot, Source as AtSource, Inner as AtInner, Notifier as AtNotifier}
 use Rattle.rx_book.specs.State.{State, has_key}
-use Rattle.rx_book.specs.Causes.{causes, by_key}
+use Rattle.rx_book.specs.Causes.{causes, by_key, by_res_key}
 
 -- the place that a caller names by keys
 abbrev pub place_of : At → Place
@@ -34,6 +34,10 @@ is_known keys (AtNotifier k) = has_key keys k
 -- in is fresh
 abbrev pub against : State → Bool → Bool → Call → Refusal → Bool
 against s known is_fresh call = by_key known (causes s.history s.limit is_fresh call)
+
+-- and against a call by a resource's key: whether it is a held resource's
+abbrev pub against_use : State → Bool → Call → Refusal → Bool
+against_use s known call = by_res_key known (causes s.history s.limit true call)
 
 abbrev pub makes_connection : Event → Bool
 makes_connection (Connect hub) = true

@@ -8,13 +8,14 @@ use Rattle.rx_event.specs.declared.event.Kind.{Kind}
 use Rattle.rx_event.specs.declared.event.Kind.TheVariants.{Leaf, Pass, Flat, Switch, Until, Sub}
 use Rattle.rx_event.specs.declared.event.Event.{Event}
 use Rattle.rx_event.specs.declared.refusal.Refusal.{Refusal}
-use Rattle.rx_event.specs.declared.refusal.Refusal.TheVariants.{Full, Gone, WrongKind, PlaceTaken, NotRoot, NoHub, NotFresh, TooMany}
+use Rattle.rx_event.specs.declared.refusal.Refusal.TheVariants.{Full, Gone, WrongKind, PlaceTaken, NotRoot, NoHub, NotFresh, NotHeld, HasChild, TooMany}
 use Rattle.rx_event.specs.Events.{has_source, is_leaf, is_root, is_source_of}
-use Rattle.rx_event.specs.Tree.{at, is_open}
+use Rattle.rx_event.specs.Tree.{at, is_open, has_open_child}
+use Rattle.rx_event.specs.Resources.{is_held}
 use Rattle.rx_event.specs.Climb.{visits, most_visits}
-use Rattle.rx_event.specs.Allowed.{most_nodes}
+use Rattle.rx_event.specs.Allowed.{most_nodes, may_abort}
 use Rattle.rx_event.specs.Totals.{debt, open_count}
-use Rattle.rx_event.specs.Calls.{Call, Opening, OpeningUsing, Holding, Emitting, Ending, Disposing}
+use Rattle.rx_event.specs.Calls.{Call, Opening, OpeningUsing, Holding, Applying, Removing, Emitting, Ending, Aborting, Disposing}
 
 -- what is there so far: sources and mirroring nodes
 abbrev pub is_built : Kind → Bool
@@ -80,6 +81,17 @@ holding_causes h limit is_fresh node NotFresh = not is_fresh
 holding_causes h limit is_fresh node Full = is_over h limit 3
 holding_causes h limit is_fresh node _ = false
 
+-- one event
+abbrev pub applying_causes : List Event → ℕ → ℕ → Refusal → Bool
+applying_causes h limit resource NotHeld = not (is_held h resource)
+applying_causes h limit resource Full = is_over h limit 1
+applying_causes h limit resource _ = false
+
+abbrev pub removing_causes : List Event → ℕ → Refusal → Bool
+removing_causes h resource NotHeld = not (is_held h resource)
+removing_causes h resource _ = false
+
+-- one event
 abbrev pub emitting_causes : List Event → ℕ → ℕ → Refusal → Bool
 emitting_causes h limit leaf Gone = not (is_open h leaf)
 emitting_causes h limit leaf WrongKind = not (at is_leaf h leaf)
@@ -92,6 +104,13 @@ ending_causes h leaf Gone = not (is_open h leaf)
 ending_causes h leaf WrongKind = not (at is_leaf h leaf)
 ending_causes h leaf _ = false
 
+-- a leaf is ended and not aborted; and what is open below would be cut off
+abbrev pub aborting_causes : List Event → ℕ → Refusal → Bool
+aborting_causes h node Gone = not (is_open h node)
+aborting_causes h node WrongKind = not (at may_abort h node)
+aborting_causes h node HasChild = has_open_child h node
+aborting_causes h node _ = false
+
 abbrev pub disposing_causes : List Event → ℕ → Refusal → Bool
 disposing_causes h root Gone = not (is_open h root)
 disposing_causes h root NotRoot = not (at is_root h root)
@@ -102,14 +121,23 @@ abbrev pub causes : List Event → ℕ → Bool → Call → Refusal → Bool
 causes h limit is_fresh (Opening place kind) why = opening_causes h limit place kind why
 causes h limit is_fresh (OpeningUsing place tag) why = using_causes h limit is_fresh place why
 causes h limit is_fresh (Holding node tag) why = holding_causes h limit is_fresh node why
+causes h limit is_fresh (Applying resource) why = applying_causes h limit resource why
+causes h limit is_fresh (Removing resource) why = removing_causes h resource why
 causes h limit is_fresh (Emitting leaf value) why = emitting_causes h limit leaf why
 causes h limit is_fresh (Ending leaf t) why = ending_causes h leaf why
+causes h limit is_fresh (Aborting node code) why = aborting_causes h node why
 causes h limit is_fresh (Disposing root) why = disposing_causes h root why
 causes h limit is_fresh _ why = false
 
--- against a call by a key: where it is no open node's key, that the node is gone, and of the rest an unknown hub alone
+-- where it is no open node's key, that the node is gone, and of the rest an unknown hub alone
 abbrev pub by_key : Bool → (Refusal → Bool) → Refusal → Bool
 by_key true stands why = stands why
 by_key false stands NoHub = stands NoHub
 by_key false stands Gone = true
 by_key false stands _ = false
+
+-- where it is no held resource's key, that the resource is not held
+abbrev pub by_res_key : Bool → (Refusal → Bool) → Refusal → Bool
+by_res_key true stands why = stands why
+by_res_key false stands NotHeld = true
+by_res_key false stands _ = false

@@ -5,11 +5,11 @@ ghost use Rattle.std.specs.List.{Contains, find};
 ghost use Rattle.rx_event.specs.Tree.{places};
 ghost use Rattle.rx_event.specs.Notes.{notes};
 ghost use Rattle.rx_event.specs.Totals.{open_count as open_count_in, held_count, waiting_count, accepted_count, taken_count, item_count};
-ghost use Rattle.rx_event.specs.Calls.{Opening, OpeningUsing, Holding, Emitting, Ending, Disposing, Taking};
+ghost use Rattle.rx_event.specs.Calls.{Opening, OpeningUsing, Holding, Applying, Removing, Emitting, Ending, Aborting, Disposing, Taking};
 ghost use Rattle.rx_event.specs.Refusals.{IsRefusal, first_cause};
 ghost use Rattle.rx_resource.specs.declared.Life.{Life};
 ghost use Rattle.rx_book.specs.State.{IsKept, has_key, has_res_key};
-ghost use Rattle.rx_book.specs.Answers.{place_of, is_known, against, connection_made, Accepts};
+ghost use Rattle.rx_book.specs.Answers.{place_of, is_known, against, against_use, connection_made, Accepts};
 ghost use Rattle.rx_book.specs.Kept.{is_open_root, letter};
 ghost use Rattle.rx_book.specs.Boxes.{box_of, is_fresh_box, key_at, res_key_at};
 
@@ -296,6 +296,46 @@ impl<R: Resource> Book<R> {
         ensures given { self.new ≡ record self.old { given = if is_some result then self.old.given + 1 else self.old.given } }
     {
         self.register.take_mail()
+    }
+
+    /// Uses a held resource on a word, and answers its word. The resource's `apply` runs inside this
+    /// call, and so inside whatever lock the owner of the book holds: it may not use the desk. Refused,
+    /// in this order: `NotHeld` where the key is no held resource's, `Full`, `NoMemory`. A refusal
+    /// changes nothing, and does not use the resource.
+    pub fn apply(&mut self, res: ResKey, word: u64) -> Result<u64, Refusal>
+        requires stub { 1 ≤ 0 }
+        ensures accepted { OnOk result (Accepts self.old (against_use self.old (has_res_key self.old.res_keys res) (Applying res.number)) (Applying res.number) self.new) }
+        ensures refused { IfErr result (IsRefusal (against_use self.old (has_res_key self.old.res_keys res) (Applying res.number))) }
+        ensures kept { OnErr result (self.new ≡ self.old) }
+    {
+        unreachable!()
+    }
+
+    /// Takes a resource away from its node, which goes on without it: it then waits for its release
+    /// (Remove of a composite disposable); answers the place of its event. Refused `NotHeld` where the
+    /// key is no held resource's. It takes no memory. A refusal changes nothing.
+    pub fn remove(&mut self, res: ResKey) -> Result<u64, Refusal>
+        requires stub { 1 ≤ 0 }
+        ensures ok { IfOk result (λ place. place ≡ length self.old.history) }
+        ensures accepted { OnOk result (Accepts self.old (against_use self.old (has_res_key self.old.res_keys res) (Removing res.number)) (Removing res.number) self.new) }
+        ensures refused { IfErr result (λ why. first_cause (against_use self.old (has_res_key self.old.res_keys res) (Removing res.number)) ≡ Some why) }
+        ensures kept { OnErr result (self.new ≡ self.old) }
+    {
+        unreachable!()
+    }
+
+    /// Ends a node that is no leaf with an error (OnError), as an operator that fails does, and each
+    /// node that mirrors it after it; answers the place of its end. `code` is any `u32`. Refused, in
+    /// this order: `Gone`, `WrongKind` where the node is a leaf, `HasChild` where a node below it is
+    /// open. It takes no memory. A refusal changes nothing.
+    pub fn abort(&mut self, node: Key, code: u32) -> Result<u64, Refusal>
+        requires stub { 1 ≤ 0 }
+        ensures ok { IfOk result (λ place. place ≡ length self.old.history) }
+        ensures accepted { OnOk result (Accepts self.old (against self.old (has_key self.old.keys node) true (Aborting node.number code)) (Aborting node.number code) self.new) }
+        ensures refused { IfErr result (λ why. first_cause (against self.old (has_key self.old.keys node) true (Aborting node.number code)) ≡ Some why) }
+        ensures kept { OnErr result (self.new ≡ self.old) }
+    {
+        unreachable!()
     }
 
     /// How many nodes are open.
