@@ -101,21 +101,21 @@ pub record IsResStep (step : Step) (name : Name) (call : ℕ → Call) : Type 0 
   pub called : (s : Stage) → call_of s step ≡ option_map call (bound s.resources name)
   pub binds_none : (s : Stage) (k : List Event) → after s step k ≡ record s { history = k }
   -- to look for the key is to look whether the resource is held
-  pub by_key : (known : Bool) (h : List Event) (limit : ℕ) (is_fresh : Bool) (n : ℕ) → known ≡ is_held h n → first_cause (by_res_key known (causes h limit true (call n))) ≡ first_cause (causes h limit is_fresh (call n))
+  pub same_cause : (known : Bool) (h : List Event) (limit : ℕ) (is_fresh : Bool) (n : ℕ) → known ≡ is_held h n → first_cause (by_res_key known (causes h limit true (call n))) ≡ first_cause (causes h limit is_fresh (call n))
 
-apply_by_key : (known : Bool) (h : List Event) (limit : ℕ) (is_fresh : Bool) (n : ℕ) → known ≡ is_held h n → first_cause (by_res_key known (causes h limit true (Applying n))) ≡ first_cause (causes h limit is_fresh (Applying n))
-apply_by_key true h limit f n same = refl
-apply_by_key false h limit f n same = let not_held : is_held h n ≡ false = sym same in rw not_held refl
+apply_same_cause : (known : Bool) (h : List Event) (limit : ℕ) (is_fresh : Bool) (n : ℕ) → known ≡ is_held h n → first_cause (by_res_key known (causes h limit true (Applying n))) ≡ first_cause (causes h limit is_fresh (Applying n))
+apply_same_cause true h limit f n same = refl
+apply_same_cause false h limit f n same = let not_held : is_held h n ≡ false = sym same in rw not_held refl
 
-remove_by_key : (known : Bool) (h : List Event) (limit : ℕ) (is_fresh : Bool) (n : ℕ) → known ≡ is_held h n → first_cause (by_res_key known (causes h limit true (Removing n))) ≡ first_cause (causes h limit is_fresh (Removing n))
-remove_by_key true h limit f n same = refl
-remove_by_key false h limit f n same = let not_held : is_held h n ≡ false = sym same in rw not_held refl
+remove_same_cause : (known : Bool) (h : List Event) (limit : ℕ) (is_fresh : Bool) (n : ℕ) → known ≡ is_held h n → first_cause (by_res_key known (causes h limit true (Removing n))) ≡ first_cause (causes h limit is_fresh (Removing n))
+remove_same_cause true h limit f n same = refl
+remove_same_cause false h limit f n same = let not_held : is_held h n ≡ false = sym same in rw not_held refl
 
 pub apply_step : (res : Name) (word : ℕ) → IsResStep (apply res word) res Applying
-apply_step res word = record { own = λ s. refl; called = λ s. refl; binds_none = λ s k. refl; by_key = apply_by_key }
+apply_step res word = record { own = λ s. refl; called = λ s. refl; binds_none = λ s k. refl; same_cause = apply_same_cause }
 
 pub remove_step : (res : Name) → IsResStep (remove res) res Removing
-remove_step res = record { own = λ s. refl; called = λ s. refl; binds_none = λ s k. refl; by_key = remove_by_key }
+remove_step res = record { own = λ s. refl; called = λ s. refl; binds_none = λ s k. refl; same_cause = remove_same_cause }
 
 module _ {R : Type 0} (e : Engine R) {step : Step} {name : Name} {call : ℕ → Call} (is_step : IsResStep step name call) (sound : IsSound e) where
   pub res_nameless : key_of e.resources.items name ≡ None → Carries e step (Refused NoName) (with e e.book e.stock)
@@ -137,7 +137,7 @@ module _ {R : Type 0} (e : Engine R) {step : Step} {name : Name} {call : ℕ →
     res_known = has_res_key-is_held e.book k sound.kept (key_of-holds (IsHeldKey e.book) e.resources.items name k sound.resources named)
 
     res_agrees : Agrees e.book (against_use e.book (has_res_key e.book.res_keys k) (call k.number)) (stage_of e) (call k.number)
-    res_agrees = record { same = is_step.by_key (has_res_key e.book.res_keys k) e.book.history e.book.limit (front_is_fresh (stage_of e)) k.number res_known }
+    res_agrees = record { same = is_step.same_cause (has_res_key e.book.res_keys k) e.book.history e.book.limit (front_is_fresh (stage_of e)) k.number res_known }
 
     pub res_refused : (book : State) (why : Refusal) → book ≡ e.book → IsRefusal (against_use e.book (has_res_key e.book.res_keys k) (call k.number)) why → why ≢ NoMemory → Carries e step (Refused (Book why)) (with e book e.stock)
     res_refused book why same refusal other =

@@ -11,9 +11,9 @@ returns-in_default g c =
 pub returns-in-Ok : goal.returns-in-Ok
 returns-in-Ok g c =
     let bound : key_of c.args.engine.now.resources.items c.args.res.now ≡ Some c.in-Some.key = cc in
-    res_accepted c.args.engine.now (remove_step c.args.res.now) c.requires c.in-Some.key bound c.remove.new.self c.promise.ensures c.in-Ok.ensures.accepted
+    res_accepted c.args.engine.now (remove_step c.args.res.now) c.requires c.in-Some.key bound _ c.promise.ensures c.in-Ok.ensures.accepted
 
 pub returns-in-Err : goal.returns-in-Err
 returns-in-Err g c =
     let bound : key_of c.args.engine.now.resources.items c.args.res.now ≡ Some c.in-Some.key = cc in
-    answered _ _ _ c.refused.ensures.ok (λ other. res_refused c.args.engine.now (remove_step c.args.res.now) c.requires c.in-Some.key bound c.remove.new.self c.in-Err.why c.in-Err.ensures.kept (inl c.in-Err.ensures.refused) other)
+    answered _ _ _ c.refused.ensures.ok (λ other. res_refused c.args.engine.now (remove_step c.args.res.now) c.requires c.in-Some.key bound _ c.in-Err.why c.in-Err.ensures.kept (inl c.in-Err.ensures.refused) other)
