@@ -14,7 +14,7 @@ use Rattle.rx_event.specs.Refusals.{first_cause, IsRefusal}
 use Rattle.rx_book.specs.declared.key.Key.{Key}
 use Rattle.rx_book.specs.declared.key.ResKey.{ResKey}
 use Rattle.rx_book.specs.State.{State, IsKept, has_key, has_res_key}
-use Rattle.rx_book.specs.Causes.{causes}
+use Rattle.rx_register.specs.Causes.{causes}
 use Rattle.rx_book.specs.Causes.{by_key, by_res_key}
 use Rattle.rx_book.specs.Answers.{against, against_use, Accepts}
 use Rattle.rx_script.specs.declared.answer.Answer.{Answer}

@@ -7,7 +7,7 @@ use Rattle.rx_event.specs.declared.event.Place.TheVariants.{Root, Source}
 use Rattle.rx_event.specs.declared.event.Event.{Event}
 use Rattle.rx_event.specs.Calls.{Call, Opening, OpeningUsing, Holding, Applying, Removing, Emitting, Ending, Aborting, Disposing}
 use Rattle.rx_resource.specs.declared.Life.{Life}
-use Rattle.rx_book.specs.Boxes.{is_fresh_box}
+use Rattle.rx_book.specs.Shown.{is_fresh_box}
 use Rattle.rx_script.specs.declared.answer.Cause.{Cause}
 use Rattle.rx_script.specs.declared.answer.Cause.TheVariants.{NoName, NameTaken, NoStock}
 use Rattle.rx_script.specs.Scenario.{Name, Spot, root, source, Step, using, open_node, hold, apply, remove, next, end, abort, dispose, drain}
