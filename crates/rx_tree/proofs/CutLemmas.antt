@@ -1,5 +1,5 @@
 -- What is left of a tree, and what was moved out, while a subtree is cut away.
-use Rattle.std.proofs.Common.{◌≡◌, ◌≢◌, ℕ, zero, suc, ◌+◌, ◌<◌, ◌≤◌, cond, Bool, true, false, List, [], ◌∷◌, ◌++◌, length, get_or, Option, Some, None, is_some, IsSome, IfSome, IsTrue, Contains, take, drop, option_map, refl, sym, ap, subst, ◌∙◌, inl, inr, ◌⊎◌, arith, true≢false}
+use Rattle.std.proofs.Common.{◌≡◌, ◌≢◌, ℕ, zero, suc, ◌<◌, cond, Bool, true, false, List, [], ◌∷◌, ◌++◌, length, get_or, Option, Some, None, is_some, IsSome, IfSome, Contains, take, drop, refl, sym, ap, subst, ◌∙◌, inl, inr, ◌⊎◌, arith, true≢false}
 use Rattle.std.specs.List.{AllPairs}
 use Rattle.std.proofs.Math.Bool.{not}
 use Rattle.std.specs.Option.{option_and_then, option_map_or}
@@ -10,17 +10,16 @@ use Rattle.std.proofs.lemmas.List.Elements.{Contains-append_left, Contains-push,
 use Rattle.std.proofs.lemmas.List.Quantifiers.{all_pairs_push}
 use Rattle.rx_slots.specs.declared.Entry.{Entry}
 use Rattle.rx_slots.specs.declared.Key.{Key}
-use Rattle.rx_slots.specs.Slots.{Slots, entry_of, entry_at, with_number, find, Changes}
+use Rattle.rx_slots.specs.Slots.{entry_of, entry_at, with_number, find, Changes}
 use Rattle.rx_tree.specs.declared.node.Node.{Node}
 use Rattle.rx_tree.specs.declared.node.Closed.{Closed}
 use Rattle.rx_tree.specs.Tree.{Tree, IsSound, IsPlaced}
 use Rattle.rx_tree.specs.Below.{is_below}
 use Rattle.rx_tree.specs.Closing.{IsInside, IsSubtree}
 use Rattle.rx_tree.specs.Cuts.{is_orphan, orphan_in, orphan_at, Cuts, uncut, cut}
-use Rattle.rx_tree.proofs.Sound.{some_of, none_not_some, IsPlaced-kept}
-use Rattle.rx_tree.proofs.Written.{entry_found, found_entry, same_entry}
-use Rattle.rx_tree.proofs.Sound.{same_key, cases_key}
-use Rattle.rx_tree.proofs.Below.{below_itself, below_child, not_below}
+use Rattle.rx_tree.specs.Laws.Keys.{some_of, none_not_some}
+use Rattle.rx_tree.specs.Laws.Written.{one_key, entry_found, found_entry, same_entry}
+use Rattle.rx_tree.specs.Laws.Below.{below_itself, below_child, not_below}
 
 module _ {T : Type 0} where
   -- what one slot's change leaves
@@ -36,13 +35,6 @@ module _ {T : Type 0} where
         | inl same ↦ absurd (none_not_some (find t k) (gone_here s t key changes k same) found)
         | inr other ↦ kept_elsewhere s t key changes k other
       ]
-
-  -- two keys of one slot that find records are one
-  pub one_key : (s : Tree T) (a b : Key) (x y : Node T) → a.slot ≡ b.slot → find s a ≡ Some x → find s b ≡ Some y → (a ≡ b) × (x ≡ y)
-  one_key s a b x y slot found_a found_b =
-      let e : Some (entry_of a.number x) ≡ Some (entry_of b.number y) = sym (entry_found s a x found_a) ∙ ap (entry_at s) slot ∙ entry_found s b y found_b in
-      let same : entry_of a.number x ≡ entry_of b.number y = cc in
-      (same_key a b slot (ap (λ z. z.number) same), ap (λ z. z.value) same)
 
   -- the key of an orphan
   pub orphan_found : (s : Tree T) (slot : ℕ) (key : Key) → orphan_at s slot ≡ Some key → (node : Node T) × (key.slot ≡ slot) × (find s key ≡ Some node) × (is_orphan s node ≡ true)

@@ -1,16 +1,15 @@
 -- What a write of one record leaves of a tree.
-use Rattle.std.proofs.Common.{◌≡◌, ◌≢◌, ℕ, Option, Some, None, is_some, IsSome, IfSome, IfNone, OnSome, option_map, nat_eq, refl, sym, ap, subst, ◌∙◌, true≢false}
-use Rattle.std.specs.Map.{lookup}
-use Rattle.std.specs.Option.{option_and_then}
+use Rattle.std.proofs.Common.{◌≡◌, ◌≢◌, ℕ, Option, Some, None, IsSome, IfSome, IfNone, OnSome, option_map, refl, sym, ap, subst, ◌∙◌}
 use Rattle.rx_slots.specs.declared.Key.{Key}
-use Rattle.rx_slots.specs.Slots.{Slots, value_at, key_at, find, with_value, with_value_at, KeepsOthers}
+use Rattle.rx_slots.specs.Slots.{value_at, key_at, find, with_value, with_value_at}
 use Rattle.rx_tree.specs.declared.node.Node.{Node}
-use Rattle.rx_tree.specs.declared.node.ResKey.{ResKey}
 use Rattle.rx_tree.specs.Boxes.{Boxes, box_of, without_box}
 use Rattle.rx_tree.specs.Tree.{Tree, Rewrites, IsSound, IsChild, on_boxes, parent_number}
 use Rattle.rx_tree.proofs.Entries.{remove_absent}
-use Rattle.rx_tree.proofs.Sound.{IsSound-at, some_of, child_found, parent_key}
-use Rattle.rx_tree.proofs.Written.{key_found, find-written, KeepsOthers-written, key_of_value, with_value_at-key, with_value-same}
+use Rattle.rx_tree.proofs.Sound.{IsSound-at}
+use Rattle.rx_tree.specs.Laws.Keys.{some_of}
+use Rattle.rx_tree.specs.Laws.Parents.{child_found, parent_key}
+use Rattle.rx_tree.specs.Laws.Written.{key_found, find-written, KeepsOthers-written, key_of_value, with_value_at-key, with_value-same}
 
 module _ {T : Type 0} (s : Tree T) where
   -- a record of the same event is written at a key

@@ -94,6 +94,23 @@ fn opened<R: Resource>(
     Ok(open_there(tree, number, made, above).ok_or("it is not opened")?)
 }
 
+// Opens a node that holds a resource, where its number and place may be, or gives the resource back.
+fn open_with<R: Resource>(
+    tree: &mut Tree<R>,
+    number: u64,
+    made: Event,
+    above: Option<Key>,
+    resource_number: u64,
+    resource: R,
+) -> Result<Key, R>
+    ensures { IfErr result (λ back. back ≡ resource) }
+{
+    if !tree.is_unused(number) || !tree.is_placed(number, made, above) {
+        return Err(resource);
+    }
+    tree.open_using(number, made, above, resource_number, resource)
+}
+
 // Holds a resource where that may be, or gives it back.
 fn held<R: Resource>(tree: &mut Tree<R>, key: Key, number: u64, resource: R) -> Result<ResKey, R>
     ensures { IfErr result (λ back. back ≡ resource) }
@@ -498,6 +515,43 @@ fn a_refused_hold_gives_the_resource_back(rt: HostRuntime) -> Result<(), Fail> {
     }
     assert_eq!(rt; holds, 10);
     assert!(rt; refused > 1, "refused {refused}");
+    Ok(())
+}
+
+#[test]
+fn a_node_is_opened_with_its_resource(rt: HostRuntime) -> Result<(), Fail> {
+    let mut tree = Tree::new(rt.alloc());
+    let made = pass_at(Place::Root);
+    let mut scarce = Scarce::new(rt.alloc())?;
+    let mut resource = fresh_tally(8);
+    let mut node = None;
+    let mut refused = 0_u64;
+    for _ in 0..MOST_BLOCKS {
+        match open_with(&mut tree, 3, made, None, 5, resource) {
+            Ok(key) => {
+                node = Some(key);
+                break;
+            }
+            Err(back) => {
+                resource = back;
+                refused = refused.wrapping_add(1);
+                assert_eq!(rt; tree.len(), 0);
+                assert!(rt; scarce.give_back_one());
+            }
+        }
+    }
+    let key = node.ok_or("it is not opened")?;
+    assert!(rt; refused > 1, "refused {refused}");
+    assert_eq!(rt; key.number, 3);
+    assert_eq!(rt; tree.made(key), Some(made));
+    let res = ResKey {
+        slot: key.slot,
+        number: 5,
+    };
+    match tree.unhold(res) {
+        Some(back) => assert_eq!(rt; back.tag, 8),
+        None => return Err(Fail::from("the resource is lost")),
+    }
     Ok(())
 }
 

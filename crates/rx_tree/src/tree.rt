@@ -168,15 +168,51 @@ impl<R: Resource> Tree<R> {
         ensures err { OnErr result (self.new ≡ record self.old { room = self.new.room }) }
         ensures room { OnErr result (self.old.room ≤ self.new.room) }
     {
-        let node = Node {
-            made,
-            above,
-            marks: Marks::blank(),
-            boxes: Boxes::new(self.alloc),
-        };
+        let node = Node::blank(made, above, Boxes::new(self.alloc));
         match self.nodes.insert(number, node) {
             Ok(key) => Ok(key),
             Err(_) => Err(AllocError),
+        }
+    }
+
+    /// Adds a record with blank marks that holds a resource, and gives its key.
+    ///
+    /// The event and the key above are as `open` has them. Refused only where memory was refused: the
+    /// resource then comes back, and no record changes.
+    pub fn open_using(
+        &mut self,
+        number: u64,
+        made: Event,
+        above: Option<Key>,
+        resource_number: u64,
+        resource: R,
+    ) -> Result<Key, R>
+        requires unused { IsUnused self.old number }
+        requires placed { IsPlaced self.old number made above }
+
+        // The record goes to a slot that was free, and no other changes.
+        ensures numbered { IfOk result (λ key. key.number ≡ number) }
+        ensures was_free { IfOk result (λ key. entry_at self.old key.slot ≡ None) }
+        ensures opened { IfOk result (λ key. find self.new key ≡ Some (on_boxes (with_box resource_number resource) (blank_node made above))) }
+        ensures kept { IfOk result (λ key. KeepsOthers self.old self.new key) }
+        ensures count { OnOk result (self.new.count ≡ self.old.count + 1) }
+
+        // One place of the room is used, where there was room.
+        ensures had_room { OnOk result (0 < self.old.room → self.new.room + 1 ≡ self.old.room) }
+
+        ensures given_back { IfErr result (λ back. back ≡ resource) }
+        ensures err { OnErr result (self.new ≡ record self.old { room = self.new.room }) }
+        ensures room { OnErr result (self.old.room ≤ self.new.room) }
+    {
+        if self.nodes.reserve(1).is_err() {
+            return Err(resource);
+        }
+        let mut boxes = Boxes::new(self.alloc);
+        boxes.add(resource_number, resource)?;
+        let holder = Node::blank(made, above, boxes);
+        match self.nodes.insert(number, holder) {
+            Ok(key) => Ok(key),
+            Err(_) => unreachable!(),
         }
     }
 

@@ -1,6 +1,6 @@
-use Rattle.std.proofs.Common.{◌≡◌, ◌∙◌, ◌+◌, ◌<◌, refl, sym, ap, inl, inr, arith, rules}
+use Rattle.std.proofs.Common.{◌≡◌, ◌∙◌, ◌<◌, refl, sym, inl, inr, arith, rules}
 use Rattle.std.proofs.lemmas.Bool.{cases_lt}
-use Rattle.rx_tree.specs.Cuts.{Cuts, uncut, cut}
+use Rattle.rx_tree.specs.Cuts.{uncut, cut}
 use Rattle.rx_tree.proofs.CutLemmas.{orphan_found}
 use Rattle.rx_tree.proofs.subtree.sweep.Goals as goal
 use Rattle.rx_tree.proofs.subtree.sweep.Goals.{in-Some, in_default}

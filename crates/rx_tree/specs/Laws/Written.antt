@@ -1,11 +1,11 @@
 -- What slots find after a write of one record.
-use Rattle.std.proofs.Common.{◌≡◌, ◌≢◌, ℕ, ◌<◌, List, length, get_or, set, Bool, true, false, Option, Some, None, is_some, IsSome, IfSome, option_map, refl, sym, ap, subst, ◌∙◌, inl, inr, ◌⊎◌, arith, rules, true≢false}
+use Rattle.std.proofs.Common.{◌≡◌, ◌≢◌, ℕ, ◌<◌, length, get_or, set, Option, Some, None, is_some, IsSome, option_map, refl, sym, ap, ◌∙◌, inl, inr, rules, true≢false}
 use Rattle.std.proofs.lemmas.Bool.{cases_eq, cases_lt}
 use Rattle.std.proofs.lemmas.List.{get_or_past, get_or-set_same, get_or-set_other, set-get_or}
 use Rattle.rx_slots.specs.declared.Entry.{Entry}
 use Rattle.rx_slots.specs.declared.Key.{Key}
 use Rattle.rx_slots.specs.Slots.{Slots, entry_of, entry_at, number_at, value_at, key_at, with_number, find, with_value, with_value_at, KeepsOthers}
-use Rattle.rx_tree.proofs.Sound.{same_key, cases_key}
+use Rattle.rx_tree.specs.Laws.Keys.{same_key}
 
 module _ {X : Type 0} where
   pub same_entry : (a b : Entry X) → a.number ≡ b.number → a.value ≡ b.value → a ≡ b
@@ -43,6 +43,13 @@ module _ {X : Type 0} where
   -- a key that finds a value is that of its slot
   pub key_found : (s : Slots X) (key : Key) (x : X) → find s key ≡ Some x → key_at s key.slot ≡ Some key
   key_found s key x found = ap (option_map (λ e. record { slot = key.slot; number = e.number })) (entry_found s key x found)
+
+  -- two keys of one slot that find values are one
+  pub one_key : (s : Slots X) (a b : Key) (x y : X) → a.slot ≡ b.slot → find s a ≡ Some x → find s b ≡ Some y → (a ≡ b) × (x ≡ y)
+  one_key s a b x y slot found_a found_b =
+      let e : Some (entry_of a.number x) ≡ Some (entry_of b.number y) = sym (entry_found s a x found_a) ∙ ap (entry_at s) slot ∙ entry_found s b y found_b in
+      let same : entry_of a.number x ≡ entry_of b.number y = cc in
+      (same_key a b slot (ap (λ z. z.number) same), ap (λ z. z.value) same)
 
   -- where a slot's entry is written, its key finds what was written, and every other what it found
   module _ (s t : Slots X) (key : Key) (before after : X) (found : find s key ≡ Some before) (written : t.entries ≡ set s.entries key.slot (Some (entry_of key.number after))) where

@@ -1,0 +1,4 @@
+pub mod Keys
+pub mod Written
+pub mod Parents
+pub mod Below
