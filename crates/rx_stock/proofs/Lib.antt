@@ -1,1 +1,3 @@
-
+pub mod Noted
+pub mod Spilled
+pub mod Used

@@ -1,14 +1,16 @@
 //! The stock, and the calls on it.
 
-ghost use Rattle.std.specs.Prelude.{◌≡◌, ℕ, ◌+◌, ◌<◌, ◌≤◌, ◌↔◌, ◌^◌, [], ◌∷◌, ◌++◌, length, IsSome, IsTrue, IfOk, IfErr, IfSome, IfNone, OnOk, OnErr, OnSome, None, Some, option_map, cond};
+ghost use Rattle.std.specs.Prelude.{◌≡◌, ℕ, ◌+◌, ◌<◌, ◌≤◌, ◌↔◌, ◌^◌, [], ◌∷◌, ◌++◌, length, IsSome, IsTrue, IfOk, IfErr, IfSome, IfNone, OnOk, OnErr, OnSome, None, Some, option_map, map, cond, vec_len, vec_capacity};
 ghost use Rattle.rx_resource.specs.declared.Life.{Life};
 ghost use Rattle.rx_slots.specs.declared.Key.{Key};
 ghost use Rattle.rx_slots.specs.Slots.{find, key_at, slot_count};
 ghost use Rattle.rx_tree.specs.declared.node.ResKey.{ResKey};
+ghost use Rattle.rx_event.specs.Events.{parent_named};
+ghost use Rattle.rx_stock.specs.Stock.{noting, numbered, resources_of};
 
-use rx_event::Event;
-use rx_resource::{Life, Resource};
-use rx_tree::{Closed, Held, Key, ResKey, Tree};
+use rx_event::{Event, Place};
+use rx_resource::Resource;
+use rx_tree::{Boxes, Closed, Held, Key, Marks, ResKey, Tree};
 use std::alloc::{AllocError, Global};
 use std::marker::Model;
 
@@ -22,13 +24,80 @@ pub struct Stock<R: Resource> {
 
 impl<R: Resource> Model for Stock<R> {
     ghost use Rattle.std.specs.Prelude.{◌≡◌, ◌-◌, ◌≤◌, [], map, vec_len, vec_capacity};
-    ghost use Rattle.rx_stock.specs.Stock.{Stock as Shown};
+    ghost use Rattle.rx_stock.specs.Stock.{Stock as Shown, numbered};
 
     ghost Value = { Shown R };
 
-    ghost view = { λ s. record { tree = s.tree; waiting = map (λ w. (w.number, w.resource)) s.waiting.items; room = vec_capacity s.waiting - vec_len s.waiting } };
+    ghost view = { λ s. record { tree = s.tree; waiting = map numbered s.waiting.items; room = vec_capacity s.waiting - vec_len s.waiting } };
 
     ghost invariant = { λ s. (s.closed.items ≡ []) × (s.tree.count ≤ vec_capacity s.closed) };
+}
+
+// Makes room in an empty list for one record more than so many.
+fn make_room<R: Resource>(closed: &mut Vec<Closed<R>>, count: usize) -> Result<(), AllocError>
+    requires empty { closed.old.items ≡ [] }
+    ensures ok { OnOk result (count + 1 ≤ vec_capacity closed.new) }
+    ensures empty { closed.new.items ≡ [] }
+    ensures room { vec_capacity closed.old ≤ vec_capacity closed.new }
+{
+    match count.checked_add(1) {
+        Some(places) => closed.reserve(places),
+        None => Err(AllocError),
+    }
+}
+
+// Lets the node above remember that the event opens its source.
+fn note_source<R: Resource>(tree: &mut Tree<R>, made: Event, above: Option<Key>)
+    requires named { parent_named made ≡ option_map (λ key. key.number) above }
+    requires there { IfSome above (λ key. IsSome (find tree.old key)) }
+    ensures noted { (key : Key) → find tree.new key ≡ option_map (noting made key.number) (find tree.old key) }
+    ensures rest { tree.new ≡ record tree.old { entries = tree.new.entries } }
+{
+    if let (
+        Event::Open {
+            place: Place::Source(_),
+            ..
+        },
+        Some(parent),
+    ) = (made, above)
+    {
+        prove!(tree.contains(parent));
+        if let Some(marks) = tree.marks(parent) {
+            tree.set_marks(
+                parent,
+                Marks {
+                    source_opened: true,
+                    ..marks
+                },
+            );
+        }
+    }
+}
+
+// Moves the resources of a node to those that wait, in order of holding.
+fn move_boxes<R: Resource>(boxes: &mut Boxes<R>, waiting: &mut Vec<Held<R>>)
+    requires room { vec_len waiting.old + length boxes.old ≤ vec_capacity waiting.old }
+    ensures moved { map numbered waiting.new.items ≡ map numbered waiting.old.items ++ boxes.old }
+    ensures len { vec_len waiting.new ≡ vec_len waiting.old + length boxes.old }
+    ensures capacity { vec_capacity waiting.new ≡ vec_capacity waiting.old }
+{
+    while let Some(held) = boxes.take_first() {
+        waiting.push_reserved(held);
+    }
+}
+
+// Moves the resources of closed records to those that wait, those of the last record first.
+fn spill<R: Resource>(closed: &mut Vec<Closed<R>>, waiting: &mut Vec<Held<R>>)
+    requires room { vec_len waiting.old + length (resources_of closed.old.items) ≤ vec_capacity waiting.old }
+    ensures emptied { closed.new.items ≡ [] }
+    ensures closed_room { vec_capacity closed.new ≡ vec_capacity closed.old }
+    ensures moved { map numbered waiting.new.items ≡ map numbered waiting.old.items ++ resources_of closed.old.items }
+    ensures capacity { vec_capacity waiting.new ≡ vec_capacity waiting.old }
+{
+    while let Some(record) = closed.pop() {
+        let mut boxes = record.node.boxes;
+        move_boxes(&mut boxes, waiting);
+    }
 }
 
 impl<R: Resource> Stock<R> {
@@ -37,7 +106,7 @@ impl<R: Resource> Stock<R> {
     ghost use Rattle.rx_tree.specs.Below.{is_below};
     ghost use Rattle.rx_tree.specs.Closing.{IsSubtree};
     ghost use Rattle.rx_tree.specs.Boxes.{with_box, without_box};
-    ghost use Rattle.rx_stock.specs.Stock.{HasChild, Opens, Spills, Uses, resources_of};
+    ghost use Rattle.rx_stock.specs.Stock.{HasChild, Opens, Spills, Uses};
 
     /// With no node and no resource. It takes no memory.
     pub fn new(alloc: Global) -> Self
@@ -45,7 +114,11 @@ impl<R: Resource> Stock<R> {
         ensures count { result.tree.count ≡ 0 }
         ensures waiting { result.waiting ≡ [] }
     {
-        unreachable!()
+        Stock {
+            tree: Tree::new(alloc),
+            waiting: Vec::new(alloc),
+            closed: Vec::new(alloc),
+        }
     }
 
     /// What holds of every stock, for proofs: no two records have one number, each stands where its
@@ -53,42 +126,42 @@ impl<R: Resource> Stock<R> {
     pub fn promise(&self)
         ensures { IsSound self.now.tree }
     {
-        unreachable!()
+        let _count = self.tree.len();
     }
 
     /// How many nodes are open.
     pub fn open_count(&self) -> u64
         ensures { result ≡ self.now.tree.count }
     {
-        unreachable!()
+        self.tree.len() as u64
     }
 
     /// How many resources wait.
     pub fn waiting_count(&self) -> u64
         ensures { result ≡ length self.now.waiting }
     {
-        unreachable!()
+        self.waiting.len() as u64
     }
 
     /// Whether the key is an open node's.
     pub fn contains(&self, key: Key) -> bool
         ensures { IsTrue result ↔ IsSome (find self.now.tree key) }
     {
-        unreachable!()
+        self.tree.contains(key)
     }
 
     /// Whether the key is a held resource's.
     pub fn holds(&self, res: ResKey) -> bool
         ensures { IsTrue result ↔ IsSome (resource_at self.now.tree res) }
     {
-        unreachable!()
+        self.tree.holds(res)
     }
 
     /// Whether a source was ever opened below the node; None where the key finds none.
     pub fn had_source(&self, key: Key) -> Option<bool>
         ensures { result ≡ option_map (λ node. node.marks.source_opened) (find self.now.tree key) }
     {
-        unreachable!()
+        Some(self.tree.marks(key)?.source_opened)
     }
 
     /// The key of the node that this one stands below; None for a root, and where the key finds none.
@@ -96,35 +169,35 @@ impl<R: Resource> Stock<R> {
         ensures number { option_map (λ parent. parent.number) result ≡ parent_number self.now.tree key }
         ensures found { IfSome result (λ parent. IsSome (find self.now.tree parent)) }
     {
-        unreachable!()
+        self.tree.parent(key)
     }
 
     /// Whether an open node stands directly below this one. It goes over the slots.
     pub fn has_child(&self, key: Key) -> bool
         ensures { IsTrue result ↔ HasChild self.now.tree key }
     {
-        unreachable!()
+        self.tree.children(key, 0).is_some()
     }
 
     /// How many slots were ever used: each node is at a slot below.
     pub fn slot_count(&self) -> usize
         ensures { result ≡ slot_count self.now.tree }
     {
-        unreachable!()
+        self.tree.slot_count()
     }
 
     /// The key of the node at a slot, if one stands there.
     pub fn key_at(&self, slot: usize) -> Option<Key>
         ensures { result ≡ key_at self.now.tree slot }
     {
-        unreachable!()
+        self.tree.key_at(slot)
     }
 
     /// The Open or Connect that made the node; None where the key finds none.
     pub fn made(&self, key: Key) -> Option<Event>
         ensures { result ≡ option_map (λ node. node.made) (find self.now.tree key) }
     {
-        unreachable!()
+        self.tree.made(key)
     }
 
     /// Makes room for so many resources that wait, those that wait now counted in. Refused only where memory was
@@ -134,7 +207,12 @@ impl<R: Resource> Stock<R> {
         ensures kept { self.new ≡ record self.old { room = self.new.room } }
         ensures room { self.old.room ≤ self.new.room }
     {
-        unreachable!()
+        let waiting = self.waiting.len();
+        if waiting < resources {
+            self.waiting.reserve(resources - waiting)
+        } else {
+            Ok(())
+        }
     }
 
     /// Adds an open node below that of the key, and gives its key. The one above remembers that a
@@ -150,12 +228,22 @@ impl<R: Resource> Stock<R> {
         ensures waiting { self.new.waiting ≡ self.old.waiting }
         ensures room { self.new.room ≡ self.old.room }
     {
-        unreachable!()
+        make_room(&mut self.closed, self.tree.len())?;
+        let key = self.tree.open(number, made, above)?;
+        note_source(&mut self.tree, made, above);
+        Ok(key)
     }
 
     /// Adds an open node that holds a resource, as `open` does. Refused only where memory was refused:
     /// the resource then comes back, and no record changes.
-    pub fn open_using(&mut self, number: u64, made: Event, above: Option<Key>, resource_number: u64, resource: R) -> Result<Key, R>
+    pub fn open_using(
+        &mut self,
+        number: u64,
+        made: Event,
+        above: Option<Key>,
+        resource_number: u64,
+        resource: R,
+    ) -> Result<Key, R>
         requires unused { IsUnused self.old.tree number }
         requires placed { IsPlaced self.old.tree number made above }
         ensures numbered { IfOk result (λ key. key.number ≡ number) }
@@ -166,7 +254,14 @@ impl<R: Resource> Stock<R> {
         ensures waiting { self.new.waiting ≡ self.old.waiting }
         ensures room { self.new.room ≡ self.old.room }
     {
-        unreachable!()
+        if make_room(&mut self.closed, self.tree.len()).is_err() {
+            return Err(resource);
+        }
+        let key = self
+            .tree
+            .open_using(number, made, above, resource_number, resource)?;
+        note_source(&mut self.tree, made, above);
+        Ok(key)
     }
 
     /// Adds a resource to an open node, last among those that are held there. Refused where memory was
@@ -181,7 +276,10 @@ impl<R: Resource> Stock<R> {
         ensures waiting { self.new.waiting ≡ self.old.waiting }
         ensures room { self.new.room ≡ self.old.room }
     {
-        unreachable!()
+        match self.tree.hold(key, number, resource) {
+            Ok(_) => Ok(()),
+            Err(back) => Err(back),
+        }
     }
 
     /// Uses a held resource on a word, and answers its word.
@@ -191,7 +289,10 @@ impl<R: Resource> Stock<R> {
         requires countable { IfSome (resource_at self.old.tree res) (λ resource. R.uses_of resource + 1 < 2 ^ 64) }
         ensures { IfSome (resource_at self.old.tree res) (Uses R.Resource self.old self.new res) }
     {
-        unreachable!()
+        match self.tree.box_mut(res) {
+            Some(resource) => resource.apply(word),
+            None => unreachable!(),
+        }
     }
 
     /// Takes a held resource away from its node: it then waits. It takes no memory.
@@ -202,7 +303,13 @@ impl<R: Resource> Stock<R> {
         ensures waiting { IfSome (resource_at self.old.tree res) (λ resource. self.new.waiting ≡ self.old.waiting ++ (res.number, resource) ∷ []) }
         ensures room { self.new.room + 1 ≡ self.old.room }
     {
-        unreachable!()
+        match self.tree.unhold(res) {
+            Some(resource) => self.waiting.push_reserved(Held {
+                number: res.number,
+                resource,
+            }),
+            None => unreachable!(),
+        }
     }
 
     /// Closes the node and all below it: their resources then wait. It takes no memory. It goes over the
@@ -214,7 +321,8 @@ impl<R: Resource> Stock<R> {
         ensures spilled { Spills self.old self.new key.number }
         ensures room { length self.new.waiting + self.new.room ≡ length self.old.waiting + self.old.room }
     {
-        unreachable!()
+        self.tree.close_below(key, &mut self.closed);
+        spill(&mut self.closed, &mut self.waiting);
     }
 
     /// Takes out the resource that came last to those that wait; None where none waits. It takes no
@@ -226,6 +334,6 @@ impl<R: Resource> Stock<R> {
         ensures tree { self.new.tree ≡ self.old.tree }
         ensures room { length self.new.waiting + self.new.room ≡ length self.old.waiting + self.old.room }
     {
-        unreachable!()
+        self.waiting.pop()
     }
 }
