@@ -1,4 +1,4 @@
-use Rattle.std.proofs.Common.{◌≡◌, ℕ, ◌<◌, Option, Some, None, is_some, OnSome, true, sym, subst, ◌∙◌, true≢false, arith, rules}
+use Rattle.std.proofs.Common.{◌≡◌, ℕ, ◌<◌, Option, Some, None, is_some, OnSome, true, sym, subst, true≢false, arith, rules}
 use Rattle.rx_tree.specs.Tree.{Tree}
 use Rattle.rx_stock.proofs.Few.{IsFew, few_moved}
 use Rattle.rx_stock.proofs.tests.a_chain_is_closed_with_no_memory_left.Goals as goal
