@@ -16,13 +16,14 @@
 //! stands below the one that its event's place names. `parent_number` and `IsChild` follow from those
 //! places, and so does `is_below` (`specs/Below.antt`): the top itself, and what leads to it from
 //! parent to parent. `IsSubtree` (`specs/Closing.antt`) says what a closing moves out.
+//! `specs/Laws` has lemmas on these for the proofs of callers.
 //!
 //! # What is promised
 //!
 //! Each call says what it answers, which record it changes, and that the others stay. A closing moves
 //! out exactly the node and all below it, each once and as it was. After `reserve(n)`, n calls of
-//! `open` succeed. Only `reserve`, `open` and `hold` ask for memory; what they refuse changes no
-//! record, and a refused resource comes back.
+//! `open` succeed. Only `reserve`, `open`, `open_using` and `hold` ask for memory; what they refuse
+//! changes no record, and a refused resource comes back.
 //!
 //! `open`, and each call by key or slot, takes time that does not grow with the tree; finding a resource by
 //! its number takes time that grows with those held at its node now. `children` and `is_unused` go
