@@ -27,8 +27,10 @@
 //!
 //! `open`, and each call by key or slot, takes time that does not grow with the tree; finding a resource by
 //! its number takes time that grows with those held at its node now. `children` and `is_unused` go
-//! over the slots. A closing goes over the slots once for each level of the subtree at most, and
-//! twice where each child stands at a later slot than its parent.
+//! over the slots. A closing goes over the slots, forward and back by turns: twice where each child
+//! stands at a later slot than its parent, three times where each stands at an earlier one, and at
+//! most once more for each turn of direction on a way down; never more often than the subtree has
+//! levels, the node's own counted.
 //!
 //! # What is not
 //!
