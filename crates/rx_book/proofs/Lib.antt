@@ -24,3 +24,6 @@ pub mod Shut
 pub mod Items
 pub mod Removed
 pub mod Used
+pub mod Tops
+pub mod Closings
+pub mod Placed

@@ -1,12 +1,12 @@
--- A run that was not begun.
+-- A run or an audit that was not begun.
 use Rattle.std.proofs.Common.{List, Err, refl, ap, true≢false, Bool, true, false, Result}
 use Rattle.rx_script.specs.declared.ScriptError.{ScriptError}
 use Rattle.rx_script.specs.declared.ScriptError.TheVariants.{Memory}
 use Rattle.rx_script.specs.declared.device.Watched.{Watched}
 use Rattle.rx_script.specs.Stage.{Ware}
-use Rattle.rx_cli.specs.Served.{Bytes, Ran}
+use Rattle.rx_cli.specs.Served.{Bytes, Ran, Audited}
 
-abbrev is_memory : Result (Unit {0}) ScriptError → Bool
+abbrev is_memory : {T : Type 0} → Result T ScriptError → Bool
 is_memory (Err Memory) = true
 is_memory _ = false
 
@@ -15,6 +15,21 @@ pub ran_without_memory : {I O : Type 0} (remaining : I → Bytes) (contents : O 
     → Ran remaining contents stock input input output output (Err Memory)
 ran_without_memory remaining contents stock input output = record {
   report = tt;
+  stopped = tt;
+  front = λ e. absurd (true≢false (ap is_memory e));
+  silent = λ _. refl;
+  read = λ e. absurd (true≢false (ap is_memory e));
+  write = λ e. absurd (true≢false (ap is_memory e));
+  syntax = λ e. absurd (true≢false (ap is_memory e));
+  shape = λ e. absurd (true≢false (ap is_memory e));
+}
+
+-- the same of an audit
+pub audited_without_memory : {I O : Type 0} (remaining : I → Bytes) (contents : O → Bytes) (input : Watched I) (output : Watched O)
+    → Audited remaining contents input input output output (Err Memory)
+audited_without_memory remaining contents input output = record {
+  verdict = tt;
+  stopped = tt;
   front = λ e. absurd (true≢false (ap is_memory e));
   silent = λ _. refl;
   read = λ e. absurd (true≢false (ap is_memory e));

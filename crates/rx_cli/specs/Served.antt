@@ -1,16 +1,19 @@
 -- What a call of the program does with its streams. A prime marks a stream, or a writer's bytes, after the call.
-use Rattle.std.specs.Prelude.{◌≡◌, ◌≢◌, ◌⊎◌, ℕ, Bool, true, false, List, Option, Result, OnOk, IfErr, IsErrOf, codes}
+use Rattle.std.specs.Prelude.{◌≡◌, ◌≢◌, ◌⊎◌, ℕ, Bool, true, false, List, Option, Result, OnOk, IfOk, IfErr, IsErrOf, codes}
 use Rattle.std.specs.Io.KnownBytes.{Appends, Keeps}
 use Rattle.clap.specs.declared.error.kind.ErrorKind.{ErrorKind}
 use Rattle.clap.specs.declared.error.kind.ErrorKind.TheVariants.{DisplayHelp, DisplayVersion, OutOfMemory}
+use Rattle.rx_audit.specs.declared.verdict.Verdict.{Verdict}
 use Rattle.rx_script.specs.declared.ScriptError.{ScriptError}
 use Rattle.rx_script.specs.declared.ScriptError.TheVariants.{Read, Write, Syntax, Shape}
 use Rattle.rx_script.specs.declared.device.Watched.{Watched}
 use Rattle.rx_script.specs.declared.device.TheConstants.{MOST_TURNS}
 use Rattle.rx_script.specs.Device.{device_of, turns_of, has_failed, has_stopped, AppendsPrefix}
 use Rattle.rx_script.specs.Outcome.{Reports, GivesTooMuch, GivesNoJson, GivesNoScenario}
+use Rattle.rx_script.specs.Check.{Judges, GivesNoDump}
+use Rattle.rx_script.specs.VerdictText.{is_lawful}
 use Rattle.rx_script.specs.Stage.{Ware}
-use Rattle.rx_cli.specs.Status.{line_of, status_of}
+use Rattle.rx_cli.specs.Status.{line_of, status_of, audit_status_of}
 
 -- the bytes that a writer holds or a reader has left, where they are known
 abbrev pub Bytes : Type 0
@@ -22,6 +25,7 @@ Bytes = Option (List ℕ)
 -- outcome is Ok, and a front of it with a write fault; every other fault comes for its cause, with nothing written
 pub record Ran {I O : Type 0} (remaining : I → Bytes) (contents : O → Bytes) (stock : List Ware) (input input' : Watched I) (output output' : Watched O) (outcome : Result (Unit {0}) ScriptError) : Type 0 where
   pub report : OnOk outcome (Reports stock (remaining (device_of input)) (remaining (device_of input')) (Appends (contents (device_of output)) (contents (device_of output'))))
+  pub stopped : OnOk outcome (has_stopped input' ≡ true)
   pub front : IsErrOf outcome Write → Reports stock (remaining (device_of input)) (remaining (device_of input')) (AppendsPrefix (contents (device_of output)) (contents (device_of output')))
   pub silent : IfErr outcome (λ e. e ≢ Write → output' ≡ output)
   pub read : IsErrOf outcome Read → (has_failed input' ≡ true) ⊎ (turns_of input' ≡ MOST_TURNS)
@@ -32,6 +36,26 @@ pub record Ran {I O : Type 0} (remaining : I → Bytes) (contents : O → Bytes)
 -- the status and the line tell this outcome
 pub record Tells (errors errors' : Bytes) (outcome : Result (Unit {0}) ScriptError) (status : ℕ) : Type 0 where
   pub says : status ≡ status_of outcome
+  pub line : AppendsPrefix errors errors' (line_of outcome)
+
+-- ---- an audit
+
+-- the dump was read from the input and judged, and this is what came of it: the text of the verdict on its history is written
+-- where the outcome is Ok, which is whether the verdict is that it is lawful, and a front of that text with a write fault; every
+-- other fault comes for its cause, with nothing written
+pub record Audited {I O : Type 0} (remaining : I → Bytes) (contents : O → Bytes) (input input' : Watched I) (output output' : Watched O) (outcome : Result Bool ScriptError) : Type 0 where
+  pub verdict : IfOk outcome (λ lawful. (v : Verdict) × (lawful ≡ is_lawful v) × Judges v (remaining (device_of input)) (remaining (device_of input')) (Appends (contents (device_of output)) (contents (device_of output'))))
+  pub stopped : OnOk outcome (has_stopped input' ≡ true)
+  pub front : IsErrOf outcome Write → (v : Verdict) × Judges v (remaining (device_of input)) (remaining (device_of input')) (AppendsPrefix (contents (device_of output)) (contents (device_of output')))
+  pub silent : IfErr outcome (λ e. e ≢ Write → output' ≡ output)
+  pub read : IsErrOf outcome Read → (has_failed input' ≡ true) ⊎ (turns_of input' ≡ MOST_TURNS)
+  pub write : IsErrOf outcome Write → (has_failed output' ≡ true) ⊎ (has_stopped output' ≡ true)
+  pub syntax : IsErrOf outcome Syntax → GivesTooMuch (remaining (device_of input)) (remaining (device_of input')) ⊎ GivesNoJson (remaining (device_of input)) (remaining (device_of input'))
+  pub shape : IsErrOf outcome Shape → GivesNoDump (remaining (device_of input)) (remaining (device_of input'))
+
+-- the status and the line tell this outcome
+pub record TellsAudit (errors errors' : Bytes) (outcome : Result Bool ScriptError) (status : ℕ) : Type 0 where
+  pub says : status ≡ audit_status_of outcome
   pub line : AppendsPrefix errors errors' (line_of outcome)
 
 -- ---- words that are refused, or ask for help

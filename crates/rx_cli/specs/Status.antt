@@ -1,5 +1,5 @@
--- The exit status of a run, and the line on standard error that goes with it.
-use Rattle.std.specs.Prelude.{ℕ, List, [], codes, Result, Ok, Err}
+-- The exit status of a run or an audit, and the line on standard error that goes with it.
+use Rattle.std.specs.Prelude.{ℕ, Bool, true, false, List, [], codes, Result, Ok, Err}
 use Rattle.rx_script.specs.declared.ScriptError.{ScriptError}
 use Rattle.rx_script.specs.declared.ScriptError.TheVariants.{Read, Write, Syntax, Shape, Memory}
 
@@ -20,6 +20,12 @@ fault_line Memory = codes "rxbook: out of memory\n"
 abbrev pub status_of : {T : Type 0} → Result T ScriptError → ℕ
 status_of (Ok x) = 0
 status_of (Err e) = fault_status e
+
+-- of an audit, which answers whether its verdict is lawful
+abbrev pub audit_status_of : Result Bool ScriptError → ℕ
+audit_status_of (Ok true) = 0
+audit_status_of (Ok false) = 5
+audit_status_of (Err e) = fault_status e
 
 abbrev pub line_of : {T : Type 0} → Result T ScriptError → List ℕ
 line_of (Ok x) = []

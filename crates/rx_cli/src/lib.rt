@@ -10,23 +10,29 @@
 //!   [`Plain`], [`Tally`] and [`Faulty`], by [`ResourceKind::by_tag`]. [`fill`] makes it.
 //! - A [`Watched`] input or output notes whether the stream behind it failed, so that the contract of
 //!   [`serve`] can say when a stream is at fault.
+//! - A dump is a history in JSON, and a verdict what the audit says of it, both of `rx_script`.
 //! - [`serve`] does what the words order, and answers the exit status:
 //!
 //! | Status | Cause | Line on the error stream |
 //! |---|---|---|
-//! | 0 | done, or help was shown | none |
+//! | 0 | a run is done, the verdict on a dump is lawful, or help was shown | none |
 //! | 1 | a stream failed | `rxbook: read fault`, `rxbook: write fault` |
 //! | 2 | the words are no order | the text of `clap` |
-//! | 3 | the input is no scenario | `rxbook: faulty input` |
+//! | 3 | the input is no scenario, or no dump | `rxbook: faulty input` |
 //! | 4 | memory was refused | `rxbook: out of memory` |
+//! | 5 | the verdict on a dump is another | none |
 //!
 //! # Promised, and not
 //!
 //! - The order is the one that `clap` matches in the words, a run where they name no subcommand; it is
-//!   refused only where `clap` refuses the words or memory is.
+//!   refused only where `clap` refuses the words or memory is. What `clap` matches in the words `rxbook`,
+//!   `rxbook run` and `rxbook audit` is proved too ([`words_have_their_orders`]).
 //! - Where the words order a run that is done, the output got the report of a course of the scenario that
 //!   the input is, with this stock, and nothing else. With a write fault it got a front of one, and with
 //!   any other fault nothing; each fault but want of memory comes only for its cause.
+//! - Where the words order an audit that ends without a fault, the input was a dump, the output got the
+//!   text of the verdict on its history and nothing else, and the status is 0 where that is `lawful`, and
+//!   5 where it is `unlawful` or `unsettled`. Faults are as those of a run.
 //! - The status and the line are those of the outcome, exactly; where the words are refused, nothing is
 //!   read, and only a request for help writes to the output.
 //! - No contract says that memory was really refused where the status is 4.
@@ -42,12 +48,14 @@ mod telling;
 #[cfg(test)]
 mod tests;
 mod usage;
+mod word_laws;
 mod words;
 
 pub use boxes::{Faulty, Plain, ResourceKind, STOCK, Tally, fill};
 pub use program::serve;
 pub use request::Order;
-pub use rx_script::{Closed, Form, ScriptError, Watched, close, run};
+pub use rx_script::{Closed, Form, ScriptError, Watched, check, close, run};
 pub use statuses::out_of_memory;
 pub use usage::refuse_bytes;
+pub use word_laws::words_have_their_orders;
 pub use words::order;

@@ -7,4 +7,6 @@ use rx_script::Form;
 pub enum Order {
     /// Read a scenario from standard input, run it, and write what the form says.
     Run(Form),
+    /// Read a dump from standard input, judge its history, and write the verdict.
+    Audit,
 }

@@ -1,6 +1,6 @@
 //! The exit statuses, and the lines on standard error that go with them.
 ghost use Rattle.std.specs.Prelude.{◌≡◌, codes};
-ghost use Rattle.rx_cli.specs.Status.{fault_line, fault_status, status_of, line_of};
+ghost use Rattle.rx_cli.specs.Status.{fault_line, fault_status, status_of, audit_status_of, line_of};
 ghost use Rattle.rx_script.specs.Device.{AppendsPrefix};
 
 use crate::telling::tell;
@@ -42,6 +42,19 @@ pub fn ended<E: Write>(errors: &mut E, outcome: Result<(), ScriptError>) -> u8
             tell(errors, fault_line(&error).as_bytes());
             fault_status(&error)
         }
+    }
+}
+
+/// The exit status of an audit that ended so: 0 where the verdict is lawful, 5 where it is another.
+/// Where the audit failed, the status and the line are those of its fault.
+pub fn judged<E: Write>(errors: &mut E, outcome: Result<bool, ScriptError>) -> u8
+    ensures status { result ≡ audit_status_of outcome }
+    ensures line { AppendsPrefix (E.contents errors.old) (E.contents errors.new) (line_of outcome) }
+{
+    match outcome {
+        Ok(true) => 0,
+        Ok(false) => 5,
+        Err(error) => ended(errors, Err(error)),
     }
 }
 

@@ -1,4 +1,4 @@
-//! The statuses and lines over memory, help, the stock, streams that fail, and refused memory.
+//! The statuses and lines over memory, help, audits, the stock, streams that fail, and refused memory.
 
 ghost use Rattle.std.specs.Prelude.{◌≡◌, IfOk};
 ghost use Rattle.rx_resource.specs.declared.Life.{Life};
@@ -21,6 +21,12 @@ const FIRST_RUN: &str =
 
 const FIRST_REPORT: &str =
     "refused 4 Gone\nnode a closed: next=5 completed\nres r tag=0 uses=0 taken\ntotals nodes=2 open=0 accepted=1 held=0 waiting=0 taken=1\nclosed 0 faults 0\n";
+
+// Two subscriptions with a resource each, of which the second is closed.
+const HALF_CLOSED: &str =
+    "[[\"open\",\"root\",\"pass\"],[\"accept\",0,7],[\"open\",\"root\",\"leaf\"],[\"accept\",2,8],[\"close\",2]]\n";
+
+const HALF_CLOSED_VERDICT: &str = "lawful\nlive: 0\nheld: 1\nwaiting: 3\n";
 
 // What a call of the program left.
 #[derive(Drop)]
@@ -61,7 +67,7 @@ fn call(alloc: Global, words: &[&str], input: &[u8]) -> Result<Left, AllocError>
 #[test]
 fn each_outcome_has_its_status_and_line(rt: HostRuntime) -> Result<(), Fail> {
     let empty = "{\"steps\":[]}";
-    let cases: [(&[&str], &str, u8, &str, &str); 7] = [
+    let cases: [(&[&str], &str, u8, &str, &str); 9] = [
         (&["rxbook"], empty, 0, NOTHING_DONE, ""),
         (&["rxbook"], FIRST_RUN, 0, FIRST_REPORT, ""),
         (&["rxbook", "run"], empty, 0, NOTHING_DONE, ""),
@@ -81,6 +87,20 @@ fn each_outcome_has_its_status_and_line(rt: HostRuntime) -> Result<(), Fail> {
             "",
             "error: unexpected argument '--dump' found\n\nUsage: rxbook run\n\nFor more information, try '--help'.\n",
         ),
+        (
+            &["rxbook", "audit", "x"],
+            "[]",
+            2,
+            "",
+            "error: unexpected argument 'x' found\n\nUsage: rxbook audit\n\nFor more information, try '--help'.\n",
+        ),
+        (
+            &["rxbook", "audit", "--run"],
+            "[]",
+            2,
+            "",
+            "error: unexpected argument '--run' found\n\nUsage: rxbook audit\n\nFor more information, try '--help'.\n",
+        ),
     ];
     for (words, input, status, output, errors) in cases {
         let left = call(rt.alloc(), words, input.as_bytes())?;
@@ -94,16 +114,90 @@ fn each_outcome_has_its_status_and_line(rt: HostRuntime) -> Result<(), Fail> {
 }
 
 #[test]
+fn words_order_what_they_name(rt: HostRuntime) -> Result<(), Fail> {
+    let cases: [(&[&str], Order); 3] = [
+        (&["rxbook"], Order::Run(Form::Report)),
+        (&["rxbook", "run"], Order::Run(Form::Report)),
+        (&["rxbook", "audit"], Order::Audit),
+    ];
+    for (words, wanted) in cases {
+        match order(rt.alloc(), words) {
+            Ok(found) => assert_eq!(rt; found, wanted),
+            Err(_) => return Err(Fail::from("the words are refused")),
+        }
+    }
+    Ok(())
+}
+
+#[test]
+fn an_audit_tells_the_verdict_of_the_dump(rt: HostRuntime) -> Result<(), Fail> {
+    let faulty = "rxbook: faulty input\n";
+    let cases: [(&str, u8, &str, &str); 10] = [
+        ("[]", 0, "lawful\nlive:\nheld:\nwaiting:\n", ""),
+        (HALF_CLOSED, 0, HALF_CLOSED_VERDICT, ""),
+        // A disposal of what is disposed of already.
+        (
+            "[[\"open\",\"root\",\"leaf\"],[\"close\",0],[\"close\",0]]",
+            5,
+            "unlawful 2\n",
+            "",
+        ),
+        // An item after the end.
+        (
+            "[[\"open\",\"root\",\"leaf\"],[\"item\",0,1],[\"end\",0,\"completed\"],[\"item\",0,2]]",
+            5,
+            "unlawful 3\n",
+            "",
+        ),
+        // A resource handed out twice.
+        (
+            "[[\"open\",\"root\",\"leaf\"],[\"accept\",0,4],[\"remove\",1],[\"take\",1],[\"take\",1]]",
+            5,
+            "unlawful 4\n",
+            "",
+        ),
+        // A caller's event while a mirroring node has still to pass on the end of its source.
+        (
+            "[[\"open\",\"root\",\"pass\"],[\"open\",\"source\",0,\"leaf\"],[\"end\",1,\"completed\"],[\"hub\",\"auto\"]]",
+            5,
+            "unlawful 3\n",
+            "",
+        ),
+        // The same node, and nothing after the end of its source.
+        (
+            "[[\"open\",\"root\",\"pass\"],[\"open\",\"source\",0,\"leaf\"],[\"end\",1,\"completed\"]]",
+            5,
+            "unsettled\n",
+            "",
+        ),
+        ("[[\"open\",\"root\"", 3, "", faulty),
+        ("{\"steps\":[]}", 3, "", faulty),
+        ("[[\"open\",\"root\",\"tree\"]]", 3, "", faulty),
+    ];
+    for (dump, status, output, errors) in cases {
+        let left = call(rt.alloc(), &["rxbook", "audit"], dump.as_bytes())?;
+        assert_eq!(rt; left.status, status, "{dump}");
+        assert_eq!(rt; left.output.as_slice(), output.as_bytes(), "{dump}");
+        assert_eq!(rt; left.errors.as_slice(), errors.as_bytes(), "{dump}");
+        assert_eq!(rt; left.unread, 0, "{dump}");
+    }
+    Ok(())
+}
+
+#[test]
 fn help_goes_to_the_output(rt: HostRuntime) -> Result<(), Fail> {
     let whole =
-        "Runs scenarios of subscriptions and reports what they did\n\nUsage: rxbook [COMMAND]\n\nCommands:\n  run   Run the scenario on standard input (the default)\n  help  Print this message or the help of the given subcommand(s)\n\nOptions:\n  -h, --help  Print help\n";
+        "Runs scenarios of subscriptions and reports what they did\n\nUsage: rxbook [COMMAND]\n\nCommands:\n  run    Run the scenario on standard input (the default)\n  audit  Judge the dump on standard input\n  help   Print this message or the help of the given subcommand(s)\n\nOptions:\n  -h, --help  Print help\n";
     let run =
         "Run the scenario on standard input (the default)\n\nUsage: rxbook run\n\nOptions:\n  -h, --help  Print help\n";
-    let cases: [(&[&str], &str); 4] = [
+    let audit =
+        "Judge the dump on standard input\n\nUsage: rxbook audit\n\nOptions:\n  -h, --help  Print help\n";
+    let cases: [(&[&str], &str); 5] = [
         (&["rxbook", "--help"], whole),
         (&["rxbook", "-h"], whole),
         (&["rxbook", "help"], whole),
         (&["rxbook", "run", "--help"], run),
+        (&["rxbook", "audit", "--help"], audit),
     ];
     for (words, text) in cases {
         let left = call(rt.alloc(), words, b"unread")?;
@@ -169,34 +263,40 @@ fn make_full(alloc: Global, room: usize, stuck: bool) -> Full {
 
 #[test]
 fn a_reader_that_fails_is_a_read_fault(rt: HostRuntime) -> Result<(), Fail> {
-    let mut output = Vec::new(rt.alloc());
-    let mut errors = Vec::new(rt.alloc());
-    let stock: Vec<Plain> = Vec::new(rt.alloc());
-    let status = serve(
-        rt.alloc(),
-        &["rxbook"],
-        stock,
-        &mut Watched::new(&mut Broken { reads: 0 }),
-        &mut Watched::new(&mut output),
-        &mut errors,
-    );
-    assert_eq!(rt; status, 1);
-    assert!(rt; output.is_empty());
-    assert_eq!(rt; errors.as_slice(), b"rxbook: read fault\n".as_slice());
+    let cases: [&[&str]; 2] = [&["rxbook"], &["rxbook", "audit"]];
+    for words in cases {
+        let mut output = Vec::new(rt.alloc());
+        let mut errors = Vec::new(rt.alloc());
+        let stock: Vec<Plain> = Vec::new(rt.alloc());
+        let status = serve(
+            rt.alloc(),
+            words,
+            stock,
+            &mut Watched::new(&mut Broken { reads: 0 }),
+            &mut Watched::new(&mut output),
+            &mut errors,
+        );
+        assert_eq!(rt; status, 1);
+        assert!(rt; output.is_empty());
+        assert_eq!(rt; errors.as_slice(), b"rxbook: read fault\n".as_slice());
+    }
     Ok(())
 }
 
 #[test]
 fn an_output_that_fails_is_a_write_fault(rt: HostRuntime) -> Result<(), Fail> {
-    let cases: [(&[&str], bool, &[u8]); 3] = [
-        (&["rxbook"], false, b"totals nod"),
-        (&["rxbook"], true, b"totals nod"),
-        (&["rxbook", "--help"], false, b"Runs scena"),
+    let empty = "{\"steps\":[]}";
+    let cases: [(&[&str], &str, bool, &[u8]); 5] = [
+        (&["rxbook"], empty, false, b"totals nod"),
+        (&["rxbook"], empty, true, b"totals nod"),
+        (&["rxbook", "audit"], "[]", false, b"lawful\nliv"),
+        (&["rxbook", "audit"], "[[\"take\",0]]", true, b"unlawful 0"),
+        (&["rxbook", "--help"], empty, false, b"Runs scena"),
     ];
-    for (words, stuck, taken) in cases {
+    for (words, text, stuck, taken) in cases {
         let mut output = make_full(rt.alloc(), 10, stuck);
         let mut errors = Vec::new(rt.alloc());
-        let mut input: &[u8] = b"{\"steps\":[]}";
+        let mut input = text.as_bytes();
         let stock: Vec<Plain> = Vec::new(rt.alloc());
         let status = serve(
             rt.alloc(),
@@ -347,6 +447,40 @@ fn a_run_without_memory_says_so_and_writes_nothing(rt: HostRuntime) -> Result<()
     }
     assert!(rt; refused > 0);
     assert_eq!(rt; output.as_slice(), NOTHING_DONE.as_bytes());
+    assert!(rt; errors.is_empty());
+    Ok(())
+}
+
+#[test]
+fn an_audit_without_memory_says_so_and_writes_nothing(rt: HostRuntime) -> Result<(), Fail> {
+    let mut output = Vec::with_capacity(rt.alloc(), 256)?;
+    let mut errors = Vec::with_capacity(rt.alloc(), 256)?;
+    let mut scarce = Scarce::new(rt.alloc())?;
+    let mut refused = 0u32;
+    for _turn in 0..100_000 {
+        let mut input = HALF_CLOSED.as_bytes();
+        let stock: Vec<Plain> = Vec::new(rt.alloc());
+        let words = ["rxbook", "audit"];
+        let status = serve(
+            rt.alloc(),
+            &words,
+            stock,
+            &mut Watched::new(&mut input),
+            &mut Watched::new(&mut output),
+            &mut errors,
+        );
+        if status == 0 {
+            break;
+        }
+        assert_eq!(rt; status, 4);
+        assert!(rt; output.is_empty());
+        assert_eq!(rt; errors.as_slice(), b"rxbook: out of memory\n".as_slice());
+        errors.clear();
+        refused = refused.saturating_add(1);
+        assert!(rt; scarce.give_back_one());
+    }
+    assert!(rt; refused > 0);
+    assert_eq!(rt; output.as_slice(), HALF_CLOSED_VERDICT.as_bytes());
     assert!(rt; errors.is_empty());
     Ok(())
 }

@@ -1,7 +1,7 @@
 //! The reading of the words, by `clap`.
 ghost use Rattle.std.specs.Prelude.{◌≡◌, map, IfOk};
 ghost use Rattle.clap.specs.Words.{app_of, subcommand_of, subcommand_rows_of, fault_of, FailsBy};
-ghost use Rattle.rx_cli.specs.Words.{rxbook, order_of};
+ghost use Rattle.rx_cli.specs.Words.{rxbook, order_by_name, order_of};
 
 use crate::request::Order;
 use clap::{ArgMatches, Command, Error};
@@ -14,9 +14,21 @@ fn program<'a>(alloc: Global) -> Result<Command<'a>, AllocError>
     ensures { IfOk result (λ c. app_of c ≡ rxbook) }
 {
     let run = Command::new(alloc, "run").about("Run the scenario on standard input (the default)");
+    let audit = Command::new(alloc, "audit").about("Judge the dump on standard input");
     Command::new(alloc, "rxbook")
         .about("Runs scenarios of subscriptions and reports what they did")
-        .subcommand(run)
+        .subcommand(run)?
+        .subcommand(audit)
+}
+
+// The order of the subcommand of this name.
+fn order_by_name(name: &str) -> Order
+    ensures { result ≡ order_by_name name.now }
+{
+    match name {
+        "audit" => Order::Audit,
+        _ => Order::Run(Form::Report),
+    }
 }
 
 // The order that the matches are.
@@ -25,7 +37,7 @@ fn order_in(matches: &ArgMatches<'_>) -> Order
 {
     match matches.subcommand() {
         None => Order::Run(Form::Report),
-        Some(_) => Order::Run(Form::Report),
+        Some((name, _)) => order_by_name(name),
     }
 }
 

@@ -1,6 +1,6 @@
 use Rattle.std.proofs.Common.{Err}
 use Rattle.rx_script.specs.declared.ScriptError.TheVariants.{Memory}
-use Rattle.rx_cli.proofs.Running.{ran_without_memory}
+use Rattle.rx_cli.proofs.Running.{ran_without_memory, audited_without_memory}
 use Rattle.rx_cli.proofs.program.serve.Goals as goal
 
 -- a run for which memory was refused before it began
@@ -8,6 +8,17 @@ pub returns-then-eq-clause-ran : goal.returns-then-eq-clause-ran
 returns-then-eq-clause-ran g c = λ _. (
   Err Memory,
   ran_without_memory _ _ _ _ _,
+  record {
+    says = c.out_of_memory.ensures.status;
+    line = c.out_of_memory.ensures.line;
+  },
+)
+
+-- the same of an audit
+pub returns-then-eq-clause-audited : goal.returns-then-eq-clause-audited
+returns-then-eq-clause-audited g c = λ _. (
+  Err Memory,
+  audited_without_memory _ _ _ _,
   record {
     says = c.out_of_memory.ensures.status;
     line = c.out_of_memory.ensures.line;
