@@ -16,11 +16,11 @@ use Rattle.rx_event.specs.Laws.Counts.{projections-push}
 use Rattle.rx_event.specs.Tree.{is_open}
 use Rattle.rx_event.specs.Laws.Openness.{is_open_past}
 use Rattle.rx_audit.specs.Tables.{IsMarked, IsTable, IsTally, IsTold, IsCounted, marks_with, counts_with}
-use Rattle.rx_audit.specs.Rules.{is_key, fired_by, projected_by, paid_of, is_owing}
+use Rattle.rx_audit.specs.Rules.{is_key, fired_by, projected_by, paid_of, is_owing, source_named, notifier_named, was_sourced, was_notified}
 use Rattle.rx_audit.specs.Found.{payments, HasStops}
 use Rattle.rx_audit.specs.declared.reach.Visit.{Visit}
 use Rattle.rx_audit.specs.Flow.{times, IsOften, IsReached}
-use Rattle.rx_event.specs.Events.{pays}
+use Rattle.rx_event.specs.Events.{pays, is_source_of, is_notifier_of}
 use Rattle.std.proofs.lemmas.Bool.{cases_lt, cases_Bool, lt-ltb, le-ltb}
 use Rattle.rx_audit.proofs.Keys.{length-marks_with, length-counts_with, marks_with_at, counts_with_at, counts_few}
 
@@ -216,3 +216,47 @@ owing_by_counts h f paid projected e p = ap (λ k. nat_lt k projected) (e ∙ co
     by_order : (a < b) ⊎ (b ≤ a) → nat_lt a b ≡ nat_lt 0 (b - a)
     by_order (inl l) = lt-ltb a b l ∙ sym (lt-ltb 0 (b - a) (omega arith))
     by_order (inr g) = let z : b - a ≡ 0 = omega arith in le-ltb a b g ∙ sym (ap (nat_lt 0) z)
+
+-- sources and notifiers --------------------------------------------------------------------------------
+
+any_same : {X : Type 0} (p q : X → Bool) → ((x : X) → p x ≡ q x) → (xs : List X) → list_any p xs ≡ list_any q xs
+any_same p q same [] = refl
+any_same p q same (x ∷ xs) = rw (same x, any_same p q same xs) refl
+
+source_key : (e : Event) (p : ℕ) → is_key (source_named e) p ≡ is_source_of p e
+source_key (Open (Source n) kind) p = refl
+source_key (Open Root kind) p = refl
+source_key (Open (Inner n) kind) p = refl
+source_key (Open (Notifier n) kind) p = refl
+source_key (Hub mode) p = refl
+source_key (Connect k) p = refl
+source_key (Accept m tag) p = refl
+source_key (Use r) p = refl
+source_key (Remove r) p = refl
+source_key (Item m v) p = refl
+source_key (Decline k) p = refl
+source_key (End m t) p = refl
+source_key (Close m) p = refl
+source_key (Take r) p = refl
+
+pub sourced_keys : (h : List Event) (p : ℕ) → was_sourced h p ≡ list_any (is_source_of p) h
+sourced_keys h p = any_same (λ e. is_key (source_named e) p) (is_source_of p) (λ e. source_key e p) h
+
+notifier_key : (e : Event) (p : ℕ) → is_key (notifier_named e) p ≡ is_notifier_of p e
+notifier_key (Open (Notifier n) kind) p = refl
+notifier_key (Open Root kind) p = refl
+notifier_key (Open (Source n) kind) p = refl
+notifier_key (Open (Inner n) kind) p = refl
+notifier_key (Hub mode) p = refl
+notifier_key (Connect k) p = refl
+notifier_key (Accept m tag) p = refl
+notifier_key (Use r) p = refl
+notifier_key (Remove r) p = refl
+notifier_key (Item m v) p = refl
+notifier_key (Decline k) p = refl
+notifier_key (End m t) p = refl
+notifier_key (Close m) p = refl
+notifier_key (Take r) p = refl
+
+pub notified_keys : (h : List Event) (p : ℕ) → was_notified h p ≡ list_any (is_notifier_of p) h
+notified_keys h p = any_same (λ e. is_key (notifier_named e) p) (is_notifier_of p) (λ e. notifier_key e p) h

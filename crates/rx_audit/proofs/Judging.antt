@@ -11,11 +11,13 @@ use Rattle.rx_event.specs.declared.event.Event.{Event}
 use Rattle.rx_event.specs.declared.event.Event.TheVariants.{Open, Hub, Connect, Accept, Use, Remove, Item, Decline, End, Close, Take}
 use Rattle.rx_event.specs.Tree.{at, is_open, open_nodes}
 use Rattle.rx_event.specs.Forced.{IsConnectDue, IsSettled, due}
-use Rattle.rx_event.specs.Allowed.{IsAllowed, emitted}
+use Rattle.rx_event.specs.Allowed.{IsAllowed, emitted, accepted}
 use Rattle.rx_event.specs.Lawful.{IsLawful, MayFollow, forced, allowed, opened_with as accepted_with}
 use Rattle.rx_event.specs.Laws.Lawful.{IsLawful-push}
 use Rattle.rx_event.specs.Laws.Places.{slice_get-append, slice_get_last}
-use Rattle.rx_audit.specs.Rules.{any_connect_due, is_forced, hub_connected, hub_connected_at}
+use Rattle.rx_event.specs.Moments.{is_fired}
+use Rattle.rx_audit.specs.Rules.{any_connect_due, is_forced, hub_connected, hub_connected_at, IsQuiet}
+use Rattle.rx_audit.proofs.Calming.{settled_after}
 use Rattle.rx_audit.specs.Survey.{AreHubsNamed, IsSized}
 use Rattle.std.proofs.lemmas.List.{take_more}
 use Rattle.rx_audit.specs.declared.found.Found.{Found}
@@ -115,17 +117,21 @@ opened_answer h e f = (λ t. opened_first h e f, λ m. refl)
 first_opened : (h : List Event) (n : ℕ) (place : Place) → slice_get h n ≡ Some (Open place Pass) → length h ≡ n + 1 → is_open h n ≡ true → (at opens_pass h n && (length h == n + 1) && is_open h n) ≡ true
 first_opened h n place at_n len o = both (at opens_pass h n && (length h == n + 1)) (is_open h n) (both (at opens_pass h n) (length h == n + 1) (ap (λ o. option_map_or opens_pass o false) at_n) (eq-eqb (length h) (n + 1) len)) o
 
--- what may follow, if it is neither forced nor the acceptance after an opening
-follows_settled : (h : List Event) (e : Event) → is_forced h e ≡ false → opened_with h e ≡ false → MayFollow h e → IsSettled h × IsAllowed h e
-follows_settled h e no_force no_open (forced f) = absurd (both_ways (is_forced h e) no_force (is_forced_of h e f))
-follows_settled h e no_force no_open (allowed s a) = (s, a)
-follows_settled h (Accept n tag) no_force no_open (accepted_with {place = place} at_n len o) = absurd (both_ways (opened_with h (Accept n tag)) no_open (first_opened h n place at_n len o))
+-- where operators have something left to do, just what is forced and the acceptance after an opening may follow
+pub unsettled_answer : (h : List Event) (e : Event) (b : Bool) → is_forced h e ≡ false → ¬ IsSettled h → b ≡ opened_with h e → (IsTrue b) ↔ MayFollow h e
+unsettled_answer h e b no_force unsettled is = (λ t. opened_first h e (sym is ∙ t), λ m. is ∙ by_way e no_force m) where
+  by_way : (e : Event) → is_forced h e ≡ false → MayFollow h e → opened_with h e ≡ true
+  by_way e n (forced f) = absurd (both_ways (is_forced h e) n (is_forced_of h e f))
+  by_way e n (allowed s a) = absurd (unsettled s)
+  by_way (Accept k tag) n (accepted_with {place = place} at_k len o) = first_opened h k place at_k len o
 
-pub unsettled_answer : (h : List Event) (e : Event) (r : Bool) → is_forced h e ≡ false → opened_with h e ≡ false → r ≡ false → (IsTrue r) ↔ IsSettled h → (IsTrue false) ↔ MayFollow h e
-unsettled_answer h e r no_force no_open unsettled w = (λ t. absurd (false≢true t), λ m. absurd (both_ways r unsettled (w.1 (follows_settled h e no_force no_open m).0)))
-
-pub allowed_answer : (h : List Event) (e : Event) (r b : Bool) → is_forced h e ≡ false → opened_with h e ≡ false → r ≡ true → (IsTrue r) ↔ IsSettled h → (IsTrue b) ↔ IsAllowed h e → (IsTrue b) ↔ MayFollow h e
-allowed_answer h e r b no_force no_open settled w v = (λ t. allowed (w.0 settled) (v.0 t), λ m. v.1 (follows_settled h e no_force no_open m).1)
+-- where they have nothing left to do, just what callers may do may follow
+pub settled_answer : (h : List Event) (e : Event) (b : Bool) → IsSettled h → (IsTrue b) ↔ IsAllowed h e → (IsTrue b) ↔ MayFollow h e
+settled_answer h e b settled w = (λ t. allowed settled (w.0 t), λ m. w.1 (by_way e m)) where
+  by_way : (e : Event) → MayFollow h e → IsAllowed h e
+  by_way e (forced f) = absurd (settled.none e f)
+  by_way e (allowed s a) = a
+  by_way (Accept k tag) (accepted_with at_k len o) = accepted o
 
 -- event by event -----------------------------------------------------------------------------------------
 
@@ -139,6 +145,9 @@ unlawful_here h i d b l law refused w = record { before = law; event = get_or h 
 
 pub lawful_more : (h : List Event) (i : ℕ) (d : Event) (b : Bool) → i < length h → IsLawful (take i h) → b ≡ true → (IsTrue b) ↔ MayFollow (take i h) (get_or h i d) → IsLawful (take (i + 1) h)
 lawful_more h i d b l law follows w = rw (take_more h i d l) (IsLawful-push (take i h) (get_or h i d) law (w.0 follows))
+
+pub settled_more : (h : List Event) (i : ℕ) (d : Event) (b : Bool) → i < length h → IsLawful (take i h) → IsSettled (take i h) → b ≡ true → (IsTrue b) ↔ MayFollow (take i h) (get_or h i d) → IsQuiet (take i h) (get_or h i d) → is_fired (take i h) (length (take i h)) ≡ false → ((u : ℕ) → u ≤ length (take i h) → is_fired (take i h ++ get_or h i d ∷ []) u ≡ is_fired (take i h) u) → IsSettled (take (i + 1) h)
+settled_more h i d b l law settled follows w quiet unfired fires = rw (take_more h i d l) (settled_after (take i h) (get_or h i d) (record { law = law; settled = settled; follows = w.0 follows; unfired = unfired; fires = fires }) quiet)
 
 pub found_more : (h : List Event) (i : ℕ) (d : Event) (size : ℕ) (found : Found) → i < length h → size ≡ length h → IsFound (take i h ++ get_or h i d ∷ []) size found → IsFound (take (i + 1) h) (length h) found
 found_more h i d size found l same f = rw (take_more h i d l, ← same) f

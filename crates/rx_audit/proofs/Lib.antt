@@ -11,3 +11,4 @@ pub mod Flowing
 pub mod Logging
 pub mod Counting
 pub mod Chaining
+pub mod Calming

@@ -1,7 +1,9 @@
 -- The tests that compute decide which events callers may add.
 use Rattle.std.proofs.Common.{◌≡◌, ℕ, ℤ, ◌+◌, ◌<◌, ◌≤◌, Bool, true, false, List, [], ◌∷◌, ◌++◌, length, Option, Some, None, refl, sym, ap, ◌∙◌, arith, ◌==◌, slice_get, inl, inr, ◌⊎◌, nat_lt, nat_le, is_some, MatchOption}
 use Rattle.std.proofs.Math.Bool.{not, ◌&&◌, ◌||◌}
-use Rattle.std.specs.List.{list_any, list_all}
+use Rattle.std.specs.List.{list_any, list_all, filter}
+use Rattle.std.proofs.lemmas.List.Filters.{length-filter_both}
+use Rattle.std.proofs.lemmas.List.FromFn.{length-range_with_len}
 use Rattle.std.specs.Option.{option_map_or}
 use Rattle.std.proofs.lemmas.Bool.{and_parts, false≢true, ltb-true, lt-ltb, eqb-true, eq-eqb, leb-true, le-leb, lt-leb}
 use Rattle.rx_note.specs.declared.note.Terminal.{Terminal}
@@ -265,3 +267,10 @@ open_may_of h place kind (opened f o few fits) = both (is_free h place && is_hub
 pub open_fits : (h : List Event) (place : Place) (kind : Kind) → IsAllowed h (Open place kind) → (g : ℕ) → IsConnectDue (h ++ Open place kind ∷ []) g → length (open_nodes h) + 2 ≤ 1048576
 unfolding most_nodes
 open_fits h place kind (opened f o few fits) = fits
+
+-- no more nodes are open than there are events
+pub few_open : (h : List Event) → length (open_nodes h) ≤ length h
+few_open h =
+    let both : length (filter (is_open h) (places h)) + length (filter (λ k. not (is_open h k)) (places h)) ≡ length (places h) = length-filter_both (is_open h) (λ k. not (is_open h k)) (λ k. refl) (places h) in
+    let all : length (places h) ≡ length h = length-range_with_len 0 (length h) in
+    omega arith

@@ -3,7 +3,7 @@ use Rattle.std.proofs.Common.{◌≡◌, ℕ, ◌+◌, ◌<◌, ◌≤◌, Bool,
 use Rattle.std.proofs.Math.Bool.{not, ◌&&◌}
 use Rattle.std.proofs.lemmas.Bool.{cases_order, ltb-true, false≢true}
 use Rattle.std.proofs.lemmas.Option.{cond_some, option_and_then_some}
-use Rattle.std.specs.List.{list_all}
+use Rattle.std.specs.List.{list_all, AllByRecursion}
 use Rattle.std.specs.Option.{option_map_or, option_and_then}
 use Rattle.rx_event.specs.declared.event.Place.TheVariants.{Root, Source, Inner, Notifier}
 use Rattle.rx_event.specs.declared.event.Event.{Event}
@@ -11,7 +11,7 @@ use Rattle.rx_event.specs.declared.event.Event.TheVariants.{Open, Hub, Connect, 
 use Rattle.rx_event.specs.Events.{makes_node, parent_named}
 use Rattle.rx_event.specs.Tree.{parent, ancestors, is_open, is_standing, shuts, if_less}
 use Rattle.rx_event.specs.Laws.Places.{slice_get_last}
-use Rattle.rx_event.specs.Laws.Parents.{ancestors_step, option_map_or-same}
+use Rattle.rx_event.specs.Laws.Parents.{ancestors-le, ancestors_step, option_map_or-same}
 use Rattle.rx_event.specs.Laws.Openness.{is_open_step, is_open-push, is_open_past, is_shut_last, shuts_none}
 use Rattle.rx_audit.specs.Tables.{IsMarked}
 use Rattle.rx_audit.specs.Rules.{stays_open, opens}
@@ -131,3 +131,12 @@ marked_after h e ms tied room n = by_place (cases_order n (length h)) where
 pub no_shut : (b : Bool) → false ≡ not b → b ≡ true
 no_shut true e = refl
 no_shut false e = absurd (false≢true e)
+
+list_all_within : {X : Type 0} (P : X → Type 0) (p : X → Bool) → ((x : X) → P x → p x ≡ true) → (xs : List X) → AllByRecursion P xs → list_all p xs ≡ true
+list_all_within P p holds [] a = refl
+list_all_within P p holds (x ∷ xs) a = rw (holds x a.0) (list_all_within P p holds xs a.1)
+
+-- before the first node that the event takes away each stays as it is
+pub stays_before : (h : List Event) (e : Event) (first : ℕ) → ((k : ℕ) → k < first → shuts h k e ≡ false) → (n : ℕ) → n < first → stays_open h e n ≡ is_open h n
+unfolding stays_open
+stays_before h e first none n l = rw (list_all_within (λ a. a ≤ n) (λ a. not (shuts h a e)) (λ a le. ap not (none a (omega arith))) (ancestors h n) (ancestors-le h n)) (and_true (is_open h n))

@@ -9,7 +9,7 @@ use Rattle.rx_event.specs.Tree.{is_open}
 use Rattle.rx_event.specs.Moments.{is_fired, projections}
 use Rattle.rx_audit.specs.declared.found.Found.{Found}
 use Rattle.rx_audit.specs.Tables.{IsMarked, IsTable, IsTally}
-use Rattle.rx_audit.specs.Rules.{has_ended, has_failed, has_completed, was_removed, was_taken, paid_of, is_key, fired_by, projected_by}
+use Rattle.rx_audit.specs.Rules.{has_ended, has_failed, has_completed, was_removed, was_taken, was_sourced, was_notified, paid_of, is_key, fired_by, projected_by}
 
 -- how many projected items of f were paid
 abbrev pub payments : List Event → ℕ → ℕ
@@ -37,6 +37,10 @@ pub record IsFound (h : List Event) (size : ℕ) (found : Found) : Type 0 where
   pub paid : IsTally found.paid.items (payments h)
   pub paid_size : length found.paid.items ≡ size
   pub paid_few : (n : ℕ) → slice_index_or found.paid.items n 0 ≤ length h
+  pub sourced : IsTable found.sourced.items (was_sourced h)
+  pub sourced_size : length found.sourced.items ≡ size
+  pub notified : IsTable found.notified.items (was_notified h)
+  pub notified_size : length found.notified.items ≡ size
 
 -- the event, if it is an item, makes no more visits than it may
 abbrev pub HasFewVisits : List Event → Event → Type 0

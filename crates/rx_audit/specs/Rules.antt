@@ -1,16 +1,18 @@
 -- The rules of histories as tests that compute.
-use Rattle.std.specs.Prelude.{ℕ, Bool, true, false, ◌==◌, ◌&&◌, ◌||◌, Option, Some, None, List, length, slice_get, drop, suc, nat_lt, if◌then◌else◌}
+use Rattle.std.specs.Prelude.{◌≡◌, ◌≤◌, ℕ, Bool, true, false, ◌==◌, ◌&&◌, ◌||◌, Option, Some, None, List, length, slice_get, drop, suc, nat_lt, if◌then◌else◌}
 use Rattle.std.proofs.Math.Bool.{not}
 use Rattle.std.specs.List.{list_all, list_any}
 use Rattle.std.specs.Option.{option_and_then, option_map_or}
-use Rattle.rx_event.specs.declared.event.Place.TheVariants.{Source, Inner}
+use Rattle.rx_event.specs.declared.event.Place.{Place}
+use Rattle.rx_event.specs.declared.event.Place.TheVariants.{Source, Inner, Notifier}
+use Rattle.rx_event.specs.declared.event.Kind.{Kind}
 use Rattle.rx_event.specs.declared.event.Kind.TheVariants.{Sub}
 use Rattle.rx_event.specs.declared.event.Event.{Event}
-use Rattle.rx_event.specs.declared.event.Event.TheVariants.{Open, Connect, End, Close, Remove, Take, Decline}
+use Rattle.rx_event.specs.declared.event.Event.TheVariants.{Open, Hub, Connect, Accept, Use, Item, End, Close, Remove, Take, Decline}
 use Rattle.rx_note.specs.declared.note.Terminal.TheVariants.{Completed, Error}
 use Rattle.rx_event.specs.Climb.{Stop, Projection, Firing}
 use Rattle.rx_event.specs.Tree.{at, places, parent, is_open, shuts, ancestors, if_less, has_open_child}
-use Rattle.rx_event.specs.Events.{makes_node, parent_named, is_source_of, is_auto_hub, is_mirroring, is_merging, is_until}
+use Rattle.rx_event.specs.Events.{makes_node, is_root, parent_named, is_source_of, is_auto_hub, is_mirroring, is_merging, is_until}
 use Rattle.rx_event.specs.Moments.{is_fired, owed}
 use Rattle.rx_note.specs.declared.note.Terminal.{Terminal}
 
@@ -85,6 +87,19 @@ hub_subscribed _ = None
 abbrev pub source_named : Event → Option ℕ
 source_named (Open (Source f) kind) = Some f
 source_named _ = None
+
+-- the node whose notifier an event opens
+abbrev pub notifier_named : Event → Option ℕ
+notifier_named (Open (Notifier u) kind) = Some u
+notifier_named _ = None
+
+-- a source was opened below p
+abbrev pub was_sourced : List Event → ℕ → Bool
+was_sourced h p = list_any (λ e. is_key (source_named e) p) h
+
+-- a notifier was opened below p
+abbrev pub was_notified : List Event → ℕ → Bool
+was_notified h p = list_any (λ e. is_key (notifier_named e) p) h
 
 -- node n is open, and the event takes neither it nor a node above it away
 unfoldable pub stays_open : List Event → Event → ℕ → Bool
@@ -235,3 +250,35 @@ is_forced h (Connect g) = connect_due h g
 is_forced h (End n t) = not (any_connect_due h) && end_due h n t
 is_forced h (Close c) = not (any_connect_due h) && close_due h c
 is_forced h _ = false
+
+-- the event shuts and ends nothing, pays nothing, subscribes to no hub, and makes and connects none
+abbrev pub calm_place : Place → Bool
+calm_place (Inner f) = false
+calm_place _ = true
+
+abbrev pub calm_kind : Kind → Bool
+calm_kind (Sub g) = false
+calm_kind _ = true
+
+abbrev pub is_calm : Event → Bool
+is_calm (Open place kind) = calm_place place && calm_kind kind
+is_calm (Accept n tag) = true
+is_calm (Use r) = true
+is_calm (Remove r) = true
+is_calm (Item l value) = true
+is_calm (Take r) = true
+is_calm _ = false
+
+-- the event is calm, or closes a root where neither it nor a node after it is an open subscriber
+abbrev pub IsQuiet : List Event → Event → Type 0
+IsQuiet h (Close n) = (at is_root h n ≡ true) × ((k : ℕ) → n ≤ k → open_subscribed h k ≡ None)
+IsQuiet h (Open place kind) = is_calm (Open place kind) ≡ true
+IsQuiet h (Hub mode) = is_calm (Hub mode) ≡ true
+IsQuiet h (Connect g) = is_calm (Connect g) ≡ true
+IsQuiet h (Accept n tag) = is_calm (Accept n tag) ≡ true
+IsQuiet h (Use r) = is_calm (Use r) ≡ true
+IsQuiet h (Remove r) = is_calm (Remove r) ≡ true
+IsQuiet h (Item l value) = is_calm (Item l value) ≡ true
+IsQuiet h (Decline f) = is_calm (Decline f) ≡ true
+IsQuiet h (End n t) = is_calm (End n t) ≡ true
+IsQuiet h (Take r) = is_calm (Take r) ≡ true

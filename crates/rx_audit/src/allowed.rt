@@ -1,28 +1,28 @@
 //! What callers may do.
 
-ghost use Rattle.std.specs.Prelude.{◌≡◌, ℕ, ◌+◌, ◌<◌, ◌≤◌, ◌&&◌, ◌||◌, ◌↔◌, IsTrue, IfOk, IsErr, [], ◌∷◌, ◌++◌, false, true, Some, None, length, slice_get};
+ghost use Rattle.std.specs.Prelude.{◌≡◌, ℕ, ◌+◌, ◌<◌, ◌≤◌, ◌&&◌, ◌||◌, ◌↔◌, IsTrue, IfOk, IsErr, [], ◌∷◌, ◌++◌, false, true, Some, None, nat_lt, length, slice_get};
 ghost use Rattle.std.specs.List.{list_any, list_all};
 ghost use Rattle.std.specs.Option.{option_map_or, option_and_then};
 ghost use Rattle.std.proofs.Math.Bool.{not};
-ghost use Rattle.rx_event.specs.Events.{is_leaf, is_source_of, is_notifier_of, makes_resource, node_of_accept};
+ghost use Rattle.rx_event.specs.Events.{is_leaf, makes_resource, node_of_accept};
 ghost use Rattle.rx_event.specs.Tree.{at, is_open, open_nodes, hubs, ancestors};
 ghost use Rattle.rx_event.specs.Resources.{is_held, is_waiting};
 ghost use Rattle.rx_event.specs.Climb.{visits};
 ghost use Rattle.rx_event.specs.Allowed.{may_abort, IsAllowed};
 ghost use Rattle.rx_event.specs.Forced.{IsConnectDue};
 ghost use Rattle.rx_audit.specs.Known.{IsFoundHere, IsSurveyed};
+ghost use Rattle.rx_audit.specs.Survey.{AreHubsNamed, IsSized};
 ghost use Rattle.rx_audit.specs.Rules.{was_removed, was_taken};
 ghost use Rattle.rx_audit.specs.Allowing.{connects_later, is_in_order_at, is_in_order, is_hubbed, is_free, failure_allowed, end_allowed, close_allowed, connect_allowed, decline_allowed, allowed_simply, item_allowed, open_allowed};
 
 use crate::event_tests::{
-    at, has_source, is_leaf, is_manual_hub, is_merging, is_notifier_of, is_root, is_until,
-    makes_hub, source_named,
+    at, has_source, is_leaf, is_manual_hub, is_merging, is_root, is_until, makes_hub,
 };
 use crate::found::{self, Found};
 use crate::marks::is_marked;
 use crate::openness::parent_of;
 use crate::reach::reached;
-use crate::survey::{self, Survey, hub_connected_at};
+use crate::survey::{self, Survey, hub_connected_at, look};
 use rx_event::{Event, Kind, Place, Terminal};
 use std::alloc::{AllocError, Global};
 
@@ -40,6 +40,17 @@ pub fn open_count(past: &[Event], found: &Found) -> usize
     (0..past.len() as u64)
         .filter(|k| is_marked(found.live.as_slice(), *k))
         .count()
+}
+
+/// Whether one node more may be open. No more nodes are open than there are events.
+fn has_room(past: &[Event], found: &Found) -> bool
+    requires { IsFoundHere past.now found.now }
+    ensures { result ≡ nat_lt (length (open_nodes past.now)) 1048576 }
+{
+    if past.len() < MOST_NODES {
+        return true;
+    }
+    open_count(past, found) < MOST_NODES
 }
 
 /// How many hubs there are.
@@ -98,20 +109,6 @@ fn is_hubbed(past: &[Event], place: Place, kind: Kind) -> bool
     }
 }
 
-/// Whether a source was ever opened below node `p`.
-fn has_had_source(past: &[Event], p: u64) -> bool
-    ensures { result ≡ list_any (is_source_of p) past.now }
-{
-    past.iter().any(|e| source_named(*e) == Some(p))
-}
-
-/// Whether a notifier was ever opened below node `p`.
-fn has_had_notifier(past: &[Event], p: u64) -> bool
-    ensures { result ≡ list_any (is_notifier_of p) past.now }
-{
-    past.iter().any(|e| is_notifier_of(p, *e))
-}
-
 /// Whether a node may be opened at the place.
 fn is_free(past: &[Event], found: &Found, place: Place) -> bool
     requires { IsFoundHere past.now found.now }
@@ -121,13 +118,13 @@ fn is_free(past: &[Event], found: &Found, place: Place) -> bool
     match place {
         Place::Root => true,
         Place::Source(p) => {
-            is_marked(live, p) && at(has_source, past, p) && !has_had_source(past, p)
+            is_marked(live, p) && at(has_source, past, p) && !found::was_sourced(past, found, p)
         }
         Place::Inner(p) => {
             is_marked(live, p) && at(is_merging, past, p) && found::is_owing(past, found, p)
         }
         Place::Notifier(p) => {
-            is_marked(live, p) && at(is_until, past, p) && !has_had_notifier(past, p)
+            is_marked(live, p) && at(is_until, past, p) && !found::was_notified(past, found, p)
         }
     }
 }
@@ -248,20 +245,30 @@ fn close_allowed(past: &[Event], found: &Found, n: u64) -> bool
             })
 }
 
-/// Whether a caller's event that opens nothing and is no item may come next.
-pub fn is_allowed_simply(past: &[Event], found: &Found, survey: &Survey, event: Event) -> bool
+/// Whether a caller's event that opens nothing and is no item may come next. The nodes are surveyed
+/// where that is asked.
+pub fn is_allowed_simply(past: &[Event], found: &Found, survey: &mut Survey, event: Event) -> bool
+    requires named { AreHubsNamed past.now }
     requires found { IsFoundHere past.now found.now }
-    requires survey { IsSurveyed past.now survey.now }
-    ensures { result ≡ allowed_simply past.now event }
+    requires sized { IsSized (length survey.old.parents.items) survey.old }
+    requires room { length past.now ≤ length survey.old.parents.items }
+    ensures answer { result ≡ allowed_simply past.now event }
+    ensures sized { IsSized (length survey.old.parents.items) survey.new }
 {
     match event {
         Event::Open { .. } | Event::Item(_, _) => false,
         Event::Hub(_) => hub_count(past) < MOST_HUBS,
-        Event::Connect(g) => connect_allowed(past, found, survey, g),
+        Event::Connect(g) => {
+            look(past, found.live.as_slice(), survey);
+            connect_allowed(past, found, survey, g)
+        }
         Event::Accept(n, _) => is_marked(found.live.as_slice(), n),
         Event::Use(r) | Event::Remove(r) => is_held(past, found, r),
         Event::Decline(f) => decline_allowed(past, found, f),
-        Event::End(n, t) => end_allowed(past, found, survey, n, t),
+        Event::End(n, t) => {
+            look(past, found.live.as_slice(), survey);
+            end_allowed(past, found, survey, n, t)
+        }
         Event::Close(n) => close_allowed(past, found, n),
         Event::Take(r) => is_waiting(past, found, r),
     }
@@ -274,9 +281,7 @@ fn connect_allowed(past: &[Event], found: &Found, survey: &Survey, g: u64) -> bo
     requires survey { IsSurveyed past.now survey.now }
     ensures { result ≡ connect_allowed past.now g }
 {
-    at(is_manual_hub, past, g)
-        && !survey::is_connected(past, survey, g)
-        && open_count(past, found) < MOST_NODES
+    at(is_manual_hub, past, g) && !survey::is_connected(past, survey, g) && has_room(past, found)
 }
 
 /// Whether a caller may decline an item that was projected to `f`.
@@ -321,7 +326,5 @@ pub fn is_open_allowed(past: &[Event], found: &Found, place: Place, kind: Kind) 
     requires { IsFoundHere past.now found.now }
     ensures { result ≡ open_allowed past.now place kind }
 {
-    is_free(past, found, place)
-        && is_hubbed(past, place, kind)
-        && open_count(past, found) < MOST_NODES
+    is_free(past, found, place) && is_hubbed(past, place, kind) && has_room(past, found)
 }

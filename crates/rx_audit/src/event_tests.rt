@@ -2,10 +2,10 @@
 
 ghost use Rattle.std.specs.Prelude.{◌≡◌, ℕ, ◌==◌, false, Option, Some, None, length, slice_get, slice_index_or};
 ghost use Rattle.std.specs.Option.{MatchOption};
-ghost use Rattle.rx_event.specs.Events.{named_by, parent_named, makes_hub, is_root, is_source_of, is_inner_of, is_notifier_of, is_leaf, is_switch, is_until, is_merging, is_mirroring, has_source, is_auto_hub, is_manual_hub};
+ghost use Rattle.rx_event.specs.Events.{named_by, parent_named, makes_hub, is_root, is_source_of, is_inner_of, is_leaf, is_switch, is_until, is_merging, is_mirroring, has_source, is_auto_hub, is_manual_hub};
 ghost use Rattle.rx_event.specs.Tree.{at, parent};
 ghost use Rattle.rx_event.specs.Allowed.{may_abort};
-ghost use Rattle.rx_audit.specs.Rules.{hub_connected, hub_subscribed, source_named, ended_of, failed_of, completed_of, removed_of, taken_of, paid_of};
+ghost use Rattle.rx_audit.specs.Rules.{hub_connected, hub_subscribed, source_named, notifier_named, ended_of, failed_of, completed_of, removed_of, taken_of, paid_of, calm_place, calm_kind, is_calm};
 
 use rx_event::{Event, Kind, Mode, Place, Terminal};
 
@@ -49,6 +49,19 @@ pub fn source_named(event: Event) -> Option<u64>
     match event {
         Event::Open {
             place: Place::Source(n),
+            ..
+        } => Some(n),
+        _ => None,
+    }
+}
+
+/// The node whose notifier the event opens.
+pub fn notifier_named(event: Event) -> Option<u64>
+    ensures { result ≡ notifier_named event }
+{
+    match event {
+        Event::Open {
+            place: Place::Notifier(n),
             ..
         } => Some(n),
         _ => None,
@@ -105,6 +118,42 @@ pub fn taken_of(event: Event) -> Option<u64>
     }
 }
 
+/// Whether what stands at the place closes nothing else.
+fn is_calm_place(place: Place) -> bool
+    ensures { result ≡ calm_place place }
+{
+    match place {
+        Place::Root | Place::Source(_) | Place::Notifier(_) => true,
+        Place::Inner(_) => false,
+    }
+}
+
+/// Whether a node of the kind subscribes to no hub.
+fn is_calm_kind(kind: Kind) -> bool
+    ensures { result ≡ calm_kind kind }
+{
+    match kind {
+        Kind::Sub(_) => false,
+        _ => true,
+    }
+}
+
+/// Whether the event closes and ends nothing, pays nothing, subscribes to no hub, and makes and
+/// connects none.
+pub fn is_calm(event: Event) -> bool
+    ensures { result ≡ is_calm event }
+{
+    match event {
+        Event::Open { place, kind } => is_calm_place(place) && is_calm_kind(kind),
+        Event::Accept(_, _)
+        | Event::Use(_)
+        | Event::Remove(_)
+        | Event::Item(_, _)
+        | Event::Take(_) => true,
+        _ => false,
+    }
+}
+
 /// The FlatMap or Switch of which the event pays one projected item.
 pub fn paid_of(event: Event) -> Option<u64>
     ensures { result ≡ paid_of event }
@@ -126,19 +175,6 @@ pub fn is_inner_of(node: u64, event: Event) -> bool
     match event {
         Event::Open {
             place: Place::Inner(n),
-            ..
-        } => n == node,
-        _ => false,
-    }
-}
-
-/// Whether the event opens the notifier of this node.
-pub fn is_notifier_of(node: u64, event: Event) -> bool
-    ensures { result ≡ is_notifier_of node event }
-{
-    match event {
-        Event::Open {
-            place: Place::Notifier(n),
             ..
         } => n == node,
         _ => false,

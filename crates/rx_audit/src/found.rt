@@ -3,6 +3,7 @@
 ghost use Rattle.std.specs.Prelude.{◌≡◌, ℕ, ◌+◌, ◌*◌, ◌^◌, ◌<◌, ◌≤◌, ◌||◌, false, true, [], ◌∷◌, ◌++◌, IfOk, OnOk, length, slice_index_or, sum_by, replicate};
 ghost use Rattle.std.specs.List.{list_any};
 ghost use Rattle.std.specs.Option.{option_and_then};
+ghost use Rattle.rx_event.specs.Events.{is_source_of, is_notifier_of};
 ghost use Rattle.rx_event.specs.Tree.{is_open};
 ghost use Rattle.rx_event.specs.Climb.{stop_at, visits};
 ghost use Rattle.rx_event.specs.Moments.{is_fired, projections};
@@ -12,7 +13,9 @@ ghost use Rattle.rx_audit.specs.Rules.{fired_by, projected_by, is_key, has_ended
 ghost use Rattle.rx_audit.specs.Tables.{IsMarked, IsTable, IsTally, IsTold, IsCounted};
 
 use crate::climb::{fired_at, projected_at};
-use crate::event_tests::{completed_of, ended_of, failed_of, paid_of, removed_of, taken_of};
+use crate::event_tests::{
+    completed_of, ended_of, failed_of, notifier_named, paid_of, removed_of, source_named, taken_of,
+};
 use crate::marks::{count, count_more, count_of, is_marked, mark};
 use crate::openness::mark_open;
 use crate::reach::{Visit, reached};
@@ -41,6 +44,10 @@ pub struct Found {
     pub projected: Vec<u128>,
     /// How many of them were paid.
     pub paid: Vec<u128>,
+    /// A source was opened below the node.
+    pub sourced: Vec<bool>,
+    /// A notifier was opened below the TakeUntil.
+    pub notified: Vec<bool>,
 }
 
 /// A list of this many marks, none of which is set.
@@ -71,17 +78,24 @@ pub fn nothing_found(alloc: Global, size: usize) -> Result<Found, AllocError>
         fired: unmarked(alloc, size)?,
         projected: uncounted(alloc, size)?,
         paid: uncounted(alloc, size)?,
+        sourced: unmarked(alloc, size)?,
+        notified: unmarked(alloc, size)?,
     })
 }
 
-/// Marks each TakeUntil that an item fires on these visits.
-fn mark_fired(past: &[Event], log: &[Visit], fired: &mut [bool])
+/// Marks each TakeUntil that an item fires on these visits, and answers whether there is one.
+fn mark_fired(past: &[Event], log: &[Visit], fired: &mut [bool]) -> bool
     ensures len { length fired.new ≡ length fired.old }
+    ensures none { result ≡ false → fired.new ≡ fired.old }
     ensures told { IsTold fired.old fired.new (λ n u. is_key (option_and_then fired_by (stop_at past.now n)) u) log.now }
 {
+    let mut any = false;
     for visit in log {
-        mark(fired, fired_at(past, visit.node));
+        let key = fired_at(past, visit.node);
+        any = any || key.is_some();
+        mark(fired, key);
     }
+    any
 }
 
 /// Counts each projection of an item on these visits.
@@ -96,7 +110,8 @@ fn count_projected(past: &[Event], log: &[Visit], projected: &mut [u128])
     }
 }
 
-/// Finds what an item of this leaf, which makes no more visits than it may, fires and projects.
+/// Finds what an item of this leaf, which makes no more visits than it may, fires and projects, and
+/// answers whether it fires something.
 fn find_stops(
     alloc: Global,
     past: &[Event],
@@ -104,26 +119,27 @@ fn find_stops(
     leaf: u64,
     fired: &mut [bool],
     projected: &mut [u128],
-) -> Result<(), AllocError>
+) -> Result<bool, AllocError>
     requires live { IsMarked live.now (is_open past.now) }
     requires visits { visits past.now leaf ≤ 1048576 }
     requires few { (n : ℕ) → slice_index_or projected.old n 0 + 1048577 < 2 ^ 128 }
     ensures fired_len { length fired.new ≡ length fired.old }
+    ensures none { IfOk result (λ fires. fires ≡ false → fired.new ≡ fired.old) }
     ensures projected_len { length projected.new ≡ length projected.old }
     ensures found { OnOk result (HasStops past.now leaf fired.old fired.new projected.old projected.new) }
     ensures few { (n : ℕ) → slice_index_or projected.new n 0 ≤ slice_index_or projected.old n 0 + 1048577 }
 {
     match reached(alloc, past, live, leaf)? {
         Some(log) => {
-            mark_fired(past, log.as_slice(), fired);
+            let fires = mark_fired(past, log.as_slice(), fired);
             count_projected(past, log.as_slice(), projected);
-            Ok(())
+            Ok(fires)
         }
         None => unreachable!(),
     }
 }
 
-/// Finds what the event fires and projects.
+/// Finds what the event fires and projects, and answers whether it fires something.
 fn find_item(
     alloc: Global,
     past: &[Event],
@@ -131,7 +147,7 @@ fn find_item(
     event: Event,
     fired: &mut [bool],
     projected: &mut [u128],
-) -> Result<(), AllocError>
+) -> Result<bool, AllocError>
     requires live { IsMarked live.now (is_open past.now) }
     requires visits { HasFewVisits past.now event }
     requires fired { IsTable fired.old (is_fired past.now) }
@@ -139,32 +155,31 @@ fn find_item(
     requires few { (n : ℕ) → slice_index_or projected.old n 0 ≤ length past.now * 1048577 }
     ensures fired { OnOk result (IsTable fired.new (is_fired (past.now ++ event ∷ []))) }
     ensures fired_len { length fired.new ≡ length fired.old }
+    ensures none { IfOk result (λ fires. fires ≡ false → fired.new ≡ fired.old) }
     ensures projected { OnOk result (IsTally projected.new (projections (past.now ++ event ∷ []))) }
     ensures projected_len { length projected.new ≡ length projected.old }
     ensures few { (n : ℕ) → slice_index_or projected.new n 0 ≤ (length past.now + 1) * 1048577 }
 {
     match event {
-        Event::Item(leaf, _) => {
-            find_stops(alloc, past, live, leaf, fired, projected)?;
-            Ok(())
-        }
-        _ => Ok(()),
+        Event::Item(leaf, _) => find_stops(alloc, past, live, leaf, fired, projected),
+        _ => Ok(false),
     }
 }
 
-/// Finds what the event adds.
+/// Finds what the event adds, and answers whether it fires something.
 pub fn follow(
     alloc: Global,
     past: &[Event],
     event: Event,
     found: &mut Found,
-) -> Result<(), AllocError>
+) -> Result<bool, AllocError>
     requires found { IsFound past.now (length found.old.live.items) found.old }
     requires room { length past.now < length found.old.live.items }
     requires visits { HasFewVisits past.now event }
-    ensures { OnOk result (IsFound (past.now ++ event ∷ []) (length found.old.live.items) found.new) }
+    ensures found { OnOk result (IsFound (past.now ++ event ∷ []) (length found.old.live.items) found.new) }
+    ensures fires { IfOk result (λ fires. fires ≡ false → (u : ℕ) → u ≤ length past.now → is_fired (past.now ++ event ∷ []) u ≡ is_fired past.now u) }
 {
-    find_item(
+    let fires = find_item(
         alloc,
         past,
         found.live.as_slice(),
@@ -179,7 +194,9 @@ pub fn follow(
     mark(found.removed.as_mut_slice(), removed_of(event));
     mark(found.taken.as_mut_slice(), taken_of(event));
     count(found.paid.as_mut_slice(), paid_of(event));
-    Ok(())
+    mark(found.sourced.as_mut_slice(), source_named(event));
+    mark(found.notified.as_mut_slice(), notifier_named(event));
+    Ok(fires)
 }
 
 /// Whether node `k` ended.
@@ -230,6 +247,26 @@ pub fn was_taken(past: &[Event], found: &Found, r: u64) -> bool
 {
     let _ = past;
     is_marked(found.taken.as_slice(), r)
+}
+
+/// Whether a source was ever opened below node `p`.
+pub fn was_sourced(past: &[Event], found: &Found, p: u64) -> bool
+    requires found { IsFound past.now (length found.now.live.items) found.now }
+    requires within { p < length found.now.live.items }
+    ensures { result ≡ list_any (is_source_of p) past.now }
+{
+    let _ = past;
+    is_marked(found.sourced.as_slice(), p)
+}
+
+/// Whether a notifier was ever opened below node `p`.
+pub fn was_notified(past: &[Event], found: &Found, p: u64) -> bool
+    requires found { IsFound past.now (length found.now.live.items) found.now }
+    requires within { p < length found.now.live.items }
+    ensures { result ≡ list_any (is_notifier_of p) past.now }
+{
+    let _ = past;
+    is_marked(found.notified.as_slice(), p)
 }
 
 /// Whether an item fired the TakeUntil `k`.

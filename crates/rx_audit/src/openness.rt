@@ -3,9 +3,8 @@
 ghost use Rattle.std.specs.Prelude.{◌≡◌, ℕ, ◌+◌, ◌<◌, ◌≤◌, ◌==◌, ◌&&◌, false, [], ◌∷◌, ◌++◌, length, slice_index_or, slice_get, IsTrue};
 ghost use Rattle.std.specs.Option.{option_map_or, option_and_then};
 ghost use Rattle.std.proofs.Math.Bool.{not};
-ghost use Rattle.std.specs.List.{list_any, range_with_len};
 ghost use Rattle.rx_event.specs.Events.{parent_named, is_switch, is_inner_of, makes_node, named_by};
-ghost use Rattle.rx_event.specs.Tree.{at, parent, shuts, is_open, ancestors, is_switched_inner, has_open_child, places, if_less};
+ghost use Rattle.rx_event.specs.Tree.{at, parent, shuts, is_open, ancestors, is_switched_inner, if_less};
 ghost use Rattle.rx_audit.specs.Tables.{IsMarked};
 ghost use Rattle.rx_audit.specs.Rules.{stays_open, opens};
 ghost use Rattle.rx_event.specs.Laws.Openness.{shuts_none};
@@ -27,22 +26,6 @@ pub fn parent_of(past: &[Event], n: usize) -> Option<u64>
         Some(p) if p < n as u64 => Some(p),
         _ => None,
     }
-}
-
-/// Whether node `k` is an open child of node `p`.
-fn is_open_child_of(past: &[Event], marks: &[bool], p: u64, k: usize) -> bool
-    requires { IsMarked marks.now (is_open past.now) }
-    ensures { result ≡ (is_open past.now k && option_map_or (λ q. q == p) (parent past.now k) false) }
-{
-    is_marked(marks, k as u64) && parent_of(past, k) == Some(p)
-}
-
-/// Whether node `p` has an open child.
-pub fn has_open_child(past: &[Event], marks: &[bool], p: u64) -> bool
-    requires { IsMarked marks.now (is_open past.now) }
-    ensures { result ≡ has_open_child past.now p }
-{
-    (0..past.len()).any(|k| is_open_child_of(past, marks, p, k))
 }
 
 /// Whether node `n` is an inner observable of node `f`, which is a Switch.
@@ -80,6 +63,22 @@ fn may_shut(event: Event) -> bool
     }
 }
 
+/// The number of events, or an earlier place before which the event takes no node away.
+fn first_shut(past: &[Event], event: Event) -> usize
+    ensures within { result ≤ length past.now }
+    ensures none { (k : ℕ) → k < result → shuts past.now k event ≡ false }
+{
+    let first = match event {
+        Event::End(n, _) | Event::Close(n) => n,
+        Event::Open {
+            place: Place::Inner(f),
+            ..
+        } => f,
+        _ => 0,
+    };
+    (first as usize).min(past.len())
+}
+
 /// Takes away the marks of the nodes that the event takes away, and of all below them.
 fn close_shut(past: &[Event], event: Event, marks: &mut [bool])
     requires tied { IsMarked marks.old (is_open past.now) }
@@ -89,7 +88,7 @@ fn close_shut(past: &[Event], event: Event, marks: &mut [bool])
     if !may_shut(event) {
         return;
     }
-    for k in 0..past.len() {
+    for k in first_shut(past, event)..past.len() {
         if marks[k] {
             if shuts(past, k as u64, event) {
                 marks[k] = false;

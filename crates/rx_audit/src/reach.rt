@@ -118,6 +118,17 @@ fn chain_from(
     Ok(None)
 }
 
+/// Room to remember the entries of so many nodes, where a connection is reached. Where none is, each
+/// node is reached once, and there is nothing to remember.
+fn new_entries(
+    alloc: Global,
+    lists: Option<&Subscribers>,
+    size: usize,
+) -> Result<Vec<usize>, AllocError> {
+    let size = if lists.is_some() { size } else { 0 };
+    Ok(vec![in alloc; 0; size]?)
+}
+
 /// How often an item of this leaf reaches each node; `None` where it makes more visits than it may.
 pub fn reached(
     alloc: Global,
@@ -133,10 +144,10 @@ pub fn reached(
         count: 1,
     };
     let mut log = vec![in alloc; first]?;
-    let mut entries = vec![in alloc; 0; past.len()]?;
     let mut total: u64 = 1;
     let chain = chain_from(alloc, past, live, leaf)?;
     let lists = chain.as_ref();
+    let mut entries = new_entries(alloc, lists, past.len())?;
     for i in 0..MOST_VISITS {
         if i >= log.len() {
             return Ok(Some(log));

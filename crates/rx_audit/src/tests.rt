@@ -1,4 +1,6 @@
-//! Worked histories, each with its verdict written out.
+//! Worked histories, each with its verdict written out; and memory refused.
+
+mod want;
 
 use crate::{Verdict, audit};
 use rx_event::{Event, Kind, Mode, Place, Terminal};
@@ -41,6 +43,22 @@ fn failed(n: u64, code: u32) -> Event {
     Event::End(n, Terminal::Error(code))
 }
 
+fn assert_listed(rt: &impl Abort, verdict: Verdict, live: &[u64], held: &[u64], waiting: &[u64]) {
+    match verdict {
+        Verdict::Lawful {
+            live: l,
+            held: h,
+            waiting: w,
+        } => {
+            assert_eq!(rt; l.as_slice(), live);
+            assert_eq!(rt; h.as_slice(), held);
+            assert_eq!(rt; w.as_slice(), waiting);
+        }
+        Verdict::Unlawful { place } => assert!(rt; false, "unlawful at {place}"),
+        Verdict::Unsettled => assert!(rt; false, "unsettled"),
+    }
+}
+
 fn assert_lawful(
     rt: &impl Abort,
     alloc: Global,
@@ -50,19 +68,7 @@ fn assert_lawful(
     waiting: &[u64],
 ) {
     match audit(alloc, events) {
-        Ok(
-            Verdict::Lawful {
-                live: l,
-                held: h,
-                waiting: w,
-            },
-        ) => {
-            assert_eq!(rt; l.as_slice(), live);
-            assert_eq!(rt; h.as_slice(), held);
-            assert_eq!(rt; w.as_slice(), waiting);
-        }
-        Ok(Verdict::Unlawful { place }) => assert!(rt; false, "unlawful at {place}"),
-        Ok(Verdict::Unsettled) => assert!(rt; false, "unsettled"),
+        Ok(verdict) => assert_listed(rt, verdict, live, held, waiting),
         Err(_) => assert!(rt; false, "no memory"),
     }
 }
@@ -312,6 +318,25 @@ fn a_notifiers_item_ends_the_take_until(rt: HostRuntime) {
     ];
     assert_lawful(&rt, rt.alloc(), &events, &[], &[], &[]);
     assert_prefixes(&rt, rt.alloc(), &events, &[5]);
+}
+
+#[test]
+fn a_take_until_that_is_fired_after_a_quiet_while_has_to_end(rt: HostRuntime) {
+    let events = [
+        root(Kind::Until),
+        source(0, Kind::Leaf),
+        notifier(0, Kind::Leaf),
+        Event::Item(1, 5),
+        Event::Accept(0, 1),
+        Event::Use(4),
+        Event::Item(2, 6),
+        completed(0),
+    ];
+    assert_prefixes(&rt, rt.alloc(), &events, &[7]);
+    assert_lawful(&rt, rt.alloc(), &events, &[], &[], &[4]);
+    let mut ignored = events;
+    ignored[7] = Event::Item(1, 7);
+    assert_unlawful(&rt, rt.alloc(), &ignored, 7);
 }
 
 #[test]

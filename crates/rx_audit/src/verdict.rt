@@ -1,10 +1,12 @@
 //! The verdict on a list of events.
 
-ghost use Rattle.std.specs.Prelude.{◌≡◌, ℕ, ◌+◌, ◌<◌, ◌≤◌, ◌↔◌, IsTrue, IfOk, IsErr, [], ◌∷◌, ◌++◌, Some, None, MatchOption, length, slice_get, take};
+ghost use Rattle.std.specs.Prelude.{◌≡◌, ℕ, ◌+◌, ◌<◌, ◌≤◌, ◌↔◌, true, false, IsTrue, IfOk, IsErr, [], ◌∷◌, ◌++◌, Some, None, MatchOption, length, slice_get, take};
 ghost use Rattle.rx_event.specs.Tree.{is_open, open_nodes};
 ghost use Rattle.rx_event.specs.Resources.{held_resources, waiting_resources};
 ghost use Rattle.rx_event.specs.Allowed.{IsAllowed};
-ghost use Rattle.rx_event.specs.Forced.{IsConnectDue};
+ghost use Rattle.rx_event.specs.Forced.{IsConnectDue, IsSettled};
+ghost use Rattle.rx_event.specs.Moments.{is_fired};
+ghost use Rattle.rx_audit.specs.Rules.{IsQuiet, open_subscribed};
 ghost use Rattle.rx_event.specs.Lawful.{IsLawful, MayFollow};
 ghost use Rattle.rx_audit.specs.Known.{IsFoundHere, IsSurveyed};
 ghost use Rattle.rx_audit.specs.Survey.{AreHubsNamed, IsSized};
@@ -15,12 +17,12 @@ use crate::allowed::{
     MOST_NODES, is_allowed_simply, is_held, is_item_allowed, is_open_allowed, is_waiting,
     open_count,
 };
-use crate::event_tests::at;
+use crate::event_tests::{at, is_calm, is_root};
 use crate::forced::{any_connect_due, is_forced, is_settled};
-use crate::found::{Found, follow, nothing_found};
+use crate::found::{self, Found, follow, nothing_found};
 use crate::marks::is_marked;
 use crate::openness::mark_open;
-use crate::survey::{Survey, look, new_survey};
+use crate::survey::{Survey, look, new_survey, open_subscribed};
 use rx_event::{Event, Kind, Place};
 use std::alloc::{AllocError, Global};
 
@@ -68,6 +70,9 @@ fn leaves_room(
     ensures answer { IfOk result (λ b. IsTrue b ↔ ((g : ℕ) → IsConnectDue next.now g → length (open_nodes past.now) + 2 ≤ 1048576)) }
     ensures sized { IsSized (length survey.old.parents.items) survey.new }
 {
+    if past.len() <= MOST_NODES - 2 {
+        return Ok(true);
+    }
     if open_count(past, found) <= MOST_NODES - 2 {
         return Ok(true);
     }
@@ -117,7 +122,7 @@ fn is_allowed(
     requires named { AreHubsNamed past.now }
     requires found { IsFoundHere past.now found.now }
     requires found_room { length next.now ≤ length found.now.live.items }
-    requires survey { IsSurveyed past.now survey.old }
+    requires sized { IsSized (length survey.old.parents.items) survey.old }
     requires room { length next.now ≤ length survey.old.parents.items }
     ensures answer { IfOk result (λ b. IsTrue b ↔ IsAllowed past.now event) }
     ensures sized { IsSized (length survey.old.parents.items) survey.new }
@@ -160,6 +165,38 @@ fn is_opened_with(past: &[Event], found: &Found, event: Event) -> bool
     }
 }
 
+/// Whether operators have nothing left to do. The nodes are surveyed where that is not known, and
+/// the survey stands where they have something.
+fn find_settled(past: &[Event], found: &Found, survey: &mut Survey, known: bool) -> bool
+    requires named { AreHubsNamed past.now }
+    requires found { IsFoundHere past.now found.now }
+    requires sized { IsSized (length survey.old.parents.items) survey.old }
+    requires room { length past.now ≤ length survey.old.parents.items }
+    requires known { known ≡ true → IsSettled past.now }
+    ensures answer { IsTrue result ↔ IsSettled past.now }
+    ensures surveyed { result ≡ false → IsSurveyed past.now survey.new }
+    ensures sized { IsSized (length survey.old.parents.items) survey.new }
+{
+    if known {
+        return true;
+    }
+    look(past, found.live.as_slice(), survey);
+    is_settled(past, found, survey)
+}
+
+/// Whether the event may come next, where operators have something left to do.
+fn may_follow_unsettled(past: &[Event], event: Event, found: &Found, survey: &Survey) -> bool
+    requires found { IsFoundHere past.now found.now }
+    requires survey { IsSurveyed past.now survey.now }
+    requires unsettled { ¬ IsSettled past.now }
+    ensures { IsTrue result ↔ MayFollow past.now event }
+{
+    if is_forced(past, found, survey, event) {
+        return true;
+    }
+    is_opened_with(past, found, event)
+}
+
 /// Whether the event may come next.
 fn may_follow(
     alloc: Global,
@@ -168,6 +205,7 @@ fn may_follow(
     event: Event,
     found: &Found,
     survey: &mut Survey,
+    settled: bool,
 ) -> Result<bool, AllocError>
     requires next { next.now ≡ past.now ++ event ∷ [] }
     requires lawful { IsLawful past.now }
@@ -175,20 +213,57 @@ fn may_follow(
     requires found_room { length next.now ≤ length found.now.live.items }
     requires sized { IsSized (length survey.old.parents.items) survey.old }
     requires room { length next.now ≤ length survey.old.parents.items }
+    requires settled { IsTrue settled ↔ IsSettled past.now }
+    requires surveyed { settled ≡ false → IsSurveyed past.now survey.old }
     ensures answer { IfOk result (λ b. IsTrue b ↔ MayFollow past.now event) }
     ensures sized { IsSized (length survey.old.parents.items) survey.new }
 {
-    look(past, found.live.as_slice(), survey);
-    if is_forced(past, found, survey, event) {
-        return Ok(true);
+    if settled {
+        return is_allowed(alloc, past, next, event, found, survey);
     }
-    if is_opened_with(past, found, event) {
-        return Ok(true);
+    Ok(may_follow_unsettled(past, event, found, survey))
+}
+
+/// Whether a node at this place or after it is an open subscriber.
+fn has_later_subscriber(past: &[Event], found: &Found, n: u64) -> bool
+    requires { IsFoundHere past.now found.now }
+    ensures { result ≡ false → (k : ℕ) → n ≤ k → open_subscribed past.now k ≡ None }
+{
+    for k in (n as usize)..past.len() {
+        if open_subscribed(past, found.live.as_slice(), k as u64).is_some() {
+            return true;
+        }
     }
-    if !is_settled(past, found, survey) {
-        return Ok(false);
+    false
+}
+
+/// Whether the event closes nothing but roots and what is below them, and no subscriber, and does
+/// nothing else that operators follow.
+fn is_quiet(past: &[Event], found: &Found, event: Event) -> bool
+    requires { IsFoundHere past.now found.now }
+    ensures { result ≡ true → IsQuiet past.now event }
+{
+    match event {
+        Event::Close(n) => at(is_root, past, n) && !has_later_subscriber(past, found, n),
+        _ => is_calm(event),
     }
-    is_allowed(alloc, past, next, event, found, survey)
+}
+
+/// Whether the event leaves a settled history settled, where it fires nothing: it is quiet, and
+/// the node that it may make was not fired before.
+fn is_quiet_here(past: &[Event], found: &Found, event: Event) -> bool
+    requires found { IsFoundHere past.now found.now }
+    requires room { length past.now < length found.now.live.items }
+    ensures { result ≡ true → IsQuiet past.now event × (is_fired past.now (length past.now) ≡ false) }
+{
+    is_quiet(past, found, event) && !found::is_fired(past, found, past.len() as u64)
+}
+
+/// Whether a history is known to be settled: it was, and the event was quiet and fired nothing.
+fn stays_settled(settled: bool, quiet: bool, fires: bool) -> bool
+    ensures { result ≡ true → (settled ≡ true) × (quiet ≡ true) × (fires ≡ false) }
+{
+    settled && quiet && !fires
 }
 
 /// The first place whose event may not follow those before it, if there is one. Where there is
@@ -204,14 +279,18 @@ fn first_unlawful(
     ensures answer { IfOk result (λ place. MatchOption place (IsAllFound events.now found.new) (IsFoundUnlawful events.now)) }
     ensures sized { IsSized (length survey.old.parents.items) survey.new }
 {
+    let mut known = false;
     for i in 0..events.len() {
         let past = &events[..i];
         let next = &events[..i + 1];
         let event = events[i];
-        if !may_follow(alloc, past, next, event, found, survey)? {
+        let settled = find_settled(past, found, survey, known);
+        if !may_follow(alloc, past, next, event, found, survey, settled)? {
             return Ok(Some(i as u64));
         }
-        follow(alloc, past, event, found)?;
+        let quiet = is_quiet_here(past, found, event);
+        let fires = follow(alloc, past, event, found)?;
+        known = stays_settled(settled, quiet, fires);
     }
     Ok(None)
 }

@@ -1,1 +1,3 @@
 pub mod SortedLemmas
+pub mod ScenarioLemmas
+pub mod Refusals

@@ -6,3 +6,4 @@ pub mod Done
 pub mod Sorted
 pub mod Served
 pub mod Books
+pub mod Scenario

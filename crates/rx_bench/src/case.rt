@@ -21,6 +21,8 @@ pub enum Case {
     Chain,
     /// Resources at one node of a book.
     Hold,
+    /// A scenario in JSON, run over memory.
+    Scenario,
 }
 
 impl Case {
@@ -36,6 +38,7 @@ impl Case {
             Case::Items => "items",
             Case::Chain => "chain",
             Case::Hold => "hold",
+            Case::Scenario => "scenario",
         }
     }
 
@@ -48,6 +51,7 @@ impl Case {
             Case::Sorted => 1_000_000,
             Case::Chain => 100_000,
             Case::Hold => 1_000_000,
+            Case::Scenario => 65_536,
         }
     }
 }
@@ -65,6 +69,7 @@ pub fn case_named(word: &str) -> Option<Case>
         "items" => Some(Case::Items),
         "chain" => Some(Case::Chain),
         "hold" => Some(Case::Hold),
+        "scenario" => Some(Case::Scenario),
         _ => None,
     }
 }

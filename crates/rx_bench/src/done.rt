@@ -1,9 +1,28 @@
 //! What a run did.
 
-ghost use Rattle.std.specs.Prelude.{◌≡◌, ◌+◌, ◌<◌, ◌^◌};
+ghost use Rattle.std.specs.Prelude.{◌≡◌, ◌+◌, ◌<◌, ◌^◌, fold};
 ghost use Rattle.rx_bench.specs.Done.{marked};
 
 use std::alloc::AllocError;
+
+/// A mark, with one value more behind it.
+fn marked(mark: u64, value: u64) -> u64
+    ensures { result ≡ marked mark value }
+{
+    let shifted = mark.wrapping_mul(31);
+    shifted.wrapping_add(value).wrapping_add(1)
+}
+
+/// The mark of the bytes of a text.
+pub fn mark_of(text: &[u8]) -> u64
+    ensures { result ≡ fold marked 0 text.now }
+{
+    let mut mark = 0;
+    for byte in text {
+        mark = marked(mark, u64::from(*byte));
+    }
+    mark
+}
 
 /// What one run of a case did.
 #[derive(Clone, Copy, Debug, PartialEq, Eq)]
@@ -27,10 +46,9 @@ impl Done {
         ensures operations { result.operations ≡ self.operations + 1 }
         ensures mark { result.mark ≡ marked self.mark value }
     {
-        let shifted = self.mark.wrapping_mul(31);
         Done {
             operations: self.operations + 1,
-            mark: shifted.wrapping_add(value).wrapping_add(1),
+            mark: marked(self.mark, value),
         }
     }
 }

@@ -15,6 +15,7 @@
 //! | `items` | N items of a leaf below a mirroring root, whose notes are taken as they come | N: each item |
 //! | `chain` | N mirroring nodes, each at the source of the one before, and a leaf at the last; one item; the disposal of the root | N: each node |
 //! | `hold` | N resources held at one node, the disposal of the root, each resource taken and released | N: each resource |
+//! | `scenario` | the first N steps of this cycle, as a JSON text that is run by `rx_script` and reported: a Using root with one resource, a leaf at its source, two items, the end of the leaf or in each second cycle the disposal of the root, a drain. The text and the resources are made before the time begins | N: each step |
 //!
 //! The exit status is 0 where the case was run and what it did is written, 1 where memory, a call,
 //! the clock or the output refused, and 2 where the words are refused: a case that is not known, a
@@ -44,6 +45,7 @@ mod measure;
 mod order;
 mod program;
 mod reading;
+mod scenario;
 mod sorted;
 #[cfg(test)]
 mod tests;

@@ -1,8 +1,9 @@
 //! Several runs of a case, and how long they took.
 
-ghost use Rattle.std.specs.Prelude.{◌≡◌, ◌+◌, ◌-◌, ◌*◌, ◌/◌, ◌^◌, ◌<◌, ◌≤◌, min, ℕ, List, length, IfOk};
+ghost use Rattle.std.specs.Prelude.{◌≡◌, ◌+◌, ◌-◌, ◌*◌, ◌/◌, ◌^◌, ◌<◌, ◌≤◌, min, ℕ, List, length, string_bytes, IfOk};
 ghost use Rattle.std.specs.Duration.{as_nanos};
-ghost use Rattle.rx_bench.specs.Cases.{operations_of};
+ghost use Rattle.rx_bench.specs.Cases.{operations_of, steps_of};
+ghost use Rattle.rx_bench.specs.Scenario.{scenario_text};
 ghost use Rattle.rx_bench.specs.Times.{Summarizes};
 
 use crate::agenda::run_orders;
@@ -12,6 +13,7 @@ use crate::cycle::{HISTORY, run_cycles};
 use crate::done::{Done, Halt};
 use crate::hold::run_hold;
 use crate::items::run_items;
+use crate::scenario::{Scenario, run_scenario};
 use crate::sorted::SortedList;
 use crate::times::{Summary, summarize};
 use crate::words::Request;
@@ -31,8 +33,9 @@ pub struct Measured {
     pub times: Summary,
 }
 
-/// Runs a case once.
-pub fn run(alloc: Global, request: Request) -> Result<Done, Halt>
+/// Runs a case once, of which the scenario is made before.
+pub fn run(alloc: Global, request: Request, scenario: Scenario) -> Result<Done, Halt>
+    requires { string_bytes scenario.text ≡ scenario_text (steps_of request.case request.size) }
     ensures { IfOk result (λ done. done.operations ≡ operations_of request.case request.size) }
 {
     match request.case {
@@ -43,6 +46,7 @@ pub fn run(alloc: Global, request: Request) -> Result<Done, Halt>
         Case::Items => run_items(alloc, request.size),
         Case::Chain => run_chain(alloc, request.size),
         Case::Hold => run_hold(alloc, request.size),
+        Case::Scenario => run_scenario(alloc, scenario, request.size),
     }
 }
 
@@ -62,12 +66,14 @@ fn tenths_each(took: Duration, operations: u64) -> u64
     u64::try_from(tenths).unwrap_or(u64::MAX)
 }
 
-/// Runs a case once by this clock, and answers what it did and what an operation took.
+/// Runs a case once by this clock, and answers what it did and what an operation took. The making of
+/// a scenario is not timed.
 fn time_run<C: Clock>(clock: &C, alloc: Global, request: Request) -> Result<(Done, u64), Halt>
     ensures { IfOk result (λ r. r.0.operations ≡ operations_of request.case request.size) }
 {
+    let scenario = Scenario::of(alloc, request.steps())?;
     let start = Instant::now(clock).map_err(unread)?;
-    let done = run(alloc, request)?;
+    let done = run(alloc, request, scenario)?;
     let took = start.elapsed(clock).map_err(unread)?;
     Ok((done, tenths_each(took, done.operations)))
 }

@@ -2,7 +2,9 @@
 //! clocks that fail.
 
 use crate::cycle::run_cycles;
+use crate::done::Halt;
 use crate::program::serve;
+use crate::scenario::{Scenario, report_of};
 use rx_scarce::Scarce;
 use std::alloc::Global;
 use std::cell::Cell;
@@ -71,7 +73,7 @@ fn call(alloc: Global, words: &[&str]) -> Left {
 
 #[test]
 fn a_run_tells_its_work_and_its_times(rt: HostRuntime) {
-    let cases: [(&[&str], &str, &str); 8] = [
+    let cases: [(&[&str], &str, &str); 9] = [
         (
             &["rx_bench", "timeline", "1"],
             "timeline 1: 6 operations, mark 993\n",
@@ -112,6 +114,11 @@ fn a_run_tells_its_work_and_its_times(rt: HostRuntime) {
             "hold 1: 1 operations, mark 1\n",
             "hold 1: median 2400.0 ns, spread 5400.0 ns for each operation, of 5 runs\n",
         ),
+        (
+            &["rx_bench", "scenario", "12"],
+            "scenario 12: 12 operations, mark 6010860559818715001\n",
+            "scenario 12: median 200.0 ns, spread 450.0 ns for each operation, of 5 runs\n",
+        ),
     ];
     for (words, output, errors) in cases {
         let left = call(rt.alloc(), words);
@@ -131,7 +138,7 @@ fn a_full_history_is_followed_by_a_new_book(rt: HostRuntime) {
 
 #[test]
 fn refused_words_are_told(rt: HostRuntime) {
-    let cases: [(&[&str], &str); 9] = [
+    let cases: [(&[&str], &str); 10] = [
         (&[], "rx_bench: no case is named\n"),
         (&["rx_bench"], "rx_bench: no case is named\n"),
         (
@@ -162,6 +169,10 @@ fn refused_words_are_told(rt: HostRuntime) {
             &["rx_bench", "sorted", "1000001"],
             "rx_bench: the size is out of the range of 'sorted'\n",
         ),
+        (
+            &["rx_bench", "scenario", "65537"],
+            "rx_bench: the size is out of the range of 'scenario'\n",
+        ),
     ];
     for (words, errors) in cases {
         let left = call(rt.alloc(), words);
@@ -182,6 +193,77 @@ fn the_sorted_list_comes_out_as_the_timeline(rt: HostRuntime) {
         panic!(rt; "no case is told");
     };
     assert_eq!(rt; timeline, sorted);
+}
+
+const EIGHT_STEPS: &str = "{\"steps\":[\
+{\"do\":\"using\",\"name\":\"u0\",\"place\":\"root\",\"res\":\"r0\"},\
+{\"do\":\"open\",\"name\":\"l0\",\"place\":\"source\",\"of\":\"u0\",\"kind\":\"leaf\"},\
+{\"do\":\"next\",\"node\":\"l0\",\"value\":2},\
+{\"do\":\"next\",\"node\":\"l0\",\"value\":3},\
+{\"do\":\"end\",\"node\":\"l0\"},\
+{\"do\":\"drain\"},\
+{\"do\":\"using\",\"name\":\"u1\",\"place\":\"root\",\"res\":\"r1\"},\
+{\"do\":\"open\",\"name\":\"l1\",\"place\":\"source\",\"of\":\"u1\",\"kind\":\"leaf\"}]}";
+
+#[test]
+fn a_scenario_of_eight_steps_is_reported(rt: HostRuntime) -> Result<(), Fail> {
+    let scenario = Scenario::of(rt.alloc(), 8)?;
+    assert_eq!(rt; scenario.text.as_str(), EIGHT_STEPS);
+    assert_eq!(rt; scenario.stock.len(), 2);
+    let report = report_of(rt.alloc(), scenario);
+    let written = b"node u0 closed: next=2 next=3 completed
+node u1 open:
+res r0 tag=0 uses=0 taken
+res r1 tag=1 uses=0 held
+totals nodes=4 open=2 accepted=2 held=1 waiting=0 taken=1
+closed 1 faults 0
+";
+    let Ok(report) = report else {
+        return Err(Fail::from("the scenario is refused"));
+    };
+    assert_eq!(rt; report.as_slice(), written.as_slice());
+    Ok(())
+}
+
+#[test]
+fn a_refused_step_breaks_the_run_off(rt: HostRuntime) -> Result<(), Fail> {
+    let texts = [EIGHT_STEPS, "{\"steps\":", "{\"steps\":0}"];
+    for text in texts {
+        let scenario = Scenario {
+            text: String::from_str(rt.alloc(), text)?,
+            stock: Vec::new(rt.alloc()),
+        };
+        assert_eq!(rt; report_of(rt.alloc(), scenario).err(), Some(Halt::Refused));
+    }
+    Ok(())
+}
+
+// More runs than are refused.
+const RUNS: u32 = 400;
+
+#[test]
+fn a_scenario_without_memory_is_told(rt: HostRuntime) -> Result<(), Fail> {
+    let mut scenarios = Vec::new(rt.alloc());
+    for _ in 0..RUNS {
+        scenarios.push(Scenario::of(rt.alloc(), 8)?)?;
+    }
+    let mut refused = 0u32;
+    let mut scarce = Scarce::new(rt.alloc())?;
+    for _ in 0..RUNS {
+        let Some(scenario) = scenarios.pop() else {
+            break;
+        };
+        let halt = report_of(rt.alloc(), scenario).err();
+        if halt.is_none() {
+            break;
+        }
+        assert_eq!(rt; halt, Some(Halt::Memory));
+        refused = refused.wrapping_add(1);
+        assert!(rt; scarce.give_back_one());
+    }
+    assert!(rt; refused > 3, "refused {refused}");
+    assert!(rt; refused < RUNS);
+    Ok(())
 }
 
 #[test]

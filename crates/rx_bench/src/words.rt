@@ -1,7 +1,7 @@
 //! What the words of a command line ask for, and why they are refused.
 
-ghost use Rattle.std.specs.Prelude.{◌<◌, ◌≤◌};
-ghost use Rattle.rx_bench.specs.Cases.{most_of};
+ghost use Rattle.std.specs.Prelude.{◌≡◌, ◌<◌, ◌≤◌};
+ghost use Rattle.rx_bench.specs.Cases.{most_of, steps_of};
 
 use crate::case::Case;
 
@@ -12,6 +12,20 @@ pub struct Request {
     pub size: u64,
     ghost from_one: { 0 < size },
     ghost in_range: { size ≤ most_of case },
+}
+
+impl Request {
+    /// How many steps the scenario has that is made before a run's time begins: none but for a run
+    /// of a scenario.
+    pub fn steps(self) -> u64
+        ensures steps { result ≡ steps_of self.case self.size }
+        ensures few { result ≤ 65536 }
+    {
+        match self.case {
+            Case::Scenario => self.size,
+            _ => 0,
+        }
+    }
 }
 
 /// Why the words are refused. The first of these in this order is given.

@@ -66,6 +66,7 @@ impl<R: Resource> Book<R> {
                 back: resource,
             }),
         };
+        self.register.promise();
         let number = self.register.len();
         let made = Event::Open {
             place: spot.place,

@@ -1,6 +1,6 @@
 //! The stock, and the calls on it.
 
-ghost use Rattle.std.specs.Prelude.{◌≡◌, ℕ, ◌+◌, ◌<◌, ◌≤◌, ◌↔◌, ◌^◌, [], ◌∷◌, ◌++◌, length, IsSome, IsTrue, IfOk, IfErr, IfSome, IfNone, OnOk, OnErr, OnSome, None, Some, option_map, map, cond, vec_len, vec_capacity, count_by, is_some};
+ghost use Rattle.std.specs.Prelude.{◌≡◌, ℕ, ◌+◌, ◌<◌, ◌≤◌, ◌↔◌, ◌^◌, [], ◌∷◌, ◌++◌, length, IsSome, IsTrue, IfOk, IfErr, IfSome, IfNone, OnOk, OnErr, OnSome, None, Some, option_map, map, cond, vec_len, vec_capacity, is_some, count_by};
 ghost use Rattle.rx_resource.specs.declared.Life.{Life};
 ghost use Rattle.rx_slots.specs.declared.Key.{Key};
 ghost use Rattle.rx_slots.specs.Slots.{find, key_at, slot_count};
@@ -142,6 +142,21 @@ impl<R: Resource> Stock<R> {
         ensures { result ≡ length self.now.waiting }
     {
         self.waiting.len() as u64
+    }
+
+    /// Whether no node has this number, as `open` requires. It goes over the slots; who gives each
+    /// node a number that rises need not ask.
+    pub fn is_unused(&self, number: u64) -> bool
+        ensures { IsTrue result ↔ IsUnused self.now.tree number }
+    {
+        self.tree.is_unused(number)
+    }
+
+    /// Whether a node of this number and event may stand below that of the key, as `open` requires.
+    pub fn is_placed(&self, number: u64, made: Event, above: Option<Key>) -> bool
+        ensures { IsTrue result ↔ IsPlaced self.now.tree number made above }
+    {
+        self.tree.is_placed(number, made, above)
     }
 
     /// Whether the key is an open node's.

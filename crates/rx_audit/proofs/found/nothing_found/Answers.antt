@@ -25,4 +25,8 @@ returns c = record {
   paid = rw c.in_ok-uncounted-2.ensures (λ n l. no_tally c.args.size n);
   paid_size = ap length c.in_ok-uncounted-2.ensures ∙ length-replicate c.args.size 0;
   paid_few = rw c.in_ok-uncounted-2.ensures (λ n. let e = no_tally c.args.size n in omega arith);
+  sourced = rw c.in_ok-unmarked-8.ensures (λ n l. no_table c.args.size (λ n. false) (λ n. refl) n);
+  sourced_size = ap length c.in_ok-unmarked-8.ensures ∙ length-replicate c.args.size false;
+  notified = rw c.in_ok-unmarked-9.ensures (λ n l. no_table c.args.size (λ n. false) (λ n. refl) n);
+  notified_size = ap length c.in_ok-unmarked-9.ensures ∙ length-replicate c.args.size false;
 }

@@ -2,7 +2,7 @@ use Rattle.std.proofs.Common.{◌≡◌, ◌<◌, Some, length, arith, sym, ◌�
 use Rattle.rx_event.specs.Tree.{is_open, parent}
 use Rattle.rx_event.specs.Laws.Parents.{parent-lt}
 use Rattle.rx_audit.specs.Rules.{stays_open}
-use Rattle.rx_audit.proofs.StaysOpen.{done_cleared, rest_cleared, done_kept, all_done, stays_closed, shut_closed, below_closed, below_open, top_open, stays_as_open, no_shut}
+use Rattle.rx_audit.proofs.StaysOpen.{done_cleared, rest_cleared, done_kept, all_done, stays_closed, shut_closed, below_closed, below_open, top_open, stays_as_open, stays_before, no_shut}
 use Rattle.rx_audit.proofs.openness.close_shut.Goals as goal
 use Rattle.rx_audit.proofs.openness.close_shut.Goals.{then-marks-k+then-shuts, then-marks-k+else-shuts+in-Some+then-not-marks-p, then-marks-k+else-shuts+in-Some+else-not-marks-p, then-marks-k+else-shuts+in_default, else-marks-k}
 
@@ -54,3 +54,9 @@ returns c = all_done c.args.past.now c.args.event c.loop-k.marks c.loop-k.k (ome
 
 pub returns-then-not-may_shut : goal.returns-then-not-may_shut
 returns-then-not-may_shut c = λ n. c.requires.tied n ∙ sym (stays_as_open c.args.past.now c.args.event n (no_shut _ c.if-not-may_shut.ensures))
+
+pub loop-k-init : goal.loop-k-init
+loop-k-init c = record {
+  done = λ n l. c.requires.tied n ∙ sym (stays_before c.args.past.now c.args.event c.first_shut-k.result c.first_shut-k.ensures.none n l);
+  rest = λ n l. c.requires.tied n;
+}

@@ -1,17 +1,19 @@
-use Rattle.std.proofs.Common.{length, take, get_or, arith}
+use Rattle.std.proofs.Common.{length, take, get_or, arith, ◌∙◌}
 use Rattle.rx_event.specs.declared.event.Place.TheVariants.{Root}
 use Rattle.rx_event.specs.declared.event.Kind.TheVariants.{Leaf}
 use Rattle.rx_event.specs.declared.event.Event.{Event}
 use Rattle.rx_event.specs.declared.event.Event.TheVariants.{Open}
 use Rattle.rx_event.specs.Laws.Lawful.{IsLawful_empty}
-use Rattle.rx_audit.proofs.Judging.{unlawful_here, lawful_more, found_more, sized_as, has_few_visits}
+use Rattle.std.proofs.lemmas.Bool.{false≢true}
+use Rattle.rx_audit.proofs.Surveying.{hubs_named}
+use Rattle.rx_audit.proofs.Judging.{settled_more, unlawful_here, lawful_more, found_more, sized_as, has_few_visits}
 use Rattle.rx_audit.proofs.verdict.first_unlawful.Goals as goal
 
 any_event : Event
 any_event = Open Root Leaf
 
 pub loop-i-init : goal.loop-i-init
-loop-i-init c = record { lawful = IsLawful_empty; found = c.requires.found; sized = c.requires.sized }
+loop-i-init c = record { lawful = IsLawful_empty; found = c.requires.found; sized = c.requires.sized; settled = λ e. absurd (false≢true e) }
 
 pub returns-then-not-branch-clause-answer : goal.returns-then-not-branch-clause-answer
 unfolding any_event
@@ -21,9 +23,13 @@ pub loop-i-preserved : goal.loop-i-preserved
 unfolding any_event
 loop-i-preserved c = record {
   lawful = lawful_more c.args.events.now c.loop-i.i any_event c.in_ok-may_follow.field-0 (omega arith) c.loop-i.invariant.lawful c.if-not-branch.false c.in_ok-may_follow.ensures.answer;
-  found = found_more c.args.events.now c.loop-i.i any_event (length c.loop-i.found.live.items) c.follow.new.found (omega arith) c.loop-i.invariant.found.live_size c.in_ok-follow.ensures;
-  sized = sized_as (length c.args.events.now) (length c.loop-i.survey.parents.items) c.may_follow.new.survey c.loop-i.invariant.sized.parents c.in_ok-may_follow.ensures.sized;
+  found = found_more c.args.events.now c.loop-i.i any_event (length c.loop-i.found.live.items) c.follow.new.found (omega arith) c.loop-i.invariant.found.live_size c.in_ok-fires.ensures.found;
+  sized = sized_as (length c.args.events.now) (length c.find_settled-settled.new.survey.parents.items) c.may_follow.new.survey (c.find_settled-settled.ensures.sized.parents ∙ c.loop-i.invariant.sized.parents) c.in_ok-may_follow.ensures.sized;
+  settled = λ e. let k = c.stays_settled-known.ensures e in let calm = c.is_quiet_here-quiet.ensures k.1 in settled_more c.args.events.now c.loop-i.i any_event c.in_ok-may_follow.field-0 (omega arith) c.loop-i.invariant.lawful (c.find_settled-settled.ensures.answer.0 k.0) c.if-not-branch.false c.in_ok-may_follow.ensures.answer calm.0 calm.1 (c.in_ok-fires.ensures.fires k.2);
 }
+
+pub find_settled-settled-requires-clause-named : goal.find_settled-settled-requires-clause-named
+find_settled-settled-requires-clause-named c = hubs_named (take c.loop-i.i c.args.events.now) c.loop-i.invariant.lawful
 
 pub follow-requires-clause-visits : goal.follow-requires-clause-visits
 unfolding any_event

@@ -1,4 +1,5 @@
-use Rattle.std.proofs.Common.{length, take}
+use Rattle.std.proofs.Common.{◌≡◌, true, length, take}
+use Rattle.rx_event.specs.Forced.{IsSettled}
 use Rattle.rx_event.specs.Lawful.{IsLawful}
 use Rattle.rx_audit.specs.Found.{IsFound}
 use Rattle.rx_audit.specs.Survey.{IsSized}
@@ -9,4 +10,5 @@ invariant-loop-i l = record {
   lawful : IsLawful (take l.i l.events);
   found : IsFound (take l.i l.events) (length l.events) l.found;
   sized : IsSized (length l.events) l.survey;
+  settled : l.known ≡ true → IsSettled (take l.i l.events);
 }

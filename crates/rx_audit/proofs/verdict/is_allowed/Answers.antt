@@ -10,6 +10,6 @@ returns-in-Item-clause-answer c = IfOk-weaker c.is_item_allowed.result (λ (b : 
 
 pub returns-in_default : goal.returns-in_default
 returns-in_default c = record {
-  answer = simple_answer c.args.past.now c.args.event c.is_allowed_simply.result c.in_default.not-Open c.in_default.not-Item c.is_allowed_simply.ensures;
-  sized = c.requires.survey.is.sized;
+  answer = simple_answer c.args.past.now c.args.event c.is_allowed_simply.result c.in_default.not-Open c.in_default.not-Item c.is_allowed_simply.ensures.answer;
+  sized = c.is_allowed_simply.ensures.sized;
 }

@@ -1,4 +1,4 @@
-use Rattle.std.proofs.Common.{sym, refl, ap, ◌∙◌, true, [], ◌∷◌}
+use Rattle.std.proofs.Common.{refl, ap, ◌∙◌, true, [], ◌∷◌}
 use Rattle.rx_note.specs.declared.note.Terminal.TheVariants.{Error}
 use Rattle.rx_event.specs.declared.event.Event.TheVariants.{End}
 use Rattle.rx_event.specs.Tree.{has_open_child}
