@@ -27,3 +27,4 @@ pub mod Used
 pub mod Tops
 pub mod Closings
 pub mod Placed
+pub mod Handled

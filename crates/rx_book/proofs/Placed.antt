@@ -1,9 +1,8 @@
 -- What holds of an admitted opening, and of the stock after it.
 use Rattle.std.proofs.Common.{◌≡◌, ℕ, ◌+◌, ◌≤◌, Bool, true, false, List, [], ◌∷◌, ◌++◌, length, cond, Option, Some, None, refl, sym, ap, subst, ◌∙◌, arith, length-append, append_assoc, true≢false, eqb-true}
 use Rattle.std.proofs.Math.Bool.{◌||◌, not}
-use Rattle.std.proofs.lemmas.Bool.{false≢true, and_parts}
+use Rattle.std.proofs.lemmas.Bool.{false≢true}
 use Rattle.std.proofs.lemmas.Option.{none-some, slice_get_past}
-use Rattle.std.specs.Option.{option_map_or}
 use Rattle.rx_resource.specs.declared.Resource.{Ghosts}
 use Rattle.rx_resource.specs.declared.Life.{Life}
 use Rattle.rx_resource.specs.declared.Life.TheVariants.{Live, Released}
@@ -13,7 +12,6 @@ use Rattle.rx_event.specs.declared.event.Kind.{Kind}
 use Rattle.rx_event.specs.declared.event.Kind.TheVariants.{Leaf, Pass, Flat, Switch, Until, Sub}
 use Rattle.rx_event.specs.declared.event.Event.{Event}
 use Rattle.rx_event.specs.declared.event.Event.TheVariants.{Open, Accept}
-use Rattle.rx_event.specs.declared.refusal.Refusal.{Refusal}
 use Rattle.rx_event.specs.declared.refusal.Refusal.TheVariants.{Gone, WrongKind, PlaceTaken, NotFresh}
 use Rattle.rx_event.specs.Totals.{held_count}
 use Rattle.rx_event.specs.Lawful.{MayFollow, IsLawful}
@@ -29,16 +27,15 @@ use Rattle.rx_slots.specs.Slots.{find}
 use Rattle.rx_tree.specs.Boxes.{with_box}
 use Rattle.rx_tree.specs.Tree.{Tree, IsPlaced, blank_node, on_boxes}
 use Rattle.rx_stock.specs.Stock.{Stock, Opens}
-use Rattle.rx_book.specs.Answers.{place_of, is_known, makes_connection, connection_made}
-use Rattle.rx_book.specs.Shown.{is_live, is_fresh_box, keys_of, tree_key_of}
+use Rattle.rx_book.specs.Answers.{place_of, is_known, connection_made}
+use Rattle.rx_book.specs.Shown.{is_fresh_box, keys_of, tree_key_of}
 use Rattle.rx_book.specs.Shelved.{key_above, is_there, IsSpot, IsShelved, IsStanding}
 use Rattle.rx_book.specs.declared.answer.At.{At}
 use Rattle.rx_book.specs.declared.answer.At.TheVariants.{Root as AtRoot, Source as AtSource, Inner as AtInner, Notifier as AtNotifier}
 use Rattle.rx_book.specs.declared.standing.Spot.{Spot}
-use Rattle.rx_book.proofs.Found.{some_of}
 use Rattle.rx_book.proofs.Listed.{has_key_is}
 use Rattle.rx_book.proofs.Alive.{alive_key, placed_root}
-use Rattle.rx_book.proofs.Openings.{lawful_parts, LeavesAll, opening_leaves, shelved_open}
+use Rattle.rx_book.proofs.Openings.{lawful_parts, opening_leaves, shelved_open}
 use Rattle.rx_book.proofs.UsingOpenings.{shelved_open_using}
 
 -- causes ------------------------------------------------------------------------------------------

@@ -125,6 +125,7 @@ pub(crate) fn admit_item<R: Resource>(
     value: i64,
 ) -> Result<(), Refusal>
     requires { IsStanding R.Resource register.old stock.now }
+    ensures ok { OnOk result (IsSome (find stock.now.tree leaf)) }
     ensures admitted { OnOk result (Admits register.old register.new (causes register.old.history register.old.limit true (Emitting leaf.number value)) 1) }
     ensures refused { IfErr result (IsRefusal (by_key (is_some (find stock.now.tree leaf)) (causes register.old.history register.old.limit true (Emitting leaf.number value)))) }
     ensures kept { register.new ≡ record register.old { room = register.new.room } }

@@ -38,6 +38,7 @@ impl<R: Resource> Book<R> {
         let tag = resource.tag();
         let fresh = is_fresh(&resource);
         let key = tree_key(node);
+        self.stock.promise();
         if let Err(why) = admit_holding(&mut self.register, &mut self.stock, key, tag, fresh) {
             return Err(Refused {
                 why,
@@ -72,6 +73,7 @@ impl<R: Resource> Book<R> {
         let key = tree_res_key(res);
         admit_applying(&mut self.register, &self.stock, key)?;
         self.register.promise();
+        self.stock.promise();
         self.register.apply(res.number);
         Ok(self.stock.apply(key, word))
     }

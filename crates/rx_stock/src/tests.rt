@@ -1,8 +1,10 @@
 //! Stocks at work: what no clause says, which is that a call succeeds, and that memory is refused.
 
-ghost use Rattle.std.specs.Prelude.{◌≡◌, ◌+◌, ◌<◌, ◌^◌, IfErr, IfSome, OnErr};
+ghost use Rattle.std.specs.Prelude.{◌≡◌, ◌+◌, ◌<◌, ◌^◌, IfErr, IfOk, IfSome, OnSome};
 ghost use Rattle.rx_resource.specs.declared.Life.{Life};
-ghost use Rattle.rx_tree.specs.Tree.{resource_at};
+ghost use Rattle.rx_tree.specs.Boxes.{with_box};
+ghost use Rattle.rx_tree.specs.Tree.{blank_node, on_boxes};
+ghost use Rattle.rx_stock.specs.Stock.{Opens};
 
 use super::*;
 use rx_event::{Event, Kind, Place};
@@ -77,7 +79,9 @@ fn open_there<R: Resource>(
     number: u64,
     made: Event,
     above: Option<Key>,
-) -> Option<Key> {
+) -> Option<Key>
+    ensures { IfSome result (λ key. Opens stock.old.tree stock.new.tree key (blank_node made above)) }
+{
     if !stock.is_unused(number) || !stock.is_placed(number, made, above) {
         return None;
     }
@@ -102,7 +106,8 @@ fn open_with<R: Resource>(
     resource_number: u64,
     resource: R,
 ) -> Result<Key, R>
-    ensures { IfErr result (λ back. back ≡ resource) }
+    ensures opened { IfOk result (λ key. Opens stock.old.tree stock.new.tree key (on_boxes (with_box resource_number resource) (blank_node made above))) }
+    ensures given_back { IfErr result (λ back. back ≡ resource) }
 {
     if !stock.is_unused(number) || !stock.is_placed(number, made, above) {
         return Err(resource);
@@ -124,10 +129,18 @@ fn held<R: Resource>(stock: &mut Stock<R>, key: Key, number: u64, resource: R) -
     stock.hold(key, number, resource)
 }
 
+// Makes room for one resource more that waits.
+fn room_for_one<R: Resource>(stock: &mut Stock<R>) -> Option<()>
+    ensures room { OnSome result (0 < stock.new.room) }
+    ensures tree { stock.new.tree ≡ stock.old.tree }
+{
+    let places = stock.waiting_count().checked_add(1)?;
+    stock.reserve(usize::try_from(places).ok()?).ok()
+}
+
 // Lets a held resource wait, where there is room, and takes it out.
 fn removed<R: Resource>(stock: &mut Stock<R>, res: ResKey) -> Option<Held<R>> {
-    let places = stock.waiting_count().checked_add(1)?;
-    stock.reserve(usize::try_from(places).ok()?).ok()?;
+    room_for_one(stock)?;
     if stock.holds(res) {
         stock.remove(res);
     }
@@ -282,5 +295,37 @@ fn a_refused_reserve_leaves_what_waits(rt: HostRuntime) -> Result<(), Fail> {
     assert!(rt; refused > 0, "refused {refused}");
     let _scarce = Scarce::new(rt.alloc())?;
     assert_eq!(rt; stock.reserve(100), Ok(()));
+    Ok(())
+}
+
+#[test]
+fn a_chain_is_closed_with_no_memory_left(rt: HostRuntime) -> Result<(), Fail> {
+    let mut stock = Stock::new(rt.alloc());
+    let top = match open_with(&mut stock, 0, link(0), None, 7, fresh_tally(70)) {
+        Ok(key) => key,
+        Err(_) => return Err(Fail::from("it is not opened")),
+    };
+    let mut above = top;
+    for number in 1..1000u64 {
+        match open_there(&mut stock, number, link(number), Some(above)) {
+            Some(key) => above = key,
+            None => return Err(Fail::from("it is not opened")),
+        }
+    }
+    assert_chain(&rt, &stock, 1000);
+    assert!(rt; stock.contains(top));
+    assert!(rt; room_for_one(&mut stock).is_some());
+    {
+        let _scarce = Scarce::new(rt.alloc())?;
+        if stock.contains(top) {
+            stock.close(top);
+        }
+    }
+    assert_eq!(rt; (stock.open_count(), stock.waiting_count()), (0, 1));
+    match stock.take() {
+        Some(held) => assert_eq!(rt; (held.number, held.resource.tag), (7, 70)),
+        None => return Err(Fail::from("a resource is lost")),
+    }
+    assert_eq!(rt; stock.waiting_count(), 0);
     Ok(())
 }

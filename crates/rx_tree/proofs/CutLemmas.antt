@@ -1,11 +1,11 @@
 -- What is left of a tree, and what was moved out, while a subtree is cut away.
-use Rattle.std.proofs.Common.{◌≡◌, ◌≢◌, ℕ, zero, suc, ◌<◌, cond, Bool, true, false, List, [], ◌∷◌, ◌++◌, length, get_or, Option, Some, None, is_some, IsSome, IfSome, Contains, take, drop, refl, sym, ap, subst, ◌∙◌, inl, inr, ◌⊎◌, arith, true≢false}
+use Rattle.std.proofs.Common.{◌≡◌, ◌≢◌, ℕ, zero, suc, ◌-◌, ◌<◌, cond, Bool, true, false, List, [], ◌∷◌, ◌++◌, length, get_or, Option, Some, None, is_some, IsSome, IfSome, Contains, take, drop, refl, sym, ap, subst, ◌∙◌, inl, inr, ◌⊎◌, arith, true≢false}
 use Rattle.std.specs.List.{AllPairs}
 use Rattle.std.proofs.Math.Bool.{not}
 use Rattle.std.specs.Option.{option_and_then, option_map_or}
-use Rattle.std.proofs.lemmas.Bool.{cases_eq}
+use Rattle.std.proofs.lemmas.Bool.{cases_eq, cases_lt}
 use Rattle.std.proofs.Math.Seq.{take-append_seam, drop-append_seam}
-use Rattle.std.proofs.lemmas.List.{append_assoc}
+use Rattle.std.proofs.lemmas.List.{append_assoc, get_or_past}
 use Rattle.std.proofs.lemmas.List.Elements.{Contains-append_left, Contains-push, Contains-push_cases, Contains-get_or}
 use Rattle.std.proofs.lemmas.List.Quantifiers.{all_pairs_push}
 use Rattle.rx_slots.specs.declared.Entry.{Entry}
@@ -16,7 +16,7 @@ use Rattle.rx_tree.specs.declared.node.Closed.{Closed}
 use Rattle.rx_tree.specs.Tree.{Tree, IsSound, IsPlaced}
 use Rattle.rx_tree.specs.Below.{is_below}
 use Rattle.rx_tree.specs.Closing.{IsInside, IsSubtree}
-use Rattle.rx_tree.specs.Cuts.{is_orphan, orphan_in, orphan_at, Cuts, uncut, cut}
+use Rattle.rx_tree.specs.Cuts.{is_orphan, orphan_in, orphan_at, slot_of, Cuts, uncut, cut}
 use Rattle.rx_tree.specs.Laws.Keys.{some_of, none_not_some}
 use Rattle.rx_tree.specs.Laws.Written.{one_key, entry_found, found_entry, same_entry}
 use Rattle.rx_tree.specs.Laws.Below.{below_itself, below_child, not_below}
@@ -51,6 +51,22 @@ module _ {T : Type 0} where
     of : (o : Option (Entry (Node T))) → entry_at s slot ≡ o → option_and_then (orphan_in s slot) o ≡ Some key → (node : Node T) × (key.slot ≡ slot) × (find s key ≡ Some node) × (is_orphan s node ≡ true)
     of None read at = absurd (true≢false (ap is_some (sym at)))
     of (Some e) read at = here e (is_orphan s e.value) read refl at
+
+  -- a way over the slots has each of them: so where each step found no orphan, no slot has one
+  none_from : (s : Tree T) (back : Bool) (slots : ℕ) → ((step : ℕ) → step < slots → orphan_at s (slot_of back slots step) ≡ None) → (slot : ℕ) → slot < slots → orphan_at s slot ≡ None
+  none_from s false slots none slot within = none slot within
+  none_from s true slots none slot within =
+      let same : slots - suc (slots - suc slot) ≡ slot = omega arith in
+      ap (orphan_at s) (sym same) ∙ none (slots - suc slot) (omega arith)
+
+  pub none_on_way : (s : Tree T) (back : Bool) (slots : ℕ) → length s.entries ≡ slots → ((step : ℕ) → step < slots → orphan_at s (slot_of back slots step) ≡ None) → (slot : ℕ) → orphan_at s slot ≡ None
+  none_on_way s back slots count none slot =
+      elim (cases_lt slot slots) [
+        | inl within ↦ none_from s back slots none slot within
+        | inr past ↦
+            let empty : entry_at s slot ≡ None = get_or_past s.entries slot None (rw count past) in
+            ap (option_and_then (orphan_in s slot)) empty
+      ]
 
   -- where no slot has an orphan, no record is one
   pub no_orphan : (s : Tree T) → ((slot : ℕ) → orphan_at s slot ≡ None) → (key : Key) (node : Node T) → find s key ≡ Some node → is_orphan s node ≡ false

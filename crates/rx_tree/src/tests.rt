@@ -337,23 +337,30 @@ fn an_old_key_finds_nothing_at_a_slot_used_again(rt: HostRuntime) -> Result<(), 
     Ok(())
 }
 
-// A chain of Pass nodes, one below the other, with a resource at each, under rising numbers.
-fn chain(alloc: Global, count: u64) -> Result<(Tree<Tally>, Key), Fail> {
-    let mut tree = Tree::new(alloc);
-    let top = opened(&mut tree, 0, pass_at(Place::Root), None)?;
+// Opens a chain of Pass nodes, one below the other, with a resource at each but the first, under
+// rising numbers.
+fn chain_from(tree: &mut Tree<Tally>, first: u64, count: u64) -> Result<Key, Fail> {
+    let top = opened(tree, first, pass_at(Place::Root), None)?;
     let mut above = top;
     for step in 1..count {
-        let number = step.wrapping_mul(2);
+        let number = first.wrapping_add(step.wrapping_mul(2));
         above = opened(
-            &mut tree,
+            tree,
             number,
             pass_at(Place::Source(above.number)),
             Some(above),
         )?;
-        if held(&mut tree, above, number.wrapping_add(1), fresh_tally(step)).is_err() {
+        if held(tree, above, number.wrapping_add(1), fresh_tally(step)).is_err() {
             return Err(Fail::from("no memory"));
         }
     }
+    Ok(top)
+}
+
+// A tree with such a chain alone.
+fn chain(alloc: Global, count: u64) -> Result<(Tree<Tally>, Key), Fail> {
+    let mut tree = Tree::new(alloc);
+    let top = chain_from(&mut tree, 0, count)?;
     Ok((tree, top))
 }
 
@@ -380,6 +387,31 @@ fn a_thousand_nodes_are_closed_with_no_memory_left(rt: HostRuntime) -> Result<()
         }
     }
     assert_eq!(rt; (numbers, tags), (999_000, 499_500));
+    Ok(())
+}
+
+#[test]
+fn a_chain_is_closed_whole_whether_its_slots_rise_or_fall(rt: HostRuntime) -> Result<(), Fail> {
+    let mut tree = Tree::new(rt.alloc());
+    // The second chain takes the slots of the first, the one that came free last first.
+    for (first, top_slot) in [(0u64, 0), (6000, 2999)] {
+        let top = chain_from(&mut tree, first, 3000)?;
+        assert_eq!(rt;
+            (top.slot, tree.len(), tree.slot_count()),
+            (top_slot, 3000, 3000)
+        );
+        let mut closed = Vec::with_capacity(rt.alloc(), 3000)?;
+        if tree.len() <= closed.capacity() && tree.contains(top) {
+            tree.close_below(top, &mut closed);
+        }
+        assert_eq!(rt; (tree.len(), closed.len()), (0, 3000));
+        // Each record comes out after the one that it stood below, and so each once.
+        let mut number = first;
+        for record in closed {
+            assert_eq!(rt; record.key.number, number);
+            number = number.wrapping_add(2);
+        }
+    }
     Ok(())
 }
 

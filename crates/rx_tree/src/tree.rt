@@ -326,8 +326,10 @@ impl<R: Resource> Tree<R> {
     /// Moves the node and all below it out into the caller's list, with their resources.
     ///
     /// The caller keeps room in the list for as many records as the tree has. It takes no memory; the
-    /// slots are free again. It goes over the slots until nothing below is left, so its time is the
-    /// number of the slots times, at most, the depth of the subtree.
+    /// slots are free again. It goes over all slots, forward and back by turns, until nothing below is
+    /// left: twice for a chain whose slots rise, three times for one whose slots fall, and at most
+    /// once more for each turn of direction on a way down; never more often than the subtree has
+    /// levels, the node's own counted.
     pub fn close_below(&mut self, key: Key, closed: &mut Vec<Closed<R>>)
         requires open { IsSome (find self.old key) }
         requires room { vec_len closed.old + self.old.count ≤ vec_capacity closed.old }
@@ -341,6 +343,9 @@ impl<R: Resource> Tree<R> {
         ensures list_room { vec_capacity closed.new ≡ vec_capacity closed.old }
     {
         subtree::move_out(&mut self.nodes, key, closed);
-        while subtree::sweep(&mut self.nodes, closed) {}
+        let mut back = false;
+        while subtree::sweep(&mut self.nodes, closed, back) {
+            back = !back;
+        }
     }
 }

@@ -1,5 +1,5 @@
 -- What a write of one record rewrites.
-use Rattle.std.proofs.Common.{◌≡◌, ℕ, Option, Some, IfSome, option_map, refl, sym, ap, subst, ◌∙◌}
+use Rattle.std.proofs.Common.{◌≡◌, ℕ, Some, IfSome, option_map, refl, sym, ap, subst, ◌∙◌}
 use Rattle.rx_slots.specs.declared.Key.{Key}
 use Rattle.rx_slots.specs.Slots.{value_at, key_at, find, with_value, with_value_at}
 use Rattle.rx_tree.specs.declared.node.Node.{Node}

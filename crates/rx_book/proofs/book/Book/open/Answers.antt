@@ -1,4 +1,4 @@
-use Rattle.std.proofs.Common.{rules, ◌≡◌, ◌+◌, true, length, refl, sym, ap, ◌∙◌, arith, inr}
+use Rattle.std.proofs.Common.{rules, length, refl, sym, ap, ◌∙◌, inr}
 use Rattle.rx_event.specs.Calls.{Opening}
 use Rattle.rx_register.specs.Kept.{Kept}
 use Rattle.rx_book.specs.State.{State}

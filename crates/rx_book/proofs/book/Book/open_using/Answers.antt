@@ -1,4 +1,4 @@
-use Rattle.std.proofs.Common.{◌≡◌, ◌+◌, ◌<◌, ◌≤◌, ◌^◌, true, [], length, refl, sym, ap, ◌∙◌, arith, inr, Fits, w64}
+use Rattle.std.proofs.Common.{◌≡◌, ◌+◌, [], length, refl, sym, ap, ◌∙◌, arith, inr}
 use Rattle.rx_event.specs.Totals.{held_count}
 use Rattle.rx_event.specs.Calls.{OpeningUsing}
 use Rattle.rx_event.specs.declared.event.Kind.TheVariants.{Pass}
@@ -7,7 +7,6 @@ use Rattle.rx_register.specs.Plain.{is_plain}
 use Rattle.rx_register.specs.Kept.{Kept}
 use Rattle.rx_stock.specs.Stock.{Stock}
 use Rattle.rx_book.specs.State.{State}
-use Rattle.rx_book.specs.Shown.{is_fresh_box}
 use Rattle.rx_book.specs.Answers.{is_known, place_of}
 use Rattle.rx_book.specs.Shelved.{IsShelved}
 use Rattle.rx_book.proofs.Alive.{unused_next}
