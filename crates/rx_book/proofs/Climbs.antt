@@ -1,68 +1,167 @@
--- Climbs in histories of leaves and passes alone.
-use Rattle.std.proofs.Common.{◌≡◌, ℕ, zero, suc, true, List, [], ◌∷◌, ◌++◌, take, Option, Some, None, refl, sym, ap, ◌∙◌, slice_get, length, min, ◌≤◌, arith, length-take}
-use Rattle.std.specs.List.{list_all}
-use Rattle.std.specs.Option.{option_and_then, option_map_or, option_to_list}
-use Rattle.std.proofs.lemmas.Bool.{false≢true}
-use Rattle.rx_event.specs.declared.event.Place.TheVariants.{Root, Source, Inner, Notifier}
+-- The way up in a tree is the way up in the history beside it.
+use Rattle.std.proofs.Common.{◌≡◌, ◌≢◌, ℕ, zero, suc, ◌<◌, ◌≤◌, nat_lt, ◌==◌, Bool, true, false, List, [], ◌∷◌, get_or, Option, Some, None, is_some, IsSome, slice_get, refl, sym, ap, ◌∙◌, inl, inr, ◌⊎◌, arith, rules, true≢false}
+use Rattle.std.proofs.Math.Bool.{not, ◌&&◌, ◌||◌}
+use Rattle.std.specs.List.{list_any, list_all}
+use Rattle.std.specs.Option.{option_and_then, option_map_or, option_or}
+use Rattle.std.proofs.lemmas.Bool.{cases_eq, ltb-true}
+use Rattle.std.proofs.lemmas.Option.{cond_some, option_and_then_some}
+use Rattle.rx_resource.specs.declared.Resource.{Ghosts}
 use Rattle.rx_event.specs.declared.event.Event.{Event}
-use Rattle.rx_event.specs.declared.event.Event.TheVariants.{Open, Connect}
-use Rattle.rx_event.specs.Events.{parent_named, is_merging}
-use Rattle.rx_event.specs.Tree.{parent, ancestors, if_less}
-use Rattle.rx_event.specs.Climb.{climb, visited, onward, onward_unless, onward_from, stop_made, most_visits, visits}
-use Rattle.rx_event.specs.Laws.Parents.{ancestors_step}
-use Rattle.rx_book.specs.Plain.{is_plain}
-use Rattle.rx_book.proofs.Plain.{plain_at, never_at, not_merging}
+use Rattle.rx_event.specs.Events.{parent_named}
+use Rattle.rx_event.specs.Tree.{if_less, parent, is_open, ancestors}
+use Rattle.rx_event.specs.Lawful.{IsLawful}
+use Rattle.rx_event.specs.Laws.Parents.{ancestors_step, parent-lt}
+use Rattle.rx_event.specs.Laws.Openness.{parent_open}
+use Rattle.rx_slots.specs.declared.Entry.{Entry}
+use Rattle.rx_slots.specs.declared.Key.{Key}
+use Rattle.rx_slots.specs.Slots.{Slots, entry_of, entry_at, with_number, find}
+use Rattle.rx_tree.specs.declared.node.Node.{Node}
+use Rattle.rx_tree.specs.Tree.{Tree, IsSound, named_above, parent_number}
+use Rattle.rx_tree.specs.Below.{ancestors_within, record_in, record_of, up, ancestors as tree_ancestors, is_below}
+use Rattle.rx_register.specs.Kept.{outlives}
+use Rattle.rx_book.specs.Shelved.{HasRecord, IsShelved}
 
--- in a plain history the climb goes on to the parent
-pub onward_plain : (h : List Event) (n : ℕ) → list_all is_plain h ≡ true → onward h n ≡ option_to_list (parent h n)
+-- what slots find --------------------------------------------------------------------------------
+
+pub same_key : (a b : Key) → a.slot ≡ b.slot → a.number ≡ b.number → a ≡ b
+same_key a b slot number = λ i. record { slot = slot i; number = number i }
+
+-- two keys are one, or they differ
+pub cases_key : (a b : Key) → (a ≡ b) ⊎ (a ≢ b)
+cases_key a b =
+    elim (cases_eq a.slot b.slot) [
+      | inl slot ↦ elim (cases_eq a.number b.number) [
+        | inl number ↦ inl (same_key a b slot number)
+        | inr other ↦ inr (λ same. other (ap (λ k. k.number) same))
+      ]
+      | inr other ↦ inr (λ same. other (ap (λ k. k.slot) same))
+    ]
+
+pub some_of : {X : Type 0} (o : Option X) → IsSome o → (x : X) × (o ≡ Some x)
+some_of None some = absurd (true≢false (sym some))
+some_of (Some x) some = (x, refl)
+
+module _ {X : Type 0} where
+  same_entry : (a b : Entry X) → a.number ≡ b.number → a.value ≡ b.value → a ≡ b
+  same_entry a b number value = λ i. record { number = number i; value = value i }
+
+  -- the number of an entry finds its value, and no other does
+  pub with_number-same : (n : ℕ) (e : Entry X) → e.number ≡ n → with_number n (Some e) ≡ Some e.value
+  with_number-same n e same = search rules
+
+  pub with_number-other : (n : ℕ) (e : Entry X) → e.number ≢ n → with_number n (Some e) ≡ None
+  with_number-other n e other = search rules
+
+  numbered : (n : ℕ) (o : Option (Entry X)) (x : X) → with_number n o ≡ Some x → o ≡ Some (entry_of n x)
+  numbered n None x found = absurd (true≢false (ap is_some (sym found)))
+  numbered n (Some e) x found =
+      elim (cases_eq e.number n) [
+        | inl same ↦ let h = with_number-same n e same in let v : e.value ≡ x = cc in ap (λ (y : Entry X). Some y) (same_entry e (entry_of n x) same v)
+        | inr other ↦ absurd (true≢false (ap is_some (sym found ∙ with_number-other n e other)))
+      ]
+
+  -- what stands at the slot of a key that finds a value
+  pub entry_found : (s : Slots X) (key : Key) (x : X) → find s key ≡ Some x → entry_at s key.slot ≡ Some (entry_of key.number x)
+  entry_found s key x found = numbered key.number (entry_at s key.slot) x found
+
+-- climbs -----------------------------------------------------------------------------------------
+
+-- one test for both
+option_map_or-same : {X Y : Type 0} (f g : X → Y) (o : Option X) (d : Y) → ((x : X) → o ≡ Some x → f x ≡ g x) → option_map_or f o d ≡ option_map_or g o d
+option_map_or-same f g None d same = refl
+option_map_or-same f g (Some x) d same = same x refl
+
+-- climbs along a function to smaller numbers
+module _ (above : ℕ → Option ℕ) (falls : (n p : ℕ) → above n ≡ Some p → p < n) where
+  none_above_zero : (o : Option ℕ) → above 0 ≡ o → o ≡ None
+  none_above_zero None e = refl
+  none_above_zero (Some p) e = absurd (let l : p < 0 = falls 0 p e in omega arith)
+
+  -- more steps lead no further
+  climb_enough : (k j n : ℕ) → n ≤ k → n ≤ j → ancestors_within k above n ≡ ancestors_within j above n
+  climb_enough zero zero n a b = refl
+  climb_enough zero (suc j) n a b =
+      let z : n ≡ 0 = omega arith in
+      let e : above n ≡ None = rw z (none_above_zero (above 0) refl) in
+      rw e refl
+  climb_enough (suc k) zero n a b =
+      let z : n ≡ 0 = omega arith in
+      let e : above n ≡ None = rw z (none_above_zero (above 0) refl) in
+      rw e refl
+  climb_enough (suc k) (suc j) n a b =
+      ap (λ (xs : List ℕ). n ∷ xs) (option_map_or-same (ancestors_within k above) (ancestors_within j above) (above n) [] (λ p e. let l : p < n = falls n p e in climb_enough k j p (omega arith) (omega arith)))
+
+  -- a number, and then the climb of its parent
+  climb_step : (n : ℕ) → ancestors_within n above n ≡ n ∷ option_map_or (λ p. ancestors_within p above p) (above n) []
+  climb_step n =
+      climb_enough n (suc n) n (omega arith) (omega arith) ∙ ap (λ (xs : List ℕ). n ∷ xs) (option_map_or-same (ancestors_within n above) (λ p. ancestors_within p above p) (above n) [] (λ p e. let l : p < n = falls n p e in climb_enough n p p (omega arith) (omega arith)))
+
+module _ {T : Type 0} (tree : Tree T) where
+  up-lt : (n p : ℕ) → up tree n ≡ Some p → p < n
+  up-lt n p e =
+      option_and_then_some (named_above n) (record_of tree n) p e (λ node a b. option_and_then_some (if_less n) (parent_named node.made) p b (λ x c d. let w = cond_some (nat_lt x n) x p d in rw (← w.1) (ltb-true x n w.0)))
+
+  -- the ancestors in a tree, step by step
+  pub tree_ancestors_step : (n : ℕ) → tree_ancestors tree n ≡ n ∷ option_map_or (tree_ancestors tree) (up tree n) []
+  unfolding tree_ancestors
+  tree_ancestors_step n = climb_step (up tree) up-lt n
+
+  -- the record of a number is the one that its key finds
+  record_here : (n : ℕ) (node : Node T) (es : List (Option (Entry (Node T)))) (i : ℕ) → get_or es i None ≡ Some (entry_of n node) → ((j : ℕ) (e : Entry (Node T)) → get_or es j None ≡ Some e → e.number ≡ n → j ≡ i) → record_in es n ≡ Some node
+  record_here n node [] i at only = absurd (true≢false (ap is_some (sym at)))
+  record_here n node (o ∷ es) zero at only = ap (λ x. option_or (with_number n x) (record_in es n)) at ∙ ap (λ x. option_or x (record_in es n)) (with_number-same n (entry_of n node) refl)
+  record_here n node (None ∷ es) (suc i) at only =
+      record_here n node es i at (λ j e found number. let s : suc j ≡ suc i = only (suc j) e found number in omega arith)
+  record_here n node (Some e ∷ es) (suc i) at only =
+      elim (cases_eq e.number n) [
+        | inl same ↦ absurd (let z : 0 ≡ suc i = only 0 e refl same in omega arith)
+        | inr other ↦ ap (λ x. option_or x (record_in es n)) (with_number-other n e other) ∙ record_here n node es i at (λ j x found number. let s : suc j ≡ suc i = only (suc j) x found number in omega arith)
+      ]
+
+  pub record_found : IsSound tree → (key : Key) (node : Node T) → find tree key ≡ Some node → record_of tree key.number ≡ Some node
+  record_found sound key node found = record_here key.number node tree.entries key.slot (entry_found tree key node found) only where
+    only : (j : ℕ) (e : Entry (Node T)) → entry_at tree j ≡ Some e → e.number ≡ key.number → j ≡ key.slot
+    only j e at number =
+        let other : Key = record { slot = j; number = key.number } in
+        let there : find tree other ≡ Some e.value = ap (with_number key.number) at ∙ with_number-same key.number e number in
+        ap (λ k. k.slot) (sound.apart other key (ap is_some there) (ap is_some found) refl)
+
+-- the tree beside the history --------------------------------------------------------------------
+
+-- the node that a record's place names is the parent
+named_parent : {T : Type 0} (h : List Event) (n : ℕ) (node : Node T) → slice_get h n ≡ Some node.made → named_above n node ≡ parent h n
 unfolding parent
-onward_plain h n p = by_event (slice_get h n) refl where
-  by_event : (o : Option Event) → slice_get h n ≡ o → onward_unless (option_and_then (stop_made h n) o) (option_map_or (onward_from h n) o []) ≡ option_to_list (option_and_then (if_less n) (option_and_then parent_named o))
-  by_event None e = refl
-  by_event (Some (Open Root kind)) e = refl
-  by_event (Some (Open (Source f) kind)) e = rw (never_at is_merging not_merging h p f, e) refl
-  by_event (Some (Open (Inner f) kind)) e = absurd (false≢true (plain_at h p n _ e))
-  by_event (Some (Open (Notifier f) kind)) e = absurd (false≢true (plain_at h p n _ e))
-  by_event (Some (Connect g)) e = absurd (false≢true (plain_at h p n _ e))
-  by_event (Some _) e = rw e refl
+named_parent h n node made = ap (λ o. option_and_then (if_less n) (option_and_then parent_named o)) (sym made)
 
-no_visits : (k : ℕ) (h : List Event) → visited k h [] ≡ []
-no_visits zero h = refl
-no_visits (suc k) h = refl
+module _ {T : Type 0} (g : Ghosts T) (h : List Event) (tree : Tree T) (ws : List (ℕ × T)) where
+  -- the parent of a node of the tree is that of the history
+  pub parent_in_tree : (key : Key) (node : Node T) → IsShelved g h tree ws → find tree key ≡ Some node → parent_number tree key ≡ parent h key.number
+  parent_in_tree key node shelved found = ap (option_and_then (named_above key.number)) found ∙ named_parent h key.number node (shelved.records key node found).made
 
-take-nil : (k : ℕ) → ◌≡◌ {A = List ℕ} (take k []) []
-take-nil zero = refl
-take-nil (suc k) = refl
+  up_is_parent : (key : Key) (node : Node T) → IsShelved g h tree ws → IsSound tree → find tree key ≡ Some node → up tree key.number ≡ parent h key.number
+  up_is_parent key node shelved sound found = ap (option_and_then (named_above key.number)) (record_found tree sound key node found) ∙ named_parent h key.number node (shelved.records key node found).made
 
--- the climb visits the node and those above it
-pub visited_plain : (k : ℕ) (h : List Event) (n : ℕ) → list_all is_plain h ≡ true → visited k h (n ∷ []) ≡ take k (ancestors h n)
-visited_plain zero h n p = refl
-visited_plain (suc k) h n p =
-    rw (ancestors_step h n, onward_plain h n p) (ap (λ (xs : List ℕ). n ∷ xs) (above (visited_plain k h) (parent h n)))
-  where
-    above : ((m : ℕ) → list_all is_plain h ≡ true → visited k h (m ∷ []) ≡ take k (ancestors h m)) → (o : Option ℕ) → visited k h (option_to_list o ++ []) ≡ take k (option_map_or (ancestors h) o [])
-    above ih None = no_visits k h ∙ sym (take-nil k)
-    above ih (Some m) = ih m p
+  climbs_agree : (k n : ℕ) → n < k → IsShelved g h tree ws → IsSound tree → HasRecord tree n → is_open h n ≡ true → tree_ancestors tree n ≡ ancestors h n
+  climbs_agree zero n l shelved sound has alive = absurd (omega arith)
+  climbs_agree (suc k) n l shelved sound has alive =
+      tree_ancestors_step tree n ∙ ap (λ o. n ∷ option_map_or (tree_ancestors tree) o []) (up_is_parent (record { slot = has.slot; number = n }) has.node shelved sound has.found) ∙ ap (λ (xs : List ℕ). n ∷ xs) (option_map_or-same (tree_ancestors tree) (ancestors h) (parent h n) [] (λ p below. let s : p < n = parent-lt h n p below in let up_alive = parent_open h n p alive below in climbs_agree k p (omega arith) shelved sound (shelved.every p up_alive) up_alive)) ∙ sym (ancestors_step h n)
 
-pub climb_plain : (h : List Event) (n : ℕ) → list_all is_plain h ≡ true → climb h n ≡ take (suc most_visits) (ancestors h n)
-unfolding climb
-climb_plain h n p = visited_plain (suc most_visits) h n p
+  -- the way up from an open node is the same in both
+  pub ways_agree : (n : ℕ) → IsShelved g h tree ws → IsSound tree → is_open h n ≡ true → tree_ancestors tree n ≡ ancestors h n
+  ways_agree n shelved sound alive = climbs_agree (suc n) n (omega arith) shelved sound (shelved.every n alive) alive
 
--- how long the way up is
-pub ancestors_above : (h : List Event) (n p : ℕ) → parent h n ≡ Some p → length (ancestors h n) ≡ suc (length (ancestors h p))
-ancestors_above h n p below = rw (ancestors_step h n, below) refl
+  -- what is below a node of the tree is within it in the history
+  pub below_is_within : (key : Key) (node : Node T) → IsShelved g h tree ws → IsSound tree → IsLawful h → find tree key ≡ Some node → (top : ℕ) → is_below tree top key.number ≡ list_any (λ a. top == a) (ancestors h key.number)
+  below_is_within key node shelved sound law found top = ap (list_any (λ a. top == a)) (ways_agree key.number shelved sound (shelved.records key node found).alive)
 
-pub ancestors_top : (h : List Event) (n : ℕ) → parent h n ≡ None → length (ancestors h n) ≡ 1
-ancestors_top h n below = rw (ancestors_step h n, below) refl
-
-pub ancestors_some : (h : List Event) (n : ℕ) → 1 ≤ length (ancestors h n)
-ancestors_some h n = rw (ancestors_step h n) (omega arith)
-
--- one more visit than are allowed is counted, and no further
-pub visits_plain : (h : List Event) (n : ℕ) → list_all is_plain h ≡ true → visits h n ≡ min 1048577 (length (ancestors h n))
-unfolding visits most_visits
-visits_plain h n p = ap (length {A = ℕ}) (climb_plain h n p) ∙ length-take (suc 1048576) (ancestors h n)
-
-pub most_visits_is : most_visits ≡ 1048576
-unfolding most_visits
-most_visits_is = refl
+  -- a node of the tree outlives the top where it is not below it
+  pub below_not_outlives : (key : Key) (node : Node T) → IsShelved g h tree ws → IsSound tree → IsLawful h → find tree key ≡ Some node → (top : ℕ) → outlives h top key.number ≡ not (is_below tree top key.number)
+  below_not_outlives key node shelved sound law found top =
+      ap (λ b. b && list_all (λ a. not (top == a)) (ancestors h key.number)) (shelved.records key node found).alive ∙ all_not (ancestors h key.number) ∙ ap not (sym (below_is_within key node shelved sound law found top))
+    where
+      all_not : (xs : List ℕ) → list_all (λ a. not (top == a)) xs ≡ not (list_any (λ a. top == a) xs)
+      all_not [] = refl
+      all_not (a ∷ xs) = rw (all_not xs) (shape (top == a) (list_any (λ b. top == b) xs)) where
+        shape : (b c : Bool) → (not b && not c) ≡ not (b || c)
+        shape true c = refl
+        shape false c = refl

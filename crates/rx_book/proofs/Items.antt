@@ -1,91 +1,206 @@
--- A register after an item.
-use Rattle.std.proofs.Common.{◌≡◌, ℕ, ℤ, ◌+◌, ◌≤◌, true, false, List, [], ◌∷◌, ◌++◌, length, Option, None, refl, sym, ap, ◌∙◌, arith, vec_len, vec_capacity, length-append}
-use Rattle.std.specs.List.{list_all}
-use Rattle.std.proofs.lemmas.Bool.{not-false, ltb-false}
+-- Resources with their numbers: one of them removed, or written anew, and the record that has it.
+use Rattle.std.proofs.Common.{◌≡◌, ◌≢◌, ℕ, nat_eq, ◌==◌, Bool, true, List, [], ◌∷◌, Option, Some, None, is_some, IsSome, option_map, refl, sym, ap, subst, ◌∙◌, inl, inr, ◌⊎◌, arith}
+use Rattle.std.proofs.Math.Bool.{not, ◌&&◌}
+use Rattle.std.specs.List.{AllPairs, Contains}
+use Rattle.std.specs.Map.{lookup, remove_entry, set_value}
+use Rattle.std.specs.Option.{option_and_then}
+use Rattle.std.proofs.lemmas.Bool.{cases_eq, and_parts, and_from, not_from_false, ne_eqb, eq-eqb, both_ways, not-true}
+use Rattle.std.proofs.lemmas.Bool.Decides.{nat_tests}
+use Rattle.std.proofs.lemmas.Option.{none-some, same_Some}
+use Rattle.std.proofs.lemmas.List.Kept.{AllPairs-cons}
+use Rattle.rx_resource.specs.declared.Resource.{Ghosts}
 use Rattle.rx_event.specs.declared.event.Event.{Event}
-use Rattle.rx_event.specs.declared.event.Event.TheVariants.{Item}
-use Rattle.rx_event.specs.declared.refusal.Refusal.{Refusal}
-use Rattle.rx_event.specs.declared.refusal.Refusal.TheVariants.{Full, Gone, WrongKind, TooMany}
-use Rattle.rx_event.specs.Events.{is_leaf}
-use Rattle.rx_event.specs.Tree.{at, is_open}
-use Rattle.rx_event.specs.Climb.{visits, most_visits}
-use Rattle.rx_event.specs.Allowed.{emitted}
-use Rattle.rx_event.specs.Totals.{debt}
-use Rattle.rx_event.specs.Lawful.{allowed, MayFollow, IsLawful}
-use Rattle.rx_event.specs.Calls.{Emitting}
-use Rattle.rx_event.specs.Refusals.{first_cause}
-use Rattle.rx_event.specs.Laws.Lawful.{IsLawful-push}
-use Rattle.rx_event.specs.Laws.Totals.{open_count_made, held_count_unchanged, waiting_count_unchanged, item_count-push, accepted_count-push}
-use Rattle.rx_book.specs.declared.register.Register.TheInside.{Inside}
-use Rattle.rx_book.specs.Plain.{is_plain}
-use Rattle.rx_book.specs.Causes.{causes}
-use Rattle.rx_book.specs.Kept.{Kept}
-use Rattle.rx_book.specs.Ties.{IsRegistered, kept_of}
-use Rattle.rx_book.proofs.Clear.{clear, room_where}
-use Rattle.rx_book.proofs.Plain.{plain-push, settled-push}
-use Rattle.rx_book.proofs.Marks.{tied_after_quiet}
-use Rattle.rx_book.proofs.Untaken.{untaken_kept}
-use Rattle.rx_book.proofs.Tallies.{debt_plain}
-use Rattle.rx_book.proofs.After.{IsAfter, nodes-append}
+use Rattle.rx_event.specs.Laws.Resources.{node_of}
+use Rattle.rx_slots.specs.declared.Entry.{Entry}
+use Rattle.rx_slots.specs.declared.Key.{Key}
+use Rattle.rx_slots.specs.Slots.{entry_at, key_at, with_number, find}
+use Rattle.rx_tree.specs.declared.node.Node.{Node}
+use Rattle.rx_tree.specs.declared.node.ResKey.{ResKey}
+use Rattle.rx_tree.specs.Boxes.{box_of, without_box, with_value}
+use Rattle.rx_tree.specs.Tree.{Tree, Rewrites, IsSound, resource_at}
+use Rattle.rx_book.specs.State.{AreJust}
+use Rattle.rx_book.specs.Shelved.{is_held_at, numbers, HasRecord, IsShelved}
+use Rattle.rx_book.proofs.Numbered.{All-members, Contains-head, Contains-later, Contains-none, Contains-cases, Contains-mapped, Contains-unmapped, pairs_head, pairs_tail, pairs_none, just_passes}
+use Rattle.rx_book.proofs.Pushed.{held_at_parts}
+use Rattle.rx_book.proofs.Climbs.{cases_key, with_number-same}
 
--- what an accepted item knows
-pub record MayEmit (h : List Event) (limit leaf : ℕ) : Type 0 where
-  pub alive : is_open h leaf ≡ true
-  pub source : at is_leaf h leaf ≡ true
-  pub near : visits h leaf ≤ most_visits
-  pub room : length h + debt h + 1 ≤ limit
+module _ {X : Type 0} where
+  lookup_here : (n : ℕ) (e : ℕ × X) (es : List (ℕ × X)) → e.0 ≡ n → lookup (nat_eq n) (e ∷ es) ≡ Some e.1
+  lookup_here n e es same = grind (arith, nat_tests)
 
-may_emit : (h : List Event) (limit leaf : ℕ) (v : ℤ) → first_cause (causes h limit true (Emitting leaf v)) ≡ None → MayEmit h limit leaf
-may_emit h limit leaf v none = record {
-  alive = not-false _ (clear (causes h limit true (Emitting leaf v)) none Gone);
-  source = not-false _ (clear (causes h limit true (Emitting leaf v)) none WrongKind);
-  near = ltb-false most_visits (visits h leaf) (clear (causes h limit true (Emitting leaf v)) none TooMany);
-  room = room_where h limit 1 (clear (causes h limit true (Emitting leaf v)) none Full);
-}
+  pub lookup_later : (n : ℕ) (e : ℕ × X) (es : List (ℕ × X)) → e.0 ≢ n → lookup (nat_eq n) (e ∷ es) ≡ lookup (nat_eq n) es
+  lookup_later n e es other = grind (arith, nat_tests)
 
-pub may_emit_now : (a : Inside) (s : Kept) (leaf : ℕ) (v : ℤ) → IsRegistered a → kept_of a ≡ s → (o : Option Refusal) → o ≡ first_cause (causes s.history s.limit true (Emitting leaf v)) → o ≡ None → MayEmit a.history.events a.limit leaf
-may_emit_now a s leaf v r shown o cause none = rw r.limit (may_emit a.history.events a.history.limit leaf v (ap (λ (x : Kept). first_cause (causes x.history x.limit true (Emitting leaf v))) shown ∙ sym cause ∙ none))
+  remove_here : (n : ℕ) (e : ℕ × X) (es : List (ℕ × X)) → e.0 ≡ n → remove_entry (nat_eq n) (e ∷ es) ≡ es
+  remove_here n e es same = grind (arith, nat_tests)
 
--- an item costs nothing
-debt-item : (h : List Event) (leaf : ℕ) (v : ℤ) → IsLawful h → list_all is_plain h ≡ true → MayFollow h (Item leaf v) → debt (h ++ Item leaf v ∷ []) ≡ debt h
-debt-item h leaf v law p next =
-    let a = debt_plain h p in
-    let b = debt_plain (h ++ Item leaf v ∷ []) (plain-push h (Item leaf v) p refl) in
-    let o = open_count_made h (Item leaf v) next refl in
-    let k = held_count_unchanged h (Item leaf v) law refl in
-    let w = waiting_count_unchanged h (Item leaf v) law refl in
-    omega arith
+  remove_later : (n : ℕ) (e : ℕ × X) (es : List (ℕ × X)) → e.0 ≢ n → remove_entry (nat_eq n) (e ∷ es) ≡ e ∷ remove_entry (nat_eq n) es
+  remove_later n e es other = grind (arith, nat_tests)
 
-pub item_after : (a b : Inside) (leaf : ℕ) (v : ℤ) → IsRegistered a → MayEmit a.history.events a.limit leaf → b.history.events ≡ a.history.events ++ Item leaf v ∷ [] → b.history.limit ≡ a.history.limit → b.limit ≡ a.limit → b.given ≡ a.given → b.cursor ≡ a.cursor → b.marks.items ≡ a.marks.items ++ false ∷ [] → b.untaken ≡ a.untaken → b.open_total ≡ a.open_total → b.held_total ≡ a.held_total → b.item_total ≡ a.item_total + 1 → b.accepted_total ≡ a.accepted_total → debt a.history.events ≤ b.history.room → vec_len b.marks + debt a.history.events ≤ vec_capacity b.marks → IsAfter a b (Item leaf v ∷ [])
-item_after a b leaf v r may events stored_limit limit given cursor marks untaken opens held items accepted room mark_room = record {
-  events = events;
-  stored_limit = stored_limit;
-  limit = limit;
-  given = given;
-  cursor = cursor;
-  lawful = IsLawful-push h e r.upheld.lawful next;
-  settled = settled-push h e r.upheld.plain r.upheld.lawful r.upheld.settled refl refl refl;
-  plain = plain-push h e r.upheld.plain refl;
-  marks = rw marks (tied_after_quiet h e a.marks.items refl refl r.marks);
-  untaken = rw untaken (r.upheld.untaken ∙ sym (untaken_kept h e r.upheld.lawful refl (λ q. refl)));
-  nodes = rw untaken (nodes-append h (e ∷ []) a.untaken.items r.nodes);
-  open_total = let o = open_count_made h e next refl in let x = r.open_total in omega arith;
-  held_total = let k = held_count_unchanged h e r.upheld.lawful refl in let x = r.held_total in omega arith;
-  item_total = let k = item_count-push h e in let x = r.item_total in omega arith;
-  accepted_total = let k = accepted_count-push h e in let x = r.accepted_total in omega arith;
-  within = let d = owes in let x = may.room in omega (arith, length-append h (e ∷ []));
-  room = let d = owes in omega arith;
-  mark_room = let d = owes in omega arith;
-}
-  where
-    h : List Event
-    h = a.history.events
+  pub set_here : (n : ℕ) (w : X) (e : ℕ × X) (es : List (ℕ × X)) → e.0 ≡ n → set_value (nat_eq n) (e ∷ es) w ≡ (e.0, w) ∷ es
+  set_here n w e es same = grind (arith, nat_tests)
 
-    e : Event
-    e = Item leaf v
+  pub set_later : (n : ℕ) (w : X) (e : ℕ × X) (es : List (ℕ × X)) → e.0 ≢ n → set_value (nat_eq n) (e ∷ es) w ≡ e ∷ set_value (nat_eq n) es w
+  set_later n w e es other = grind (arith, nat_tests)
 
-    next : MayFollow h e
-    next = allowed r.upheld.settled (emitted may.alive may.source may.near)
+  same_item : (e : ℕ × X) (n : ℕ) (x : X) → e.0 ≡ n → e.1 ≡ x → e ≡ (n, x)
+  same_item e n x number value = λ i. (number i, value i)
 
-    owes : debt (h ++ e ∷ []) ≡ debt h
-    owes = debt-item h leaf v r.upheld.lawful r.upheld.plain next
+  -- a resource that is found under its number is there
+  pub box_member : (r : ℕ) (es : List (ℕ × X)) (x : X) → box_of r es ≡ Some x → Contains es (r, x)
+  box_member r [] x found = absurd (none-some x found)
+  box_member r (e ∷ es) x found =
+      elim (cases_eq e.0 r) [
+        | inl same ↦ subst (λ (y : ℕ × X). Contains (e ∷ es) y) (same_item e r x same (same_Some e.1 x (sym (lookup_here r e es same) ∙ found))) (Contains-head e es)
+        | inr other ↦ Contains-later e es (r, x) (box_member r es x (sym (lookup_later r e es other) ∙ found))
+      ]
+
+  -- and a number that is there finds one
+  pub box_found : (r : ℕ) (es : List (ℕ × X)) → Contains (numbers es) r → IsSome (box_of r es)
+  box_found r [] c = absurd (Contains-none r c)
+  box_found r (e ∷ es) c =
+      elim (cases_eq e.0 r) [
+        | inl same ↦ ap is_some (lookup_here r e es same)
+        | inr other ↦ elim (Contains-cases e.0 (numbers es) r c) [
+          | inl same ↦ absurd (other same)
+          | inr later ↦ ap is_some (lookup_later r e es other) ∙ box_found r es later
+        ]
+      ]
+
+  -- another value leaves the numbers
+  pub numbers_set : (r : ℕ) (w : X) (es : List (ℕ × X)) → numbers (with_value r w es) ≡ numbers es
+  numbers_set r w [] = refl
+  numbers_set r w (e ∷ es) =
+      elim (cases_eq e.0 r) [
+        | inl same ↦ ap (λ (xs : List (ℕ × X)). numbers xs) (set_here r w e es same)
+        | inr other ↦ ap (λ (xs : List (ℕ × X)). numbers xs) (set_later r w e es other) ∙ ap (λ (ns : List ℕ). e.0 ∷ ns) (numbers_set r w es)
+      ]
+
+  -- what is left was there
+  pub without_member : (r : ℕ) (es : List (ℕ × X)) (item : ℕ × X) → Contains (without_box r es) item → Contains es item
+  without_member r [] item c = c
+  without_member r (e ∷ es) item c =
+      elim (cases_eq e.0 r) [
+        | inl same ↦ Contains-later e es item (subst (λ (xs : List (ℕ × X)). Contains xs item) (remove_here r e es same) c)
+        | inr other ↦ elim (Contains-cases e (without_box r es) item (subst (λ (xs : List (ℕ × X)). Contains xs item) (remove_later r e es other) c)) [
+          | inl same ↦ subst (λ (y : ℕ × X). Contains (e ∷ es) y) same (Contains-head e es)
+          | inr later ↦ Contains-later e es item (without_member r es item later)
+        ]
+      ]
+
+  pub without_number : (r : ℕ) (es : List (ℕ × X)) (n : ℕ) → Contains (numbers (without_box r es)) n → Contains (numbers es) n
+  without_number r es n c =
+      let m = Contains-unmapped (λ (item : ℕ × X). item.0) (without_box r es) n c in
+      subst (λ (k : ℕ). Contains (numbers es) k) m.2 (Contains-mapped (λ (item : ℕ × X). item.0) es m.0 (without_member r es m.0 m.1))
+
+  -- the number is gone
+  without_gone : (r : ℕ) (es : List (ℕ × X)) → AllPairs (λ a b. a ≢ b) (numbers es) → Contains (numbers (without_box r es)) r → ⊥
+  without_gone r [] once c = Contains-none r c
+  without_gone r (e ∷ es) once c =
+      elim (cases_eq e.0 r) [
+        | inl same ↦ pairs_head (λ a b. a ≢ b) e.0 (numbers es) once r (subst (λ (xs : List (ℕ × X)). Contains (numbers xs) r) (remove_here r e es same) c) same
+        | inr other ↦ elim (Contains-cases e.0 (numbers (without_box r es)) r (subst (λ (xs : List (ℕ × X)). Contains (numbers xs) r) (remove_later r e es other) c)) [
+          | inl same ↦ other same
+          | inr later ↦ without_gone r es (pairs_tail (λ a b. a ≢ b) e.0 (numbers es) once) later
+        ]
+      ]
+
+  without_once : (r : ℕ) (es : List (ℕ × X)) → AllPairs (λ a b. a ≢ b) (numbers es) → AllPairs (λ a b. a ≢ b) (numbers (without_box r es))
+  without_once r [] once = pairs_none (λ a b. a ≢ b)
+  without_once r (e ∷ es) once =
+      elim (cases_eq e.0 r) [
+        | inl same ↦ subst (λ (xs : List (ℕ × X)). AllPairs (λ a b. a ≢ b) (numbers xs)) (sym (remove_here r e es same)) (pairs_tail (λ a b. a ≢ b) e.0 (numbers es) once)
+        | inr other ↦ subst (λ (xs : List (ℕ × X)). AllPairs (λ a b. a ≢ b) (numbers xs)) (sym (remove_later r e es other)) (AllPairs-cons (λ a b. a ≢ b) e.0 (numbers (without_box r es)) (All-members (λ b. e.0 ≢ b) (numbers (without_box r es)) (λ n c. pairs_head (λ a b. a ≢ b) e.0 (numbers es) once n (without_number r es n c))) (without_once r es (pairs_tail (λ a b. a ≢ b) e.0 (numbers es) once)))
+      ]
+
+  -- and every other stays
+  without_keeps : (r : ℕ) (es : List (ℕ × X)) (n : ℕ) → r ≢ n → Contains (numbers es) n → Contains (numbers (without_box r es)) n
+  without_keeps r [] n apart c = c
+  without_keeps r (e ∷ es) n apart c =
+      elim (Contains-cases e.0 (numbers es) n c) [
+        | inl here ↦ elim (cases_eq e.0 r) [
+          | inl same ↦ absurd (apart (sym same ∙ here))
+          | inr other ↦ subst (λ (xs : List (ℕ × X)). Contains (numbers xs) n) (sym (remove_later r e es other)) (subst (λ (k : ℕ). Contains (e.0 ∷ numbers (without_box r es)) k) here (Contains-head e.0 (numbers (without_box r es))))
+        ]
+        | inr later ↦ elim (cases_eq e.0 r) [
+          | inl same ↦ subst (λ (xs : List (ℕ × X)). Contains (numbers xs) n) (sym (remove_here r e es same)) later
+          | inr other ↦ subst (λ (xs : List (ℕ × X)). Contains (numbers xs) n) (sym (remove_later r e es other)) (Contains-later e.0 (numbers (without_box r es)) n (without_keeps r es n apart later))
+        ]
+      ]
+
+  -- the numbers without one are those of a test that it fails
+  pub just_without : (p : ℕ → Bool) (r : ℕ) (es : List (ℕ × X)) → AreJust p (numbers es) → AreJust (λ n. p n && not (r == n)) (numbers (without_box r es))
+  just_without p r es just = record {
+    each = All-members (λ n. (p n && not (r == n)) ≡ true) (numbers (without_box r es)) (λ n c. and_from (p n) (not (r == n)) (just_passes p (numbers es) just n (without_number r es n c)) (not_from_false (r == n) (ne_eqb r n (λ same. without_gone r es just.once (subst (λ (k : ℕ). Contains (numbers (without_box r es)) k) (sym same) c)))));
+    every = λ n passes. let parts = and_parts (p n) (not (r == n)) passes in without_keeps r es n (λ same. both_ways (r == n) (not-true (r == n) parts.1) (eq-eqb r n same)) (just.every n parts.0);
+    once = without_once r es just.once;
+  }
+
+module _ {T : Type 0} where
+  -- a resource of this number is in the record of the key
+  pub record HasBox (tree : Tree T) (key : Key) (r : ℕ) (x : T) : Type 0 where
+    pub node : Node T
+    pub found : find tree key ≡ Some node
+    pub box : box_of r node.boxes ≡ Some x
+
+  abbrev named_at : ℕ → Option (Entry (Node T)) → Option Key
+  named_at slot o = option_map (λ e. record { slot = slot; number = e.number }) o
+
+  abbrev boxed_at : ℕ → Option (Entry (Node T)) → Option T
+  boxed_at r o = option_and_then (box_of r) (option_map (λ node. node.boxes) (option_map (λ e. e.value) o))
+
+  -- the key of the slot of a resource finds the record that has it
+  pub held_box : (tree : Tree T) (res : ResKey) (key : Key) (x : T) → resource_at tree res ≡ Some x → key_at tree res.slot ≡ Some key → HasBox tree key res.number x
+  held_box tree res key x at named = of (entry_at tree res.slot) refl at named where
+    of : (o : Option (Entry (Node T))) → entry_at tree res.slot ≡ o → boxed_at res.number o ≡ Some x → named_at res.slot o ≡ Some key → HasBox tree key res.number x
+    of None read at named = absurd (none-some key named)
+    of (Some e) read at named =
+        let here : Key = record { slot = res.slot; number = e.number } in
+        let has : HasBox tree here res.number x = record { node = e.value; found = ap (with_number e.number) read ∙ with_number-same e.number e refl; box = at } in
+        subst (λ (k : Key). HasBox tree k res.number x) (same_Some here key named) has
+
+  pub key_of_resource : (tree : Tree T) (res : ResKey) (x : T) → resource_at tree res ≡ Some x → (key : Key) × (key_at tree res.slot ≡ Some key)
+  key_of_resource tree res x at = of (entry_at tree res.slot) refl at where
+    of : (o : Option (Entry (Node T))) → entry_at tree res.slot ≡ o → boxed_at res.number o ≡ Some x → (key : Key) × (key_at tree res.slot ≡ Some key)
+    of None read at = absurd (none-some x at)
+    of (Some e) read at = (record { slot = res.slot; number = e.number }, ap (named_at res.slot) read)
+
+  module _ (old new : Tree T) (key : Key) (change : Node T → Node T) (rewrites : Rewrites old new key change) where
+    -- what holds of the record that changed, and of each other one
+    pub rewritten : (P : Key → Node T → Type 0) (before : Node T) → find old key ≡ Some before → P key (change before) → ((other : Key) (node : Node T) → other ≢ key → find old other ≡ Some node → P other node) → (k : Key) (node : Node T) → find new k ≡ Some node → P k node
+    rewritten P before found here there k node now = of (cases_key k key) where
+      of : (k ≡ key) ⊎ (k ≢ key) → P k node
+      of (inl same) =
+          let at_key : find new key ≡ Some (change before) = rewrites.changed ∙ ap (option_map change) found in
+          let is : change before ≡ node = same_Some (change before) node (sym at_key ∙ ap (find new) (sym same) ∙ now) in
+          subst (λ (j : Key). P j node) (sym same) (subst (λ (m : Node T). P key m) is here)
+      of (inr other) = there k node other (sym (rewrites.others k other) ∙ now)
+
+    -- each number that had a record has one
+    pub rewritten_has : (n : ℕ) → HasRecord old n → HasRecord new n
+    rewritten_has n has = of (cases_key (record { slot = has.slot; number = n }) key) where
+      k : Key
+      k = record { slot = has.slot; number = n }
+
+      of : (k ≡ key) ⊎ (k ≢ key) → HasRecord new n
+      of (inl same) = record {
+        slot = has.slot;
+        node = change has.node;
+        found = ap (find new) same ∙ rewrites.changed ∙ ap (option_map change) (ap (find old) (sym same) ∙ has.found);
+      }
+      of (inr other) = record { slot = has.slot; node = has.node; found = rewrites.others k other ∙ has.found }
+
+  module _ (g : Ghosts T) (h : List Event) (tree : Tree T) (ws : List (ℕ × T)) (shelved : IsShelved g h tree ws) (key : Key) (r : ℕ) (x : T) (has : HasBox tree key r x) where
+    -- the resource is held at the node of its record
+    pub box_held : is_held_at h key.number r ≡ true
+    box_held =
+        let was = shelved.records key has.node has.found in
+        just_passes (is_held_at h key.number) (numbers has.node.boxes) was.resources r (Contains-mapped (λ (item : ℕ × T). item.0) has.node.boxes (r, x) (box_member r has.node.boxes x has.box))
+
+    -- so no other record has its number
+    pub elsewhere_not : IsSound tree → (other : Key) (node : Node T) → other ≢ key → find tree other ≡ Some node → (q : ℕ) → Contains (numbers node.boxes) q → r ≢ q
+    elsewhere_not sound other node apart found q c same =
+        let was = shelved.records other node found in
+        let there : node_of h r ≡ Some other.number = ap (node_of h) same ∙ (held_at_parts h other.number q (just_passes (is_held_at h other.number) (numbers node.boxes) was.resources q c)).1 in
+        let here : node_of h r ≡ Some key.number = (held_at_parts h key.number r box_held).1 in
+        apart (sound.apart other key (ap is_some found) (ap is_some has.found) (same_Some other.number key.number (sym there ∙ here)))

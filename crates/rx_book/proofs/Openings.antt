@@ -1,112 +1,164 @@
--- A register after the opening of a node.
-use Rattle.std.proofs.Common.{◌≡◌, ℕ, ◌+◌, ◌≤◌, Bool, true, false, List, [], ◌∷◌, ◌++◌, length, Option, None, refl, sym, ap, ◌∙◌, arith, vec_len, vec_capacity, length-append}
-use Rattle.std.proofs.Math.Bool.{not}
-use Rattle.std.specs.List.{list_all}
-use Rattle.std.proofs.lemmas.Bool.{false≢true, or_parts}
-use Rattle.std.proofs.lemmas.List.Sums.{length-filter}
+-- A stock after the opening of a node.
+use Rattle.std.proofs.Common.{◌≡◌, ◌≢◌, ℕ, ◌<◌, ◌≤◌, true, false, List, [], ◌∷◌, ◌++◌, length, Option, Some, None, All, option_map, refl, sym, ap, subst, ◌∙◌, arith, inl, inr, ◌⊎◌, ◌==◌, length-append, eqb-true, ne_eqb}
+use Rattle.std.specs.List.{list_any, AllByRecursion}
+use Rattle.std.specs.Option.{option_map_or}
+use Rattle.std.proofs.lemmas.Bool.{cases_eq, cases_order, and_parts, or_from, false≢true, false_from_ne_true}
+use Rattle.std.proofs.lemmas.Option.{none-some}
+use Rattle.std.proofs.lemmas.List.Elements.{All-nil}
 use Rattle.rx_event.specs.declared.event.Place.{Place}
 use Rattle.rx_event.specs.declared.event.Place.TheVariants.{Root, Source, Inner, Notifier}
 use Rattle.rx_event.specs.declared.event.Kind.{Kind}
 use Rattle.rx_event.specs.declared.event.Event.{Event}
 use Rattle.rx_event.specs.declared.event.Event.TheVariants.{Open}
-use Rattle.rx_event.specs.declared.refusal.Refusal.{Refusal}
-use Rattle.rx_event.specs.declared.refusal.Refusal.TheVariants.{Full, Gone, WrongKind, PlaceTaken, TooMany}
-use Rattle.rx_event.specs.Tree.{is_open, places}
-use Rattle.rx_event.specs.Allowed.{IsFree, most_nodes}
-use Rattle.rx_event.specs.Totals.{debt, open_count}
+use Rattle.rx_event.specs.Events.{makes_node, is_source_of, is_use_of}
+use Rattle.rx_event.specs.Tree.{is_open}
+use Rattle.rx_event.specs.Resources.{is_held, is_waiting}
+use Rattle.rx_event.specs.Moments.{Moment, moments}
 use Rattle.rx_event.specs.Lawful.{MayFollow, IsLawful}
-use Rattle.rx_event.specs.Forced.{IsSettled}
-use Rattle.rx_event.specs.Calls.{Opening}
-use Rattle.rx_event.specs.Refusals.{first_cause}
-use Rattle.rx_event.specs.Laws.Lawful.{IsLawful-push}
-use Rattle.rx_event.specs.Laws.Resources.{moves_none}
-use Rattle.rx_event.specs.Laws.Totals.{open_count_made, held_count_unchanged, waiting_count_unchanged, item_count-push, accepted_count-push}
-use Rattle.rx_book.specs.declared.register.Register.TheInside.{Inside}
-use Rattle.rx_book.specs.Plain.{is_plain}
-use Rattle.rx_book.specs.Causes.{causes, is_wrong_place, is_built}
-use Rattle.rx_book.specs.Kept.{Kept}
-use Rattle.rx_book.specs.Ties.{IsRegistered, kept_of}
-use Rattle.rx_book.proofs.Clear.{clear, free_where, plain_where, room_where, few_where}
-use Rattle.rx_book.proofs.Plain.{open_follows, plain-push, settled_after_open}
-use Rattle.rx_book.proofs.Marks.{tied_after_open, shuts_no_node}
-use Rattle.rx_book.proofs.Untaken.{untaken_kept}
-use Rattle.rx_book.proofs.Tallies.{debt_plain}
-use Rattle.rx_book.proofs.After.{IsAfter, nodes-append}
+use Rattle.rx_event.specs.Laws.Places.{slice_get_last}
+use Rattle.rx_event.specs.Laws.Openness.{shuts_none, is_open_kept, is_open_within}
+use Rattle.rx_event.specs.Laws.Lawful.{moments-push}
+use Rattle.rx_event.specs.Laws.Steps.{by_events, may_open}
+use Rattle.rx_event.specs.Laws.Resources.{node_of, moves_none, held_open}
+use Rattle.rx_event.specs.Laws.Totals.{is_open_new}
+use Rattle.rx_resource.specs.declared.Resource.{Ghosts}
+use Rattle.rx_register.specs.Plain.{is_plain}
+use Rattle.rx_slots.specs.declared.Key.{Key}
+use Rattle.rx_slots.specs.Slots.{find, entry_at, with_number}
+use Rattle.rx_tree.specs.declared.node.Node.{Node}
+use Rattle.rx_tree.specs.Tree.{Tree, blank_node}
+use Rattle.rx_stock.specs.Stock.{Opens, noting}
+use Rattle.rx_book.specs.State.{AreJust}
+use Rattle.rx_book.specs.Shelved.{is_held_at, numbers, IsAsWritten, IsRecordOf, HasRecord, IsShelved}
+use Rattle.rx_book.proofs.Found.{same_key, same_slot, mapped}
+use Rattle.rx_book.proofs.JustMore.{AreJust-none}
+use Rattle.rx_book.proofs.Quiet.{source_push, held_at_unchanged, record_noting, waits_still, all_written}
 
--- what an accepted opening knows
-pub record MayOpen (h : List Event) (limit more : ℕ) (place : Place) (kind : Kind) : Type 0 where
-  pub free : IsFree h place
-  pub plain : is_plain (Open place kind) ≡ true
-  pub few : open_count h + 1 ≤ most_nodes
-  pub room : length h + debt h + more ≤ limit
+-- lawful histories --------------------------------------------------------------------------------
 
-pub may_open : (h : List Event) (limit : ℕ) (place : Place) (kind : Kind) → first_cause (causes h limit true (Opening place kind)) ≡ None → MayOpen h limit 2 place kind
-may_open h limit place kind none = record {
-  free = free_where h place (clear stands none Gone) wrong.0 (clear stands none PlaceTaken);
-  plain = plain_where h place kind wrong.0 wrong.1;
-  few = few_where h (clear stands none TooMany);
-  room = room_where h limit 2 (clear stands none Full);
+AllByRecursion-parts : {X : Type 0} (P : X → Type 0) (xs : List X) (x : X) → AllByRecursion P (xs ++ x ∷ []) → AllByRecursion P xs × P x
+AllByRecursion-parts P [] x all = (tt, all.0)
+AllByRecursion-parts P (y ∷ xs) x all = let rest = AllByRecursion-parts P xs x all.1 in ((all.0, rest.0), rest.1)
+
+-- the history before the last event is lawful, and that event may follow it
+pub lawful_parts : (h : List Event) (e : Event) → IsLawful (h ++ e ∷ []) → IsLawful h × MayFollow h e
+lawful_parts h e law =
+    let parts = AllByRecursion-parts (λ (m : Moment). MayFollow m.before m.event) (moments h) (record { before = h; event = e }) (subst (λ (ms : List Moment). AllByRecursion (λ (m : Moment). MayFollow m.before m.event) ms) (moments-push h e) law.each) in
+    (record { each = parts.0 }, parts.1)
+
+opens_no_source : (h : List Event) (e : Event) → MayFollow h e → (n : ℕ) → length h ≤ n → is_source_of n e ≡ false
+opens_no_source h (Open (Source q) kind) next n past = let within = is_open_within h q (may_open next).0 in ne_eqb q n (omega arith)
+opens_no_source h _ next n past = refl
+
+-- no source is opened below a node to come
+pub no_source : (h : List Event) → IsLawful h → (n : ℕ) → length h ≤ n → list_any (is_source_of n) h ≡ false
+no_source = by_events (λ h. (n : ℕ) → length h ≤ n → list_any (is_source_of n) h ≡ false) (λ n past. refl) (λ h e law next before n past.
+    let within : length h ≤ n = omega (arith, length-append h (e ∷ [])) in
+    source_push h e n ∙ or_from _ _ (before n within) (opens_no_source h e next n within))
+
+-- the node of what is held
+node_is : (n : ℕ) (o : Option ℕ) → option_map_or (λ m. m == n) o false ≡ true → o ≡ Some n
+node_is n None passes = absurd (false≢true passes)
+node_is n (Some m) passes = ap (λ (x : ℕ). Some x) (eqb-true m n passes)
+
+pub held_at_parts : (h : List Event) (n r : ℕ) → is_held_at h n r ≡ true → (is_held h r ≡ true) × (node_of h r ≡ Some n)
+held_at_parts h n r held = let parts = and_parts (is_held h r) (option_map_or (λ m. m == n) (node_of h r) false) held in (parts.0, node_is n (node_of h r) parts.1)
+
+-- nothing is held at a node to come
+pub none_held_at : (h : List Event) (n : ℕ) → length h ≤ n → (r : ℕ) → is_held_at h n r ≡ false
+none_held_at h n past r = false_from_ne_true (is_held_at h n r) (λ held.
+    let parts = held_at_parts h n r held in
+    let within = is_open_within h n (held_open h r n parts.1 parts.0) in
+    absurd (omega arith))
+
+-- what is open after an event that shuts nothing was open, or is new
+pub older_open : (h : List Event) (e : Event) → shuts_none e ≡ true → (n : ℕ) → is_open (h ++ e ∷ []) n ≡ true → (n ≡ length h) ⊎ (is_open h n ≡ true)
+older_open h e shuts n alive = by_place (cases_order n (length h)) where
+  by_place : (n ≡ length h) ⊎ ((n < length h) ⊎ (length h < n)) → (n ≡ length h) ⊎ (is_open h n ≡ true)
+  by_place (inl same) = inl same
+  by_place (inr (inl l)) = inr (sym (is_open_kept h e n l shuts) ∙ alive)
+  by_place (inr (inr m)) = absurd (let within = is_open_within (h ++ e ∷ []) n alive in omega (arith, length-append h (e ∷ [])))
+
+plain_moves : (place : Place) (kind : Kind) → is_plain (Open place kind) ≡ true → moves_none (Open place kind) ≡ true
+plain_moves Root kind plain = refl
+plain_moves (Source p) kind plain = refl
+plain_moves (Inner p) kind plain = absurd (false≢true plain)
+plain_moves (Notifier p) kind plain = absurd (false≢true plain)
+
+plain_shuts : (place : Place) (kind : Kind) → is_plain (Open place kind) ≡ true → shuts_none (Open place kind) ≡ true
+plain_shuts Root kind plain = refl
+plain_shuts (Source p) kind plain = refl
+plain_shuts (Inner p) kind plain = absurd (false≢true plain)
+plain_shuts (Notifier p) kind plain = absurd (false≢true plain)
+
+-- what a plain opening leaves as it was
+pub record LeavesAll (e : Event) : Type 0 where
+  pub moves : moves_none e ≡ true
+  pub shuts : shuts_none e ≡ true
+  pub unused : (r : ℕ) → is_use_of r e ≡ false
+
+pub opening_leaves : (place : Place) (kind : Kind) → is_plain (Open place kind) ≡ true → LeavesAll (Open place kind)
+opening_leaves place kind plain = record { moves = plain_moves place kind plain; shuts = plain_shuts place kind plain; unused = λ r. refl }
+
+-- records -----------------------------------------------------------------------------------------
+
+-- the record of a new node
+pub record_opened : {T : Type 0} (g : Ghosts T) (h : List Event) (e : Event) (above : Option Key) → IsLawful h → MayFollow h e → makes_node e ≡ true → moves_none e ≡ true → IsRecordOf g (h ++ e ∷ []) (length h) (blank_node e above)
+record_opened g h e above law next makes moves = record {
+  made = slice_get_last h e;
+  alive = is_open_new h e next ∙ makes;
+  source = sym (source_push h e (length h) ∙ or_from (list_any (is_source_of (length h)) h) (is_source_of (length h) e) (no_source h law (length h) (omega arith)) (opens_no_source h e next (length h) (omega arith)));
+  resources = AreJust-none (is_held_at (h ++ e ∷ []) (length h)) (λ r. held_at_unchanged h e law moves (length h) r ∙ none_held_at h (length h) (omega arith) r);
+  written = All-nil (IsAsWritten g (h ++ e ∷ []));
 }
+
+module _ {T : Type 0} (g : Ghosts T) (h : List Event) (old new : Tree T) (waiting : List (ℕ × T)) (key : Key) (node : Node T) (s : IsShelved g h old waiting) (o : Opens old new key node) where
+  -- what a key finds after an opening is the new record, or an older one
+  found_after : (other : Key) (x : Node T) → find new other ≡ Some x → ((other.number ≡ key.number) × (node ≡ x)) ⊎ ((y : Node T) × (find old other ≡ Some y) × (noting node.made other.number y ≡ x))
+  found_after other x found = by_slot (cases_eq other.slot key.slot) where
+    by_slot : (other.slot ≡ key.slot) ⊎ (other.slot ≢ key.slot) → ((other.number ≡ key.number) × (node ≡ x)) ⊎ ((y : Node T) × (find old other ≡ Some y) × (noting node.made other.number y ≡ x))
+    by_slot (inl same) = let parts = same_slot new key other node x (sym same) o.opened found in inl (sym parts.0, parts.1)
+    by_slot (inr apart) = inr (mapped (noting node.made other.number) (find old other) x (sym (o.others other apart) ∙ found))
+
+  -- an older record is found at its slot still
+  found_still : (n : ℕ) → HasRecord old n → HasRecord new n
+  found_still n r = record { slot = r.slot; node = noting node.made n r.node; found = o.others at apart ∙ ap (option_map (noting node.made n)) r.found } where
+    at : Key
+    at = record { slot = r.slot; number = n }
+
+    apart : r.slot ≢ key.slot
+    apart same = none-some r.node (sym (ap (with_number n) (ap (entry_at old) same ∙ o.was_free)) ∙ r.found)
+
+  -- the stock beside a longer history, in which the new record and the older ones are right
+  pub shelved_opened : (k : List Event) → key.number ≡ length h → IsRecordOf g k (length h) node → ((n : ℕ) (x : Node T) → IsRecordOf g h n x → IsRecordOf g k n (noting node.made n x)) → ((n : ℕ) → is_open k n ≡ true → (n ≡ length h) ⊎ (is_open h n ≡ true)) → AreJust (is_waiting k) (numbers waiting) → All (IsAsWritten g k) waiting → IsShelved g k new waiting
+  shelved_opened k numbered first older opens waits written = record {
+    records = λ other x found. by_record other x (found_after other x found);
+    every = λ n alive. by_place n (opens n alive);
+    waits = waits;
+    written = written;
+  }
+    where
+      by_record : (other : Key) (x : Node T) → ((other.number ≡ key.number) × (node ≡ x)) ⊎ ((y : Node T) × (find old other ≡ Some y) × (noting node.made other.number y ≡ x)) → IsRecordOf g k other.number x
+      by_record other x (inl same) = subst (λ (y : Node T). IsRecordOf g k other.number y) same.1 (subst (λ n. IsRecordOf g k n node) (sym (same.0 ∙ numbered)) first)
+      by_record other x (inr was) = subst (λ (y : Node T). IsRecordOf g k other.number y) was.2 (older other.number was.0 (s.records other was.0 was.1))
+
+      by_place : (n : ℕ) → (n ≡ length h) ⊎ (is_open h n ≡ true) → HasRecord new n
+      by_place n (inl last) = record { slot = key.slot; node = node; found = ap (find new) (same_key (record { slot = key.slot; number = n }) key refl (last ∙ sym numbered)) ∙ o.opened }
+      by_place n (inr alive) = found_still n (s.every n alive)
+
+-- a stock after the opening of a leaf or a mirroring node
+pub shelved_open : {T : Type 0} (g : Ghosts T) (h : List Event) (old new : Tree T) (waiting : List (ℕ × T)) (key : Key) (place : Place) (kind : Kind) (above : Option Key) → IsShelved g h old waiting → IsLawful (h ++ Open place kind ∷ []) → is_plain (Open place kind) ≡ true → key.number ≡ length h → Opens old new key (blank_node (Open place kind) above) → IsShelved g (h ++ Open place kind ∷ []) new waiting
+shelved_open g h old new waiting key place kind above s lawful plain numbered o =
+    shelved_opened g h old new waiting key (blank_node e above) s o (h ++ e ∷ []) numbered (record_opened g h e above law next refl leaves.moves) (λ n x r. record_noting g h e law leaves.moves leaves.shuts leaves.unused n x r) (older_open h e leaves.shuts) (waits_still g h e law leaves.moves waiting s.waits) (all_written g h e leaves.unused waiting s.written)
   where
-    stands : Refusal → Bool
-    stands = causes h limit true (Opening place kind)
-
-    wrong : (is_wrong_place h place ≡ false) × (not (is_built kind) ≡ false)
-    wrong = or_parts (is_wrong_place h place) (not (is_built kind)) (clear stands none WrongKind)
-
-pub may_open_now : (a : Inside) (s : Kept) (place : Place) (kind : Kind) → IsRegistered a → kept_of a ≡ s → (o : Option Refusal) → o ≡ first_cause (causes s.history s.limit true (Opening place kind)) → o ≡ None → MayOpen a.history.events a.limit 2 place kind
-may_open_now a s place kind r shown o cause none = rw r.limit (may_open a.history.events a.history.limit place kind (ap (λ (x : Kept). first_cause (causes x.history x.limit true (Opening place kind))) shown ∙ sym cause ∙ none))
-
--- the opening may follow
-pub opening_follows : (h : List Event) (place : Place) (kind : Kind) → list_all is_plain h ≡ true → IsSettled h → is_plain (Open place kind) ≡ true → IsFree h place → open_count h + 1 ≤ most_nodes → MayFollow h (Open place kind)
-opening_follows h place kind p s q free few = open_follows h place kind p s q free (let l = length-filter (is_open h) (places h) in omega arith)
-
-pub moves_nothing : (place : Place) (kind : Kind) → is_plain (Open place kind) ≡ true → moves_none (Open place kind) ≡ true
-moves_nothing Root kind p = refl
-moves_nothing (Source x) kind p = refl
-moves_nothing (Inner x) kind p = absurd (false≢true p)
-moves_nothing (Notifier x) kind p = absurd (false≢true p)
-
--- one more open node, and one more event owed
-pub debt-open : (h : List Event) (place : Place) (kind : Kind) → IsLawful h → list_all is_plain h ≡ true → is_plain (Open place kind) ≡ true → MayFollow h (Open place kind) → debt (h ++ Open place kind ∷ []) ≡ debt h + 1
-debt-open h place kind law p q next =
-    let a = debt_plain h p in
-    let b = debt_plain (h ++ Open place kind ∷ []) (plain-push h (Open place kind) p q) in
-    let o = open_count_made h (Open place kind) next (shuts_no_node place kind q) in
-    let k = held_count_unchanged h (Open place kind) law (moves_nothing place kind q) in
-    let w = waiting_count_unchanged h (Open place kind) law (moves_nothing place kind q) in
-    omega arith
-
-pub open_after : (a b : Inside) (place : Place) (kind : Kind) → IsRegistered a → MayOpen a.history.events a.limit 2 place kind → b.history.events ≡ a.history.events ++ Open place kind ∷ [] → b.history.limit ≡ a.history.limit → b.limit ≡ a.limit → b.given ≡ a.given → b.cursor ≡ a.cursor → b.marks.items ≡ a.marks.items ++ true ∷ [] → b.untaken ≡ a.untaken → b.open_total ≡ a.open_total + 1 → b.held_total ≡ a.held_total → b.item_total ≡ a.item_total → b.accepted_total ≡ a.accepted_total → debt a.history.events + 1 ≤ b.history.room → vec_len b.marks + debt a.history.events + 1 ≤ vec_capacity b.marks → IsAfter a b (Open place kind ∷ [])
-open_after a b place kind r may events stored_limit limit given cursor marks untaken opens held items accepted room mark_room = record {
-  events = events;
-  stored_limit = stored_limit;
-  limit = limit;
-  given = given;
-  cursor = cursor;
-  lawful = IsLawful-push h e r.upheld.lawful next;
-  settled = settled_after_open h place kind r.upheld.plain r.upheld.lawful r.upheld.settled may.plain;
-  plain = plain-push h e r.upheld.plain may.plain;
-  marks = rw marks (tied_after_open h place kind a.marks.items may.plain may.free r.marks);
-  untaken = rw untaken (r.upheld.untaken ∙ sym (untaken_kept h e r.upheld.lawful refl (λ q. refl)));
-  nodes = rw untaken (nodes-append h (e ∷ []) a.untaken.items r.nodes);
-  open_total = let o = open_count_made h e next (shuts_no_node place kind may.plain) in let x = r.open_total in omega arith;
-  held_total = let k = held_count_unchanged h e r.upheld.lawful (moves_nothing place kind may.plain) in let x = r.held_total in omega arith;
-  item_total = let k = item_count-push h e in let x = r.item_total in omega arith;
-  accepted_total = let k = accepted_count-push h e in let x = r.accepted_total in omega arith;
-  within = let d = owes in let x = may.room in omega (arith, length-append h (e ∷ []));
-  room = let d = owes in omega arith;
-  mark_room = let d = owes in omega arith;
-}
-  where
-    h : List Event
-    h = a.history.events
-
     e : Event
     e = Open place kind
 
-    next : MayFollow h e
-    next = opening_follows h place kind r.upheld.plain r.upheld.settled may.plain may.free may.few
+    law : IsLawful h
+    law = (lawful_parts h e lawful).0
 
-    owes : debt (h ++ e ∷ []) ≡ debt h + 1
-    owes = debt-open h place kind r.upheld.lawful r.upheld.plain may.plain next
+    next : MayFollow h e
+    next = (lawful_parts h e lawful).1
+
+    leaves : LeavesAll e
+    leaves = opening_leaves place kind plain

@@ -1,40 +1,30 @@
--- The way up from a node.
-use Rattle.std.proofs.Common.{◌≡◌, ℕ, zero, suc, ◌<◌, true, false, List, [], Option, Some, None, refl, ap, arith, ◌==◌, ◌⊎◌, inl, inr}
-use Rattle.std.proofs.Math.Bool.{not}
-use Rattle.std.specs.List.{list_all}
-use Rattle.std.specs.Option.{option_map_or}
-use Rattle.std.proofs.lemmas.Bool.{cases_Bool, eq-eqb, eqb-true, both_ways, and_parts, and_from, not_from_false}
+-- The way up, key by key.
+use Rattle.std.proofs.Common.{◌≡◌, ℕ, ◌<◌, nat_lt, List, Some, None, IsSome, sym, ◌∙◌}
+use Rattle.std.proofs.lemmas.Bool.{ltb-true}
+use Rattle.std.proofs.lemmas.Option.{cond_some, option_and_then_some}
+use Rattle.rx_resource.specs.declared.Resource.{Ghosts}
 use Rattle.rx_event.specs.declared.event.Event.{Event}
-use Rattle.rx_event.specs.Tree.{parent, ancestors}
-use Rattle.rx_event.specs.Laws.Parents.{ancestors_step, parent-lt}
-use Rattle.rx_event.specs.Laws.Openness.{self_tested}
-use Rattle.rx_book.specs.Ties.{top}
+use Rattle.rx_event.specs.Events.{parent_named}
+use Rattle.rx_event.specs.Tree.{if_less}
+use Rattle.rx_slots.specs.declared.Key.{Key}
+use Rattle.rx_slots.specs.Slots.{find}
+use Rattle.rx_tree.specs.Tree.{Tree, named_above, parent_number}
+use Rattle.rx_register.specs.Kept.{top_of}
+use Rattle.rx_book.specs.Shelved.{IsShelved}
+use Rattle.rx_book.proofs.Climbs.{some_of, parent_in_tree}
+use Rattle.rx_book.proofs.Upward.{top_of_root, top_of_parent}
 
--- the way up from the node above leads to the same end
-pub top_above : (h : List Event) (n p : ℕ) → parent h n ≡ Some p → top h n ≡ top h p
-top_above h n p below = rw (ancestors_step h n, below, ancestors_step h p) refl
+module _ {T : Type 0} where
+  -- the node above has the smaller number
+  pub above_less : (tree : Tree T) (key : Key) (p : ℕ) → parent_number tree key ≡ Some p → p < key.number
+  above_less tree key p e =
+      option_and_then_some (named_above key.number) (find tree key) p e (λ node a b. option_and_then_some (if_less key.number) (parent_named node.made) p b (λ x c d. let w = cond_some (nat_lt x key.number) x p d in rw (← w.1) (ltb-true x key.number w.0)))
 
--- where no node is above, it ends
-pub top_end : (h : List Event) (n : ℕ) → parent h n ≡ None → top h n ≡ n
-top_end h n below = rw (ancestors_step h n, below) refl
+  module _ (g : Ghosts T) (h : List Event) (tree : Tree T) (ws : List (ℕ × T)) (shelved : IsShelved g h tree ws) (key : Key) (there : IsSome (find tree key)) where
+    -- the way goes on from the node above
+    pub top_from_above : (p : ℕ) → parent_number tree key ≡ Some p → top_of h key.number ≡ top_of h p
+    top_from_above p named = let found = some_of (find tree key) there in top_of_parent h key.number p (sym (parent_in_tree g h tree ws key found.0 shelved found.1) ∙ named)
 
-apart_within : (k : ℕ) (h : List Event) (q p n : ℕ) → n < k → parent h q ≡ Some p → list_all (λ a. not (p == a)) (ancestors h n) ≡ true → list_all (λ a. not (q == a)) (ancestors h n) ≡ true
-apart_within zero h q p n l below apart = absurd (omega arith)
-apart_within (suc k) h q p n l below apart = rw (ancestors_step h n) (and_from _ _ (not_from_false _ (here (cases_Bool (q == n)))) (above (λ m s. apart_within k h q p m s below) (parent h n) refl)) where
-  parts : (not (p == n) ≡ true) × (list_all (λ a. not (p == a)) (option_map_or (ancestors h) (parent h n) []) ≡ true)
-  parts = and_parts _ _ (rw (ancestors_step h n) at apart)
-
-  here : ((q == n) ≡ true) ⊎ ((q == n) ≡ false) → (q == n) ≡ false
-  here (inr other) = other
-  here (inl same) =
-      let up : parent h n ≡ Some p = rw (← eqb-true q n same) below in
-      let rest : list_all (λ a. not (p == a)) (ancestors h p) ≡ true = rw up at parts.1 in
-      absurd (both_ways _ (ap not (eq-eqb p p refl)) (self_tested h p (λ a. not (p == a)) rest))
-
-  above : ((m : ℕ) → m < k → list_all (λ a. not (p == a)) (ancestors h m) ≡ true → list_all (λ a. not (q == a)) (ancestors h m) ≡ true) → (o : Option ℕ) → parent h n ≡ o → list_all (λ a. not (q == a)) (option_map_or (ancestors h) o []) ≡ true
-  above before None up = refl
-  above before (Some m) up = let s = parent-lt h n m up in before m (omega arith) (rw up at parts.1)
-
--- what is not within a node is not within one below it
-pub apart : (h : List Event) (q p n : ℕ) → parent h q ≡ Some p → list_all (λ a. not (p == a)) (ancestors h n) ≡ true → list_all (λ a. not (q == a)) (ancestors h n) ≡ true
-apart h q p n = apart_within (suc n) h q p n (omega arith)
+    -- it ends where no node is above
+    pub top_here : parent_number tree key ≡ None → top_of h key.number ≡ key.number
+    top_here named = let found = some_of (find tree key) there in top_of_root h key.number (sym (parent_in_tree g h tree ws key found.0 shelved found.1) ∙ named)

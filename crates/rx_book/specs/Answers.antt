@@ -1,12 +1,13 @@
 -- What the answers of calls say.
-use Rattle.std.specs.Prelude.{◌≡◌, ℕ, ◌+◌, ◌<◌, Bool, true, false, Option, Some, None, List, length, if◌then◌else◌}
+use Rattle.std.specs.Prelude.{◌≡◌, ℕ, ◌+◌, ◌<◌, Bool, true, false, ◌&&◌, Option, Some, None, List, length, if◌then◌else◌}
 use Rattle.std.specs.List.{Contains}
 use Rattle.rx_event.specs.declared.event.Place.{Place}
 use Rattle.rx_event.specs.declared.event.Place.TheVariants.{Root, Source, Inner, Notifier}
 use Rattle.rx_event.specs.declared.refusal.Refusal.{Refusal}
 use Rattle.rx_event.specs.declared.event.Event.{Event}
 use Rattle.rx_event.specs.declared.event.Event.TheVariants.{Connect}
-use Rattle.rx_event.specs.Tree.{at}
+use Rattle.rx_event.specs.Events.{is_root}
+use Rattle.rx_event.specs.Tree.{at, is_open}
 use Rattle.rx_event.specs.Calls.{Call, IsStepOf}
 use Rattle.rx_event.specs.Refusals.{first_cause}
 use Rattle.rx_book.specs.declared.key.Key.{Key}
@@ -14,7 +15,8 @@ use Rattle.rx_book.specs.declared.key.ResKey.{ResKey}
 use Rattle.rx_book.specs.declared.answer.At.{At}
 use Rattle.rx_book.specs.declared.answer.At.TheVariants.{Root as AtRoot, Source as AtSource, Inner as AtInner, Notifier as AtNotifier}
 use Rattle.rx_book.specs.State.{State, has_key}
-use Rattle.rx_book.specs.Causes.{causes, by_key}
+use Rattle.rx_register.specs.Causes.{causes}
+use Rattle.rx_book.specs.Causes.{by_key, by_res_key}
 
 -- the place that a caller names by keys
 abbrev pub place_of : At → Place
@@ -34,6 +36,14 @@ is_known keys (AtNotifier k) = has_key keys k
 -- in is fresh
 abbrev pub against : State → Bool → Bool → Call → Refusal → Bool
 against s known is_fresh call = by_key known (causes s.history s.limit is_fresh call)
+
+-- and against a call by a resource's key: whether it is a held resource's
+abbrev pub against_use : State → Bool → Call → Refusal → Bool
+against_use s known call = by_res_key known (causes s.history s.limit true call)
+
+-- the node is a root, and open
+abbrev pub is_open_root : List Event → ℕ → Bool
+is_open_root h n = is_open h n && at is_root h n
 
 abbrev pub makes_connection : Event → Bool
 makes_connection (Connect hub) = true

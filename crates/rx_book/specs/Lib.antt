@@ -1,7 +1,5 @@
 pub mod State
 pub mod Causes
 pub mod Answers
-pub mod Plain
-pub mod Kept
-pub mod Ties
-pub mod Boxes
+pub mod Shown
+pub mod Shelved

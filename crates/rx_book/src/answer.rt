@@ -2,7 +2,6 @@
 
 use crate::key::{Key, ResKey};
 use rx_event::Refusal;
-use rx_note::Note;
 
 /// Where a node is to be opened, by the key of the node above it.
 #[derive(Clone, Copy, Debug, PartialEq, Eq)]
@@ -42,15 +41,4 @@ pub struct Refused<R> {
     pub why: Refusal,
     /// The resource, as it came.
     pub back: R,
-}
-
-/// A note for an observer.
-#[derive(Clone, Copy, Debug, PartialEq, Eq)]
-pub struct Mail {
-    /// The place of the event that gave it, from 0.
-    pub place: u64,
-    /// The number of the node that it goes to: of the root where the observer subscribed.
-    pub to: u64,
-    /// What it says.
-    pub note: Note,
 }

@@ -1,5 +1,10 @@
 //! Names of open nodes and held resources.
 
+ghost use Rattle.std.specs.Prelude.{◌≡◌};
+ghost use Rattle.rx_book.specs.Shown.{tree_key_of, tree_res_key_of, key_shown};
+
+use rx_stock::{Key as TreeKey, ResKey as TreeResKey};
+
 /// The key of an open node. It stays the node's key while the node is open, and is nobody's
 /// afterwards. One that was made up, or comes from another book, names the open node that has the
 /// same key, if there is one.
@@ -19,4 +24,34 @@ pub struct ResKey {
     pub slot: u64,
     /// The number of the resource: the place of the event that accepted it, from 0.
     pub number: u64,
+}
+
+/// The key as the stock has it.
+pub(crate) fn tree_key(key: Key) -> TreeKey
+    ensures { result ≡ tree_key_of key }
+{
+    TreeKey {
+        slot: key.slot as usize,
+        number: key.number,
+    }
+}
+
+/// The resource's key as the stock has it.
+pub(crate) fn tree_res_key(res: ResKey) -> TreeResKey
+    ensures { result ≡ tree_res_key_of res }
+{
+    TreeResKey {
+        slot: res.slot as usize,
+        number: res.number,
+    }
+}
+
+/// The key as callers have it.
+pub(crate) fn shown_key(key: TreeKey) -> Key
+    ensures { result ≡ key_shown key }
+{
+    Key {
+        slot: key.slot as u64,
+        number: key.number,
+    }
 }

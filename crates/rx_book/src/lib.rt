@@ -29,22 +29,32 @@
 //!   nothing, and gives a resource that was handed in back as it came. The refusals of each call, and
 //!   their order, are exact; that want of memory is given only where memory was really refused is
 //!   tested and not proved, as no contract can say what memory is left.
-//! - `end`, `dispose`, `take` and `take_mail` take no memory. They are refused for no want of room: each
-//!   opening call keeps room for all that closing needs.
-//! - A key is its node's as long as that is open, and nobody's afterwards, also where it was made up.
-//! - Which of several waiting resources is taken is left open.
+//! - `remove`, `end`, `abort`, `dispose`, `take` and `take_mail` take no memory. They are refused for no
+//!   want of room: each opening call keeps room for all that closing needs.
+//! - A key is its node's as long as that is open, and nobody's afterwards, also where it was made up or
+//!   its slot has another node now.
+//! - No call searches the history. What opening, holding, emitting and using cost does not grow with
+//!   what is closed or with the length of the history; an item goes up from its leaf to the root. A call
+//!   that closes goes over the slots of the nodes until nothing is left below. `take_mail` passes over
+//!   the events since the last note, each of them once in all. No contract speaks of time.
+//! - Which of several waiting resources is taken is left open, and so is the word that a resource answers.
 //! - A book that is dropped drops its resources unreleased.
 //! - There are leaves and mirroring nodes so far: other kinds, and inner and notifier places, are refused
 //!   `WrongKind`.
 #![tactic(auto)]
 
+mod admission;
 mod answer;
 mod book;
+mod ending;
+mod holding;
 mod key;
-mod register;
+mod opening;
+mod standing;
 #[cfg(test)]
 mod tests;
 
-pub use answer::{At, Mail, Opened, OpenedUsing, Refused};
+pub use answer::{At, Opened, OpenedUsing, Refused};
 pub use book::Book;
 pub use key::{Key, ResKey};
+pub use rx_register::Mail;

@@ -10,7 +10,7 @@ use Rattle.rx_event.specs.Calls.{Call}
 use Rattle.rx_event.specs.Refusals.{first_cause}
 use Rattle.rx_book.specs.State.{State, IsKept}
 use Rattle.rx_book.specs.Causes.{by_key}
-use Rattle.rx_book.specs.Answers.{against, Accepts}
+use Rattle.rx_book.specs.Answers.{Accepts}
 use Rattle.rx_script.specs.declared.answer.Answer.{Answer}
 use Rattle.rx_script.specs.declared.answer.Answer.TheVariants.{Accepted, Refused}
 use Rattle.rx_script.specs.declared.answer.Cause.{Cause}
@@ -28,9 +28,9 @@ pub first_cause-by_key : (known : Bool) (stands : Refusal → Bool) → (known �
 first_cause-by_key true stands gone = refl
 first_cause-by_key false stands gone = let stands_gone : stands Gone ≡ true = gone refl in rw stands_gone refl
 
--- a book's causes against a call by a key are those of the numbers
-pub record Agrees (s : State) (known is_fresh : Bool) (stage : Stage) (call : Call) : Type 0 where
-  pub same : first_cause (against s known is_fresh call) ≡ book_cause s.limit stage call
+-- the first of the book's causes against a call by keys is that of the numbers
+pub record Agrees (s : State) (stands : Refusal → Bool) (stage : Stage) (call : Call) : Type 0 where
+  pub same : first_cause stands ≡ book_cause s.limit stage call
 
 -- the engine with another book and stock
 abbrev pub with : {R : Type 0} → Engine R → State → Shelf → Engine R
@@ -52,20 +52,20 @@ pub refused_own : {R : Type 0} (e : Engine R) (step : Step) (why : Cause) (book 
     → own_cause (stage_of e) step ≡ Some why → Carries e step (Refused why) (with e book stock)
 refused_own e step why book stock sound same_book same_stock own = unchanged e step (Refused why) book stock sound same_book same_stock (refused own)
 
-pub refused_there : {R : Type 0} (e : Engine R) (step : Step) (call : Call) (known is_fresh : Bool) (why : Refusal) (book : State) (stock : Shelf) → IsSound e → book ≡ e.book → stock.wares ≡ e.stock.wares
-    → own_cause (stage_of e) step ≡ None → call_of (stage_of e) step ≡ Some call → Agrees e.book known is_fresh (stage_of e) call
-    → first_cause (against e.book known is_fresh call) ≡ Some why → Carries e step (Refused (Book why)) (with e book stock)
-refused_there e step call known is_fresh why book stock sound same_book same_stock own called agrees cause =
+pub refused_there : {R : Type 0} (e : Engine R) (step : Step) (call : Call) (stands : Refusal → Bool) (why : Refusal) (book : State) (stock : Shelf) → IsSound e → book ≡ e.book → stock.wares ≡ e.stock.wares
+    → own_cause (stage_of e) step ≡ None → call_of (stage_of e) step ≡ Some call → Agrees e.book stands (stage_of e) call
+    → first_cause stands ≡ Some why → Carries e step (Refused (Book why)) (with e book stock)
+refused_there e step call stands why book stock sound same_book same_stock own called agrees cause =
     unchanged e step (Refused (Book why)) book stock sound same_book same_stock (refused_by_book own called (sym agrees.same ∙ cause))
 
 -- an accepted call, after which the names are these
-pub accepted_to : {R : Type 0} (e new : Engine R) (step : Step) (call : Call) (known is_fresh : Bool) → IsSound e → IsKept new.book
-    → own_cause (stage_of e) step ≡ None → call_of (stage_of e) step ≡ Some call → Agrees e.book known is_fresh (stage_of e) call
-    → Accepts e.book (against e.book known is_fresh call) call new.book
+pub accepted_to : {R : Type 0} (e new : Engine R) (step : Step) (call : Call) (stands : Refusal → Bool) → IsSound e → IsKept new.book
+    → own_cause (stage_of e) step ≡ None → call_of (stage_of e) step ≡ Some call → Agrees e.book stands (stage_of e) call
+    → Accepts e.book stands call new.book
     → stage_of new ≡ after (stage_of e) step new.book.history
     → All (λ n. IsNodeKey new.book n.key) new.nodes.items → All (λ n. IsHeldKey new.book n.key) new.resources.items → new.faults ≡ e.faults
     → Carries e step Accepted new
-accepted_to e new step call known is_fresh sound kept own called agrees accepts staged nodes resources same_faults = record {
+accepted_to e new step call stands sound kept own called agrees accepts staged nodes resources same_faults = record {
   executes = subst (λ s. Executes e.book.limit (stage_of e) step Accepted s) (sym staged) (accepted own called (sym agrees.same ∙ accepts.no_cause) accepts.step);
   sound = record {
     kept = kept;
@@ -78,14 +78,14 @@ accepted_to e new step call known is_fresh sound kept own called agrees accepts 
 }
 
 -- a call that binds no names
-pub accepted_plain : {R : Type 0} (e : Engine R) (step : Step) (call : Call) (known is_fresh : Bool) (book : State) → IsSound e → IsKept book
-    → own_cause (stage_of e) step ≡ None → call_of (stage_of e) step ≡ Some call → Agrees e.book known is_fresh (stage_of e) call
-    → Accepts e.book (against e.book known is_fresh call) call book
+pub accepted_plain : {R : Type 0} (e : Engine R) (step : Step) (call : Call) (stands : Refusal → Bool) (book : State) → IsSound e → IsKept book
+    → own_cause (stage_of e) step ≡ None → call_of (stage_of e) step ≡ Some call → Agrees e.book stands (stage_of e) call
+    → Accepts e.book stands call book
     → ((k : List Event) → after (stage_of e) step k ≡ record (stage_of e) { history = k })
     → Carries e step Accepted (with e book e.stock)
-accepted_plain e step call known is_fresh book sound kept own called agrees accepts plain =
+accepted_plain e step call stands book sound kept own called agrees accepts plain =
     let goes = accepted_continues e.book book _ call accepts in
-    accepted_to e (with e book e.stock) step call known is_fresh sound kept own called agrees accepts (sym (plain book.history))
+    accepted_to e (with e book e.stock) step call stands sound kept own called agrees accepts (sym (plain book.history))
     (node_keys_kept e.book book e.nodes.items sound.kept kept goes sound.nodes) (held_keys_kept e.book book e.resources.items sound.kept kept goes sound.resources) refl
 
 -- taking and releasing all that waits

@@ -30,7 +30,7 @@ use Rattle.rx_event.specs.Laws.Totals.{accepted_count-parts}
 use Rattle.rx_book.specs.declared.key.Key.{Key}
 use Rattle.rx_book.specs.State.{State, AreJust, IsKept, has_key}
 use Rattle.rx_book.specs.Answers.{against, Accepts}
-use Rattle.rx_book.specs.Kept.{is_open_root}
+use Rattle.rx_book.specs.Answers.{is_open_root}
 use Rattle.rx_script.specs.Course.{Takes, none_taken, next_taken}
 use Rattle.rx_script.proofs.Going.{count_by-append, step_longer}
 

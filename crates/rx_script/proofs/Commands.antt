@@ -1,5 +1,5 @@
 -- Each command, carried out by an engine.
-use Rattle.std.proofs.Common.{◌≡◌, ℕ, ℤ, List, Bool, true, refl, sym, ap, subst, ◌∙◌, cond, inl, inr}
+use Rattle.std.proofs.Common.{◌≡◌, ℕ, ℤ, List, Bool, true, false, refl, sym, ap, subst, ◌∙◌, cond, inl, inr}
 use Rattle.std.specs.Prelude.{◌≢◌, Some, None, Result, Ok, Err, IfOk, is_none, option_map}
 use Rattle.std.proofs.Math.Bool.{not}
 use Rattle.std.specs.declared.alloc.AllocError.{AllocError}
@@ -8,21 +8,24 @@ use Rattle.rx_event.specs.declared.event.Event.{Event}
 use Rattle.rx_event.specs.declared.refusal.Refusal.{Refusal}
 use Rattle.rx_event.specs.declared.refusal.Refusal.TheVariants.{Gone, NoMemory}
 use Rattle.rx_event.specs.Tree.{is_open}
-use Rattle.rx_event.specs.Calls.{Call, Emitting, Ending, Disposing}
+use Rattle.rx_event.specs.Resources.{is_held}
+use Rattle.rx_event.specs.Calls.{Call, Applying, Removing, Emitting, Ending, Aborting, Disposing}
 use Rattle.rx_event.specs.Refusals.{first_cause, IsRefusal}
 use Rattle.rx_book.specs.declared.key.Key.{Key}
-use Rattle.rx_book.specs.State.{State, IsKept, has_key}
-use Rattle.rx_book.specs.Causes.{causes, by_key}
-use Rattle.rx_book.specs.Answers.{against, Accepts}
+use Rattle.rx_book.specs.declared.key.ResKey.{ResKey}
+use Rattle.rx_book.specs.State.{State, IsKept, has_key, has_res_key}
+use Rattle.rx_register.specs.Causes.{causes}
+use Rattle.rx_book.specs.Causes.{by_key, by_res_key}
+use Rattle.rx_book.specs.Answers.{against, against_use, Accepts}
 use Rattle.rx_script.specs.declared.answer.Answer.{Answer}
 use Rattle.rx_script.specs.declared.answer.Answer.TheVariants.{Accepted, Refused}
 use Rattle.rx_script.specs.declared.answer.Cause.TheVariants.{NoName, Book}
 use Rattle.rx_script.specs.declared.engine.Engine.{Engine}
-use Rattle.rx_script.specs.Scenario.{Name, Step, next, end, dispose}
+use Rattle.rx_script.specs.Scenario.{Name, Step, apply, remove, next, end, abort, dispose}
 use Rattle.rx_script.specs.Stage.{Stage, bound, is_unbound, own_cause, call_of, front_is_fresh, after}
-use Rattle.rx_script.specs.Engine.{key_of, stage_of, IsNodeKey, IsSound, Carries}
-use Rattle.rx_script.proofs.Keys.{has_key-is_open}
-use Rattle.rx_script.proofs.Names.{key_of-holds, node_bound, node_unbound}
+use Rattle.rx_script.specs.Engine.{key_of, stage_of, IsNodeKey, IsHeldKey, IsSound, Carries}
+use Rattle.rx_script.proofs.Keys.{has_key-is_open, has_res_key-is_held}
+use Rattle.rx_script.proofs.Names.{key_of-holds, node_bound, node_unbound, res_bound, res_unbound}
 use Rattle.rx_script.proofs.Carrying.{Agrees, first_cause-by_key, with, refused_own, refused_there, accepted_plain}
 
 -- refusals by the book -----------------------------------------------------------------------------
@@ -51,6 +54,9 @@ next_step node value = record { own = λ s. refl; called = λ s. refl; binds_non
 pub end_step : (node : Name) (t : Terminal) → IsNodeStep (end node t) node (λ n. Ending n t)
 end_step node t = record { own = λ s. refl; called = λ s. refl; binds_none = λ s k. refl; gone = λ h limit f n. refl; any_front = λ h limit f n. refl }
 
+pub abort_step : (node : Name) (code : ℕ) → IsNodeStep (abort node code) node (λ n. Aborting n code)
+abort_step node code = record { own = λ s. refl; called = λ s. refl; binds_none = λ s k. refl; gone = λ h limit f n. refl; any_front = λ h limit f n. refl }
+
 pub dispose_step : (node : Name) → IsNodeStep (dispose node) node Disposing
 dispose_step node = record { own = λ s. refl; called = λ s. refl; binds_none = λ s k. refl; gone = λ h limit f n. refl; any_front = λ h limit f n. refl }
 
@@ -73,7 +79,7 @@ module _ {R : Type 0} (e : Engine R) {step : Step} {name : Name} {call : ℕ →
     known : has_key e.book.keys k ≡ is_open e.book.history k.number
     known = has_key-is_open e.book k sound.kept (key_of-holds (IsNodeKey e.book) e.nodes.items name k sound.nodes named)
 
-    agrees : Agrees e.book (has_key e.book.keys k) true (stage_of e) (call k.number)
+    agrees : Agrees e.book (against e.book (has_key e.book.keys k) true (call k.number)) (stage_of e) (call k.number)
     agrees = record {
       same =
           ap (λ stands. first_cause (by_key (has_key e.book.keys k) stands)) (is_step.any_front e.book.history e.book.limit (front_is_fresh (stage_of e)) k.number)
@@ -82,7 +88,61 @@ module _ {R : Type 0} (e : Engine R) {step : Step} {name : Name} {call : ℕ →
     }
 
     pub node_refused : (book : State) (why : Refusal) → book ≡ e.book → IsRefusal (against e.book (has_key e.book.keys k) true (call k.number)) why → why ≢ NoMemory → Carries e step (Refused (Book why)) (with e book e.stock)
-    node_refused book why same refusal other = refused_there e step (call k.number) (has_key e.book.keys k) true why book e.stock sound same refl no_own_cause called agrees (cause_of (against e.book (has_key e.book.keys k) true (call k.number)) why refusal other)
+    node_refused book why same refusal other = refused_there e step (call k.number) (against e.book (has_key e.book.keys k) true (call k.number)) why book e.stock sound same refl no_own_cause called agrees (cause_of (against e.book (has_key e.book.keys k) true (call k.number)) why refusal other)
 
     pub node_accepted : (book : State) → IsKept book → Accepts e.book (against e.book (has_key e.book.keys k) true (call k.number)) (call k.number) book → Carries e step Accepted (with e book e.stock)
-    node_accepted book kept accepts = accepted_plain e step (call k.number) (has_key e.book.keys k) true book sound kept no_own_cause called agrees accepts (is_step.binds_none (stage_of e))
+    node_accepted book kept accepts = accepted_plain e step (call k.number) (against e.book (has_key e.book.keys k) true (call k.number)) book sound kept no_own_cause called agrees accepts (is_step.binds_none (stage_of e))
+
+-- commands that name one resource ------------------------------------------------------------------
+
+-- the step makes this call of the resource with this name, and binds nothing
+pub record IsResStep (step : Step) (name : Name) (call : ℕ → Call) : Type 0 where
+  pub own : (s : Stage) → own_cause s step ≡ cond (is_unbound s.resources name) (Some NoName) None
+  pub called : (s : Stage) → call_of s step ≡ option_map call (bound s.resources name)
+  pub binds_none : (s : Stage) (k : List Event) → after s step k ≡ record s { history = k }
+  -- to look for the key is to look whether the resource is held
+  pub same_cause : (known : Bool) (h : List Event) (limit : ℕ) (is_fresh : Bool) (n : ℕ) → known ≡ is_held h n → first_cause (by_res_key known (causes h limit true (call n))) ≡ first_cause (causes h limit is_fresh (call n))
+
+apply_same_cause : (known : Bool) (h : List Event) (limit : ℕ) (is_fresh : Bool) (n : ℕ) → known ≡ is_held h n → first_cause (by_res_key known (causes h limit true (Applying n))) ≡ first_cause (causes h limit is_fresh (Applying n))
+apply_same_cause true h limit f n same = refl
+apply_same_cause false h limit f n same = let not_held : is_held h n ≡ false = sym same in rw not_held refl
+
+remove_same_cause : (known : Bool) (h : List Event) (limit : ℕ) (is_fresh : Bool) (n : ℕ) → known ≡ is_held h n → first_cause (by_res_key known (causes h limit true (Removing n))) ≡ first_cause (causes h limit is_fresh (Removing n))
+remove_same_cause true h limit f n same = refl
+remove_same_cause false h limit f n same = let not_held : is_held h n ≡ false = sym same in rw not_held refl
+
+pub apply_step : (res : Name) (word : ℕ) → IsResStep (apply res word) res Applying
+apply_step res word = record { own = λ s. refl; called = λ s. refl; binds_none = λ s k. refl; same_cause = apply_same_cause }
+
+pub remove_step : (res : Name) → IsResStep (remove res) res Removing
+remove_step res = record { own = λ s. refl; called = λ s. refl; binds_none = λ s k. refl; same_cause = remove_same_cause }
+
+module _ {R : Type 0} (e : Engine R) {step : Step} {name : Name} {call : ℕ → Call} (is_step : IsResStep step name call) (sound : IsSound e) where
+  pub res_nameless : key_of e.resources.items name ≡ None → Carries e step (Refused NoName) (with e e.book e.stock)
+  res_nameless none =
+      let nameless : is_unbound (stage_of e).resources name ≡ true = ap is_none (res_unbound e.resources.items name none) in
+      refused_own e step NoName e.book e.stock sound refl refl (is_step.own (stage_of e) ∙ ap (λ b. cond b (Some NoName) None) nameless)
+
+  module _ (k : ResKey) (named : key_of e.resources.items name ≡ Some k) where
+    res_number : bound (stage_of e).resources name ≡ Some k.number
+    res_number = res_bound e.resources.items name k named
+
+    res_no_own_cause : own_cause (stage_of e) step ≡ None
+    res_no_own_cause = is_step.own (stage_of e) ∙ ap (λ o. cond (is_none o) (Some NoName) None) res_number
+
+    res_called : call_of (stage_of e) step ≡ Some (call k.number)
+    res_called = is_step.called (stage_of e) ∙ ap (option_map call) res_number
+
+    res_known : has_res_key e.book.res_keys k ≡ is_held e.book.history k.number
+    res_known = has_res_key-is_held e.book k sound.kept (key_of-holds (IsHeldKey e.book) e.resources.items name k sound.resources named)
+
+    res_agrees : Agrees e.book (against_use e.book (has_res_key e.book.res_keys k) (call k.number)) (stage_of e) (call k.number)
+    res_agrees = record { same = is_step.same_cause (has_res_key e.book.res_keys k) e.book.history e.book.limit (front_is_fresh (stage_of e)) k.number res_known }
+
+    pub res_refused : (book : State) (why : Refusal) → book ≡ e.book → IsRefusal (against_use e.book (has_res_key e.book.res_keys k) (call k.number)) why → why ≢ NoMemory → Carries e step (Refused (Book why)) (with e book e.stock)
+    res_refused book why same refusal other =
+        refused_there e step (call k.number) (against_use e.book (has_res_key e.book.res_keys k) (call k.number)) why book e.stock sound same refl res_no_own_cause res_called res_agrees
+        (cause_of (against_use e.book (has_res_key e.book.res_keys k) (call k.number)) why refusal other)
+
+    pub res_accepted : (book : State) → IsKept book → Accepts e.book (against_use e.book (has_res_key e.book.res_keys k) (call k.number)) (call k.number) book → Carries e step Accepted (with e book e.stock)
+    res_accepted book kept accepts = accepted_plain e step (call k.number) (against_use e.book (has_res_key e.book.res_keys k) (call k.number)) book sound kept res_no_own_cause res_called res_agrees accepts (is_step.binds_none (stage_of e))

@@ -7,9 +7,9 @@ use Rattle.std.proofs.lemmas.Grind.{flat_map-append}
 use Rattle.rx_event.specs.declared.event.Event.{Event}
 use Rattle.rx_event.specs.Tree.{at, is_open}
 use Rattle.rx_event.specs.Notes.{Mail, notes}
-use Rattle.rx_book.specs.declared.answer.Mail.{Mail as Letter}
+use Rattle.rx_register.specs.declared.mail.Mail.{Mail as Letter}
 use Rattle.rx_book.specs.State.{State}
-use Rattle.rx_book.specs.Kept.{letter}
+use Rattle.rx_register.specs.Kept.{letter}
 use Rattle.rx_book.specs.declared.key.Key.{Key}
 use Rattle.rx_script.specs.declared.engine.Named.{Named}
 use Rattle.rx_script.specs.Engine.{name_of, node_binding}

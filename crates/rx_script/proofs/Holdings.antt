@@ -12,7 +12,7 @@ use Rattle.rx_book.specs.declared.key.Key.{Key}
 use Rattle.rx_book.specs.declared.key.ResKey.{ResKey}
 use Rattle.rx_book.specs.declared.answer.At.{At}
 use Rattle.rx_book.specs.State.{State, IsKept, has_key, has_res_key}
-use Rattle.rx_book.specs.Causes.{causes}
+use Rattle.rx_register.specs.Causes.{causes}
 use Rattle.rx_book.specs.Answers.{against, Accepts, place_of, is_known}
 use Rattle.rx_script.specs.declared.answer.Answer.TheVariants.{Accepted, Refused}
 use Rattle.rx_script.specs.declared.answer.Cause.TheVariants.{NoName, NameTaken, NoStock, Book}
@@ -44,7 +44,7 @@ module _ {R : Type 0} (e : Engine R) (w : Ware) (rest : List Ware) (stocked : e.
   rest_stocked = ap (drop 1) stocked
 
   -- the causes look at that resource
-  pub agrees_stocked : (known : Bool) (call : Call) → (known ≡ false → causes e.book.history e.book.limit w.is_fresh call Rattle.rx_event.specs.declared.refusal.Refusal.TheVariants.Gone ≡ true) → Agrees e.book known w.is_fresh (stage_of e) call
+  pub agrees_stocked : (known : Bool) (call : Call) → (known ≡ false → causes e.book.history e.book.limit w.is_fresh call Rattle.rx_event.specs.declared.refusal.Refusal.TheVariants.Gone ≡ true) → Agrees e.book (against e.book known w.is_fresh call) (stage_of e) call
   agrees_stocked known call gone = record {
     same = first_cause-by_key known (causes e.book.history e.book.limit w.is_fresh call) gone ∙ ap (λ f. first_cause (causes e.book.history e.book.limit f call)) (sym fresh_stocked);
   }
@@ -89,13 +89,13 @@ module _ {R : Type 0} (e : Engine R) (name : Name) (spot : Spot) (res : Name) (s
             let in_front = front_stocked e w rest stocked in
             rw (placed, in_front) refl
 
-        agrees : Agrees e.book (is_known e.book.keys place) w.is_fresh (stage_of e) (OpeningUsing (place_of place) w.tag)
+        agrees : Agrees e.book (against e.book (is_known e.book.keys place) w.is_fresh (OpeningUsing (place_of place) w.tag)) (stage_of e) (OpeningUsing (place_of place) w.tag)
         agrees = agrees_stocked e w rest stocked (is_known e.book.keys place) (OpeningUsing (place_of place) w.tag) facts.gone
 
         pub using_refused : (book : State) (stock : Shelf) (why : Refusal) → book ≡ e.book → stock.wares ≡ e.stock.wares → IsRefusal (against e.book (is_known e.book.keys place) w.is_fresh (OpeningUsing (place_of place) w.tag)) why → why ≢ NoMemory
             → Carries e (using name spot res) (Refused (Book why)) (with e book stock)
         using_refused book stock why same same_stock refusal other =
-            refused_there e (using name spot res) (OpeningUsing (place_of place) w.tag) (is_known e.book.keys place) w.is_fresh why book stock sound same same_stock no_own_cause called agrees
+            refused_there e (using name spot res) (OpeningUsing (place_of place) w.tag) (against e.book (is_known e.book.keys place) w.is_fresh (OpeningUsing (place_of place) w.tag)) why book stock sound same same_stock no_own_cause called agrees
             (cause_of (against e.book (is_known e.book.keys place) w.is_fresh (OpeningUsing (place_of place) w.tag)) why refusal other)
 
         pub using_accepted : (new : Engine R) (x : Named Key) (y : Named ResKey) → IsKept new.book
@@ -104,7 +104,7 @@ module _ {R : Type 0} (e : Engine R) (name : Name) (spot : Spot) (res : Name) (s
             → new.nodes.items ≡ e.nodes.items ++ x ∷ [] → new.resources.items ≡ e.resources.items ++ y ∷ [] → new.stock.wares ≡ rest → new.faults ≡ e.faults → Carries e (using name spot res) Accepted new
         using_accepted new x y kept accepts number listed same_name res_number res_listed same_res pushed res_pushed same_stock same_faults =
             let goes = accepted_continues e.book new.book _ (OpeningUsing (place_of place) w.tag) accepts in
-            accepted_to e new (using name spot res) (OpeningUsing (place_of place) w.tag) (is_known e.book.keys place) w.is_fresh sound kept no_own_cause called agrees accepts
+            accepted_to e new (using name spot res) (OpeningUsing (place_of place) w.tag) (against e.book (is_known e.book.keys place) w.is_fresh (OpeningUsing (place_of place) w.tag)) sound kept no_own_cause called agrees accepts
             (same_stage new.book.history _ _ _ _ _ _
             (nodes_bound e.nodes.items new.nodes.items x (length e.book.history) pushed number ∙ ap (λ n. with_binding (map node_binding e.nodes.items) n (length e.book.history)) same_name)
             (resources_bound e.resources.items new.resources.items y (length e.book.history + 1) res_pushed res_number ∙ ap (λ n. with_binding (map res_binding e.resources.items) n (length e.book.history + 1)) same_res)
@@ -155,13 +155,13 @@ module _ {R : Type 0} (e : Engine R) (node : Name) (res : Name) (sound : IsSound
         hold_known : has_key e.book.keys k ≡ is_open e.book.history k.number
         hold_known = has_key-is_open e.book k sound.kept (key_of-holds (IsNodeKey e.book) e.nodes.items node k sound.nodes at)
 
-        hold_agrees : Agrees e.book (has_key e.book.keys k) w.is_fresh (stage_of e) (Holding k.number w.tag)
+        hold_agrees : Agrees e.book (against e.book (has_key e.book.keys k) w.is_fresh (Holding k.number w.tag)) (stage_of e) (Holding k.number w.tag)
         hold_agrees = agrees_stocked e w rest stocked (has_key e.book.keys k) (Holding k.number w.tag) (λ unknown. ap not (sym hold_known ∙ unknown))
 
         pub hold_refused : (book : State) (stock : Shelf) (why : Refusal) → book ≡ e.book → stock.wares ≡ e.stock.wares → IsRefusal (against e.book (has_key e.book.keys k) w.is_fresh (Holding k.number w.tag)) why → why ≢ NoMemory
             → Carries e (hold node res) (Refused (Book why)) (with e book stock)
         hold_refused book stock why same same_stock refusal other =
-            refused_there e (hold node res) (Holding k.number w.tag) (has_key e.book.keys k) w.is_fresh why book stock sound same same_stock hold_no_own_cause hold_called hold_agrees
+            refused_there e (hold node res) (Holding k.number w.tag) (against e.book (has_key e.book.keys k) w.is_fresh (Holding k.number w.tag)) why book stock sound same same_stock hold_no_own_cause hold_called hold_agrees
             (cause_of (against e.book (has_key e.book.keys k) w.is_fresh (Holding k.number w.tag)) why refusal other)
 
         pub hold_accepted : (new : Engine R) (y : Named ResKey) → IsKept new.book → Accepts e.book (against e.book (has_key e.book.keys k) w.is_fresh (Holding k.number w.tag)) (Holding k.number w.tag) new.book
@@ -169,7 +169,7 @@ module _ {R : Type 0} (e : Engine R) (node : Name) (res : Name) (sound : IsSound
             → new.nodes.items ≡ e.nodes.items → new.resources.items ≡ e.resources.items ++ y ∷ [] → new.stock.wares ≡ rest → new.faults ≡ e.faults → Carries e (hold node res) Accepted new
         hold_accepted new y kept accepts number listed same_res same_nodes pushed same_stock same_faults =
             let goes = accepted_continues e.book new.book _ (Holding k.number w.tag) accepts in
-            accepted_to e new (hold node res) (Holding k.number w.tag) (has_key e.book.keys k) w.is_fresh sound kept hold_no_own_cause hold_called hold_agrees accepts
+            accepted_to e new (hold node res) (Holding k.number w.tag) (against e.book (has_key e.book.keys k) w.is_fresh (Holding k.number w.tag)) sound kept hold_no_own_cause hold_called hold_agrees accepts
             (same_stage new.book.history _ _ _ _ _ _ (ap (map node_binding) same_nodes)
             (resources_bound e.resources.items new.resources.items y (length e.book.history) pushed number ∙ ap (λ n. with_binding (map res_binding e.resources.items) n (length e.book.history)) same_res)
             (same_stock ∙ sym (rest_stocked e w rest stocked)))

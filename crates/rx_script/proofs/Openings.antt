@@ -17,7 +17,7 @@ use Rattle.rx_book.specs.declared.key.ResKey.{ResKey}
 use Rattle.rx_book.specs.declared.answer.At.{At}
 use Rattle.rx_book.specs.declared.answer.At.TheVariants.{Root as AtRoot, Source as AtSource}
 use Rattle.rx_book.specs.State.{State, IsKept, has_key, has_res_key}
-use Rattle.rx_book.specs.Causes.{causes, is_gone}
+use Rattle.rx_register.specs.Causes.{causes, is_gone}
 use Rattle.rx_book.specs.Answers.{against, Accepts, place_of, is_known}
 use Rattle.rx_script.specs.declared.answer.Answer.TheVariants.{Accepted, Refused}
 use Rattle.rx_script.specs.declared.answer.Cause.TheVariants.{NoName, NameTaken, Book}
@@ -137,13 +137,13 @@ module _ {R : Type 0} (e : Engine R) (name : Name) (spot : Spot) (kind : Kind) (
       called : call_of (stage_of e) (open_node name spot kind) ≡ Some (Opening (place_of place) kind)
       called = ap (option_map (λ p. Opening p kind)) facts.placed
 
-      agrees : Agrees e.book (is_known e.book.keys place) true (stage_of e) (Opening (place_of place) kind)
+      agrees : Agrees e.book (against e.book (is_known e.book.keys place) true (Opening (place_of place) kind)) (stage_of e) (Opening (place_of place) kind)
       agrees = record { same = first_cause-by_key (is_known e.book.keys place) (causes e.book.history e.book.limit true (Opening (place_of place) kind)) facts.gone }
 
       pub open_refused : (book : State) (why : Refusal) → book ≡ e.book → IsRefusal (against e.book (is_known e.book.keys place) true (Opening (place_of place) kind)) why → why ≢ NoMemory
           → Carries e (open_node name spot kind) (Refused (Book why)) (with e book e.stock)
       open_refused book why same refusal other =
-          refused_there e (open_node name spot kind) (Opening (place_of place) kind) (is_known e.book.keys place) true why book e.stock sound same refl no_own_cause called agrees
+          refused_there e (open_node name spot kind) (Opening (place_of place) kind) (against e.book (is_known e.book.keys place) true (Opening (place_of place) kind)) why book e.stock sound same refl no_own_cause called agrees
           (cause_of (against e.book (is_known e.book.keys place) true (Opening (place_of place) kind)) why refusal other)
 
       pub open_accepted : (new : Engine R) (x : Named Key) → IsKept new.book → Accepts e.book (against e.book (is_known e.book.keys place) true (Opening (place_of place) kind)) (Opening (place_of place) kind) new.book
@@ -151,7 +151,7 @@ module _ {R : Type 0} (e : Engine R) (name : Name) (spot : Spot) (kind : Kind) (
           → Carries e (open_node name spot kind) Accepted new
       open_accepted new x kept accepts number listed same_name pushed same_resources same_stock same_faults =
           let goes = accepted_continues e.book new.book _ (Opening (place_of place) kind) accepts in
-          accepted_to e new (open_node name spot kind) (Opening (place_of place) kind) (is_known e.book.keys place) true sound kept no_own_cause called agrees accepts
+          accepted_to e new (open_node name spot kind) (Opening (place_of place) kind) (against e.book (is_known e.book.keys place) true (Opening (place_of place) kind)) sound kept no_own_cause called agrees accepts
           (same_stage new.book.history _ _ _ _ _ _ (nodes_bound e.nodes.items new.nodes.items x (length e.book.history) pushed number ∙ ap (λ n. with_binding (map node_binding e.nodes.items) n (length e.book.history)) same_name) (ap (map res_binding) same_resources) same_stock)
           (all_pushed (λ n. IsNodeKey new.book n.key) e.nodes.items new.nodes.items x pushed (node_keys_kept e.book new.book e.nodes.items sound.kept kept goes sound.nodes) (new_node_key e.book new.book _ (Opening (place_of place) kind) x.key accepts number (omega arith) listed))
           (subst (All (λ n. IsHeldKey new.book n.key)) (sym same_resources) (held_keys_kept e.book new.book e.resources.items sound.kept kept goes sound.resources))

@@ -5,7 +5,7 @@ use Rattle.rx_event.specs.declared.refusal.Refusal.{Refusal}
 use Rattle.rx_event.specs.Resources.{waiting_resources}
 use Rattle.rx_event.specs.Calls.{Call, Taking, IsStepOf}
 use Rattle.rx_event.specs.Refusals.{first_cause}
-use Rattle.rx_book.specs.Causes.{causes}
+use Rattle.rx_register.specs.Causes.{causes}
 use Rattle.rx_script.specs.declared.answer.Answer.{Answer}
 use Rattle.rx_script.specs.declared.answer.Answer.TheVariants.{Accepted, Refused}
 use Rattle.rx_script.specs.declared.answer.Cause.{Cause}

@@ -9,7 +9,7 @@ use Rattle.rx_note.specs.declared.note.Terminal.{Terminal}
 use Rattle.rx_note.specs.declared.note.Terminal.TheVariants.{Completed, Error}
 use Rattle.rx_event.specs.declared.event.Kind.{Kind}
 use Rattle.rx_event.specs.declared.event.Kind.TheVariants.{Leaf, Pass}
-use Rattle.rx_script.specs.Scenario.{Name, Spot, root, source, Step, using, open_node, hold, next, end, dispose, drain, Script}
+use Rattle.rx_script.specs.Scenario.{Name, Spot, root, source, Step, using, open_node, hold, apply, remove, next, end, abort, dispose, drain, Script}
 
 -- members -----------------------------------------------------------------------------------------
 
@@ -54,13 +54,21 @@ name_in k d = option_and_then if_name (option_and_then as_str (get k d))
 unfoldable pub value_in : Data → Option ℤ
 value_in d = option_and_then as_i64 (option_and_then as_number (get (codes "value") d))
 
+-- the word
+unfoldable pub word_in : Data → Option ℕ
+word_in d = option_and_then as_u64 (option_and_then as_number (get (codes "word") d))
+
 -- an error's code fits 32 bits
-abbrev pub if_code : ℕ → Option Terminal
-if_code n = if nat_lt n (2 ^ 32) then Some (Error n) else None
+abbrev pub if_code : ℕ → Option ℕ
+if_code n = if nat_lt n (2 ^ 32) then Some n else None
+
+-- the error
+unfoldable pub code_in : Data → Option ℕ
+code_in d = option_and_then if_code (option_and_then as_u64 (option_and_then as_number (get (codes "error") d)))
 
 abbrev pub terminal_or : Option Data → Option Terminal
 terminal_or None = Some Completed
-terminal_or (Some d) = option_and_then if_code (option_and_then as_u64 (as_number d))
+terminal_or (Some d) = option_map Error (option_and_then if_code (option_and_then as_u64 (as_number d)))
 
 -- the error, if the member is there, else a completion
 unfoldable pub terminal_in : Data → Option Terminal
@@ -110,6 +118,18 @@ hold_of d =
     then option_and_then (λ n. option_map (hold n) (name_in (codes "res") d)) (name_in (codes "node") d)
     else None
 
+unfoldable pub apply_of : Data → Option Step
+apply_of d =
+    if is_object_of (codes "do" ∷ codes "res" ∷ codes "word" ∷ []) d
+    then option_and_then (λ r. option_map (apply r) (word_in d)) (name_in (codes "res") d)
+    else None
+
+unfoldable pub remove_of : Data → Option Step
+remove_of d =
+    if is_object_of (codes "do" ∷ codes "res" ∷ []) d
+    then option_map remove (name_in (codes "res") d)
+    else None
+
 unfoldable pub next_of : Data → Option Step
 next_of d =
     if is_object_of (codes "do" ∷ codes "node" ∷ codes "value" ∷ []) d
@@ -120,6 +140,12 @@ unfoldable pub end_of : Data → Option Step
 end_of d =
     if is_object_of (codes "do" ∷ codes "node" ∷ codes "error" ∷ []) d
     then option_and_then (λ n. option_map (end n) (terminal_in d)) (name_in (codes "node") d)
+    else None
+
+unfoldable pub abort_of : Data → Option Step
+abort_of d =
+    if is_object_of (codes "do" ∷ codes "node" ∷ codes "error" ∷ []) d
+    then option_and_then (λ n. option_map (abort n) (code_in d)) (name_in (codes "node") d)
     else None
 
 unfoldable pub dispose_of : Data → Option Step
@@ -136,8 +162,11 @@ step_by what d =
     if bytes_eq what (codes "using") then using_of d
     else if bytes_eq what (codes "open") then open_of d
     else if bytes_eq what (codes "hold") then hold_of d
+    else if bytes_eq what (codes "apply") then apply_of d
+    else if bytes_eq what (codes "remove") then remove_of d
     else if bytes_eq what (codes "next") then next_of d
     else if bytes_eq what (codes "end") then end_of d
+    else if bytes_eq what (codes "abort") then abort_of d
     else if bytes_eq what (codes "dispose") then dispose_of d
     else if bytes_eq what (codes "drain") then drain_of d
     else None

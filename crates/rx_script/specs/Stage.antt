@@ -5,12 +5,12 @@ use Rattle.std.specs.Option.{option_map_or}
 use Rattle.rx_event.specs.declared.event.Place.{Place}
 use Rattle.rx_event.specs.declared.event.Place.TheVariants.{Root, Source}
 use Rattle.rx_event.specs.declared.event.Event.{Event}
-use Rattle.rx_event.specs.Calls.{Call, Opening, OpeningUsing, Holding, Emitting, Ending, Disposing}
+use Rattle.rx_event.specs.Calls.{Call, Opening, OpeningUsing, Holding, Applying, Removing, Emitting, Ending, Aborting, Disposing}
 use Rattle.rx_resource.specs.declared.Life.{Life}
-use Rattle.rx_book.specs.Boxes.{is_fresh_box}
+use Rattle.rx_book.specs.Shown.{is_fresh_box}
 use Rattle.rx_script.specs.declared.answer.Cause.{Cause}
 use Rattle.rx_script.specs.declared.answer.Cause.TheVariants.{NoName, NameTaken, NoStock}
-use Rattle.rx_script.specs.Scenario.{Name, Spot, root, source, Step, using, open_node, hold, next, end, dispose, drain}
+use Rattle.rx_script.specs.Scenario.{Name, Spot, root, source, Step, using, open_node, hold, apply, remove, next, end, abort, dispose, drain}
 
 -- a name, and the number of the node or resource that it stands for
 pub record Binding : Type 0 where
@@ -58,8 +58,11 @@ abbrev pub lacks_name : Stage → Step → Bool
 lacks_name s (using name spot res) = is_unbound_spot s spot
 lacks_name s (open_node name spot kind) = is_unbound_spot s spot
 lacks_name s (hold node res) = is_unbound s.nodes node
+lacks_name s (apply res word) = is_unbound s.resources res
+lacks_name s (remove res) = is_unbound s.resources res
 lacks_name s (next node value) = is_unbound s.nodes node
 lacks_name s (end node t) = is_unbound s.nodes node
+lacks_name s (abort node code) = is_unbound s.nodes node
 lacks_name s (dispose node) = is_unbound s.nodes node
 lacks_name s drain = false
 
@@ -68,8 +71,11 @@ abbrev pub takes_name : Stage → Step → Bool
 takes_name s (using name spot res) = is_bound s.nodes name || is_bound s.resources res
 takes_name s (open_node name spot kind) = is_bound s.nodes name
 takes_name s (hold node res) = is_bound s.resources res
+takes_name s (apply res word) = false
+takes_name s (remove res) = false
 takes_name s (next node value) = false
 takes_name s (end node t) = false
+takes_name s (abort node code) = false
 takes_name s (dispose node) = false
 takes_name s drain = false
 
@@ -82,8 +88,11 @@ abbrev pub lacks_stock : Stage → Step → Bool
 lacks_stock s (using name spot res) = is_empty s.stock
 lacks_stock s (open_node name spot kind) = false
 lacks_stock s (hold node res) = is_empty s.stock
+lacks_stock s (apply res word) = false
+lacks_stock s (remove res) = false
 lacks_stock s (next node value) = false
 lacks_stock s (end node t) = false
+lacks_stock s (abort node code) = false
 lacks_stock s (dispose node) = false
 lacks_stock s drain = false
 
@@ -113,8 +122,11 @@ abbrev pub call_of : Stage → Step → Option Call
 call_of s (using name spot res) = option_and_then (λ place. option_map (λ w. OpeningUsing place w.tag) (front s)) (place_at s spot)
 call_of s (open_node name spot kind) = option_map (λ place. Opening place kind) (place_at s spot)
 call_of s (hold node res) = option_and_then (λ n. option_map (λ w. Holding n w.tag) (front s)) (bound s.nodes node)
+call_of s (apply res word) = option_map Applying (bound s.resources res)
+call_of s (remove res) = option_map Removing (bound s.resources res)
 call_of s (next node value) = option_map (λ n. Emitting n value) (bound s.nodes node)
 call_of s (end node t) = option_map (λ n. Ending n t) (bound s.nodes node)
+call_of s (abort node code) = option_map (λ n. Aborting n code) (bound s.nodes node)
 call_of s (dispose node) = option_map Disposing (bound s.nodes node)
 call_of s drain = None
 
@@ -129,7 +141,10 @@ abbrev pub after : Stage → Step → List Event → Stage
 after s (using name spot res) k = record { history = k; nodes = with_binding s.nodes name (length s.history); resources = with_binding s.resources res (length s.history + 1); stock = drop 1 s.stock }
 after s (open_node name spot kind) k = record { history = k; nodes = with_binding s.nodes name (length s.history); resources = s.resources; stock = s.stock }
 after s (hold node res) k = record { history = k; nodes = s.nodes; resources = with_binding s.resources res (length s.history); stock = drop 1 s.stock }
+after s (apply res word) k = record { history = k; nodes = s.nodes; resources = s.resources; stock = s.stock }
+after s (remove res) k = record { history = k; nodes = s.nodes; resources = s.resources; stock = s.stock }
 after s (next node value) k = record { history = k; nodes = s.nodes; resources = s.resources; stock = s.stock }
 after s (end node t) k = record { history = k; nodes = s.nodes; resources = s.resources; stock = s.stock }
+after s (abort node code) k = record { history = k; nodes = s.nodes; resources = s.resources; stock = s.stock }
 after s (dispose node) k = record { history = k; nodes = s.nodes; resources = s.resources; stock = s.stock }
 after s drain k = record { history = k; nodes = s.nodes; resources = s.resources; stock = s.stock }

@@ -2,7 +2,7 @@
 
 ghost use Rattle.std.specs.Prelude.{◌≡◌, ◌+◌, ◌≤◌, ℕ, [], false};
 ghost use Rattle.rx_event.specs.Totals.{accepted_count, taken_count, held_count, waiting_count};
-ghost use Rattle.rx_book.specs.Kept.{is_open_root};
+ghost use Rattle.rx_book.specs.Answers.{is_open_root};
 ghost use Rattle.rx_script.specs.Course.{Drains};
 ghost use Rattle.rx_script.specs.Engine.{Continues};
 

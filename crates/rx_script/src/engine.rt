@@ -5,7 +5,7 @@ ghost use Rattle.rx_book.specs.State.{IsKept};
 ghost use Rattle.rx_event.specs.declared.refusal.Refusal.{Refusal};
 ghost use Rattle.rx_script.specs.declared.answer.Answer.{Answer};
 ghost use Rattle.rx_script.specs.declared.answer.Cause.{Cause};
-ghost use Rattle.rx_script.specs.Scenario.{spot_of, step_of, using, open_node, hold as holding, next as emitting, end as ending, dispose as disposing, drain as draining};
+ghost use Rattle.rx_script.specs.Scenario.{spot_of, step_of, using, open_node, hold as holding, apply as applying, remove as removing, next as emitting, end as ending, abort as aborting, dispose as disposing, drain as draining};
 ghost use Rattle.rx_script.specs.Stage.{start, ware_of};
 ghost use Rattle.rx_script.specs.Course.{Leads};
 ghost use Rattle.rx_script.specs.Engine.{key_of, at_of, stage_of, IsSound, Carries};
@@ -129,6 +129,65 @@ pub fn end<R: Resource>(
         return Ok(Answer::Refused(Cause::NoName));
     };
     match engine.book.end(leaf, terminal) {
+        Ok(_) => {
+            engine.book.promise();
+            Ok(Answer::Accepted)
+        }
+        Err(why) => refused(why),
+    }
+}
+
+/// A held resource is used on a word. The word that it answers is shown nowhere.
+pub fn apply<R: Resource>(
+    engine: &mut Engine<R>,
+    res: &str,
+    word: u64,
+) -> Result<Answer, AllocError>
+    requires { IsSound engine.old }
+    ensures { IfOk result (λ a. Carries engine.old (applying res.now word) a engine.new) }
+{
+    let Some(key) = key_of(engine.resources.as_slice(), res) else {
+        return Ok(Answer::Refused(Cause::NoName));
+    };
+    match engine.book.apply(key, word) {
+        Ok(_answered) => {
+            engine.book.promise();
+            Ok(Answer::Accepted)
+        }
+        Err(why) => refused(why),
+    }
+}
+
+/// A held resource is taken off its node.
+pub fn remove<R: Resource>(engine: &mut Engine<R>, res: &str) -> Result<Answer, AllocError>
+    requires { IsSound engine.old }
+    ensures { IfOk result (λ a. Carries engine.old (removing res.now) a engine.new) }
+{
+    let Some(key) = key_of(engine.resources.as_slice(), res) else {
+        return Ok(Answer::Refused(Cause::NoName));
+    };
+    match engine.book.remove(key) {
+        Ok(_) => {
+            engine.book.promise();
+            Ok(Answer::Accepted)
+        }
+        Err(why) => refused(why),
+    }
+}
+
+/// A node that is no leaf ends with an error.
+pub fn abort<R: Resource>(
+    engine: &mut Engine<R>,
+    node: &str,
+    code: u32,
+) -> Result<Answer, AllocError>
+    requires { IsSound engine.old }
+    ensures { IfOk result (λ a. Carries engine.old (aborting node.now code) a engine.new) }
+{
+    let Some(key) = key_of(engine.nodes.as_slice(), node) else {
+        return Ok(Answer::Refused(Cause::NoName));
+    };
+    match engine.book.abort(key, code) {
         Ok(_) => {
             engine.book.promise();
             Ok(Answer::Accepted)
@@ -278,8 +337,11 @@ pub fn execute<R: Resource>(engine: &mut Engine<R>, command: Command) -> Result<
         Command::Using { name, place, res } => using(engine, name, &place, res),
         Command::Open { name, place, kind } => open(engine, name, &place, kind),
         Command::Hold { node, res } => hold(engine, node.as_str(), res),
+        Command::Apply { res, word } => apply(engine, res.as_str(), word),
+        Command::Remove { res } => remove(engine, res.as_str()),
         Command::Next { node, value } => next(engine, node.as_str(), value),
         Command::End { node, terminal } => end(engine, node.as_str(), terminal),
+        Command::Abort { node, code } => abort(engine, node.as_str(), code),
         Command::Dispose { node } => dispose(engine, node.as_str()),
         Command::Drain => {
             drain(engine);

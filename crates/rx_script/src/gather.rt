@@ -7,7 +7,7 @@ ghost use Rattle.rx_event.specs.Tree.{at};
 ghost use Rattle.rx_event.specs.Resources.{uses, is_taken as is_taken_in};
 ghost use Rattle.rx_event.specs.Notes.{notes};
 ghost use Rattle.rx_book.specs.State.{accepted_tag, IsKept};
-ghost use Rattle.rx_book.specs.Kept.{letter};
+ghost use Rattle.rx_register.specs.Kept.{letter};
 ghost use Rattle.rx_script.specs.Report.{is_told, node_lines, res_lines, whereabouts, account_of, totals_of};
 ghost use Rattle.rx_script.specs.Engine.{node_binding, res_binding, IsNodeKey, IsHeldKey};
 

@@ -1,10 +1,10 @@
 //! Scenarios of subscriptions, and their reports.
 //!
 //! A scenario is a JSON text that says, step by step, what to do with a book of subscriptions: open
-//! nodes, hold resources, emit items, end and dispose. [`run`] reads one, carries it out on a new book
-//! with the caller's resources, closes the book, and writes a report: which steps were refused and why,
-//! what each node was told, and what became of each resource. [`check`] reads a dump, which is a
-//! history in JSON, and writes the verdict of the audit on it.
+//! nodes, hold, use and remove resources, emit items, end, abort and dispose. [`run`] reads one, carries
+//! it out on a new book with the caller's resources, closes the book, and writes a report: which steps
+//! were refused and why, what each node was told, and what became of each resource. [`check`] reads a
+//! dump, which is a history in JSON, and writes the verdict of the audit on it.
 //!
 //! # Vocabulary
 //!
@@ -41,8 +41,10 @@
 //!   it answers an error is tested and not proved. So it is that `Memory` is given only where memory
 //!   was really refused, and that the faults of a report are those that the resources answered: proved
 //!   is that there are at most as many as accepted resources.
-//! - There are the commands `using`, `open`, `hold`, `next`, `end`, `dispose` and `drain` so far, at roots
-//!   and sources, for leaves and mirroring nodes. Anything else is `Shape`.
+//! - How often a resource was used is proved; that it was used on the word of its step, which no history
+//!   keeps, is tested.
+//! - There are the commands `using`, `open`, `hold`, `apply`, `remove`, `next`, `end`, `abort`, `dispose`
+//!   and `drain` so far, at roots and sources, for leaves and mirroring nodes. Anything else is `Shape`.
 #![tactic(auto)]
 
 mod answer;

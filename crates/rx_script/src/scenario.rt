@@ -29,6 +29,15 @@ pub enum Command {
         node: String,
         res: String,
     },
+    /// A held resource is used on a word.
+    Apply {
+        res: String,
+        word: u64,
+    },
+    /// A held resource is taken off its node.
+    Remove {
+        res: String,
+    },
     /// A leaf emits an item.
     Next {
         node: String,
@@ -38,6 +47,11 @@ pub enum Command {
     End {
         node: String,
         terminal: Terminal,
+    },
+    /// A node that is no leaf ends with an error.
+    Abort {
+        node: String,
+        code: u32,
     },
     /// A root is unsubscribed.
     Dispose {

@@ -6,4 +6,5 @@ mod faults;
 mod reports;
 mod shapes;
 mod sights;
+mod uses;
 mod want;

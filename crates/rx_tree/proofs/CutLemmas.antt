@@ -1,26 +1,25 @@
 -- What is left of a tree, and what was moved out, while a subtree is cut away.
-use Rattle.std.proofs.Common.{◌≡◌, ◌≢◌, ℕ, zero, suc, ◌+◌, ◌<◌, ◌≤◌, cond, Bool, true, false, List, [], ◌∷◌, ◌++◌, length, get_or, Option, Some, None, is_some, IsSome, IfSome, IsTrue, Contains, take, drop, option_map, refl, sym, ap, subst, ◌∙◌, inl, inr, ◌⊎◌, arith, true≢false}
+use Rattle.std.proofs.Common.{◌≡◌, ◌≢◌, ℕ, zero, suc, ◌-◌, ◌<◌, cond, Bool, true, false, List, [], ◌∷◌, ◌++◌, length, get_or, Option, Some, None, is_some, IsSome, IfSome, Contains, take, drop, refl, sym, ap, subst, ◌∙◌, inl, inr, ◌⊎◌, arith, true≢false}
 use Rattle.std.specs.List.{AllPairs}
 use Rattle.std.proofs.Math.Bool.{not}
 use Rattle.std.specs.Option.{option_and_then, option_map_or}
-use Rattle.std.proofs.lemmas.Bool.{cases_eq}
+use Rattle.std.proofs.lemmas.Bool.{cases_eq, cases_lt}
 use Rattle.std.proofs.Math.Seq.{take-append_seam, drop-append_seam}
-use Rattle.std.proofs.lemmas.List.{append_assoc}
+use Rattle.std.proofs.lemmas.List.{append_assoc, get_or_past}
 use Rattle.std.proofs.lemmas.List.Elements.{Contains-append_left, Contains-push, Contains-push_cases, Contains-get_or}
 use Rattle.std.proofs.lemmas.List.Quantifiers.{all_pairs_push}
 use Rattle.rx_slots.specs.declared.Entry.{Entry}
 use Rattle.rx_slots.specs.declared.Key.{Key}
-use Rattle.rx_slots.specs.Slots.{Slots, entry_of, entry_at, with_number, find, Changes}
+use Rattle.rx_slots.specs.Slots.{entry_of, entry_at, with_number, find, Changes}
 use Rattle.rx_tree.specs.declared.node.Node.{Node}
 use Rattle.rx_tree.specs.declared.node.Closed.{Closed}
 use Rattle.rx_tree.specs.Tree.{Tree, IsSound, IsPlaced}
 use Rattle.rx_tree.specs.Below.{is_below}
 use Rattle.rx_tree.specs.Closing.{IsInside, IsSubtree}
-use Rattle.rx_tree.specs.Cuts.{is_orphan, orphan_in, orphan_at, Cuts, uncut, cut}
-use Rattle.rx_tree.proofs.Sound.{some_of, none_not_some, IsPlaced-kept}
-use Rattle.rx_tree.proofs.Written.{entry_found, found_entry, same_entry}
-use Rattle.rx_tree.proofs.Sound.{same_key, cases_key}
-use Rattle.rx_tree.proofs.Below.{below_itself, below_child, not_below}
+use Rattle.rx_tree.specs.Cuts.{is_orphan, orphan_in, orphan_at, slot_of, Cuts, uncut, cut}
+use Rattle.rx_tree.specs.Laws.Keys.{some_of, none_not_some}
+use Rattle.rx_tree.specs.Laws.Written.{one_key, entry_found, found_entry, same_entry}
+use Rattle.rx_tree.specs.Laws.Below.{below_itself, below_child, not_below}
 
 module _ {T : Type 0} where
   -- what one slot's change leaves
@@ -37,13 +36,6 @@ module _ {T : Type 0} where
         | inr other ↦ kept_elsewhere s t key changes k other
       ]
 
-  -- two keys of one slot that find records are one
-  pub one_key : (s : Tree T) (a b : Key) (x y : Node T) → a.slot ≡ b.slot → find s a ≡ Some x → find s b ≡ Some y → (a ≡ b) × (x ≡ y)
-  one_key s a b x y slot found_a found_b =
-      let e : Some (entry_of a.number x) ≡ Some (entry_of b.number y) = sym (entry_found s a x found_a) ∙ ap (entry_at s) slot ∙ entry_found s b y found_b in
-      let same : entry_of a.number x ≡ entry_of b.number y = cc in
-      (same_key a b slot (ap (λ z. z.number) same), ap (λ z. z.value) same)
-
   -- the key of an orphan
   pub orphan_found : (s : Tree T) (slot : ℕ) (key : Key) → orphan_at s slot ≡ Some key → (node : Node T) × (key.slot ≡ slot) × (find s key ≡ Some node) × (is_orphan s node ≡ true)
   orphan_found s slot key at = of (entry_at s slot) refl at where
@@ -59,6 +51,22 @@ module _ {T : Type 0} where
     of : (o : Option (Entry (Node T))) → entry_at s slot ≡ o → option_and_then (orphan_in s slot) o ≡ Some key → (node : Node T) × (key.slot ≡ slot) × (find s key ≡ Some node) × (is_orphan s node ≡ true)
     of None read at = absurd (true≢false (ap is_some (sym at)))
     of (Some e) read at = here e (is_orphan s e.value) read refl at
+
+  -- a way over the slots has each of them: so where each step found no orphan, no slot has one
+  none_from : (s : Tree T) (back : Bool) (slots : ℕ) → ((step : ℕ) → step < slots → orphan_at s (slot_of back slots step) ≡ None) → (slot : ℕ) → slot < slots → orphan_at s slot ≡ None
+  none_from s false slots none slot within = none slot within
+  none_from s true slots none slot within =
+      let same : slots - suc (slots - suc slot) ≡ slot = omega arith in
+      ap (orphan_at s) (sym same) ∙ none (slots - suc slot) (omega arith)
+
+  pub none_on_way : (s : Tree T) (back : Bool) (slots : ℕ) → length s.entries ≡ slots → ((step : ℕ) → step < slots → orphan_at s (slot_of back slots step) ≡ None) → (slot : ℕ) → orphan_at s slot ≡ None
+  none_on_way s back slots count none slot =
+      elim (cases_lt slot slots) [
+        | inl within ↦ none_from s back slots none slot within
+        | inr past ↦
+            let empty : entry_at s slot ≡ None = get_or_past s.entries slot None (rw count past) in
+            ap (option_and_then (orphan_in s slot)) empty
+      ]
 
   -- where no slot has an orphan, no record is one
   pub no_orphan : (s : Tree T) → ((slot : ℕ) → orphan_at s slot ≡ None) → (key : Key) (node : Node T) → find s key ≡ Some node → is_orphan s node ≡ false

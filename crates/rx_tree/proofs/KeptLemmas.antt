@@ -1,5 +1,5 @@
 -- What the fields of a node's resources keep true, call by call.
-use Rattle.std.proofs.Common.{◌≡◌, ◌≢◌, ℕ, zero, suc, ◌+◌, ◌<◌, nat_eq, Bool, List, [], ◌∷◌, ◌++◌, length, map, get_or, Option, Some, None, is_some, IsSome, IfSome, IfNone, inl, ◌⊎◌, All, false, refl, sym, ap, subst, ◌∙◌, arith}
+use Rattle.std.proofs.Common.{◌≡◌, ◌≢◌, ℕ, ◌<◌, nat_eq, List, [], ◌∷◌, ◌++◌, length, map, get_or, Option, Some, None, is_some, IsSome, IfSome, IfNone, inl, ◌⊎◌, All, refl, sym, ap, subst, ◌∙◌}
 use Rattle.std.specs.List.{remove, HoldsAt}
 use Rattle.std.specs.Map.{lookup, remove_entry, set_value}
 use Rattle.std.specs.Global.{Box}
@@ -7,7 +7,6 @@ use Rattle.std.proofs.lemmas.List.{length-map, map-append}
 use Rattle.rx_disposable.specs.Group.{Group, value_at, with_added, without, with_value}
 use Rattle.rx_tree.specs.declared.boxes.Held.{Held}
 use Rattle.rx_tree.specs.declared.boxes.Ticketed.{Ticketed}
-use Rattle.rx_tree.specs.Boxes.{AreDistinct}
 use Rattle.rx_tree.specs.Kept.{items_of, ticketed_of, IsKept}
 use Rattle.rx_tree.proofs.Entries.{lookup_at, distinct-append, distinct-remove, distinct-set}
 use Rattle.rx_tree.proofs.Members.{member_at, item_absent, item_found, items_first, entry_at, items-remove, tickets-remove, items-set, tickets-set}

@@ -1,16 +1,15 @@
 -- The place of a number among the members of a group, and what becomes of the items there.
-use Rattle.std.proofs.Common.{◌≡◌, ◌≢◌, ℕ, zero, suc, ◌+◌, ◌<◌, nat_eq, Bool, List, [], ◌∷◌, ◌++◌, length, map, get_or, Option, Some, None, All, false, refl, sym, ap, subst, ◌∙◌, arith}
+use Rattle.std.proofs.Common.{◌≡◌, ◌≢◌, ℕ, zero, suc, ◌<◌, nat_eq, List, [], ◌∷◌, length, map, get_or, Some, None, All, refl, sym, ap, ◌∙◌, arith}
 use Rattle.std.specs.List.{remove, HoldsAt}
 use Rattle.std.specs.Map.{lookup, remove_entry, set_value}
 use Rattle.std.specs.Global.{Box}
-use Rattle.std.specs.Box as boxed
-use Rattle.std.proofs.lemmas.List.{length-map, map-append, get_or-map}
+use Rattle.std.proofs.lemmas.List.{length-map, get_or-map}
 use Rattle.std.proofs.lemmas.List.Elements.{All-head, All-tail}
 use Rattle.rx_tree.specs.declared.boxes.Held.{Held}
 use Rattle.rx_tree.specs.declared.boxes.Ticketed.{Ticketed}
 use Rattle.rx_tree.specs.Boxes.{AreDistinct}
 use Rattle.rx_tree.specs.Kept.{item_of, items_of, ticketed_of}
-use Rattle.rx_tree.proofs.Entries.{absent_at, lookup_at, lookup_absent, none_cons, remove_here, remove_later, set_here, set_later}
+use Rattle.rx_tree.proofs.Entries.{absent_at, lookup_at, none_cons, remove_here, remove_later, set_here, set_later}
 
 -- what stands in a list at a place
 pub entry_at : (ts : List Ticketed) (i : ℕ) → i < length ts → (t : Ticketed) × (t ≡ get_or ts i t)

@@ -1,16 +1,16 @@
 -- What a write of one record leaves of a tree.
-use Rattle.std.proofs.Common.{◌≡◌, ◌≢◌, ℕ, Option, Some, None, is_some, IsSome, IfSome, IfNone, OnSome, option_map, nat_eq, refl, sym, ap, subst, ◌∙◌, true≢false}
-use Rattle.std.specs.Map.{lookup}
-use Rattle.std.specs.Option.{option_and_then}
+use Rattle.std.proofs.Common.{◌≡◌, ◌≢◌, ℕ, Option, Some, None, IsSome, IfSome, IfNone, OnSome, option_map, refl, sym, ap, subst, ◌∙◌}
 use Rattle.rx_slots.specs.declared.Key.{Key}
-use Rattle.rx_slots.specs.Slots.{Slots, value_at, key_at, find, with_value, with_value_at, KeepsOthers}
+use Rattle.rx_slots.specs.Slots.{value_at, key_at, find, with_value, with_value_at}
 use Rattle.rx_tree.specs.declared.node.Node.{Node}
-use Rattle.rx_tree.specs.declared.node.ResKey.{ResKey}
 use Rattle.rx_tree.specs.Boxes.{Boxes, box_of, without_box}
 use Rattle.rx_tree.specs.Tree.{Tree, Rewrites, IsSound, IsChild, on_boxes, parent_number}
 use Rattle.rx_tree.proofs.Entries.{remove_absent}
-use Rattle.rx_tree.proofs.Sound.{IsSound-at, some_of, child_found, parent_key}
-use Rattle.rx_tree.proofs.Written.{key_found, find-written, KeepsOthers-written, key_of_value, with_value_at-key, with_value-same}
+use Rattle.rx_tree.proofs.Sound.{IsSound-at}
+use Rattle.rx_tree.specs.Laws.Keys.{some_of}
+use Rattle.rx_tree.specs.Laws.Parents.{child_found, parent_key}
+use Rattle.rx_tree.specs.Laws.Rewritten.{rewrites_written_at}
+use Rattle.rx_tree.specs.Laws.Written.{key_found, find-written, KeepsOthers-written, key_of_value, with_value_at-key, with_value-same}
 
 module _ {T : Type 0} (s : Tree T) where
   -- a record of the same event is written at a key
@@ -23,22 +23,6 @@ module _ {T : Type 0} (s : Tree T) where
   sound_written_at slot before after value made above sound =
       let key = key_of_value s slot before value in
       subst (λ (t : Tree T). IsSound t) (sym (with_value_at-key s slot key.0 before after key.1 key.3)) (sound_written key.0 before after key.3 made above sound)
-
-  -- and is the only change
-  pub rewrites_written : (key : Key) (before : Node T) (change : Node T → Node T) → find s key ≡ Some before → Rewrites s (with_value s key (change before)) key change
-  rewrites_written key before change found =
-      let t = with_value s key (change before) in
-      record {
-        changed = find-written s t key before (change before) found refl ∙ ap (option_map change) (sym found);
-        others = KeepsOthers-written s t key before (change before) found refl;
-        rest = refl;
-      }
-
-  pub rewrites_written_at : (slot : ℕ) (before : Node T) (change : Node T → Node T) → value_at s slot ≡ Some before → IfSome (key_at s slot) (λ key. Rewrites s (with_value_at s slot (change before)) key change)
-  rewrites_written_at slot before change value =
-      let key = key_of_value s slot before value in
-      let written = subst (λ (t : Tree T). Rewrites s t key.0 change) (sym (with_value_at-key s slot key.0 before (change before) key.1 key.3)) (rewrites_written key.0 before change key.3) in
-      subst (λ o. IfSome o (λ k. Rewrites s (with_value_at s slot (change before)) k change)) (sym key.2) written
 
   -- to take out what is not there changes nothing
   pub written_at_same : (slot : ℕ) (before : Node T) → value_at s slot ≡ Some before → with_value_at s slot before ≡ s
@@ -53,7 +37,7 @@ module _ {T : Type 0} (s : Tree T) where
   pub unheld : (slot number : ℕ) (before : Node T) (left : Boxes T) (o : Option T) → value_at s slot ≡ Some before → left ≡ without_box number before.boxes → OnSome o (IfSome (key_at s slot) (λ key. Rewrites s (with_value_at s slot (record before { boxes = left })) key (on_boxes (without_box number))))
   unheld slot number before left None value rest = tt
   unheld slot number before left (Some x) value rest =
-      subst (λ (b : Boxes T). IfSome (key_at s slot) (λ key. Rewrites s (with_value_at s slot (record before { boxes = b })) key (on_boxes (without_box number)))) (sym rest) (rewrites_written_at slot before (on_boxes (without_box number)) value)
+      subst (λ (b : Boxes T). IfSome (key_at s slot) (λ key. Rewrites s (with_value_at s slot (record before { boxes = b })) key (on_boxes (without_box number)))) (sym rest) (rewrites_written_at s slot before (on_boxes (without_box number)) value)
 
   pub not_held : (slot number : ℕ) (before : Node T) (left : Boxes T) (o : Option T) → value_at s slot ≡ Some before → left ≡ without_box number before.boxes → o ≡ box_of number before.boxes → IfNone o (with_value_at s slot (record before { boxes = left }) ≡ s)
   not_held slot number before left (Some x) value rest held = tt

@@ -1,35 +1,11 @@
 -- What keeps a tree sound.
-use Rattle.std.proofs.Common.{◌≡◌, ◌≢◌, ℕ, ◌<◌, Bool, true, false, Option, Some, None, is_some, IsSome, IfSome, IfOk, OnErr, Result, Ok, Err, option_map, refl, sym, ap, subst, ◌∙◌, inl, inr, ◌⊎◌, arith, true≢false}
-use Rattle.std.proofs.lemmas.Bool.{cases_eq}
+use Rattle.std.proofs.Common.{◌≡◌, ◌≢◌, ℕ, Option, Some, None, is_some, IsSome, IfSome, IfOk, OnErr, Result, Ok, Err, refl, sym, ap, subst, ◌∙◌, inl, inr, ◌⊎◌}
 use Rattle.rx_event.specs.declared.event.Event.{Event}
 use Rattle.rx_slots.specs.declared.Key.{Key}
-use Rattle.rx_slots.specs.Slots.{Slots, entry_at, key_at, with_number, find, KeepsOthers}
+use Rattle.rx_tree.specs.Laws.Keys.{cases_key, none_not_some}
+use Rattle.rx_slots.specs.Slots.{entry_at, with_number, find, KeepsOthers}
 use Rattle.rx_tree.specs.declared.node.Node.{Node}
-use Rattle.rx_event.specs.Tree.{if_less}
-use Rattle.rx_tree.specs.Tree.{Tree, IsUnused, IsPlaced, IsSound, IsChild, named_above, parent_number}
-use Rattle.std.specs.Option.{option_and_then}
-use Rattle.std.proofs.lemmas.Bool.Decides.{nat_tests}
-
-pub same_key : (a b : Key) → a.slot ≡ b.slot → a.number ≡ b.number → a ≡ b
-same_key a b slot number = λ i. record { slot = slot i; number = number i }
-
--- two keys are one, or they differ
-pub cases_key : (a b : Key) → (a ≡ b) ⊎ (a ≢ b)
-cases_key a b =
-    elim (cases_eq a.slot b.slot) [
-      | inl slot ↦ elim (cases_eq a.number b.number) [
-        | inl number ↦ inl (same_key a b slot number)
-        | inr other ↦ inr (λ same. other (ap (λ k. k.number) same))
-      ]
-      | inr other ↦ inr (λ same. other (ap (λ k. k.slot) same))
-    ]
-
-pub none_not_some : {X : Type 0} (o : Option X) → o ≡ None → IsSome o → ⊥
-none_not_some o none some = true≢false (sym some ∙ ap is_some none)
-
-pub some_of : {X : Type 0} (o : Option X) → IsSome o → (x : X) × (o ≡ Some x)
-some_of None some = absurd (true≢false (sym some))
-some_of (Some x) some = (x, refl)
+use Rattle.rx_tree.specs.Tree.{Tree, IsUnused, IsPlaced, IsSound}
 
 pub IfSome-same : {X : Type 0} (P Q : X → Type 0) (o : Option X) → ((x : X) → o ≡ Some x → P x → Q x) → IfSome o P → IfSome o Q
 IfSome-same P Q None more h = tt
@@ -123,26 +99,9 @@ module _ {T : Type 0} where
   IsSound-inserted s t (Err back) number node numbered free found kept refused unused placed sound =
       IsSound-same s t (λ key. ap (λ (x : Tree T). find x key) refused) sound
 
-  -- the number of the parent's key is that which the place names
-  pub named_parent : (s : Tree T) (key : Key) (node : Node T) → find s key ≡ Some node → IsSound s → option_map (λ p. p.number) node.above ≡ parent_number s key
-  named_parent s key node found sound =
-      let placed = sound.placed key node found in
-      sym (ap (option_and_then (named_above key.number)) found ∙ ap (option_and_then (if_less key.number)) placed.named ∙ less node.above placed.lower) where
-        less : (above : Option Key) → IfSome above (λ p. p.number < key.number) → option_and_then (if_less key.number) (option_map (λ p. p.number) above) ≡ option_map (λ p. p.number) above
-        less None lower = refl
-        less (Some p) lower = grind (arith, nat_tests, lower)
-
-  -- a key that stands below one finds a record
-  pub child_found : (s : Tree T) (key : Key) (n : ℕ) → parent_number s key ≡ Some n → IsSome (find s key)
-  child_found s key n named = of (find s key) named where
-    of : (o : Option (Node T)) → option_and_then (named_above key.number) o ≡ Some n → IsSome o
-    of None e = absurd (true≢false (ap is_some (sym e)))
-    of (Some node) e = refl
-
-  -- the key of a parent is the only one of its number
-  pub parent_key : (s : Tree T) (parent child : Key) (o : Option Key) → IsSound s → IsChild s parent child → option_map (λ p. p.number) o ≡ parent_number s child → IfSome o (λ p. IsSome (find s p)) → o ≡ Some parent
-  parent_key s parent child None sound is numbers found = absurd (let e = is.named in true≢false (ap is_some (sym (numbers ∙ e))))
-  parent_key s parent child (Some p) sound is numbers found =
-      let e : Some p.number ≡ Some parent.number = numbers ∙ is.named in
-      let same : p.number ≡ parent.number = cc in
-      ap (λ k. Some k) (sound.apart p parent found is.there same)
+  -- and an insert after a reservation
+  pub IsSound-reserved : (s m t : Tree T) (r : Result Key (Node T)) (number : ℕ) (node : Node T) → m ≡ record s { room = m.room } → IfOk r (λ key. key.number ≡ number) → IfOk r (λ key. entry_at m key.slot ≡ None) → IfOk r (λ key. find t key ≡ Some node) → IfOk r (λ key. KeepsOthers m t key) → OnErr r (t ≡ record m { room = t.room }) → IsUnused s number → IsPlaced s number node.made node.above → IsSound s → IsSound t
+  IsSound-reserved s m t r number node reserved numbered free found kept refused unused placed sound =
+      IsSound-inserted m t r number node numbered free found kept refused (λ key at. same key ∙ unused key at) (IsPlaced-kept s m number node.made node.above (λ key there. ap is_some (same key) ∙ there) placed) (IsSound-same s m same sound) where
+        same : (key : Key) → find m key ≡ find s key
+        same key = ap (λ (x : Tree T). find x key) reserved

@@ -1,5 +1,5 @@
 -- Which nodes stand below which, by the places in their records' events alone.
-use Rattle.std.specs.Prelude.{ℕ, zero, suc, Bool, ◌==◌, Option, Some, None, List, [], ◌∷◌}
+use Rattle.std.specs.Prelude.{ℕ, zero, suc, Bool, ◌==◌, Option, None, List, [], ◌∷◌}
 use Rattle.std.specs.List.{list_any}
 use Rattle.std.specs.Option.{option_and_then, option_map_or, option_or}
 use Rattle.rx_slots.specs.declared.Entry.{Entry}

@@ -1,5 +1,5 @@
 -- How a subtree is cut away record by record. No public clause cites this module.
-use Rattle.std.specs.Prelude.{◌≡◌, ℕ, Bool, true, false, List, [], ◌∷◌, ◌++◌, Option, Some, None, is_some, cond}
+use Rattle.std.specs.Prelude.{◌≡◌, ℕ, suc, ◌-◌, Bool, true, false, List, [], ◌∷◌, ◌++◌, Option, Some, None, is_some, cond}
 use Rattle.std.specs.Option.{option_and_then, option_map_or}
 use Rattle.std.proofs.Math.Bool.{not}
 use Rattle.rx_slots.specs.declared.Entry.{Entry}
@@ -8,6 +8,10 @@ use Rattle.rx_slots.specs.Slots.{entry_at, find, Changes}
 use Rattle.rx_tree.specs.declared.node.Node.{Node}
 use Rattle.rx_tree.specs.declared.node.Closed.{Closed}
 use Rattle.rx_tree.specs.Tree.{Tree}
+
+-- the slot of a step on the way over so many slots, from the first or back from the last
+abbrev pub slot_of : Bool → ℕ → ℕ → ℕ
+slot_of back slots step = cond back (slots - suc step) step
 
 module _ {T : Type 0} where
   -- the node stands below a key that finds none

@@ -4,7 +4,6 @@ use Rattle.std.specs.Option.{option_map_or}
 use Rattle.std.specs.Borrow.{LendsIf, Fml, RattleType, MutBor}
 use Rattle.rx_resource.specs.declared.Resource.{Ghosts}
 use Rattle.rx_slots.specs.Slots.{value_at, with_value_at}
-use Rattle.rx_tree.specs.declared.node.Node.{Node}
 use Rattle.rx_tree.specs.declared.node.ResKey.{ResKey}
 use Rattle.rx_tree.specs.Boxes.{Boxes, with_value}
 use Rattle.rx_tree.specs.Tree.{Tree, on_boxes}

@@ -6,3 +6,4 @@ pub mod Closing
 pub mod Lends
 pub mod Cuts
 pub mod Kept
+pub mod Laws

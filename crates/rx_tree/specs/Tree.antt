@@ -1,12 +1,12 @@
 -- What a contract sees of a tree: the records of its nodes, each at a slot and under its number. So a tree is a list of
 -- records, and as well a finite map: a key, which is a slot and a number, finds the record of its node alone.
-use Rattle.std.specs.Prelude.{◌≡◌, ℕ, ◌<◌, [], Option, Some, None, IsSome, IfSome, IsTrue, option_map, nat_eq}
+use Rattle.std.specs.Prelude.{◌≡◌, ℕ, ◌<◌, [], Option, Some, None, IsSome, IfSome, IsTrue, option_map}
 use Rattle.std.specs.Option.{option_and_then}
 use Rattle.rx_event.specs.declared.event.Event.{Event}
 use Rattle.rx_event.specs.Events.{makes_node, parent_named}
 use Rattle.rx_event.specs.Tree.{if_less}
 use Rattle.rx_slots.specs.declared.Key.{Key}
-use Rattle.rx_slots.specs.Slots.{Slots, find, value_at, key_at, KeepsOthers}
+use Rattle.rx_slots.specs.Slots.{Slots, find, value_at, KeepsOthers}
 use Rattle.rx_tree.specs.declared.marks.Marks.{Marks}
 use Rattle.rx_tree.specs.declared.node.Node.{Node}
 use Rattle.rx_tree.specs.declared.node.ResKey.{ResKey}

@@ -16,18 +16,21 @@
 //! stands below the one that its event's place names. `parent_number` and `IsChild` follow from those
 //! places, and so does `is_below` (`specs/Below.antt`): the top itself, and what leads to it from
 //! parent to parent. `IsSubtree` (`specs/Closing.antt`) says what a closing moves out.
+//! `specs/Laws` has lemmas on these for the proofs of callers.
 //!
 //! # What is promised
 //!
 //! Each call says what it answers, which record it changes, and that the others stay. A closing moves
 //! out exactly the node and all below it, each once and as it was. After `reserve(n)`, n calls of
-//! `open` succeed. Only `reserve`, `open` and `hold` ask for memory; what they refuse changes no
-//! record, and a refused resource comes back.
+//! `open` succeed. Only `reserve`, `open`, `open_using` and `hold` ask for memory; what they refuse
+//! changes no record, and a refused resource comes back.
 //!
 //! `open`, and each call by key or slot, takes time that does not grow with the tree; finding a resource by
 //! its number takes time that grows with those held at its node now. `children` and `is_unused` go
-//! over the slots. A closing goes over the slots once for each level of the subtree at most, and
-//! twice where each child stands at a later slot than its parent.
+//! over the slots. A closing goes over the slots, forward and back by turns: twice where each child
+//! stands at a later slot than its parent, three times where each stands at an earlier one, and at
+//! most once more for each turn of direction on a way down; never more often than the subtree has
+//! levels, the node's own counted.
 //!
 //! # What is not
 //!

@@ -1,5 +1,7 @@
 //! The record of an open node, and what is left of it once it is closed.
 
+ghost use Rattle.std.specs.Prelude.{◌≡◌};
+
 use crate::boxes::Boxes;
 use crate::marks::Marks;
 use rx_event::Event;
@@ -16,6 +18,22 @@ pub struct Node<R: Drop> {
     pub marks: Marks,
     /// The resources that are held at it.
     pub boxes: Boxes<R>,
+}
+
+impl<R: Drop> Node<R> {
+    ghost use Rattle.rx_tree.specs.Tree.{blank_node};
+
+    // The record of a node below which nothing happened yet, with these resources.
+    pub(crate) fn blank(made: Event, above: Option<Key>, boxes: Boxes<R>) -> Self
+        ensures { result ≡ record (blank_node made above) { boxes = boxes } }
+    {
+        Node {
+            made,
+            above,
+            marks: Marks::blank(),
+            boxes,
+        }
+    }
 }
 
 /// The record of a node that was moved out of its tree, with the key that it had there.

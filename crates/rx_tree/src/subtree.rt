@@ -3,7 +3,7 @@
 ghost use Rattle.std.specs.Prelude.{◌≡◌, ℕ, ◌+◌, ◌<◌, ◌≤◌, ◌∷◌, [], ◌++◌, IsSome, IsTrue, Some, None, vec_len, vec_capacity, true, false};
 ghost use Rattle.rx_slots.specs.declared.Key.{Key};
 ghost use Rattle.rx_slots.specs.Slots.{find, slot_count, Changes};
-ghost use Rattle.rx_tree.specs.Cuts.{orphan_at, Cuts};
+ghost use Rattle.rx_tree.specs.Cuts.{orphan_at, slot_of, Cuts};
 
 use crate::node::{Closed, Node};
 use rx_slots::{Key, Slots};
@@ -42,8 +42,21 @@ fn orphan<R: Drop>(nodes: &Slots<Node<R>>, slot: usize) -> Option<Key>
     }
 }
 
-// Goes over the slots once and moves out each orphan that it meets; true where it met one.
-pub(crate) fn sweep<R: Drop>(nodes: &mut Slots<Node<R>>, closed: &mut Vec<Closed<R>>) -> bool
+// The slot of a step on the way over so many slots, from the first or back from the last.
+fn slot_on_way(back: bool, slots: usize, step: usize) -> usize
+    requires within { step < slots }
+    ensures { result ≡ slot_of back slots step }
+{
+    if back { slots - 1 - step } else { step }
+}
+
+// Goes over the slots once, from the first or back from the last, and moves out each orphan that it
+// meets; true where it met one.
+pub(crate) fn sweep<R: Drop>(
+    nodes: &mut Slots<Node<R>>,
+    closed: &mut Vec<Closed<R>>,
+    back: bool,
+) -> bool
     requires room { vec_len closed.old + nodes.old.count ≤ vec_capacity closed.old }
     ensures cuts { Cuts nodes.old closed.old.items nodes.new closed.new.items }
     ensures none { result ≡ false → (slot : ℕ) → orphan_at nodes.new slot ≡ None }
@@ -52,9 +65,10 @@ pub(crate) fn sweep<R: Drop>(nodes: &mut Slots<Node<R>>, closed: &mut Vec<Closed
     ensures room { nodes.new.room + nodes.new.count ≡ nodes.old.room + nodes.old.count }
     ensures capacity { vec_capacity closed.new ≡ vec_capacity closed.old }
 {
+    let slots = nodes.slot_count();
     let mut met = false;
-    for slot in 0..nodes.slot_count() {
-        if let Some(key) = orphan(nodes, slot) {
+    for step in 0..slots {
+        if let Some(key) = orphan(nodes, slot_on_way(back, slots, step)) {
             move_out(nodes, key, closed);
             met = true;
         }

@@ -94,6 +94,23 @@ fn opened<R: Resource>(
     Ok(open_there(tree, number, made, above).ok_or("it is not opened")?)
 }
 
+// Opens a node that holds a resource, where its number and place may be, or gives the resource back.
+fn open_with<R: Resource>(
+    tree: &mut Tree<R>,
+    number: u64,
+    made: Event,
+    above: Option<Key>,
+    resource_number: u64,
+    resource: R,
+) -> Result<Key, R>
+    ensures { IfErr result (λ back. back ≡ resource) }
+{
+    if !tree.is_unused(number) || !tree.is_placed(number, made, above) {
+        return Err(resource);
+    }
+    tree.open_using(number, made, above, resource_number, resource)
+}
+
 // Holds a resource where that may be, or gives it back.
 fn held<R: Resource>(tree: &mut Tree<R>, key: Key, number: u64, resource: R) -> Result<ResKey, R>
     ensures { IfErr result (λ back. back ≡ resource) }
@@ -320,23 +337,30 @@ fn an_old_key_finds_nothing_at_a_slot_used_again(rt: HostRuntime) -> Result<(), 
     Ok(())
 }
 
-// A chain of Pass nodes, one below the other, with a resource at each, under rising numbers.
-fn chain(alloc: Global, count: u64) -> Result<(Tree<Tally>, Key), Fail> {
-    let mut tree = Tree::new(alloc);
-    let top = opened(&mut tree, 0, pass_at(Place::Root), None)?;
+// Opens a chain of Pass nodes, one below the other, with a resource at each but the first, under
+// rising numbers.
+fn chain_from(tree: &mut Tree<Tally>, first: u64, count: u64) -> Result<Key, Fail> {
+    let top = opened(tree, first, pass_at(Place::Root), None)?;
     let mut above = top;
     for step in 1..count {
-        let number = step.wrapping_mul(2);
+        let number = first.wrapping_add(step.wrapping_mul(2));
         above = opened(
-            &mut tree,
+            tree,
             number,
             pass_at(Place::Source(above.number)),
             Some(above),
         )?;
-        if held(&mut tree, above, number.wrapping_add(1), fresh_tally(step)).is_err() {
+        if held(tree, above, number.wrapping_add(1), fresh_tally(step)).is_err() {
             return Err(Fail::from("no memory"));
         }
     }
+    Ok(top)
+}
+
+// A tree with such a chain alone.
+fn chain(alloc: Global, count: u64) -> Result<(Tree<Tally>, Key), Fail> {
+    let mut tree = Tree::new(alloc);
+    let top = chain_from(&mut tree, 0, count)?;
     Ok((tree, top))
 }
 
@@ -363,6 +387,31 @@ fn a_thousand_nodes_are_closed_with_no_memory_left(rt: HostRuntime) -> Result<()
         }
     }
     assert_eq!(rt; (numbers, tags), (999_000, 499_500));
+    Ok(())
+}
+
+#[test]
+fn a_chain_is_closed_whole_whether_its_slots_rise_or_fall(rt: HostRuntime) -> Result<(), Fail> {
+    let mut tree = Tree::new(rt.alloc());
+    // The second chain takes the slots of the first, the one that came free last first.
+    for (first, top_slot) in [(0u64, 0), (6000, 2999)] {
+        let top = chain_from(&mut tree, first, 3000)?;
+        assert_eq!(rt;
+            (top.slot, tree.len(), tree.slot_count()),
+            (top_slot, 3000, 3000)
+        );
+        let mut closed = Vec::with_capacity(rt.alloc(), 3000)?;
+        if tree.len() <= closed.capacity() && tree.contains(top) {
+            tree.close_below(top, &mut closed);
+        }
+        assert_eq!(rt; (tree.len(), closed.len()), (0, 3000));
+        // Each record comes out after the one that it stood below, and so each once.
+        let mut number = first;
+        for record in closed {
+            assert_eq!(rt; record.key.number, number);
+            number = number.wrapping_add(2);
+        }
+    }
     Ok(())
 }
 
@@ -498,6 +547,43 @@ fn a_refused_hold_gives_the_resource_back(rt: HostRuntime) -> Result<(), Fail> {
     }
     assert_eq!(rt; holds, 10);
     assert!(rt; refused > 1, "refused {refused}");
+    Ok(())
+}
+
+#[test]
+fn a_node_is_opened_with_its_resource(rt: HostRuntime) -> Result<(), Fail> {
+    let mut tree = Tree::new(rt.alloc());
+    let made = pass_at(Place::Root);
+    let mut scarce = Scarce::new(rt.alloc())?;
+    let mut resource = fresh_tally(8);
+    let mut node = None;
+    let mut refused = 0_u64;
+    for _ in 0..MOST_BLOCKS {
+        match open_with(&mut tree, 3, made, None, 5, resource) {
+            Ok(key) => {
+                node = Some(key);
+                break;
+            }
+            Err(back) => {
+                resource = back;
+                refused = refused.wrapping_add(1);
+                assert_eq!(rt; tree.len(), 0);
+                assert!(rt; scarce.give_back_one());
+            }
+        }
+    }
+    let key = node.ok_or("it is not opened")?;
+    assert!(rt; refused > 1, "refused {refused}");
+    assert_eq!(rt; key.number, 3);
+    assert_eq!(rt; tree.made(key), Some(made));
+    let res = ResKey {
+        slot: key.slot,
+        number: 5,
+    };
+    match tree.unhold(res) {
+        Some(back) => assert_eq!(rt; back.tag, 8),
+        None => return Err(Fail::from("the resource is lost")),
+    }
     Ok(())
 }
 

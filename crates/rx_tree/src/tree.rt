@@ -168,15 +168,51 @@ impl<R: Resource> Tree<R> {
         ensures err { OnErr result (self.new ≡ record self.old { room = self.new.room }) }
         ensures room { OnErr result (self.old.room ≤ self.new.room) }
     {
-        let node = Node {
-            made,
-            above,
-            marks: Marks::blank(),
-            boxes: Boxes::new(self.alloc),
-        };
+        let node = Node::blank(made, above, Boxes::new(self.alloc));
         match self.nodes.insert(number, node) {
             Ok(key) => Ok(key),
             Err(_) => Err(AllocError),
+        }
+    }
+
+    /// Adds a record with blank marks that holds a resource, and gives its key.
+    ///
+    /// The event and the key above are as `open` has them. Refused only where memory was refused: the
+    /// resource then comes back, and no record changes.
+    pub fn open_using(
+        &mut self,
+        number: u64,
+        made: Event,
+        above: Option<Key>,
+        resource_number: u64,
+        resource: R,
+    ) -> Result<Key, R>
+        requires unused { IsUnused self.old number }
+        requires placed { IsPlaced self.old number made above }
+
+        // The record goes to a slot that was free, and no other changes.
+        ensures numbered { IfOk result (λ key. key.number ≡ number) }
+        ensures was_free { IfOk result (λ key. entry_at self.old key.slot ≡ None) }
+        ensures opened { IfOk result (λ key. find self.new key ≡ Some (on_boxes (with_box resource_number resource) (blank_node made above))) }
+        ensures kept { IfOk result (λ key. KeepsOthers self.old self.new key) }
+        ensures count { OnOk result (self.new.count ≡ self.old.count + 1) }
+
+        // One place of the room is used, where there was room.
+        ensures had_room { OnOk result (0 < self.old.room → self.new.room + 1 ≡ self.old.room) }
+
+        ensures given_back { IfErr result (λ back. back ≡ resource) }
+        ensures err { OnErr result (self.new ≡ record self.old { room = self.new.room }) }
+        ensures room { OnErr result (self.old.room ≤ self.new.room) }
+    {
+        if self.nodes.reserve(1).is_err() {
+            return Err(resource);
+        }
+        let mut boxes = Boxes::new(self.alloc);
+        boxes.add(resource_number, resource)?;
+        let holder = Node::blank(made, above, boxes);
+        match self.nodes.insert(number, holder) {
+            Ok(key) => Ok(key),
+            Err(_) => unreachable!(),
         }
     }
 
@@ -290,8 +326,10 @@ impl<R: Resource> Tree<R> {
     /// Moves the node and all below it out into the caller's list, with their resources.
     ///
     /// The caller keeps room in the list for as many records as the tree has. It takes no memory; the
-    /// slots are free again. It goes over the slots until nothing below is left, so its time is the
-    /// number of the slots times, at most, the depth of the subtree.
+    /// slots are free again. It goes over all slots, forward and back by turns, until nothing below is
+    /// left: twice for a chain whose slots rise, three times for one whose slots fall, and at most
+    /// once more for each turn of direction on a way down; never more often than the subtree has
+    /// levels, the node's own counted.
     pub fn close_below(&mut self, key: Key, closed: &mut Vec<Closed<R>>)
         requires open { IsSome (find self.old key) }
         requires room { vec_len closed.old + self.old.count ≤ vec_capacity closed.old }
@@ -305,6 +343,9 @@ impl<R: Resource> Tree<R> {
         ensures list_room { vec_capacity closed.new ≡ vec_capacity closed.old }
     {
         subtree::move_out(&mut self.nodes, key, closed);
-        while subtree::sweep(&mut self.nodes, closed) {}
+        let mut back = false;
+        while subtree::sweep(&mut self.nodes, closed, back) {
+            back = !back;
+        }
     }
 }

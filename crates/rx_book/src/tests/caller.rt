@@ -6,7 +6,7 @@ ghost use Rattle.rx_event.specs.Calls.{OpeningUsing};
 ghost use Rattle.rx_event.specs.Refusals.{IsRefusal};
 ghost use Rattle.rx_resource.specs.declared.Life.{Life};
 ghost use Rattle.rx_book.specs.Answers.{against};
-ghost use Rattle.rx_book.specs.Boxes.{is_fresh_box};
+ghost use Rattle.rx_book.specs.Shown.{is_fresh_box};
 
 use super::lamps::new_lamp;
 use crate::{At, Book, Refused};

@@ -104,3 +104,56 @@ pub(super) fn new_lamp(tag: u64) -> Lamp
         life: Life::Live,
     }
 }
+
+// Keeps the exclusive or of all its words and answers it; its release meets no fault.
+#[derive(Drop)]
+pub(super) struct Tally {
+    tag: u64,
+    uses: u64,
+    life: Life,
+    sum: u64,
+}
+
+impl Resource for Tally {
+    ghost tag_of = { λ t. t.tag };
+
+    ghost life_of = { λ t. t.life };
+
+    ghost uses_of = { λ t. t.uses };
+
+    fn tag(&self) -> u64 {
+        self.tag
+    }
+
+    fn life(&self) -> Life {
+        self.life
+    }
+
+    fn uses(&self) -> u64 {
+        self.uses
+    }
+
+    fn apply(&mut self, word: u64) -> u64 {
+        self.uses += 1;
+        self.sum ^= word;
+        self.sum
+    }
+
+    fn release(&mut self) -> Result<(), u32> {
+        self.life = Life::Released;
+        Ok(())
+    }
+}
+
+pub(super) fn new_tally(tag: u64) -> Tally
+    ensures tag { result.tag ≡ tag }
+    ensures live { result.life ≡ Life.Live }
+    ensures unused { result.uses ≡ 0 }
+{
+    Tally {
+        tag,
+        uses: 0,
+        life: Life::Live,
+        sum: 0,
+    }
+}

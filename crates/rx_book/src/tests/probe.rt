@@ -68,12 +68,24 @@ impl<R: Resource> Probe<R> {
         }
     }
 
+    pub(super) fn apply(&mut self, res: ResKey, word: u64) -> Result<u64, Refusal> {
+        self.book.apply(res, word)
+    }
+
+    pub(super) fn remove(&mut self, res: ResKey) -> Result<u64, Refusal> {
+        self.book.remove(res)
+    }
+
     pub(super) fn next(&mut self, leaf: Key, value: i64) -> Result<u64, Refusal> {
         self.book.next(leaf, value)
     }
 
     pub(super) fn end(&mut self, leaf: Key, terminal: Terminal) -> Result<u64, Refusal> {
         self.book.end(leaf, terminal)
+    }
+
+    pub(super) fn abort(&mut self, node: Key, code: u32) -> Result<u64, Refusal> {
+        self.book.abort(node, code)
     }
 
     pub(super) fn dispose(&mut self, root: Key) -> Result<u64, Refusal> {
@@ -188,6 +200,14 @@ pub(super) fn unused(number: u64, tag: u64) -> Given {
         uses: 0,
         fault: None,
         life: Life::Released,
+    }
+}
+
+// What is given where a resource was used so often and its release met no fault.
+pub(super) fn used(number: u64, tag: u64, uses: u64) -> Given {
+    Given {
+        uses,
+        ..unused(number, tag)
     }
 }
 

@@ -6,7 +6,7 @@ ghost use Rattle.std.specs.Map.{keys_of};
 ghost use Rattle.serde_json.specs.View.{view, members_view};
 ghost use Rattle.rx_script.specs.Scenario.{spot_of};
 ghost use Rattle.rx_script.specs.Gives.{Gives};
-ghost use Rattle.rx_script.specs.Reading.{is_one_of, has_only, is_object_of, is_name_byte, is_name, name_in, value_in, terminal_in, spot_by, spot_in, kind_by, kind_in, events_in};
+ghost use Rattle.rx_script.specs.Reading.{is_one_of, has_only, is_object_of, is_name_byte, is_name, name_in, value_in, word_in, code_in, terminal_in, spot_by, spot_in, kind_by, kind_in, events_in};
 
 use super::ShapeError;
 use crate::scenario::Site;
@@ -86,6 +86,28 @@ pub fn value_in(object: &Value) -> Result<i64, ShapeError>
     match object.get("value").and_then(Value::as_i64) {
         Some(number) => Ok(number),
         None => Err(ShapeError::Shape),
+    }
+}
+
+/// The member `word`, what a resource is used on.
+#[tactic(auto, unfolding(crate::specs::Reading::word_in))]
+pub fn word_in(object: &Value) -> Result<u64, ShapeError>
+    ensures { Gives (λ w. w) result (word_in (view object.now)) }
+{
+    match object.get("word").and_then(Value::as_u64) {
+        Some(word) => Ok(word),
+        None => Err(ShapeError::Shape),
+    }
+}
+
+/// The member `error`, an error's code.
+#[tactic(auto, unfolding(crate::specs::Reading::code_in))]
+pub fn code_in(object: &Value) -> Result<u32, ShapeError>
+    ensures { Gives (λ c. c) result (code_in (view object.now)) }
+{
+    match object.get("error").and_then(Value::as_u64) {
+        Some(number) if number <= 4_294_967_295 => Ok(number as u32),
+        _ => Err(ShapeError::Shape),
     }
 }
 

@@ -4,10 +4,12 @@ ghost use Rattle.std.specs.Prelude.{◌≤◌, map, IfOk};
 ghost use Rattle.serde_json.specs.View.{view, items_view};
 ghost use Rattle.rx_script.specs.Scenario.{step_of as step_meant, script_of};
 ghost use Rattle.rx_script.specs.Gives.{Gives};
-ghost use Rattle.rx_script.specs.Reading.{using_of, open_of, hold_of, next_of, end_of, dispose_of, drain_of, step_by, step_in, each_step, steps_in, scenario_of};
+ghost use Rattle.rx_script.specs.Reading.{using_of, open_of, hold_of, apply_of, remove_of, next_of, end_of, abort_of, dispose_of, drain_of, step_by, step_in, each_step, steps_in, scenario_of};
 
 use super::ShapeError;
-use super::members::{events_in, is_object_of, kind_in, name_in, site_in, terminal_in, value_in};
+use super::members::{
+    code_in, events_in, is_object_of, kind_in, name_in, site_in, terminal_in, value_in, word_in,
+};
 use crate::scenario::{Command, Scenario};
 use serde_json::Value;
 use std::alloc::Global;
@@ -53,6 +55,29 @@ fn hold_of(alloc: Global, object: &Value) -> Result<Command, ShapeError>
     Ok(Command::Hold { node, res })
 }
 
+#[tactic(auto, unfolding(crate::specs::Reading::apply_of))]
+fn apply_of(alloc: Global, object: &Value) -> Result<Command, ShapeError>
+    ensures { Gives step_meant result (apply_of (view object.now)) }
+{
+    if !is_object_of(object, &["do", "res", "word"]) {
+        return Err(ShapeError::Shape);
+    }
+    let res = name_in(alloc, object, "res")?;
+    let word = word_in(object)?;
+    Ok(Command::Apply { res, word })
+}
+
+#[tactic(auto, unfolding(crate::specs::Reading::remove_of))]
+fn remove_of(alloc: Global, object: &Value) -> Result<Command, ShapeError>
+    ensures { Gives step_meant result (remove_of (view object.now)) }
+{
+    if !is_object_of(object, &["do", "res"]) {
+        return Err(ShapeError::Shape);
+    }
+    let res = name_in(alloc, object, "res")?;
+    Ok(Command::Remove { res })
+}
+
 #[tactic(auto, unfolding(crate::specs::Reading::next_of))]
 fn next_of(alloc: Global, object: &Value) -> Result<Command, ShapeError>
     ensures { Gives step_meant result (next_of (view object.now)) }
@@ -75,6 +100,18 @@ fn end_of(alloc: Global, object: &Value) -> Result<Command, ShapeError>
     let node = name_in(alloc, object, "node")?;
     let terminal = terminal_in(object)?;
     Ok(Command::End { node, terminal })
+}
+
+#[tactic(auto, unfolding(crate::specs::Reading::abort_of))]
+fn abort_of(alloc: Global, object: &Value) -> Result<Command, ShapeError>
+    ensures { Gives step_meant result (abort_of (view object.now)) }
+{
+    if !is_object_of(object, &["do", "node", "error"]) {
+        return Err(ShapeError::Shape);
+    }
+    let node = name_in(alloc, object, "node")?;
+    let code = code_in(object)?;
+    Ok(Command::Abort { node, code })
 }
 
 #[tactic(auto, unfolding(crate::specs::Reading::dispose_of))]
@@ -106,8 +143,11 @@ fn step_by(alloc: Global, what: &str, object: &Value) -> Result<Command, ShapeEr
         "using" => using_of(alloc, object),
         "open" => open_of(alloc, object),
         "hold" => hold_of(alloc, object),
+        "apply" => apply_of(alloc, object),
+        "remove" => remove_of(alloc, object),
         "next" => next_of(alloc, object),
         "end" => end_of(alloc, object),
+        "abort" => abort_of(alloc, object),
         "dispose" => dispose_of(alloc, object),
         "drain" => drain_of(object),
         _ => Err(ShapeError::Shape),

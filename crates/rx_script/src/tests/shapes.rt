@@ -51,7 +51,7 @@ const NO_SCENARIOS: [&str; 17] = [
 ];
 
 // Steps that are none.
-const NO_STEPS: [&str; 47] = [
+const NO_STEPS: [&str; 68] = [
     "{\"do\":\"drain\",\"at\":0}",
     "{\"do\":\"drain\",\"then\":[]}",
     "{\"do\":\"drain\",\"label\":\"x\"}",
@@ -60,9 +60,6 @@ const NO_STEPS: [&str; 47] = [
     "{\"do\":\"Drain\"}",
     "{\"do\":1}",
     "{\"do\":\"hub\",\"name\":\"h\",\"mode\":\"auto\"}",
-    "{\"do\":\"apply\",\"res\":\"r\",\"word\":1}",
-    "{\"do\":\"remove\",\"res\":\"r\"}",
-    "{\"do\":\"abort\",\"node\":\"a\",\"error\":1}",
     "{\"do\":\"decline\",\"node\":\"a\"}",
     "{\"do\":\"fail\",\"node\":\"a\",\"error\":1}",
     "{\"do\":\"connect\",\"hub\":\"h\"}",
@@ -98,6 +95,30 @@ const NO_STEPS: [&str; 47] = [
     "{\"do\":\"end\",\"node\":\"a\",\"error\":-1}",
     "{\"do\":\"end\",\"node\":\"a\",\"error\":null}",
     "{\"do\":\"end\",\"error\":1}",
+    "{\"do\":\"Apply\",\"res\":\"r\",\"word\":1}",
+    "{\"do\":\"apply\",\"res\":\"r\"}",
+    "{\"do\":\"apply\",\"word\":1}",
+    "{\"do\":\"apply\",\"res\":7,\"word\":1}",
+    "{\"do\":\"apply\",\"res\":\"r\",\"word\":-1}",
+    "{\"do\":\"apply\",\"res\":\"r\",\"word\":18446744073709551616}",
+    "{\"do\":\"apply\",\"res\":\"r\",\"word\":1.0}",
+    "{\"do\":\"apply\",\"res\":\"r\",\"word\":\"1\"}",
+    "{\"do\":\"apply\",\"res\":\"r\",\"word\":null}",
+    "{\"do\":\"apply\",\"res\":\"r\",\"word\":1,\"node\":\"a\"}",
+    "{\"do\":\"apply\",\"res\":\"r\",\"word\":1,\"label\":\"x\"}",
+    "{\"do\":\"remove\"}",
+    "{\"do\":\"remove\",\"res\":\"\"}",
+    "{\"do\":\"remove\",\"node\":\"a\"}",
+    "{\"do\":\"remove\",\"res\":\"r\",\"word\":1}",
+    "{\"do\":\"remove\",\"res\":\"r\",\"at\":0}",
+    "{\"do\":\"abort\",\"node\":\"a\"}",
+    "{\"do\":\"abort\",\"error\":1}",
+    "{\"do\":\"abort\",\"node\":7,\"error\":1}",
+    "{\"do\":\"abort\",\"node\":\"a\",\"error\":4294967296}",
+    "{\"do\":\"abort\",\"node\":\"a\",\"error\":-1}",
+    "{\"do\":\"abort\",\"node\":\"a\",\"error\":1.0}",
+    "{\"do\":\"abort\",\"node\":\"a\",\"error\":null}",
+    "{\"do\":\"abort\",\"node\":\"a\",\"error\":1,\"res\":\"r\"}",
     "{\"do\":\"dispose\"}",
 ];
 
@@ -116,12 +137,13 @@ fn what_is_no_scenario_is_shape(rt: HostRuntime) -> Result<(), Fail> {
 }
 
 // Scenarios at the edges of what is one.
-const SCENARIOS: [&str; 5] = [
+const SCENARIOS: [&str; 6] = [
     "{\"steps\":[],\"events\":1}",
     " {\"events\":4294967295 ,\n\"steps\":[ ]}",
     "{\"steps\":5,\"steps\":[]}",
     "{\"steps\":[{\"do\":\"open\",\"name\":\"AZaz09-_901234567890123456789012\",\"place\":\"root\",\"kind\":\"leaf\"}]}",
     "{\"steps\":[{\"do\":\"next\",\"node\":\"a\",\"value\":9223372036854775807},{\"do\":\"end\",\"node\":\"a\",\"error\":4294967295}]}",
+    "{\"steps\":[{\"do\":\"apply\",\"res\":\"r\",\"word\":18446744073709551615},{\"do\":\"remove\",\"res\":\"r\"},{\"do\":\"abort\",\"node\":\"a\",\"error\":4294967295}]}",
 ];
 
 #[test]

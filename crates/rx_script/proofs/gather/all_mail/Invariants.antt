@@ -2,7 +2,7 @@
 use Rattle.std.proofs.Common.{◌≡◌, ◌-◌, length, take, map}
 use Rattle.rx_event.specs.Notes.{notes}
 use Rattle.rx_book.specs.State.{IsKept}
-use Rattle.rx_book.specs.Kept.{letter}
+use Rattle.rx_register.specs.Kept.{letter}
 use Rattle.rx_script.proofs.gather.all_mail.Given as goal
 
 abbrev pub invariant-loop-note : goal.invariant-loop-note

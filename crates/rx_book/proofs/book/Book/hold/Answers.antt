@@ -1,32 +1,46 @@
-use Rattle.std.proofs.Common.{◌≡◌, ◌∙◌, sym, true, ap}
-use Rattle.std.proofs.lemmas.List.Elements.{All-push}
-use Rattle.rx_resource.specs.declared.Life.TheVariants.{Live}
-use Rattle.rx_event.specs.Resources.{is_held}
-use Rattle.rx_book.specs.State.{State, has_key}
-use Rattle.rx_book.specs.Boxes.{is_fresh_box}
-use Rattle.rx_book.proofs.Steps.{accepts}
-use Rattle.rx_book.proofs.Given.{held_resource_of, res_key_given, stocked_held, fresh_parts, held_fresh, map-push}
+use Rattle.std.proofs.Common.{◌∙◌, sym, refl, ap, inr, length, List, arith}
+use Rattle.rx_event.specs.declared.event.Event.{Event}
+use Rattle.rx_event.specs.Calls.{Holding}
+use Rattle.rx_book.specs.Shown.{tree_key_of}
+use Rattle.rx_book.proofs.Frames.{frame_hold, held_there}
+use Rattle.rx_book.proofs.Handled.{same_history, followed, refused_by_key, no_cause_by_key, accepted_by_key, rewrites_before, unused_now, fresh_parts, held_fresh, standing_held}
 use Rattle.rx_book.proofs.book.Book.hold.Goals as goal
+
+pub returns-in-Err-clause-refused : goal.returns-in-Err-clause-refused
+returns-in-Err-clause-refused g c =
+    rw (← c.self.view_is)
+    (refused_by_key c.self.inside.stock.tree c.args.node _ _ (rw (c.tree_key-key.ensures, c.is_fresh-fresh.ensures, c.tag-tag.ensures) at c.in-Err.ensures.refused))
+
+pub hold-requires-clause-unused : goal.hold-requires-clause-unused
+hold-requires-clause-unused g c κs within =
+    unused_now g.R.Resource c.self.inside.register c.admit_holding.new.register c.self.inside.stock c.admit_holding.new.stock _ _ c.self.invariant c.in_default.ensures.kept c.in_default.ensures.stock c.len-number.ensures
 
 pub invariant_of-self-in-Ok : goal.invariant_of-self-in-Ok
 invariant_of-self-in-Ok g c =
     let old = c.self.inside.register in
     let life = g.R.Resource.life_of c.args.resource in
     let used = g.R.Resource.uses_of c.args.resource in
-    let f = rw (c.is_fresh-fresh.ensures, c.tag-2.ensures) at c.in-Ok.ensures.accepted in
-    let fresh = fresh_parts life used (held_fresh old.history old.limit (is_fresh_box life used) c.args.node.number (g.R.Resource.tag_of c.args.resource) f.no_cause) in
-    rw (c.keep.ensures, c.reserve.ensures.items, map-push)
-    (stocked_held old c.hold.new.self _ c.args.node.number (g.R.Resource.tag_of c.args.resource) c.in-Ok.number life used f c.in-Ok.ensures.untaken c.in-Ok.ensures.ok c.self.invariant.0, All-push (λ e. g.R.Resource.life_of e.resource ≡ Live) _ _ c.self.invariant.1 fresh.0)
+    let fresh = fresh_parts life used (sym c.is_fresh-fresh.ensures ∙ held_fresh old.history old.limit c.is_fresh-fresh.result c.tree_key-key.result.number c.tag-tag.result c.in_default.ensures.admitted.no_cause) in
+    standing_held g.R.Resource old c.hold-in-Ok.new.self c.admit_holding.new.register c.self.inside.stock c.admit_holding.new.stock c.hold.new.self (tree_key_of c.args.node) c.args.resource c.tag-tag.result c.len-number.result c.in_default.ensures.kept c.in_default.ensures.stock c.len-number.ensures c.self.invariant c.promise.ensures (rw c.tree_key-key.ensures at c.in_default.ensures.ok) (rw c.tree_key-key.ensures at c.in-Ok.ensures.held) c.in-Ok.ensures.waiting c.in-Ok.ensures.room c.in_default.ensures.space fresh (sym c.tag-tag.ensures) c.hold-in-Ok.ensures.events c.hold-in-Ok.ensures.accepted.step.lawful
 
 pub returns-in-Ok-clause-ok : goal.returns-in-Ok-clause-ok
 returns-in-Ok-clause-ok g c =
-    let old = c.self.inside.register in
-    let new = c.hold.new.self in
-    let held = held_resource_of old.history new.history c.args.node.number c.tag-2.result c.promise.ensures.lawful c.promise.ensures.settled c.promise.ensures.plain c.in-Ok.ensures.accepted.step in
-    let at_number : is_held new.history c.in-Ok.number ≡ true = ap (is_held new.history) c.in-Ok.ensures.ok ∙ held in
-    rw (c.res_key_of.ensures, ← c.self.view_is) (c.in-Ok.ensures.ok, res_key_given new.history c.in-Ok.number at_number)
+    let same = same_history c.self.inside.register c.admit_holding.new.register c.in_default.ensures.kept in
+    let rewrites = rewrites_before c.self.inside.stock c.admit_holding.new.stock c.hold.new.self.tree (tree_key_of c.args.node) c.len-number.result c.args.resource c.in_default.ensures.stock (rw c.tree_key-key.ensures at c.in-Ok.ensures.held) in
+    rw (← c.self.view_is)
+    (c.len-number.ensures ∙ ap (λ (h : List Event). length h) same, held_there c.self.inside.stock.tree c.hold.new.self.tree (tree_key_of c.args.node) c.len-number.result c.args.resource (rw c.tree_key-key.ensures at c.in_default.ensures.ok) rewrites)
 
 pub returns-in-Ok-clause-accepted : goal.returns-in-Ok-clause-accepted
 returns-in-Ok-clause-accepted g c =
-    let known = ap (λ (s : State). has_key s.keys c.args.node) c.self.view_is ∙ sym c.is_open.ensures ∙ c.if-not-is_open.false in
-    rw (← c.self.view_is) (accepts c.self.inside.register c.hold.new.self _ _ _ _ _ known (rw (c.is_fresh-fresh.ensures, c.tag-2.ensures) at c.in-Ok.ensures.accepted))
+    let old = c.self.inside.register in
+    let same = same_history old c.admit_holding.new.register c.in_default.ensures.kept in
+    let number = c.len-number.ensures ∙ ap (λ (h : List Event). length h) same in
+    let rewrites = rewrites_before c.self.inside.stock c.admit_holding.new.stock c.hold.new.self.tree (tree_key_of c.args.node) c.len-number.result c.args.resource c.in_default.ensures.stock (rw c.tree_key-key.ensures at c.in-Ok.ensures.held) in
+    let f = followed old c.admit_holding.new.register c.hold-in-Ok.new.self c.is_fresh-fresh.result (Holding c.args.node.number c.tag-tag.result) c.in_default.ensures.kept c.hold-in-Ok.ensures.accepted in
+    rw (← c.self.view_is)
+    (accepted_by_key g.R.Resource old c.hold-in-Ok.new.self c.self.inside.stock c.hold.new.self c.args.node _ _ (rw c.tree_key-key.ensures at c.in_default.ensures.ok) (rw (c.is_fresh-fresh.ensures, c.tag-tag.ensures) at f) (frame_hold c.self.inside.stock.tree c.hold.new.self.tree (tree_key_of c.args.node) c.len-number.result c.args.resource (length old.history) (omega arith) rewrites))
+
+pub returns-in-Err-hold-clause-refused : goal.returns-in-Err-hold-clause-refused
+returns-in-Err-hold-clause-refused g c =
+    rw (← c.self.view_is)
+    (inr (no_cause_by_key c.self.inside.stock.tree c.args.node _ (rw c.tree_key-key.ensures at c.in_default.ensures.ok) (rw (c.tree_key-key.ensures, c.is_fresh-fresh.ensures) at c.in_default.ensures.admitted.no_cause), refl))

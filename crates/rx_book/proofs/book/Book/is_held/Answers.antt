@@ -1,17 +1,8 @@
-use Rattle.std.proofs.Common.{◌∙◌, sym, ap, eq-eqb}
-use Rattle.std.proofs.Math.Bool.{◌&&◌}
-use Rattle.rx_event.specs.Resources.{is_held}
-use Rattle.rx_book.specs.State.{State, has_res_key}
-use Rattle.rx_book.proofs.Named.{has_res_key-held, unnamed}
+use Rattle.std.proofs.Common.{◌≡◌, ◌∙◌, sym}
+use Rattle.rx_book.proofs.Listed.{has_res_key_is, same_test}
 use Rattle.rx_book.proofs.book.Book.is_held.Goals as goal
 
-pub returns-then-res : goal.returns-then-res
-returns-then-res g c =
-    c.is_held.ensures
-    ∙ ap (λ b. b && is_held c.self.inside.register.history c.args.res.number) (sym (eq-eqb c.args.res.slot c.args.res.number c.if-res.true))
-    ∙ sym (has_res_key-held c.self.inside.register.history c.args.res) ∙ ap (λ (s : State). has_res_key s.res_keys c.args.res) c.self.view_is
-
-pub returns-else-res : goal.returns-else-res
-returns-else-res g c =
-    unnamed c.args.res.slot c.args.res.number (is_held c.self.inside.register.history c.args.res.number) c.if-res.false
-    ∙ sym (has_res_key-held c.self.inside.register.history c.args.res) ∙ ap (λ (s : State). has_res_key s.res_keys c.args.res) c.self.view_is
+pub returns : goal.returns
+returns g c =
+    let found = rw c.tree_res_key.ensures at c.holds.ensures in
+    rw (← c.self.view_is) (same_test c.holds.result _ found.0 found.1 ∙ sym (has_res_key_is c.self.inside.stock.tree c.args.res))

@@ -1,42 +1,96 @@
-use Rattle.std.proofs.Common.{◌≡◌, ◌+◌, ◌∙◌, true, ap, arith}
-use Rattle.std.proofs.lemmas.List.Elements.{All-push}
-use Rattle.rx_resource.specs.declared.Life.TheVariants.{Live}
-use Rattle.rx_event.specs.Tree.{is_open}
-use Rattle.rx_event.specs.Resources.{is_held}
+use Rattle.std.proofs.Common.{◌≡◌, ◌+◌, [], length, refl, sym, ap, ◌∙◌, arith, inr}
+use Rattle.rx_event.specs.Totals.{held_count}
+use Rattle.rx_event.specs.Calls.{OpeningUsing}
+use Rattle.rx_event.specs.declared.event.Kind.TheVariants.{Pass}
+use Rattle.rx_event.specs.declared.event.Event.TheVariants.{Open}
+use Rattle.rx_register.specs.Plain.{is_plain}
+use Rattle.rx_register.specs.Kept.{Kept}
+use Rattle.rx_stock.specs.Stock.{Stock}
 use Rattle.rx_book.specs.State.{State}
-use Rattle.rx_book.specs.Answers.{is_known}
-use Rattle.rx_book.specs.Boxes.{is_fresh_box}
-use Rattle.rx_book.proofs.Steps.{accepts}
-use Rattle.rx_book.proofs.Given.{opened_with_resource, key_given, res_key_given, stocked_using, fresh_parts, used_fresh, map-push}
+use Rattle.rx_book.specs.Answers.{is_known, place_of}
+use Rattle.rx_book.specs.Shelved.{IsShelved}
+use Rattle.rx_book.proofs.Alive.{unused_next}
+use Rattle.rx_book.proofs.Placed.{plain_using, used_fresh, fresh_parts, known_there, placed_spot, shelved_same, standing_using}
+use Rattle.rx_book.proofs.Frames.{accepts, frame_opened_using, key_there, res_key_there, box_added}
 use Rattle.rx_book.proofs.book.Book.open_using.Goals as goal
 
-pub overflow_add-number : goal.overflow_add-number
-overflow_add-number g c = omega (arith, c.in-Ok-open_using.ensures.ok)
+pub returns-in-Err-clause-refused : goal.returns-in-Err-clause-refused
+returns-in-Err-clause-refused g c =
+    let known = ap (λ (s : State). is_known s.keys c.args.at) (sym c.self.view_is) ∙ known_there c.self.inside.stock.tree c.args.at in
+    rw (known, ← c.self.view_is) (rw (c.is_fresh-fresh.ensures, c.tag-tag.ensures) at c.in-Err.ensures.refused)
 
-pub overflow_add-number-in-Ok-open_using : goal.overflow_add-number-in-Ok-open_using
-overflow_add-number-in-Ok-open_using g c = omega (arith, c.in-Ok-open_using.ensures.ok)
+pub overflow_add-number : goal.overflow_add-number
+overflow_add-number g c =
+    let a = c.promise.ensures.within in
+    let b = c.promise.ensures.limited in
+    let number = c.len-number.ensures in
+    omega arith
+
+pub open_using-requires-clause-unused : goal.open_using-requires-clause-unused
+open_using-requires-clause-unused g c κs within =
+    rw (c.len-number.ensures, c.admit_using.ensures.kept, c.admit_using.ensures.stock) (unused_next g.R.Resource c.self.inside.register.history c.self.inside.stock.tree c.self.inside.stock.waiting c.self.invariant.shelved)
+
+pub open_using-requires-clause-placed : goal.open_using-requires-clause-placed
+open_using-requires-clause-placed g c κs within =
+    rw (c.len-number.ensures, c.admit_using.ensures.kept, c.admit_using.ensures.stock) (placed_spot g.R.Resource c.self.inside.register.history c.self.inside.stock.tree c.self.inside.stock.waiting c.self.invariant.shelved c.args.at c.in-Ok.spot Pass c.in-Ok.ensures.ok)
+
+pub overflow_add-result : goal.overflow_add-result
+overflow_add-result g c =
+    let a = c.promise.ensures.within in
+    let b = c.promise.ensures.limited in
+    let number = c.len-number.ensures in
+    omega arith
 
 pub invariant_of-self-in-Ok-open_using : goal.invariant_of-self-in-Ok-open_using
 invariant_of-self-in-Ok-open_using g c =
     let old = c.self.inside.register in
+    let same = ap (λ (s : Kept). s.history) c.admit_using.ensures.kept in
+    let tree_same = ap (λ (s : Stock g.row.R.Denot). s.tree) c.admit_using.ensures.stock in
+    let waits_same = ap (λ (s : Stock g.row.R.Denot). s.waiting) c.admit_using.ensures.stock in
+    let none = c.in-Ok.ensures.admitted.no_cause in
+    let place = place_of c.args.at in
+    let shelved : IsShelved g.R.Resource old.history c.admit_using.new.stock.tree c.admit_using.new.stock.waiting = rw (tree_same, waits_same) c.self.invariant.shelved in
+    let plain = ap (λ p. is_plain (Open p Pass)) c.in-Ok.ensures.ok.place ∙ plain_using old.history old.limit _ place c.tag-tag.result none in
     let life = g.R.Resource.life_of c.args.resource in
     let used = g.R.Resource.uses_of c.args.resource in
-    let f = rw (c.is_fresh-fresh.ensures, c.tag-2.ensures) at c.in-Ok-open_using.ensures.accepted in
-    let fresh = fresh_parts life used (used_fresh old.history old.limit (is_fresh_box life used) c.in-Ok.place (g.R.Resource.tag_of c.args.resource) f.no_cause) in
-    rw (c.keep.ensures, c.reserve.ensures.items, map-push)
-    (stocked_using old c.open_using.new.self _ c.in-Ok.place (g.R.Resource.tag_of c.args.resource) (c.in-Ok-open_using.number + 1) life used f c.in-Ok-open_using.ensures.untaken (ap (λ n. n + 1) c.in-Ok-open_using.ensures.ok) c.self.invariant.0, All-push (λ e. g.R.Resource.life_of e.resource ≡ Live) _ _ c.self.invariant.1 fresh.0)
+    let fresh = fresh_parts life used (sym c.is_fresh-fresh.ensures ∙ used_fresh old.history old.limit _ place c.tag-tag.result none) in
+    let number = c.in-Ok-open_using.ensures.numbered ∙ c.len-number.ensures ∙ ap length same in
+    standing_using g.R.Resource old.history c.open_using-in-Ok-open_using.new.self c.admit_using.new.stock c.open_using.new.self c.in-Ok-open_using.key c.in-Ok.spot.place c.tag-tag.result c.in-Ok.spot.above c.args.resource shelved c.in-Ok.ensures.space (rw same at c.open_using-in-Ok-open_using.ensures.events) c.open_using-in-Ok-open_using.ensures.accepted.step.lawful plain number (rw (c.len-number.ensures, same) at c.in-Ok-open_using.ensures.opened) fresh.0 (sym c.tag-tag.ensures) fresh.1 c.open_using.ensures.waiting c.open_using.ensures.room
+
+pub invariant_of-self-in-Err-open_using : goal.invariant_of-self-in-Err-open_using
+invariant_of-self-in-Err-open_using g c =
+    let same = ap (λ (s : Kept). s.history) c.admit_using.ensures.kept in
+    let tree_same = ap (λ (s : Stock g.row.R.Denot). s.tree) c.admit_using.ensures.stock in
+    let waits_same = ap (λ (s : Stock g.row.R.Denot). s.waiting) c.admit_using.ensures.stock in
+    let space = c.in-Ok.ensures.space in
+    let room = c.open_using.ensures.room in
+    let held = ap held_count same in
+    record {
+      shelved = rw same (shelved_same g.R.Resource c.self.inside.register.history c.self.inside.stock.tree c.self.inside.stock.waiting c.self.invariant.shelved c.open_using.new.self.tree c.open_using.new.self.waiting (rw (c.in-Err-open_using.ensures.err, tree_same) refl) (rw (c.open_using.ensures.waiting, waits_same) refl));
+      room = omega arith;
+    }
 
 pub returns-in-Ok-open_using-clause-ok : goal.returns-in-Ok-open_using-clause-ok
 returns-in-Ok-open_using-clause-ok g c =
-    let old = c.self.inside.register in
-    let new = c.open_using.new.self in
-    let both = opened_with_resource old.history new.history c.in-Ok.place c.tag-2.result c.promise.ensures.lawful c.promise.ensures.settled c.promise.ensures.plain c.promise-in-Ok-open_using.ensures.plain c.in-Ok-open_using.ensures.accepted.step in
-    let alive : is_open new.history c.in-Ok-open_using.number ≡ true = ap (is_open new.history) c.in-Ok-open_using.ensures.ok ∙ both.node in
-    let held : is_held new.history (c.in-Ok-open_using.number + 1) ≡ true = ap (λ n. is_held new.history (n + 1)) c.in-Ok-open_using.ensures.ok ∙ both.resource in
-    rw (c.key_of.ensures, c.res_key_of.ensures, ← c.self.view_is)
-    (c.in-Ok-open_using.ensures.ok, key_given new.history c.in-Ok-open_using.number alive, ap (λ n. n + 1) c.in-Ok-open_using.ensures.ok, res_key_given new.history (c.in-Ok-open_using.number + 1) held)
+    let same = ap (λ (s : Kept). s.history) c.admit_using.ensures.kept in
+    let view = ap (λ (s : State). length s.history) c.self.view_is in
+    let at : c.len-number.result ≡ length c.args.self.now.history = c.len-number.ensures ∙ ap length same ∙ view in
+    let number = c.in-Ok-open_using.ensures.numbered ∙ at in
+    let tree = c.open_using.new.self.tree in
+    let key = c.in-Ok-open_using.key in
+    let held = res_key_there tree key _ (c.len-number.result + 1) c.in-Ok-open_using.ensures.opened.opened (box_added (c.len-number.result + 1) c.args.resource []) in
+    rw c.shown_key.ensures (number, key_there tree key _ c.in-Ok-open_using.ensures.opened.opened, ap (λ n. n + 1) at, held)
 
 pub returns-in-Ok-open_using-clause-accepted : goal.returns-in-Ok-open_using-clause-accepted
 returns-in-Ok-open_using-clause-accepted g c =
-    let known = ap (λ (s : State). is_known s.keys c.args.at) c.self.view_is ∙ c.in-Ok.ensures.ok.1 in
-    rw (← c.self.view_is) (accepts c.self.inside.register c.open_using.new.self _ _ _ _ _ known (rw (c.in-Ok.ensures.ok.0, c.is_fresh-fresh.ensures, c.tag-2.ensures) at c.in-Ok-open_using.ensures.accepted))
+    let at = c.len-number.ensures in
+    let number = c.in-Ok-open_using.ensures.numbered ∙ at in
+    let known = ap (λ (s : State). is_known s.keys c.args.at) (sym c.self.view_is) ∙ known_there c.self.inside.stock.tree c.args.at ∙ c.in-Ok.ensures.ok.there in
+    let kept = frame_opened_using c.admit_using.new.stock.tree c.open_using.new.self.tree c.in-Ok-open_using.key _ c.in-Ok.spot.above (c.len-number.result + 1) c.args.resource (length c.admit_using.new.register.history) number (omega arith) c.in-Ok-open_using.ensures.opened in
+    let all = accepts g.R.Resource c.admit_using.new.register c.open_using-in-Ok-open_using.new.self c.admit_using.new.stock c.open_using.new.self _ (OpeningUsing c.in-Ok.spot.place c.tag-tag.result) c.open_using-in-Ok-open_using.ensures.accepted kept in
+    rw (known, ← c.self.view_is) (rw (c.in-Ok.ensures.ok.place, c.is_fresh-fresh.ensures, c.tag-tag.ensures, c.admit_using.ensures.kept, c.admit_using.ensures.stock) at all)
+
+pub returns-in-Err-open_using-clause-refused : goal.returns-in-Err-open_using-clause-refused
+returns-in-Err-open_using-clause-refused g c =
+    let known = ap (λ (s : State). is_known s.keys c.args.at) (sym c.self.view_is) ∙ known_there c.self.inside.stock.tree c.args.at ∙ c.in-Ok.ensures.ok.there in
+    rw (known, ← c.self.view_is) (inr (rw c.is_fresh-fresh.ensures at c.in-Ok.ensures.admitted.no_cause, refl))

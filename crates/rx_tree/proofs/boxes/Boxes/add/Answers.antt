@@ -1,5 +1,4 @@
-use Rattle.std.proofs.Common.{sym, ap, subst, ◌∙◌}
-use Rattle.rx_tree.specs.Kept.{IsKept}
+use Rattle.std.proofs.Common.{ap}
 use Rattle.rx_tree.proofs.KeptLemmas.{kept_added}
 use Rattle.rx_tree.proofs.boxes.Boxes.add.Goals as goal
 

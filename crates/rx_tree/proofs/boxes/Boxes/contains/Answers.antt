@@ -1,4 +1,4 @@
-use Rattle.std.proofs.Common.{sym, ap, ◌∙◌}
+use Rattle.std.proofs.Common.{sym, ◌∙◌}
 use Rattle.rx_tree.proofs.KeptLemmas.{kept_found}
 use Rattle.rx_tree.proofs.boxes.Boxes.contains.Goals as goal
 

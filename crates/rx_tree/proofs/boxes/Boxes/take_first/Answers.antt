@@ -1,4 +1,4 @@
-use Rattle.std.proofs.Common.{◌<◌, length, refl, sym, ap, ◌∙◌, rules}
+use Rattle.std.proofs.Common.{◌<◌, length, refl, sym, ◌∙◌, rules}
 use Rattle.rx_tree.proofs.Members.{number_at}
 use Rattle.rx_tree.proofs.KeptLemmas.{kept_some, kept_removed, items_first_removed}
 use Rattle.rx_tree.proofs.boxes.Boxes.take_first.Goals as goal

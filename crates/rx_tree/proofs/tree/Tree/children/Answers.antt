@@ -1,11 +1,10 @@
-use Rattle.std.proofs.Common.{◌≡◌, ◌∙◌, ◌≤◌, Some, false, refl, sym, inl, inr, arith}
+use Rattle.std.proofs.Common.{◌≡◌, ◌∙◌, Some, false, sym, inl, inr, arith}
 use Rattle.std.proofs.lemmas.Bool.Decides.{nat_tests}
 use Rattle.std.proofs.lemmas.Bool.{cases_lt}
 use Rattle.std.specs.Option.{option_eq}
 use Rattle.rx_slots.specs.contracts.KeyPartialEq.TheImpl.{eq-value as the_impl}
 use Rattle.rx_slots.specs.declared.Key.{Key}
 use Rattle.rx_tree.proofs.Nodes.{no_child}
-use Rattle.rx_tree.proofs.CutLemmas.{one_key}
 use Rattle.rx_tree.proofs.tree.Tree.children.Goals as goal
 use Rattle.rx_tree.proofs.tree.Tree.children.Goals.{in-Some+else-eq, in_default}
 

@@ -1,4 +1,4 @@
-use Rattle.std.proofs.Common.{ℕ, ◌<◌, ◌≤◌}
+use Rattle.std.proofs.Common.{◌<◌, ◌≤◌}
 use Rattle.rx_slots.specs.declared.Key.{Key}
 use Rattle.rx_tree.specs.Tree.{IsChild}
 use Rattle.rx_tree.proofs.tree.Tree.children.Given as goal

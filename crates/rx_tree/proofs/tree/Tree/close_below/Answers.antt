@@ -1,4 +1,4 @@
-use Rattle.std.proofs.Common.{◌≡◌, ◌+◌, ◌∙◌, refl, sym, ap, arith}
+use Rattle.std.proofs.Common.{◌∙◌, arith}
 use Rattle.rx_tree.specs.Cuts.{uncut}
 use Rattle.rx_tree.proofs.CutLemmas.{Cuts-join, closing, closing_before, closing_moved, kept_by_cuts, subtree_moved, sound_left}
 use Rattle.rx_tree.proofs.tree.Tree.close_below.Goals as goal

@@ -1,6 +1,5 @@
-use Rattle.std.proofs.Common.{sym, ap, ◌∙◌}
-use Rattle.rx_tree.proofs.Sound.{named_parent}
-use Rattle.rx_tree.proofs.Written.{find-written}
+use Rattle.std.proofs.Common.{sym}
+use Rattle.rx_tree.specs.Laws.Parents.{named_parent}
 use Rattle.rx_tree.proofs.tree.Tree.parent.Goals as goal
 
 pub returns-clause-number : goal.returns-clause-number

@@ -1,4 +1,4 @@
-use Rattle.std.proofs.Common.{ap, refl}
+use Rattle.std.proofs.Common.{ap}
 use Rattle.rx_slots.specs.Slots.{find}
 use Rattle.rx_tree.proofs.Sound.{IsSound-same}
 use Rattle.rx_tree.proofs.tree.Tree.reserve.Goals as goal

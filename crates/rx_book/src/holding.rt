@@ -1,0 +1,112 @@
+//! Holding, using, removing and taking resources.
+
+ghost use Rattle.std.specs.Prelude.{◌≡◌, ◌+◌, true, Some, [], length, OnOk, OnErr, IfOk, IfErr, IfNone, IfSome, MatchOption, IsTrue};
+ghost use Rattle.std.specs.List.{Contains};
+ghost use Rattle.rx_event.specs.Calls.{Holding, Applying, Removing, Taking};
+ghost use Rattle.rx_event.specs.Refusals.{IsRefusal, first_cause};
+ghost use Rattle.rx_resource.specs.declared.Life.{Life};
+ghost use Rattle.rx_book.specs.State.{has_key, has_res_key};
+ghost use Rattle.rx_book.specs.Answers.{against, against_use, Accepts};
+ghost use Rattle.rx_book.specs.Shown.{box_of, is_fresh_box};
+
+use crate::Book;
+use crate::admission::{admit_applying, admit_holding};
+use crate::answer::Refused;
+use crate::key::{Key, ResKey, tree_key, tree_res_key};
+use rx_event::Refusal;
+use rx_resource::{Handed, Life, Resource};
+
+/// Whether a resource was neither released nor used.
+pub(crate) fn is_fresh<R: Resource>(resource: &R) -> bool
+    ensures { result ≡ is_fresh_box (R.life_of resource.now) (R.uses_of resource.now) }
+{
+    resource.life() == Life::Live && resource.uses() == 0
+}
+
+impl<R: Resource> Book<R> {
+    /// Holds a resource at a node, one more disposable of a composite; as Finally does where its release
+    /// is the action. It waits for its release once the node is closed. Refused, in this order: `Gone`, `NotFresh` where the resource
+    /// was released or used, `Full`, `NoMemory`. A refusal changes nothing and gives the resource
+    /// back.
+    pub fn hold(&mut self, node: Key, resource: R) -> Result<ResKey, Refused<R>>
+        ensures ok { IfOk result (λ k. (k.number ≡ length self.old.history) × IsTrue (has_res_key self.new.res_keys k)) }
+        ensures accepted { OnOk result (Accepts self.old (against self.old (has_key self.old.keys node) (is_fresh_box (R.life_of resource) (R.uses_of resource)) (Holding node.number (R.tag_of resource))) (Holding node.number (R.tag_of resource)) self.new) }
+        ensures refused { IfErr result (λ e. IsRefusal (against self.old (has_key self.old.keys node) (is_fresh_box (R.life_of resource) (R.uses_of resource)) (Holding node.number (R.tag_of resource))) e.why) }
+        ensures given_back { IfErr result (λ e. e.back ≡ resource) }
+        ensures kept { OnErr result (self.new ≡ self.old) }
+    {
+        let tag = resource.tag();
+        let fresh = is_fresh(&resource);
+        let key = tree_key(node);
+        self.stock.promise();
+        if let Err(why) = admit_holding(&mut self.register, &mut self.stock, key, tag, fresh) {
+            return Err(Refused {
+                why,
+                back: resource,
+            });
+        }
+        let number = self.register.len();
+        match self.stock.hold(key, number, resource) {
+            Ok(()) => {
+                self.register.hold(node.number, tag, fresh);
+                Ok(ResKey {
+                    slot: node.slot,
+                    number,
+                })
+            }
+            Err(back) => Err(Refused {
+                why: Refusal::NoMemory,
+                back,
+            }),
+        }
+    }
+
+    /// Uses a held resource on a word, and answers its word. The resource's `apply` runs inside this
+    /// call, and so inside whatever lock the owner of the book holds: it may not use the desk. Refused,
+    /// in this order: `NotHeld` where the key is no held resource's, `Full`, `NoMemory`. A refusal
+    /// changes nothing, and does not use the resource.
+    pub fn apply(&mut self, res: ResKey, word: u64) -> Result<u64, Refusal>
+        ensures accepted { OnOk result (Accepts self.old (against_use self.old (has_res_key self.old.res_keys res) (Applying res.number)) (Applying res.number) self.new) }
+        ensures refused { IfErr result (IsRefusal (against_use self.old (has_res_key self.old.res_keys res) (Applying res.number))) }
+        ensures kept { OnErr result (self.new ≡ self.old) }
+    {
+        let key = tree_res_key(res);
+        admit_applying(&mut self.register, &self.stock, key)?;
+        self.register.promise();
+        self.stock.promise();
+        self.register.apply(res.number);
+        Ok(self.stock.apply(key, word))
+    }
+
+    /// Takes a resource away from its node, which goes on without it: it then waits for its release
+    /// (Remove of a composite disposable); answers the place of its event. Refused `NotHeld` where the
+    /// key is no held resource's. It takes no memory. A refusal changes nothing.
+    pub fn remove(&mut self, res: ResKey) -> Result<u64, Refusal>
+        ensures ok { IfOk result (λ place. place ≡ length self.old.history) }
+        ensures accepted { OnOk result (Accepts self.old (against_use self.old (has_res_key self.old.res_keys res) (Removing res.number)) (Removing res.number) self.new) }
+        ensures refused { IfErr result (λ why. first_cause (against_use self.old (has_res_key self.old.res_keys res) (Removing res.number)) ≡ Some why) }
+        ensures kept { OnErr result (self.new ≡ self.old) }
+    {
+        let key = tree_res_key(res);
+        if !self.stock.holds(key) {
+            return Err(Refusal::NotHeld);
+        }
+        self.register.promise();
+        self.stock.promise();
+        self.stock.remove(key);
+        Ok(self.register.remove(res.number))
+    }
+
+    /// Hands out a resource that waits, for its release; which one is free. None exactly where
+    /// nothing waits. It takes no memory.
+    pub fn take(&mut self) -> Option<Handed<R>>
+        ensures cases { MatchOption result (self.old.waiting ≡ []) (λ handed. Contains self.old.waiting (box_of handed.0 (R.tag_of handed.1) (R.uses_of handed.1))) }
+        ensures accepted { IfSome result (λ handed. Accepts self.old (against self.old true true (Taking handed.0)) (Taking handed.0) self.new) }
+        ensures kept { IfNone result (self.new ≡ self.old) }
+    {
+        self.register.promise();
+        let held = self.stock.take()?;
+        self.register.take(held.number);
+        Some(Handed::new(held.number, held.resource))
+    }
+}

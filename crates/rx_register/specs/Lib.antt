@@ -1,0 +1,4 @@
+pub mod Causes
+pub mod Plain
+pub mod Kept
+pub mod Ties

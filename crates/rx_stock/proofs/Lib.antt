@@ -1,0 +1,4 @@
+pub mod Noted
+pub mod Spilled
+pub mod Used
+pub mod Few
