@@ -44,6 +44,31 @@ closed 1 faults 1
 }
 
 #[test]
+fn a_removed_resource_waits_beside_a_used_one(rt: HostRuntime) -> Result<(), Fail> {
+    let scenario = "{\"steps\":[
+        {\"do\":\"using\",\"name\":\"a\",\"place\":\"root\",\"res\":\"r\"},
+        {\"do\":\"hold\",\"node\":\"a\",\"res\":\"q\"},
+        {\"do\":\"apply\",\"res\":\"q\",\"word\":9},
+        {\"do\":\"remove\",\"res\":\"r\"},
+        {\"do\":\"hold\",\"node\":\"a\",\"res\":\"s\"},
+        {\"do\":\"hold\",\"node\":\"a\",\"res\":\"t\"}]}";
+    assert_report(
+        &rt,
+        rt.alloc(),
+        scenario,
+        &[0, 1, 2, 3],
+        "node a open:
+res r tag=0 uses=0 waiting
+res q tag=1 uses=1 held
+res s tag=2 uses=0 held
+res t tag=3 uses=0 held
+totals nodes=1 open=1 accepted=4 held=3 waiting=1 taken=0
+closed 4 faults 1
+",
+    )
+}
+
+#[test]
 fn what_is_not_bound_is_neither_used_nor_removed_nor_aborted(rt: HostRuntime) -> Result<(), Fail> {
     let scenario = "{\"steps\":[
         {\"do\":\"using\",\"name\":\"a\",\"place\":\"root\",\"res\":\"r\"},
