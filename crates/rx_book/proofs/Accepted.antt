@@ -27,7 +27,7 @@ use Rattle.rx_book.specs.State.{AreJust, accepted_tag}
 use Rattle.rx_book.specs.Shelved.{is_held_at, numbers, IsAsWritten, IsRecordOf, HasRecord, IsShelved}
 use Rattle.rx_book.proofs.Found.{cases_key, mapped}
 use Rattle.rx_book.proofs.Alive.{alive_key}
-use Rattle.rx_book.proofs.JustMore.{AreJust-same, AreJust-push}
+use Rattle.rx_book.proofs.JustNumbers.{just_same, just_push}
 use Rattle.rx_book.proofs.Quiet.{or_false, held_at_past, source_push, all_written}
 
 -- what is accepted at one node is held at no other
@@ -81,7 +81,7 @@ module _ {T : Type 0} (g : Ghosts T) (h : List Event) (n tag : ℕ) (law : IsLaw
     made = slice_get-append h (Accept n tag ∷ []) m (is_open_within h m r.alive) ∙ r.made;
     alive = is_open_unchanged h (Accept n tag) refl refl m ∙ r.alive;
     source = r.source ∙ sym (source_unmoved h n tag law m);
-    resources = AreJust-same (is_held_at h m) (is_held_at (h ++ Accept n tag ∷ []) m) (numbers node.boxes) (λ i. held_at_other h n tag law m i (λ same. other)) r.resources;
+    resources = just_same (is_held_at h m) (is_held_at (h ++ Accept n tag ∷ []) m) (numbers node.boxes) (λ i. held_at_other h n tag law m i (λ same. other)) r.resources;
     written = all_written g h (Accept n tag) (λ i. refl) node.boxes r.written;
   }
 
@@ -99,7 +99,7 @@ module _ {T : Type 0} (g : Ghosts T) (h : List Event) (n tag : ℕ) (law : IsLaw
   }
     where
       one_more : AreJust (is_held_at (h ++ Accept n tag ∷ []) n) (numbers node.boxes ++ length h ∷ [])
-      one_more = AreJust-push (is_held_at h n) (is_held_at (h ++ Accept n tag ∷ []) n) (numbers node.boxes) (length h) (held_at_past h n (length h) (omega arith)) (held_at_new h n tag law r.alive) (λ i other. held_at_other h n tag law n i (λ same. absurd (other same))) r.resources
+      one_more = just_push (is_held_at h n) (is_held_at (h ++ Accept n tag ∷ []) n) (numbers node.boxes) (length h) (held_at_past h n (length h) (omega arith)) (held_at_new h n tag law r.alive) (λ i other. held_at_other h n tag law n i (λ same. absurd (other same))) r.resources
 
 module _ {T : Type 0} (g : Ghosts T) (h : List Event) (old new : Tree T) (waiting : List (ℕ × T)) (key : Key) (x : T) (w : Rewrites old new key (on_boxes (with_box (length h) x))) where
   -- a record that was found at a slot still is
@@ -116,7 +116,7 @@ module _ {T : Type 0} (g : Ghosts T) (h : List Event) (old new : Tree T) (waitin
   after_holding tag s sound law found fresh = record {
     records = λ other y now. by_key other y now (cases_key other key);
     every = λ n alive. found_still n (s.every n (sym (is_open_unchanged h (Accept key.number tag) refl refl n) ∙ alive));
-    waits = AreJust-same (is_waiting h) (is_waiting (h ++ Accept key.number tag ∷ [])) (numbers waiting) (waiting_unmoved h key.number tag law (alive_key g h old waiting s key found)) s.waits;
+    waits = just_same (is_waiting h) (is_waiting (h ++ Accept key.number tag ∷ [])) (numbers waiting) (waiting_unmoved h key.number tag law (alive_key g h old waiting s key found)) s.waits;
     written = all_written g h (Accept key.number tag) (λ i. refl) waiting s.written;
   }
     where

@@ -14,7 +14,7 @@ use Rattle.rx_slots.specs.Slots.{find, with_number}
 use Rattle.rx_tree.specs.declared.node.Node.{Node}
 use Rattle.rx_tree.specs.Tree.{Tree}
 use Rattle.rx_book.specs.Shelved.{IsAsWritten, IsShelved}
-use Rattle.rx_book.proofs.JustMore.{AreJust-none}
+use Rattle.rx_book.proofs.JustNumbers.{just_none}
 
 -- nothing is found where there is nothing
 pub find_none : {T : Type 0} (tree : Tree T) → tree.entries ≡ [] → (key : Key) → find tree key ≡ None
@@ -24,6 +24,6 @@ pub shelved_new : {T : Type 0} (g : Ghosts T) (tree : Tree T) → tree.entries �
 shelved_new g tree empty = record {
   records = λ key node found. absurd (none-some node (sym (find_none tree empty key) ∙ found));
   every = λ n alive. absurd (both_ways (is_open [] n) (is_open_past [] n (omega arith)) alive);
-  waits = AreJust-none (is_waiting []) (λ n. is_waiting_past [] n (omega arith));
+  waits = just_none (is_waiting []) (λ n. is_waiting_past [] n (omega arith));
   written = All-nil (IsAsWritten g []);
 }

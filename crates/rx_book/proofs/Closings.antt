@@ -28,7 +28,8 @@ use Rattle.rx_book.specs.Causes.{by_key}
 use Rattle.rx_book.specs.Answers.{Accepts}
 use Rattle.rx_book.specs.Shown.{tree_key_of, keys_of, state_of}
 use Rattle.rx_book.specs.Shelved.{IsShelved, IsStanding}
-use Rattle.rx_book.proofs.Listed.{same_test, has_key_is}
+use Rattle.std.specs.Cmp.{both_ways as same_test}
+use Rattle.rx_book.proofs.Listed.{has_key_is}
 use Rattle.rx_book.proofs.Upward.{child_is_child}
 use Rattle.rx_book.proofs.Counted.{waiting_counted}
 use Rattle.rx_book.proofs.Frames.{frame_cut, accepts_shown}

@@ -22,42 +22,9 @@ use Rattle.rx_book.specs.declared.key.Key.{Key}
 use Rattle.rx_book.specs.State.{Box, AreJust}
 use Rattle.rx_book.specs.Shown.{keys_from, keys_of, held_in, box_in}
 use Rattle.rx_book.specs.Shelved.{IsShelved}
-use Rattle.rx_book.proofs.Walks.{AllPairs-head, AllPairs-tail}
+use Rattle.rx_book.proofs.Members.{AllPairs-head, AllPairs-tail}
 use Rattle.rx_book.proofs.JustListed.{keys_just, held_just, waiting_just}
-
--- those that pass, without x
-abbrev but : ℕ → (ℕ → Bool) → ℕ → Bool
-but x test n = test n && not (x == n)
-
-just_others : (test : ℕ → Bool) (x : ℕ) (xs : List ℕ) → AreJust test (x ∷ xs) → AreJust (but x test) xs
-just_others test x xs just = record {
-  each = λ k d within. and_from (test (get_or xs k d)) (not (x == get_or xs k d)) (All-tail (λ n. IsTrue (test n)) x xs just.each k d within) (ap not (ne_eqb x (get_or xs k d) (AllPairs-head (λ m n. m ≢ n) x xs just.once k d within)));
-  every = λ n passes. let parts = and_parts (test n) (not (x == n)) passes in further n parts.1 (just.every n parts.0);
-  once = AllPairs-tail (λ m n. m ≢ n) x xs just.once;
-}
-  where
-    further : (n : ℕ) → not (x == n) ≡ true → Contains (x ∷ xs) n → Contains xs n
-    further n other (zero, within, at) = absurd (false≢true (sym (ap not (eq-eqb x n at)) ∙ other))
-    further n other (suc k, within, at) = (k, omega arith, at)
-
--- a list of just those that pass is as long as they are many
-pub just_counted : (test : ℕ → Bool) (xs : List ℕ) (m : ℕ) → AreJust test xs → ((n : ℕ) → test n ≡ true → n < m) → length xs ≡ count_by test (range_with_len 0 m)
-just_counted test [] m just below = sym (sum_by_none (λ k. cond (test k) 1 0) m (λ k l. ap (λ b. cond b 1 0) (false_from_ne_true (test k) (λ passes. let c = just.every k passes in absurd (omega (arith, c.1))))))
-just_counted test (x ∷ xs) m just below =
-    let rest = just_counted (but x test) xs m (just_others test x xs just) (λ n passes. below n (and_parts (test n) (not (x == n)) passes).0) in
-    let balance = sums_balance (λ k. cond (test k) 1 0) (λ k. 0) (λ k. cond (but x test k) 1 0) (λ k. cond (x == k) 1 0) m (λ k l. shape (test k) (x == k) (λ same. ap test (sym (eqb-true x k same)) ∙ here)) in
-    let none = sum_by_none (λ k. 0) m (λ k l. refl) in
-    let one = count_by_one x m (below x here) in
-    omega arith
-  where
-    here : test x ≡ true
-    here = All-head (λ n. IsTrue (test n)) x xs just.each
-
-    shape : (t s : Bool) → (s ≡ true → t ≡ true) → cond {A = ℕ} t 1 0 + 0 ≡ cond (t && not s) 1 0 + cond s 1 0
-    shape true true implies = refl
-    shape true false implies = refl
-    shape false true implies = absurd (false≢true (implies refl))
-    shape false false implies = refl
+use Rattle.rx_book.proofs.JustNumbers.{just_counted}
 
 module _ {T : Type 0} where
   keys_counted : (slot : ℕ) (entries : List (Option (Entry (Node T)))) → length (keys_from slot entries) ≡ count_by is_some entries

@@ -22,7 +22,7 @@ use Rattle.rx_register.specs.Kept.{Kept, Follows}
 use Rattle.rx_book.specs.State.{has_key, has_res_key}
 use Rattle.rx_book.specs.Shown.{keys_of, res_keys_of, state_of}
 use Rattle.rx_book.specs.Answers.{Accepts}
-use Rattle.rx_book.proofs.Walks.{Contains-tail, Contains-map, Contains-from_map}
+use Rattle.rx_book.proofs.Members.{Contains-later, Contains-map, Contains-from_map}
 use Rattle.rx_book.proofs.Listed.{some_of, entry_found, entry_finds, box_listed, listed_box, key_finds, finding_key, has_key_is, res_key_finds, finding_res_key, has_res_key_is}
 
 -- two keys are one, or they differ
@@ -155,9 +155,9 @@ module _ {T : Type 0} where
   Contains-without m [] item c = absurd (omega (arith, c.1))
   Contains-without m (x ∷ boxes) item c = by_test (Contains-without m boxes item) (nat_eq m x.0) c where
     by_test : (Contains (without_box m boxes) item → Contains boxes item) → (b : Bool) → Contains (cond b boxes (x ∷ without_box m boxes)) item → Contains (x ∷ boxes) item
-    by_test rest true d = Contains-tail x boxes item d
+    by_test rest true d = Contains-later x boxes item d
     by_test rest false (zero, within, at) = (0, omega arith, at)
-    by_test rest false (suc k, within, at) = Contains-tail x boxes item (rest (k, omega arith, at))
+    by_test rest false (suc k, within, at) = Contains-later x boxes item (rest (k, omega arith, at))
 
   pub adds-without_box : (n number : ℕ) (boxes : Boxes T) → AddsNone n boxes (without_box number boxes)
   adds-without_box n number boxes = λ r less some. let item = box_listed r (without_box number boxes) some in listed_box r boxes item.0 (Contains-without number boxes item.0 item.1) item.2

@@ -20,7 +20,8 @@ use Rattle.rx_tree.specs.Boxes.{box_of, without_box, with_value}
 use Rattle.rx_tree.specs.Tree.{Tree, Rewrites, IsSound, resource_at}
 use Rattle.rx_book.specs.State.{AreJust}
 use Rattle.rx_book.specs.Shelved.{is_held_at, numbers, HasRecord, IsShelved}
-use Rattle.rx_book.proofs.Numbered.{All-members, Contains-head, Contains-later, Contains-none, Contains-cases, Contains-mapped, Contains-unmapped, pairs_head, pairs_tail, pairs_none, just_passes}
+use Rattle.rx_book.proofs.Members.{All-members, Contains-head, Contains-later, Contains-none, Contains-cases, Contains-map, Contains-from_map, AllPairs-head, AllPairs-tail, AllPairs-nil}
+use Rattle.rx_book.proofs.JustNumbers.{just_passes}
 use Rattle.rx_book.proofs.Pushed.{held_at_parts}
 use Rattle.rx_book.proofs.Climbs.{cases_key, with_number-same}
 
@@ -90,27 +91,27 @@ module _ {X : Type 0} where
 
   pub without_number : (r : ℕ) (es : List (ℕ × X)) (n : ℕ) → Contains (numbers (without_box r es)) n → Contains (numbers es) n
   without_number r es n c =
-      let m = Contains-unmapped (λ (item : ℕ × X). item.0) (without_box r es) n c in
-      subst (λ (k : ℕ). Contains (numbers es) k) m.2 (Contains-mapped (λ (item : ℕ × X). item.0) es m.0 (without_member r es m.0 m.1))
+      let m = Contains-from_map (λ (item : ℕ × X). item.0) (without_box r es) n c in
+      subst (λ (k : ℕ). Contains (numbers es) k) m.2 (Contains-map (λ (item : ℕ × X). item.0) es m.0 (without_member r es m.0 m.1))
 
   -- the number is gone
   without_gone : (r : ℕ) (es : List (ℕ × X)) → AllPairs (λ a b. a ≢ b) (numbers es) → Contains (numbers (without_box r es)) r → ⊥
   without_gone r [] once c = Contains-none r c
   without_gone r (e ∷ es) once c =
       elim (cases_eq e.0 r) [
-        | inl same ↦ pairs_head (λ a b. a ≢ b) e.0 (numbers es) once r (subst (λ (xs : List (ℕ × X)). Contains (numbers xs) r) (remove_here r e es same) c) same
+        | inl same ↦ AllPairs-head (λ a b. a ≢ b) e.0 (numbers es) once r (subst (λ (xs : List (ℕ × X)). Contains (numbers xs) r) (remove_here r e es same) c) same
         | inr other ↦ elim (Contains-cases e.0 (numbers (without_box r es)) r (subst (λ (xs : List (ℕ × X)). Contains (numbers xs) r) (remove_later r e es other) c)) [
           | inl same ↦ other same
-          | inr later ↦ without_gone r es (pairs_tail (λ a b. a ≢ b) e.0 (numbers es) once) later
+          | inr later ↦ without_gone r es (AllPairs-tail (λ a b. a ≢ b) e.0 (numbers es) once) later
         ]
       ]
 
   without_once : (r : ℕ) (es : List (ℕ × X)) → AllPairs (λ a b. a ≢ b) (numbers es) → AllPairs (λ a b. a ≢ b) (numbers (without_box r es))
-  without_once r [] once = pairs_none (λ a b. a ≢ b)
+  without_once r [] once = AllPairs-nil (λ a b. a ≢ b)
   without_once r (e ∷ es) once =
       elim (cases_eq e.0 r) [
-        | inl same ↦ subst (λ (xs : List (ℕ × X)). AllPairs (λ a b. a ≢ b) (numbers xs)) (sym (remove_here r e es same)) (pairs_tail (λ a b. a ≢ b) e.0 (numbers es) once)
-        | inr other ↦ subst (λ (xs : List (ℕ × X)). AllPairs (λ a b. a ≢ b) (numbers xs)) (sym (remove_later r e es other)) (AllPairs-cons (λ a b. a ≢ b) e.0 (numbers (without_box r es)) (All-members (λ b. e.0 ≢ b) (numbers (without_box r es)) (λ n c. pairs_head (λ a b. a ≢ b) e.0 (numbers es) once n (without_number r es n c))) (without_once r es (pairs_tail (λ a b. a ≢ b) e.0 (numbers es) once)))
+        | inl same ↦ subst (λ (xs : List (ℕ × X)). AllPairs (λ a b. a ≢ b) (numbers xs)) (sym (remove_here r e es same)) (AllPairs-tail (λ a b. a ≢ b) e.0 (numbers es) once)
+        | inr other ↦ subst (λ (xs : List (ℕ × X)). AllPairs (λ a b. a ≢ b) (numbers xs)) (sym (remove_later r e es other)) (AllPairs-cons (λ a b. a ≢ b) e.0 (numbers (without_box r es)) (All-members (λ b. e.0 ≢ b) (numbers (without_box r es)) (λ n c. AllPairs-head (λ a b. a ≢ b) e.0 (numbers es) once n (without_number r es n c))) (without_once r es (AllPairs-tail (λ a b. a ≢ b) e.0 (numbers es) once)))
       ]
 
   -- and every other stays
@@ -195,7 +196,7 @@ module _ {T : Type 0} where
     pub box_held : is_held_at h key.number r ≡ true
     box_held =
         let was = shelved.records key has.node has.found in
-        just_passes (is_held_at h key.number) (numbers has.node.boxes) was.resources r (Contains-mapped (λ (item : ℕ × T). item.0) has.node.boxes (r, x) (box_member r has.node.boxes x has.box))
+        just_passes (is_held_at h key.number) (numbers has.node.boxes) was.resources r (Contains-map (λ (item : ℕ × T). item.0) has.node.boxes (r, x) (box_member r has.node.boxes x has.box))
 
     -- so no other record has its number
     pub elsewhere_not : IsSound tree → (other : Key) (node : Node T) → other ≢ key → find tree other ≡ Some node → (q : ℕ) → Contains (numbers node.boxes) q → r ≢ q

@@ -22,7 +22,8 @@ use Rattle.rx_book.specs.declared.key.ResKey.{ResKey}
 use Rattle.rx_book.specs.State.{Box, AreJust, IsBoxOf}
 use Rattle.rx_book.specs.Shown.{keys_of, res_keys_of, held_in, box_in}
 use Rattle.rx_book.specs.Shelved.{numbers, is_held_at, IsAsWritten, IsRecordOf, IsShelved}
-use Rattle.rx_book.proofs.Walks.{Contains-one, Contains-head, AllPairs-nil, AllPairs-append, All-each, walk, walk_at, walk_has, map-walk}
+use Rattle.rx_book.proofs.Members.{Contains-one, Contains-head, AllPairs-nil, AllPairs-append, All-members}
+use Rattle.rx_book.proofs.Walks.{walk, walk_at, walk_has, map-walk}
 use Rattle.rx_book.proofs.Listed.{entry_found, entry_finds, key_in, res_keys_in, boxes_in, keys-walk, res_keys-walk, items-walk}
 
 -- walks over lists of numbers ---------------------------------------------------------------------
@@ -53,7 +54,7 @@ pub record GivesJust {E : Type 0} (test : ℕ → Bool) (f : E → List ℕ) (en
 
 pub just_walk : {E : Type 0} (test : ℕ → Bool) (f : E → List ℕ) (entries : List (Option E)) → GivesJust test f entries → AreJust test (walk (λ slot. f) 0 entries)
 just_walk test f entries gives = record {
-  each = All-each (λ n. IsTrue (test n)) (walk (λ slot. f) 0 entries) (λ n c. let s = walk_at (λ slot. f) 0 entries n c in All-contains (λ k. IsTrue (test k)) (f s.entry) n (gives.each s.place s.entry s.at) s.there);
+  each = All-members (λ n. IsTrue (test n)) (walk (λ slot. f) 0 entries) (λ n c. let s = walk_at (λ slot. f) 0 entries n c in All-contains (λ k. IsTrue (test k)) (f s.entry) n (gives.each s.place s.entry s.at) s.there);
   every = λ n passes. let g = gives.every n passes in walk_has (λ slot. f) 0 entries n g.0 g.1 g.2 g.3;
   once = once_walk f 0 entries gives.once gives.apart;
 }
@@ -120,7 +121,7 @@ module _ {T : Type 0} where
         (has.slot, has.node, entry_found tree (record { slot = has.slot; number = n }) has.node has.found, shelved.records (record { slot = has.slot; number = n }) has.node has.found)
 
     pub held_boxes : All (IsBoxOf h) (map (box_in g) (held_in tree))
-    held_boxes = All-map (IsBoxOf h) (box_in g) (held_in tree) (All-each (λ item. IsBoxOf h (box_in g item)) (held_in tree) written) where
+    held_boxes = All-map (IsBoxOf h) (box_in g) (held_in tree) (All-members (λ item. IsBoxOf h (box_in g item)) (held_in tree) written) where
       written : (item : ℕ × T) → Contains (held_in tree) item → IsBoxOf h (box_in g item)
       written item c =
           let s = walk_at boxes_in 0 tree.entries item (subst (λ (items : List (ℕ × T)). Contains items item) (items-walk 0 tree.entries) c) in
@@ -141,7 +142,7 @@ module _ {T : Type 0} where
 
       nodes_given : GivesJust (is_open h) number_in tree.entries
       nodes_given = record {
-        each = λ p e at. All-each (λ n. IsTrue (is_open h n)) (e.number ∷ []) (λ n c. ap (is_open h) (sym (Contains-one e.number n c)) ∙ (record_at p e at).alive);
+        each = λ p e at. All-members (λ n. IsTrue (is_open h n)) (e.number ∷ []) (λ n c. ap (is_open h) (sym (Contains-one e.number n c)) ∙ (record_at p e at).alive);
         every = λ n alive. let s = slot_of n alive in (s.0, entry_of n s.1, s.2, Contains-head n []);
         once = λ p e at. AllPairs-cons (λ m n. m ≢ n) e.number [] (All-nil (λ n. e.number ≢ n)) (AllPairs-nil (λ m n. m ≢ n));
         apart = λ p q d e n at_p at_q c k. one_slot p q d e at_p at_q (Contains-one d.number n c ∙ sym (Contains-one e.number n k));

@@ -7,13 +7,13 @@ pub mod Frames
 pub mod Roots
 pub mod Found
 pub mod Alive
-pub mod JustMore
+pub mod Members
 pub mod Quiet
 pub mod Openings
 pub mod Accepted
 pub mod UsingOpenings
 pub mod Begun
-pub mod Numbered
+pub mod JustNumbers
 pub mod Pushed
 pub mod Released
 pub mod Climbs

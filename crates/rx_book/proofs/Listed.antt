@@ -1,10 +1,9 @@
 -- The keys that are listed are those that find something.
-use Rattle.std.proofs.Common.{◌≡◌, ◌↔◌, ℕ, zero, suc, ◌+◌, Bool, true, false, List, [], ◌∷◌, ◌++◌, map, get_or, Option, Some, None, cond, is_some, IsSome, refl, sym, ap, subst, ◌∙◌, arith, inl, inr, ◌⊎◌, nat_eq, eq-eqb, true≢false}
+use Rattle.std.proofs.Common.{◌≡◌, ◌↔◌, ℕ, zero, suc, ◌+◌, Bool, true, false, List, [], ◌∷◌, ◌++◌, map, get_or, Option, Some, None, cond, is_some, IsSome, refl, sym, ap, subst, ◌∙◌, arith, inl, inr, ◌⊎◌, nat_eq, eq-eqb, true≢false, rules}
 use Rattle.std.proofs.Math.Bool.{◌&&◌}
 use Rattle.std.specs.List.{Contains}
 use Rattle.std.proofs.lemmas.Bool.{cases_Bool, cases_eq, eqb-true, and_parts, and_from}
 use Rattle.std.proofs.lemmas.List.Folds.{list_any_at, Any-from_list_any}
-use Rattle.std.proofs.Common.{rules}
 use Rattle.rx_slots.specs.declared.Entry.{Entry}
 use Rattle.rx_slots.specs.declared.Key.{Key as SlotKey}
 use Rattle.rx_slots.specs.Slots.{Slots, entry_of, entry_at, with_number, find}
@@ -15,13 +14,9 @@ use Rattle.rx_book.specs.declared.key.Key.{Key}
 use Rattle.rx_book.specs.declared.key.ResKey.{ResKey}
 use Rattle.rx_book.specs.State.{has_key, has_res_key}
 use Rattle.rx_book.specs.Shown.{keys_from, res_keys_from, items_in, keys_of, res_keys_of}
-use Rattle.rx_book.proofs.Walks.{Contains-one, Contains-head, Contains-tail, Contains-map, Contains-from_map, walk, walk_at, walk_has}
-
--- two tests that hold together
-pub same_test : (a b : Bool) → (a ≡ true → b ≡ true) → (b ≡ true → a ≡ true) → a ≡ b
-same_test true b f g = sym (f refl)
-same_test false true f g = g refl
-same_test false false f g = refl
+use Rattle.rx_book.proofs.Members.{Contains-one, Contains-head, Contains-later, Contains-map, Contains-from_map}
+use Rattle.rx_book.proofs.Walks.{walk, walk_at, walk_has}
+use Rattle.std.specs.Cmp.{both_ways as same_test}
 
 pub named : (s n : ℕ) (k : Key) → s ≡ k.slot → n ≡ k.number → (let j : Key = record { slot = s; number = n } in j ≡ k)
 named s n k a b = λ i. record { slot = a i; number = b i }
@@ -96,7 +91,7 @@ module _ {T : Type 0} where
     by_test rest (inr other) =
         let further : IsSome (box_of n items) = sym (ap (λ b. is_some (cond b (Some item.1) (box_of n items))) other) ∙ some in
         let r = rest further in
-        (r.0, Contains-tail item items r.0 r.1, r.2)
+        (r.0, Contains-later item items r.0 r.1, r.2)
 
   pub listed_box : (n : ℕ) (items : List (ℕ × T)) (item : ℕ × T) → Contains items item → item.0 ≡ n → IsSome (box_of n items)
   listed_box n [] item c same = absurd (omega (arith, c.1))

@@ -1,6 +1,6 @@
 -- The resources of the records that a closing moves out.
 use Rattle.std.proofs.Common.{◌≡◌, ◌≢◌, ℕ, ◌+◌, ◌<◌, ◌≤◌, ◌==◌, Bool, true, false, cond, List, [], ◌∷◌, ◌++◌, length, get_or, Some, refl, sym, ap, subst, ◌∙◌, arith, is_some}
-use Rattle.std.proofs.Math.Bool.{not, ◌&&◌, ◌||◌}
+use Rattle.std.proofs.Math.Bool.{not, ◌&&◌, ◌||◌, or_comm}
 use Rattle.std.specs.List.{All, AllPairs, Contains, list_any, range_with_len, count_by}
 use Rattle.std.proofs.lemmas.Bool.{eq-eqb, ne_eqb, and_from, not_from_false}
 use Rattle.std.proofs.lemmas.Option.{same_Some}
@@ -21,40 +21,9 @@ use Rattle.rx_tree.specs.Closing.{IsSubtree}
 use Rattle.rx_stock.specs.Stock.{resources_of}
 use Rattle.rx_book.specs.State.{AreJust}
 use Rattle.rx_book.specs.Shelved.{is_held_at, numbers, IsAsWritten, IsShelved}
-use Rattle.rx_book.proofs.Numbered.{All-members, Contains-head, Contains-later, Contains-none, pairs_head, pairs_tail, just_same, just_none, just_append, just_passes}
+use Rattle.rx_book.proofs.Members.{All-members, Contains-head, Contains-later, Contains-none, AllPairs-head, AllPairs-tail, AllPairs-weaker}
+use Rattle.rx_book.proofs.JustNumbers.{just_same, just_none, just_append, just_passes, distinct_fit}
 use Rattle.rx_book.proofs.Pushed.{held_at_parts}
-
--- counts -----------------------------------------------------------------------------------------
-
-one_at_most : (b c : Bool) → cond {A = ℕ} (b && not c) 1 0 ≤ cond {A = ℕ} b 1 0
-one_at_most true true = omega arith
-one_at_most true false = omega arith
-one_at_most false c = omega arith
-
-none_left : (b c : Bool) → b ≡ true → c ≡ true → cond {A = ℕ} (b && not c) 1 0 + 1 ≤ cond {A = ℕ} b 1 0
-none_left b c passes same = rw (passes, same) (omega arith)
-
--- numbers that pass, each once, are no more than those that pass
-pub distinct_fit : (test : ℕ → Bool) (m : ℕ) (xs : List ℕ) → All (λ n. test n ≡ true) xs → AllPairs (λ a b. a ≢ b) xs → All (λ n. n < m) xs → length xs ≤ count_by test (range_with_len 0 m)
-distinct_fit test m [] pass once below = omega arith
-distinct_fit test m (x ∷ xs) pass once below =
-    let rest : length xs ≤ count_by (λ n. test n && not (x == n)) (range_with_len 0 m) = distinct_fit (λ n. test n && not (x == n)) m xs (All-members (λ n. (test n && not (x == n)) ≡ true) xs later) (pairs_tail (λ a b. a ≢ b) x xs once) (All-tail (λ n. n < m) x xs below) in
-    let falls : count_by (λ n. test n && not (x == n)) (range_with_len 0 m) + 1 ≤ count_by test (range_with_len 0 m) = sum_by_falls (λ n. cond (test n) 1 0) (λ n. cond (test n && not (x == n)) 1 0) m x (All-head (λ n. n < m) x xs below) (λ k l. one_at_most (test k) (x == k)) (none_left (test x) (x == x) (All-head (λ n. test n ≡ true) x xs pass) (eq-eqb x x refl)) in
-    omega arith
-  where
-    later : (n : ℕ) → Contains xs n → (test n && not (x == n)) ≡ true
-    later n c = and_from (test n) (not (x == n)) (All-contains (λ k. test k ≡ true) (x ∷ xs) n pass (Contains-later x xs n c)) (not_from_false (x == n) (ne_eqb x n (pairs_head (λ a b. a ≢ b) x xs once n c)))
-
--- pairs of members
-pairs_weaker : {X : Type 0} (R Q : X → X → Type 0) (xs : List X) → AllPairs R xs → ((x y : X) → Contains xs x → Contains xs y → R x y → Q x y) → AllPairs Q xs
-pairs_weaker R Q xs pairs weaker i j d l m =
-    weaker (get_or xs i d) (get_or xs j d) (Contains-get_or xs i d (omega arith)) (Contains-get_or xs j d m) (pairs i j d l m)
-
-either_way : (b c : Bool) → (b || c) ≡ (c || b)
-either_way true true = refl
-either_way true false = refl
-either_way false true = refl
-either_way false false = refl
 
 module _ {T : Type 0} where
   -- the resource is held at a node of one of these records
@@ -74,14 +43,14 @@ module _ {T : Type 0} where
 
   -- records of nodes that differ have resources that differ
   among_just : (h : List Event) (cs : List (Closed T)) → ((c : Closed T) → Contains cs c → HaveJust h c) → AllPairs (λ a b. a.key.number ≢ b.key.number) cs → AreJust (held_among h cs) (numbers (resources_of cs))
-  among_just h [] each apart = just_none
+  among_just h [] each apart = just_none (held_among h []) (λ r. refl)
   among_just h (c ∷ cs) each apart =
-      subst (AreJust (held_among h (c ∷ cs))) (sym (map-append (λ (item : ℕ × T). item.0) (resources_of cs) c.node.boxes)) (just_same (λ r. held_among h cs r || is_held_at h c.key.number r) (held_among h (c ∷ cs)) (numbers (resources_of cs) ++ numbers c.node.boxes) (λ r. either_way (held_among h cs r) (is_held_at h c.key.number r)) (just_append (held_among h cs) (is_held_at h c.key.number) (numbers (resources_of cs)) (numbers c.node.boxes) (among_just h cs (λ d there. each d (Contains-later c cs d there)) (pairs_tail (λ a b. a.key.number ≢ b.key.number) c cs apart)) (each c (Contains-head c cs)) disjoint))
+      subst (AreJust (held_among h (c ∷ cs))) (sym (map-append (λ (item : ℕ × T). item.0) (resources_of cs) c.node.boxes)) (just_same (λ r. held_among h cs r || is_held_at h c.key.number r) (held_among h (c ∷ cs)) (numbers (resources_of cs) ++ numbers c.node.boxes) (λ r. or_comm (is_held_at h c.key.number r) (held_among h cs r)) (just_append (held_among h cs) (is_held_at h c.key.number) (numbers (resources_of cs)) (numbers c.node.boxes) (among_just h cs (λ d there. each d (Contains-later c cs d there)) (AllPairs-tail (λ a b. a.key.number ≢ b.key.number) c cs apart)) (each c (Contains-head c cs)) disjoint))
     where
       disjoint : (r : ℕ) → held_among h cs r ≡ true → is_held_at h c.key.number r ≡ true → ⊥
       disjoint r among here =
           let m = among_member h cs r among in
-          pairs_head (λ a b. a.key.number ≢ b.key.number) c cs apart m.0 m.1 (same_Some c.key.number m.0.key.number (sym (held_at_parts h c.key.number r here).1 ∙ (held_at_parts h m.0.key.number r m.2).1))
+          AllPairs-head (λ a b. a.key.number ≢ b.key.number) c cs apart m.0 m.1 (same_Some c.key.number m.0.key.number (sym (held_at_parts h c.key.number r here).1 ∙ (held_at_parts h m.0.key.number r m.2).1))
 
   -- what is written of each
   pub among_written : (g : Ghosts T) (h : List Event) (cs : List (Closed T)) → ((c : Closed T) → Contains cs c → All (IsAsWritten g h) c.node.boxes) → All (IsAsWritten g h) (resources_of cs)
@@ -94,7 +63,7 @@ module _ {T : Type 0} where
 
     -- the resources that are moved are those held at the nodes of the subtree, each once
     pub moved_just : IsShelved g h tree ws → IsSound tree → IsSubtree tree top moved → AreJust (held_among h moved) (numbers (resources_of moved))
-    moved_just shelved sound subtree = among_just h moved (λ c there. (shelved.records c.key c.node (moved_found subtree c there)).resources) (pairs_weaker (λ a b. a.key ≢ b.key) (λ a b. a.key.number ≢ b.key.number) moved subtree.once apart) where
+    moved_just shelved sound subtree = among_just h moved (λ c there. (shelved.records c.key c.node (moved_found subtree c there)).resources) (AllPairs-weaker (λ a b. a.key ≢ b.key) (λ a b. a.key.number ≢ b.key.number) moved subtree.once apart) where
       apart : (a b : Closed T) → Contains moved a → Contains moved b → a.key ≢ b.key → a.key.number ≢ b.key.number
       apart a b at_a at_b other same = other (sound.apart a.key b.key (ap is_some (moved_found subtree a at_a)) (ap is_some (moved_found subtree b at_b)) same)
 

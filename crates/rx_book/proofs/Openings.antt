@@ -31,7 +31,7 @@ use Rattle.rx_stock.specs.Stock.{Opens, noting}
 use Rattle.rx_book.specs.State.{AreJust}
 use Rattle.rx_book.specs.Shelved.{is_held_at, numbers, IsAsWritten, IsRecordOf, HasRecord, IsShelved}
 use Rattle.rx_book.proofs.Found.{same_key, same_slot, mapped}
-use Rattle.rx_book.proofs.JustMore.{AreJust-none}
+use Rattle.rx_book.proofs.JustNumbers.{just_none}
 use Rattle.rx_book.proofs.Quiet.{source_push, held_at_unchanged, record_noting, waits_still, all_written}
 
 -- lawful histories --------------------------------------------------------------------------------
@@ -108,7 +108,7 @@ record_opened g h e above law next makes moves = record {
   made = slice_get_last h e;
   alive = is_open_new h e next ∙ makes;
   source = sym (source_push h e (length h) ∙ or_from (list_any (is_source_of (length h)) h) (is_source_of (length h) e) (no_source h law (length h) (omega arith)) (opens_no_source h e next (length h) (omega arith)));
-  resources = AreJust-none (is_held_at (h ++ e ∷ []) (length h)) (λ r. held_at_unchanged h e law moves (length h) r ∙ none_held_at h (length h) (omega arith) r);
+  resources = just_none (is_held_at (h ++ e ∷ []) (length h)) (λ r. held_at_unchanged h e law moves (length h) r ∙ none_held_at h (length h) (omega arith) r);
   written = All-nil (IsAsWritten g (h ++ e ∷ []));
 }
 

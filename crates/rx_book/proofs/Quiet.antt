@@ -22,7 +22,7 @@ use Rattle.rx_tree.specs.Tree.{Tree}
 use Rattle.rx_stock.specs.Stock.{noting}
 use Rattle.rx_book.specs.State.{AreJust, accepted_tag}
 use Rattle.rx_book.specs.Shelved.{is_held_at, numbers, IsAsWritten, IsRecordOf, IsShelved}
-use Rattle.rx_book.proofs.JustMore.{AreJust-same}
+use Rattle.rx_book.proofs.JustNumbers.{just_same}
 
 pub or_false : (b : Bool) → (b || false) ≡ b
 or_false true = refl
@@ -71,7 +71,7 @@ module _ {T : Type 0} (g : Ghosts T) (h : List Event) (e : Event) where
     made = slice_get-append h (e ∷ []) n within ∙ r.made;
     alive = is_open_kept h e n within shuts ∙ r.alive;
     source = ap (λ b. b || is_source_of n e) r.source ∙ sym (source_push h e n);
-    resources = AreJust-same (is_held_at h n) (is_held_at (h ++ e ∷ []) n) (numbers node.boxes) (held_at_unchanged h e law moves n) r.resources;
+    resources = just_same (is_held_at h n) (is_held_at (h ++ e ∷ []) n) (numbers node.boxes) (held_at_unchanged h e law moves n) r.resources;
     written = all_written unused node.boxes r.written;
   }
     where
@@ -80,7 +80,7 @@ module _ {T : Type 0} (g : Ghosts T) (h : List Event) (e : Event) where
 
   -- the resources that wait still do
   pub waits_still : IsLawful h → moves_none e ≡ true → (items : List (ℕ × T)) → AreJust (is_waiting h) (numbers items) → AreJust (is_waiting (h ++ e ∷ [])) (numbers items)
-  waits_still law moves items just = AreJust-same (is_waiting h) (is_waiting (h ++ e ∷ [])) (numbers items) (is_waiting_unchanged h e law moves) just
+  waits_still law moves items just = just_same (is_waiting h) (is_waiting (h ++ e ∷ [])) (numbers items) (is_waiting_unchanged h e law moves) just
 
   noting_none : (n : ℕ) (node : Node T) → is_source_of n e ≡ false → noting e n node ≡ node
   noting_none n node none = λ i. record node { marks = record node.marks { source_opened = same i } } where

@@ -1,6 +1,6 @@
 -- A stock after a resource was removed from its node.
 use Rattle.std.proofs.Common.{◌≡◌, ◌≢◌, ℕ, ◌<◌, ◌≤◌, ◌==◌, Bool, true, false, List, [], ◌∷◌, ◌++◌, length, Some, refl, sym, ap, subst, ◌∙◌, inl, inr, ◌⊎◌, arith, length-append}
-use Rattle.std.proofs.Math.Bool.{not, ◌&&◌, ◌||◌}
+use Rattle.std.proofs.Math.Bool.{not, ◌&&◌, ◌||◌, and-false}
 use Rattle.std.proofs.lemmas.Bool.{and_parts, and_from, not_from_false, ne_eqb, eqb-true, both_ways, cases_order}
 use Rattle.std.proofs.lemmas.List.{map-append}
 use Rattle.std.proofs.lemmas.List.Elements.{All-push, All-contains}
@@ -20,7 +20,9 @@ use Rattle.rx_tree.specs.Tree.{Tree, Rewrites, IsSound, resource_at, on_boxes}
 use Rattle.rx_stock.specs.Stock.{Stock}
 use Rattle.rx_book.specs.State.{AreJust}
 use Rattle.rx_book.specs.Shelved.{is_held_at, numbers, IsAsWritten, IsRecordOf, IsShelved}
-use Rattle.rx_book.proofs.Numbered.{same_test, All-members, just_same, just_append, just_one}
+use Rattle.std.specs.Cmp.{both_ways as same_test}
+use Rattle.rx_book.proofs.Members.{All-members}
+use Rattle.rx_book.proofs.JustNumbers.{just_same, just_append, just_one}
 use Rattle.rx_book.proofs.Pushed.{IsCalm, is_held_at_calm, held_at_parts, all_written-push, record_calm}
 use Rattle.rx_book.proofs.Items.{HasBox, held_box, box_held, box_member, elsewhere_not, just_without, without_member, rewritten, rewritten_has}
 
@@ -32,10 +34,7 @@ is_waiting_removed : (h : List Event) (r : ℕ) → IsLawful h → is_held h r �
 is_waiting_removed h r law held q = by_place (cases_order q (length h)) where
   itself : (b : Bool) → (r == q) ≡ b → (is_held h q && b) ≡ b
   itself true same = ap (λ a. a && true) (ap (is_held h) (sym (eqb-true r q same)) ∙ held)
-  itself false apart = none (is_held h q) where
-    none : (a : Bool) → (a && false) ≡ false
-    none true = refl
-    none false = refl
+  itself false apart = and-false (is_held h q)
 
   gone : length h ≤ q → (is_waiting h q || (r == q)) ≡ false
   gone l = let w = is_held_within h r held in rw (is_waiting_past h q l, ne_eqb r q (omega arith)) refl
@@ -50,12 +49,12 @@ module _ {T : Type 0} (g : Ghosts T) (h : List Event) (tree rest : Tree T) (ws :
   record_without : IsRecordOf g (h ++ Remove r ∷ []) key.number (on_boxes (without_box r) has.node)
   record_without =
       let was = shelved.records key has.node has.found in
-      record_calm g h (Remove r) (calm_remove r) key.number has.node (on_boxes (without_box r) has.node) was refl refl (just_same (λ q. is_held_at h key.number q && not (r == q)) (is_held_at (h ++ Remove r ∷ []) key.number) (numbers (without_box r has.node.boxes)) (λ q. sym (is_held_at_calm h (Remove r) law (calm_remove r) key.number q)) (just_without (is_held_at h key.number) r has.node.boxes was.resources)) (all_written-push g h (Remove r) refl (without_box r has.node.boxes) (λ item c. refl) (All-members (IsAsWritten g h) (without_box r has.node.boxes) (λ item c. All-contains (IsAsWritten g h) has.node.boxes item was.written (without_member r has.node.boxes item c))))
+      record_calm g h (Remove r) (calm_remove r) key.number has.node (on_boxes (without_box r) has.node) was refl refl (just_same (λ q. is_held_at h key.number q && not (r == q)) (is_held_at (h ++ Remove r ∷ []) key.number) (numbers (without_box r has.node.boxes)) (is_held_at_calm h (Remove r) law (calm_remove r) key.number) (just_without (is_held_at h key.number) r has.node.boxes was.resources)) (all_written-push g h (Remove r) refl (without_box r has.node.boxes) (λ item c. refl) (All-members (IsAsWritten g h) (without_box r has.node.boxes) (λ item c. All-contains (IsAsWritten g h) has.node.boxes item was.written (without_member r has.node.boxes item c))))
 
   -- and each other one
   record_beside : (other : Key) (node : Node T) → other ≢ key → find tree other ≡ Some node → IsRecordOf g (h ++ Remove r ∷ []) other.number node
   record_beside other node apart found =
-      record_calm g h (Remove r) (calm_remove r) other.number node node was refl refl (just_same (is_held_at h other.number) (is_held_at (h ++ Remove r ∷ []) other.number) (numbers node.boxes) (λ q. same_test _ _ (forth q) (back q) ∙ sym (is_held_at_calm h (Remove r) law (calm_remove r) other.number q)) was.resources) (all_written-push g h (Remove r) refl node.boxes (λ item c. refl) was.written)
+      record_calm g h (Remove r) (calm_remove r) other.number node node was refl refl (just_same (is_held_at h other.number) (is_held_at (h ++ Remove r ∷ []) other.number) (numbers node.boxes) (λ q. is_held_at_calm h (Remove r) law (calm_remove r) other.number q ∙ sym (same_test _ _ (forth q) (back q))) was.resources) (all_written-push g h (Remove r) refl node.boxes (λ item c. refl) was.written)
     where
       was : IsRecordOf g h other.number node
       was = shelved.records other node found
@@ -71,7 +70,7 @@ module _ {T : Type 0} (g : Ghosts T) (h : List Event) (tree rest : Tree T) (ws :
 
   waits_removed : AreJust (is_waiting (h ++ Remove r ∷ [])) (numbers (ws ++ (r, x) ∷ []))
   waits_removed =
-      subst (AreJust (is_waiting (h ++ Remove r ∷ []))) (sym (map-append (λ (item : ℕ × T). item.0) ws ((r, x) ∷ []))) (just_same (λ q. is_waiting h q || (r == q)) (is_waiting (h ++ Remove r ∷ [])) (numbers ws ++ r ∷ []) (λ q. sym (is_waiting_removed h r law held q)) (just_append (is_waiting h) (λ q. r == q) (numbers ws) (r ∷ []) shelved.waits (just_one r) apart))
+      subst (AreJust (is_waiting (h ++ Remove r ∷ []))) (sym (map-append (λ (item : ℕ × T). item.0) ws ((r, x) ∷ []))) (just_same (λ q. is_waiting h q || (r == q)) (is_waiting (h ++ Remove r ∷ [])) (numbers ws ++ r ∷ []) (is_waiting_removed h r law held) (just_append (is_waiting h) (λ q. r == q) (numbers ws) (r ∷ []) shelved.waits (just_one r) apart))
     where
       apart : (q : ℕ) → is_waiting h q ≡ true → (r == q) ≡ true → ⊥
       apart q waits same = both_ways (is_held h q) (waiting_parts h q waits).1 (ap (is_held h) (sym (eqb-true r q same)) ∙ held)

@@ -26,7 +26,9 @@ use Rattle.rx_stock.specs.Stock.{Stock, Spills, resources_of}
 use Rattle.rx_register.specs.Kept.{Closes, outlives, shuts_a_node}
 use Rattle.rx_book.specs.State.{AreJust}
 use Rattle.rx_book.specs.Shelved.{is_held_at, numbers, IsAsWritten, IsRecordOf, HasRecord, IsShelved}
-use Rattle.rx_book.proofs.Numbered.{same_test, All-members, just_same, just_append}
+use Rattle.std.specs.Cmp.{both_ways as same_test}
+use Rattle.rx_book.proofs.Members.{All-members}
+use Rattle.rx_book.proofs.JustNumbers.{just_same, just_append}
 use Rattle.rx_book.proofs.Pushed.{held_at_parts, held_at_from, held_node}
 use Rattle.rx_book.proofs.Climbs.{below_not_outlives}
 use Rattle.rx_book.proofs.Ended.{ends_source_none, any_ended, uses_ended, node_of_ended, tag_ended, is_held_ended, is_waiting_ended}
@@ -51,8 +53,8 @@ module _ (h ends : List Event) (top : ℕ) (each : list_all shuts_a_node ends �
       (and_parts (is_held h r) (is_open (h ++ ends) at_n.0) (sym (is_held_ended h ends each r at_n.0 named (was_open at_n.0)) ∙ held)).0
 
   -- at a node that outlives the top the same is held
-  held_at_kept : (n : ℕ) → is_open (h ++ ends) n ≡ true → (r : ℕ) → is_held_at h n r ≡ is_held_at (h ++ ends) n r
-  held_at_kept n alive r = same_test (is_held_at h n r) (is_held_at (h ++ ends) n r) forth back where
+  held_at_kept : (n : ℕ) → is_open (h ++ ends) n ≡ true → (r : ℕ) → is_held_at (h ++ ends) n r ≡ is_held_at h n r
+  held_at_kept n alive r = same_test (is_held_at (h ++ ends) n r) (is_held_at h n r) back forth where
     forth : is_held_at h n r ≡ true → is_held_at (h ++ ends) n r ≡ true
     forth held =
         let parts = held_at_parts h n r held in
@@ -131,13 +133,13 @@ module _ (h ends : List Event) (top : ℕ) (each : list_all shuts_a_node ends �
       -- they wait now, beside those that waited
       waits_ended : (moved : List (Closed T)) → IsSubtree tree top moved → AreJust (is_waiting (h ++ ends)) (numbers (ws ++ resources_of moved))
       waits_ended moved subtree =
-          subst (AreJust (is_waiting (h ++ ends))) (sym (map-append (λ (item : ℕ × T). item.0) ws (resources_of moved))) (just_same (λ r. is_waiting h r || (is_held h r && not (is_held (h ++ ends) r))) (is_waiting (h ++ ends)) (numbers ws ++ numbers (resources_of moved)) (λ r. sym (is_waiting_ended h ends each law r (was_held r))) (just_append (is_waiting h) lost (numbers ws) (numbers (resources_of moved)) shelved.waits just apart))
+          subst (AreJust (is_waiting (h ++ ends))) (sym (map-append (λ (item : ℕ × T). item.0) ws (resources_of moved))) (just_same (λ r. is_waiting h r || (is_held h r && not (is_held (h ++ ends) r))) (is_waiting (h ++ ends)) (numbers ws ++ numbers (resources_of moved)) (λ r. is_waiting_ended h ends each law r (was_held r)) (just_append (is_waiting h) lost (numbers ws) (numbers (resources_of moved)) shelved.waits just apart))
         where
           lost : ℕ → Bool
           lost r = is_held h r && not (is_held (h ++ ends) r)
 
           just : AreJust lost (numbers (resources_of moved))
-          just = just_same (held_among h moved) lost (numbers (resources_of moved)) (moved_lost moved subtree) (moved_just g h tree ws top moved shelved sound subtree)
+          just = just_same (held_among h moved) lost (numbers (resources_of moved)) (λ r. sym (moved_lost moved subtree r)) (moved_just g h tree ws top moved shelved sound subtree)
 
           apart : (r : ℕ) → is_waiting h r ≡ true → lost r ≡ true → ⊥
           apart r waits gone = both_ways (is_held h r) (waiting_parts h r waits).1 (and_parts (is_held h r) (not (is_held (h ++ ends) r)) gone).0
