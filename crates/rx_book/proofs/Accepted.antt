@@ -1,6 +1,6 @@
 -- A stock after the acceptance of a resource.
 use Rattle.std.proofs.Common.{◌≡◌, ◌≢◌, ℕ, ◌<◌, true, false, List, [], ◌∷◌, ◌++◌, length, Some, is_some, IsSome, option_map, refl, sym, ap, subst, ◌∙◌, arith, inl, inr, ◌⊎◌, slice_get, ◌==◌, length-append, eq-eqb, ne_eqb}
-use Rattle.std.proofs.Math.Bool.{not}
+use Rattle.std.proofs.Math.Bool.{not, or-false}
 use Rattle.std.specs.List.{list_any}
 use Rattle.std.specs.Option.{option_and_then, option_map_or}
 use Rattle.std.proofs.lemmas.Bool.{cases_order, and_from, and_right}
@@ -25,14 +25,13 @@ use Rattle.rx_tree.specs.Boxes.{with_box}
 use Rattle.rx_tree.specs.Tree.{Tree, Rewrites, IsSound, on_boxes}
 use Rattle.rx_book.specs.State.{AreJust, accepted_tag}
 use Rattle.rx_book.specs.Shelved.{is_held_at, numbers, IsAsWritten, IsRecordOf, HasRecord, IsShelved}
-use Rattle.rx_book.proofs.Found.{cases_key, mapped}
+use Rattle.rx_tree.specs.Laws.Keys.{cases_key, some_of}
+use Rattle.rx_book.proofs.Options.{mapped}
 use Rattle.rx_book.proofs.Alive.{alive_key}
 use Rattle.rx_book.proofs.JustNumbers.{just_same, just_push}
-use Rattle.rx_book.proofs.Quiet.{or_false, held_at_past, source_push, all_written}
-
--- what is accepted at one node is held at no other
-unheld_elsewhere : (h : List Event) (n m r : ℕ) → node_of h r ≡ Some m → m ≢ n → is_held_at h n r ≡ false
-unheld_elsewhere h n m r at_r other = and_right (is_held h r) (option_map_or (λ x. x == n) (node_of h r) false) (ap (λ o. option_map_or (λ x. x == n) o false) at_r ∙ ne_eqb m n other)
+use Rattle.rx_book.proofs.HeldAt.{held_at_past, unheld_elsewhere, held_at_from}
+use Rattle.rx_book.proofs.Pushed.{any_push, all_written_push}
+use Rattle.rx_book.proofs.Records.{rewritten, rewritten_has}
 
 -- what is held and what waits after an acceptance --------------------------------------------------
 
@@ -52,8 +51,7 @@ module _ (h : List Event) (n tag : ℕ) (law : IsLawful h) where
     by_place (inr (inr past)) = past_both m r past
 
   held_at_new : is_open h n ≡ true → is_held_at k n (length h) ≡ true
-  held_at_new alive =
-      and_from (is_held k (length h)) (option_map_or (λ x. x == n) (node_of k (length h)) false) (is_held_last h (Accept n tag) law ∙ alive) (ap (λ o. option_map_or (λ x. x == n) (option_and_then node_of_accept o) false) (slice_get_last h (Accept n tag)) ∙ eq-eqb n n refl)
+  held_at_new alive = held_at_from k n (length h) (is_held_last h (Accept n tag) law ∙ alive) (ap (option_and_then node_of_accept) (slice_get_last h (Accept n tag)))
 
   -- what waits still does, and nothing more
   pub waiting_unmoved : is_open h n ≡ true → (r : ℕ) → is_waiting k r ≡ is_waiting h r
@@ -64,7 +62,7 @@ module _ (h : List Event) (n tag : ℕ) (law : IsLawful h) where
     by_place (inr (inr past)) = is_waiting_past k r (omega (arith, length-append h (Accept n tag ∷ []))) ∙ sym (is_waiting_past h r (omega arith))
 
   source_unmoved : (m : ℕ) → list_any (is_source_of m) k ≡ list_any (is_source_of m) h
-  source_unmoved m = source_push h (Accept n tag) m ∙ or_false (list_any (is_source_of m) h)
+  source_unmoved m = any_push (is_source_of m) h (Accept n tag) ∙ or-false (list_any (is_source_of m) h)
 
 -- records -----------------------------------------------------------------------------------------
 
@@ -82,7 +80,7 @@ module _ {T : Type 0} (g : Ghosts T) (h : List Event) (n tag : ℕ) (law : IsLaw
     alive = is_open_unchanged h (Accept n tag) refl refl m ∙ r.alive;
     source = r.source ∙ sym (source_unmoved h n tag law m);
     resources = just_same (is_held_at h m) (is_held_at (h ++ Accept n tag ∷ []) m) (numbers node.boxes) (λ i. held_at_other h n tag law m i (λ same. other)) r.resources;
-    written = all_written g h (Accept n tag) (λ i. refl) node.boxes r.written;
+    written = all_written_push g h (Accept n tag) node.boxes (λ item c. refl) r.written;
   }
 
   fresh_written : (x : T) → IsFresh g x tag → IsAsWritten g (h ++ Accept n tag ∷ []) (length h, x)
@@ -95,38 +93,26 @@ module _ {T : Type 0} (g : Ghosts T) (h : List Event) (n tag : ℕ) (law : IsLaw
     alive = is_open_unchanged h (Accept n tag) refl refl n ∙ r.alive;
     source = r.source ∙ sym (source_unmoved h n tag law n);
     resources = subst (AreJust (is_held_at (h ++ Accept n tag ∷ []) n)) (sym (map-append (λ (item : ℕ × T). item.0) node.boxes ((length h, x) ∷ []))) one_more;
-    written = All-push (IsAsWritten g (h ++ Accept n tag ∷ [])) node.boxes (length h, x) (all_written g h (Accept n tag) (λ i. refl) node.boxes r.written) (fresh_written x fresh);
+    written = All-push (IsAsWritten g (h ++ Accept n tag ∷ [])) node.boxes (length h, x) (all_written_push g h (Accept n tag) node.boxes (λ item c. refl) r.written) (fresh_written x fresh);
   }
     where
       one_more : AreJust (is_held_at (h ++ Accept n tag ∷ []) n) (numbers node.boxes ++ length h ∷ [])
       one_more = just_push (is_held_at h n) (is_held_at (h ++ Accept n tag ∷ []) n) (numbers node.boxes) (length h) (held_at_past h n (length h) (omega arith)) (held_at_new h n tag law r.alive) (λ i other. held_at_other h n tag law n i (λ same. absurd (other same))) r.resources
 
 module _ {T : Type 0} (g : Ghosts T) (h : List Event) (old new : Tree T) (waiting : List (ℕ × T)) (key : Key) (x : T) (w : Rewrites old new key (on_boxes (with_box (length h) x))) where
-  -- a record that was found at a slot still is
-  found_still : (n : ℕ) → HasRecord old n → HasRecord new n
-  found_still n r = by_key (cases_key at key) where
-    at : Key
-    at = record { slot = r.slot; number = n }
-
-    by_key : (at ≡ key) ⊎ (at ≢ key) → HasRecord new n
-    by_key (inl same) = record { slot = r.slot; node = on_boxes (with_box (length h) x) r.node; found = ap (find new) same ∙ w.changed ∙ ap (option_map (on_boxes (with_box (length h) x))) (ap (find old) (sym same) ∙ r.found) }
-    by_key (inr other) = record { slot = r.slot; node = r.node; found = w.others at other ∙ r.found }
-
   after_holding : (tag : ℕ) → IsShelved g h old waiting → IsSound old → IsLawful h → IsSome (find old key) → IsFresh g x tag → IsShelved g (h ++ Accept key.number tag ∷ []) new waiting
   after_holding tag s sound law found fresh = record {
-    records = λ other y now. by_key other y now (cases_key other key);
-    every = λ n alive. found_still n (s.every n (sym (is_open_unchanged h (Accept key.number tag) refl refl n) ∙ alive));
+    records = rewritten old new key (on_boxes (with_box (length h) x)) w (λ k node. IsRecordOf g (h ++ Accept key.number tag ∷ []) k.number node) was.0 was.1 (record_holding g h key.number tag law was.0 x fresh (s.records key was.0 was.1)) beside;
+    every = λ n alive. rewritten_has old new key (on_boxes (with_box (length h) x)) w n (s.every n (sym (is_open_unchanged h (Accept key.number tag) refl refl n) ∙ alive));
     waits = just_same (is_waiting h) (is_waiting (h ++ Accept key.number tag ∷ [])) (numbers waiting) (waiting_unmoved h key.number tag law (alive_key g h old waiting s key found)) s.waits;
-    written = all_written g h (Accept key.number tag) (λ i. refl) waiting s.written;
+    written = all_written_push g h (Accept key.number tag) waiting (λ item c. refl) s.written;
   }
     where
-      by_key : (other : Key) (y : Node T) → find new other ≡ Some y → (other ≡ key) ⊎ (other ≢ key) → IsRecordOf g (h ++ Accept key.number tag ∷ []) other.number y
-      by_key other y now (inl same) =
-          let was = mapped (on_boxes (with_box (length h) x)) (find old key) y (sym w.changed ∙ ap (find new) (sym same) ∙ now) in
-          subst (λ (z : Node T). IsRecordOf g (h ++ Accept key.number tag ∷ []) other.number z) was.2 (subst (λ (j : Key). IsRecordOf g (h ++ Accept key.number tag ∷ []) j.number (on_boxes (with_box (length h) x) was.0)) (sym same) (record_holding g h key.number tag law was.0 x fresh (s.records key was.0 was.1)))
-      by_key other y now (inr apart) =
-          let was : find old other ≡ Some y = sym (w.others other apart) ∙ now in
-          record_beside g h key.number tag law other.number y (λ same. apart (sound.apart other key (ap is_some was) found same)) (s.records other y was)
+      was : (node : Node T) × (find old key ≡ Some node)
+      was = some_of (find old key) found
+
+      beside : (other : Key) (node : Node T) → other ≢ key → find old other ≡ Some node → IsRecordOf g (h ++ Accept key.number tag ∷ []) other.number node
+      beside other node apart at = record_beside g h key.number tag law other.number node (λ same. apart (sound.apart other key (ap is_some at) found same)) (s.records other node at)
 
 -- a stock after the acceptance of a resource at a node
 pub shelved_hold : {T : Type 0} (g : Ghosts T) (h : List Event) (old new : Tree T) (waiting : List (ℕ × T)) (key : Key) (x : T) (tag : ℕ) → IsShelved g h old waiting → IsSound old → IsLawful h → IsSome (find old key) → Rewrites old new key (on_boxes (with_box (length h) x)) → g.life_of x ≡ Live → g.tag_of x ≡ tag → g.uses_of x ≡ 0 → IsShelved g (h ++ Accept key.number tag ∷ []) new waiting

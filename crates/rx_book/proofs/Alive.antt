@@ -1,5 +1,5 @@
 -- What a caller knows of the keys of a tree that stands beside a history.
-use Rattle.std.proofs.Common.{◌≡◌, ℕ, ◌+◌, ◌≤◌, true, List, length, Option, Some, None, Contains, is_some, IsSome, IsTrue, refl, ap, arith, slice_get}
+use Rattle.std.proofs.Common.{◌≡◌, ℕ, ◌+◌, ◌≤◌, true, List, length, Option, Some, None, Contains, is_some, IsSome, IsTrue, refl, ap, arith, slice_get, ◌≢◌, sym, ◌∙◌}
 use Rattle.std.proofs.lemmas.Bool.{and_parts, both_ways}
 use Rattle.std.proofs.lemmas.List.Elements.{All-contains}
 use Rattle.rx_event.specs.declared.event.Place.TheVariants.{Root, Source}
@@ -9,16 +9,23 @@ use Rattle.rx_event.specs.declared.event.Event.TheVariants.{Open}
 use Rattle.rx_event.specs.Tree.{is_open}
 use Rattle.rx_event.specs.Resources.{is_held}
 use Rattle.rx_event.specs.Laws.Openness.{is_open_within, is_open_past}
-use Rattle.rx_event.specs.Laws.Resources.{is_held_past}
+use Rattle.rx_event.specs.Laws.Resources.{is_held_past, node_of}
 use Rattle.rx_resource.specs.declared.Resource.{Ghosts}
 use Rattle.rx_register.specs.Causes.{is_taken_place}
 use Rattle.rx_slots.specs.declared.Key.{Key}
 use Rattle.rx_slots.specs.Slots.{find}
 use Rattle.rx_tree.specs.declared.node.Node.{Node}
 use Rattle.rx_tree.specs.declared.node.ResKey.{ResKey}
-use Rattle.rx_tree.specs.Tree.{Tree, IsUnused, IsPlaced, resource_at}
+use Rattle.rx_tree.specs.Tree.{Tree, IsUnused, IsPlaced, resource_at, IsSound}
 use Rattle.rx_book.specs.Shelved.{is_held_at, numbers, IsAsWritten, IsShelved}
-use Rattle.rx_book.proofs.Found.{some_of, resource_found, Contains-numbers}
+use Rattle.rx_tree.specs.Laws.Keys.{some_of}
+use Rattle.rx_book.proofs.Records.{resource_found, HasBox}
+use Rattle.rx_book.proofs.Members.{Contains-map}
+use Rattle.rx_book.proofs.HeldAt.{held_at_parts}
+use Rattle.rx_book.proofs.Items.{box_member}
+use Rattle.rx_book.proofs.JustNumbers.{just_passes}
+use Rattle.std.proofs.lemmas.Option.{same_Some}
+use Rattle.std.specs.List.{Contains}
 
 -- a root stands below no node
 pub placed_root : {T : Type 0} (tree : Tree T) (number : ℕ) (kind : Kind) → IsPlaced tree number (Open Root kind) None
@@ -62,7 +69,7 @@ module _ {T : Type 0} (g : Ghosts T) (h : List Event) (tree : Tree T) (waiting :
   -- a resource at a node is held there
   pub held_where : (key : Key) (node : Node T) (item : ℕ × T) → find tree key ≡ Some node → Contains node.boxes item → is_held_at h key.number item.0 ≡ true
   held_where key node item found c =
-      All-contains (λ r. IsTrue (is_held_at h key.number r)) (numbers node.boxes) item.0 (s.records key node found).resources.each (Contains-numbers node.boxes item c)
+      All-contains (λ r. IsTrue (is_held_at h key.number r)) (numbers node.boxes) item.0 (s.records key node found).resources.each (Contains-map (λ (i : ℕ × T). i.0) node.boxes item c)
 
   pub live_resource : (res : ResKey) (x : T) → resource_at tree res ≡ Some x → IsAsWritten g h (res.number, x)
   live_resource res x found =
@@ -73,7 +80,7 @@ module _ {T : Type 0} (g : Ghosts T) (h : List Event) (tree : Tree T) (waiting :
   pub resource_held : (res : ResKey) (x : T) → resource_at tree res ≡ Some x → is_held h res.number ≡ true
   resource_held res x found =
       let at = resource_found tree res x found in
-      (and_parts (is_held h res.number) _ (held_where at.0 at.1 (res.number, x) at.2 at.3)).0
+      (held_at_parts h at.0.number res.number (held_where at.0 at.1 (res.number, x) at.2 at.3)).0
 
   pub held_key : (res : ResKey) → IsSome (resource_at tree res) → is_held h res.number ≡ true
   held_key res found = let at = some_of (resource_at tree res) found in resource_held res at.0 at.1
@@ -94,3 +101,16 @@ module _ {T : Type 0} (g : Ghosts T) (h : List Event) (tree : Tree T) (waiting :
 
   pub unused_resource_after : (slot : ℕ) → resource_at tree (record { slot = slot; number = length h + 1 }) ≡ None
   unused_resource_after slot = unused_resource_past slot (length h + 1) (omega arith)
+
+module _ {T : Type 0} (g : Ghosts T) (h : List Event) (tree : Tree T) (ws : List (ℕ × T)) (shelved : IsShelved g h tree ws) (key : Key) (r : ℕ) (x : T) (has : HasBox tree key r x) where
+  -- the resource is held at the node of its record
+  pub box_held : is_held_at h key.number r ≡ true
+  box_held = held_where g h tree ws shelved key has.node (r, x) has.found (box_member r has.node.boxes x has.box)
+
+  -- so no other record has its number
+  pub elsewhere_not : IsSound tree → (other : Key) (node : Node T) → other ≢ key → find tree other ≡ Some node → (q : ℕ) → Contains (numbers node.boxes) q → r ≢ q
+  elsewhere_not sound other node apart found q c same =
+      let was = shelved.records other node found in
+      let there : node_of h r ≡ Some other.number = ap (node_of h) same ∙ (held_at_parts h other.number q (just_passes (is_held_at h other.number) (numbers node.boxes) was.resources q c)).1 in
+      let here : node_of h r ≡ Some key.number = (held_at_parts h key.number r box_held).1 in
+      apart (sound.apart other key (ap is_some found) (ap is_some has.found) (same_Some other.number key.number (sym there ∙ here)))

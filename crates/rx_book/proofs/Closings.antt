@@ -35,34 +35,20 @@ use Rattle.rx_book.proofs.Counted.{waiting_counted}
 use Rattle.rx_book.proofs.Frames.{frame_cut, accepts_shown}
 use Rattle.rx_book.proofs.Moved.{moved_fit}
 use Rattle.rx_book.proofs.Shut.{shelved_close}
+use Rattle.rx_book.proofs.Ended.{count_ended, ends_make_none}
 
 -- counts that ends and closings leave ----------------------------------------------------------------
 
--- no end and no closing passes the test
-module _ (p : Event → Bool) (fails : (e : Event) → shuts_a_node e ≡ true → p e ≡ false) where
-  none_counted : (ends : List Event) → list_all shuts_a_node ends ≡ true → count_by p ends ≡ 0
-  none_counted [] each = refl
-  none_counted (e ∷ ends) each =
-      let parts = and_parts (shuts_a_node e) (list_all shuts_a_node ends) each in
-      sum_by-cons (λ (x : Event). cond (p x) 1 0) e ends ∙ rw (fails e parts.0, none_counted ends parts.1) refl
-
-  count_ended : (h ends : List Event) → list_all shuts_a_node ends ≡ true → count_by p (h ++ ends) ≡ count_by p h
-  count_ended h ends each = sum_by-append (λ (x : Event). cond (p x) 1 0) h ends ∙ ap (λ (k : ℕ). count_by p h + k) (none_counted ends each) ∙ add-zero (count_by p h)
-
-ends_make_none : (e : Event) → shuts_a_node e ≡ true → makes_resource e ≡ false
-ends_make_none (Accept n tag) s = absurd (false≢true s)
-ends_make_none _ s = refl
-
-ends_take_none : (e : Event) → shuts_a_node e ≡ true → is_take e ≡ false
-ends_take_none (Take r) s = absurd (false≢true s)
-ends_take_none _ s = refl
+ends_take_nothing : (e : Event) → shuts_a_node e ≡ true → is_take e ≡ false
+ends_take_nothing (Take r) s = absurd (false≢true s)
+ends_take_nothing _ s = refl
 
 -- as many are accepted and taken as before
 pub accepted_closed : (h outside k : List Event) (top : ℕ) → Closes h outside top k → accepted_count k ≡ accepted_count h
 accepted_closed h outside k top closes = ap accepted_count closes.longer ∙ count_ended makes_resource ends_make_none h closes.more closes.ends
 
 pub taken_closed : (h outside k : List Event) (top : ℕ) → Closes h outside top k → taken_count k ≡ taken_count h
-taken_closed h outside k top closes = ap taken_count closes.longer ∙ count_ended is_take ends_take_none h closes.more closes.ends
+taken_closed h outside k top closes = ap taken_count closes.longer ∙ count_ended is_take ends_take_nothing h closes.more closes.ends
 
 -- what is known of a key and of the causes ----------------------------------------------------------------
 

@@ -1,6 +1,6 @@
 -- Histories that go on by ends and closings alone.
 use Rattle.std.proofs.Common.{◌≡◌, ℕ, zero, suc, ◌+◌, Bool, true, false, cond, add-zero, List, [], ◌∷◌, ◌++◌, Option, Some, None, refl, ap, ◌∙◌, slice_get, count_by}
-use Rattle.std.proofs.Math.Bool.{not, ◌&&◌, ◌||◌}
+use Rattle.std.proofs.Math.Bool.{not, ◌&&◌, ◌||◌, or-false}
 use Rattle.std.specs.List.{list_any, list_all}
 use Rattle.std.specs.Option.{option_and_then, option_map_or}
 use Rattle.std.proofs.lemmas.Bool.{and_parts, or_from, false≢true, both_ways}
@@ -26,7 +26,7 @@ pub ends_tag_none : (e : Event) → shuts_a_node e ≡ true → accepted_tag e �
 ends_tag_none (Accept n tag) s = absurd (false≢true s)
 ends_tag_none _ s = refl
 
-ends_make_none : (e : Event) → shuts_a_node e ≡ true → makes_resource e ≡ false
+pub ends_make_none : (e : Event) → shuts_a_node e ≡ true → makes_resource e ≡ false
 ends_make_none (Accept n tag) s = absurd (false≢true s)
 ends_make_none _ s = refl
 
@@ -56,30 +56,30 @@ read_ended f none [] (e ∷ ends) each (suc n) = read_ended f none [] ends (and_
 read_ended f none (x ∷ h) ends each zero = refl
 read_ended f none (x ∷ h) ends each (suc n) = read_ended f none h ends each n
 
-none_among : (p : Event → Bool) → ((e : Event) → shuts_a_node e ≡ true → p e ≡ false) → (ends : List Event) → list_all shuts_a_node ends ≡ true → list_any p ends ≡ false
-none_among p fails [] each = refl
-none_among p fails (e ∷ ends) each =
-    let parts = and_parts (shuts_a_node e) (list_all shuts_a_node ends) each in
-    or_from (p e) (list_any p ends) (fails e parts.0) (none_among p fails ends parts.1)
+-- no end and no closing passes the test
+module _ (p : Event → Bool) (fails : (e : Event) → shuts_a_node e ≡ true → p e ≡ false) where
+  none_among : (ends : List Event) → list_all shuts_a_node ends ≡ true → list_any p ends ≡ false
+  none_among [] each = refl
+  none_among (e ∷ ends) each =
+      let parts = and_parts (shuts_a_node e) (list_all shuts_a_node ends) each in
+      or_from (p e) (list_any p ends) (fails e parts.0) (none_among ends parts.1)
 
--- a test of all events, which the ends fail
-pub any_ended : (p : Event → Bool) → ((e : Event) → shuts_a_node e ≡ true → p e ≡ false) → (h ends : List Event) → list_all shuts_a_node ends ≡ true → list_any p (h ++ ends) ≡ list_any p h
-any_ended p fails h ends each = list_any-append p h ends ∙ ap (λ b. list_any p h || b) (none_among p fails ends each) ∙ or_false (list_any p h) where
-  or_false : (b : Bool) → (b || false) ≡ b
-  or_false true = refl
-  or_false false = refl
+  pub any_ended : (h ends : List Event) → list_all shuts_a_node ends ≡ true → list_any p (h ++ ends) ≡ list_any p h
+  any_ended h ends each = list_any-append p h ends ∙ ap (λ b. list_any p h || b) (none_among ends each) ∙ or-false (list_any p h)
 
-count_none : (r : ℕ) (ends : List Event) → list_all shuts_a_node ends ≡ true → count_by (is_use_of r) ends ≡ 0
-count_none r [] each = refl
-count_none r (e ∷ ends) each =
-    let parts = and_parts (shuts_a_node e) (list_all shuts_a_node ends) each in
-    sum_by-cons (λ (x : Event). cond (is_use_of r x) 1 0) e ends ∙ rw (ends_use_none r e parts.0, count_none r ends parts.1) refl
+  none_counted : (ends : List Event) → list_all shuts_a_node ends ≡ true → count_by p ends ≡ 0
+  none_counted [] each = refl
+  none_counted (e ∷ ends) each =
+      let parts = and_parts (shuts_a_node e) (list_all shuts_a_node ends) each in
+      sum_by-cons (λ (x : Event). cond (p x) 1 0) e ends ∙ rw (fails e parts.0, none_counted ends parts.1) refl
+
+  pub count_ended : (h ends : List Event) → list_all shuts_a_node ends ≡ true → count_by p (h ++ ends) ≡ count_by p h
+  count_ended h ends each = sum_by-append (λ (x : Event). cond (p x) 1 0) h ends ∙ ap (λ (k : ℕ). count_by p h + k) (none_counted ends each) ∙ add-zero (count_by p h)
 
 -- no resource is used
 pub uses_ended : (h ends : List Event) → list_all shuts_a_node ends ≡ true → (r : ℕ) → uses (h ++ ends) r ≡ uses h r
 unfolding uses
-uses_ended h ends each r =
-    sum_by-append (λ (x : Event). cond (is_use_of r x) 1 0) h ends ∙ ap (λ (k : ℕ). count_by (is_use_of r) h + k) (count_none r ends each) ∙ add-zero (count_by (is_use_of r) h)
+uses_ended h ends each r = count_ended (is_use_of r) (ends_use_none r) h ends each
 
 -- each resource was accepted at the same node
 pub node_of_ended : (h ends : List Event) → list_all shuts_a_node ends ≡ true → (r : ℕ) → node_of (h ++ ends) r ≡ node_of h r

@@ -23,23 +23,12 @@ use Rattle.rx_book.specs.State.{has_key, has_res_key}
 use Rattle.rx_book.specs.Shown.{keys_of, res_keys_of, state_of}
 use Rattle.rx_book.specs.Answers.{Accepts}
 use Rattle.rx_book.proofs.Members.{Contains-later, Contains-map, Contains-from_map}
-use Rattle.rx_book.proofs.Listed.{some_of, entry_found, entry_finds, box_listed, listed_box, key_finds, finding_key, has_key_is, res_key_finds, finding_res_key, has_res_key_is}
-
--- two keys are one, or they differ
-pub cases_key : (a b : SlotKey) → (a ≡ b) ⊎ (a ≢ b)
-cases_key a b =
-    elim (cases_eq a.slot b.slot) [
-      | inl slot ↦ elim (cases_eq a.number b.number) [
-        | inl number ↦ inl (λ i. record { slot = slot i; number = number i })
-        | inr other ↦ inr (λ same. other (ap (λ k. k.number) same))
-      ]
-      | inr other ↦ inr (λ same. other (ap (λ k. k.slot) same))
-    ]
-
--- what is mapped was there
-pub mapped : {X Y : Type 0} (f : X → Y) (o : Option X) (y : Y) → option_map f o ≡ Some y → (x : X) × (o ≡ Some x) × (f x ≡ y)
-mapped f None y e = absurd (none-some y e)
-mapped f (Some x) y e = (x, refl, same_Some (f x) y e)
+use Rattle.rx_tree.specs.Laws.Keys.{some_of, cases_key}
+use Rattle.rx_tree.specs.Laws.Written.{entry_found, one_key}
+use Rattle.rx_book.proofs.Records.{entry_finds, resource_record, record_resource, key_of_resource}
+use Rattle.rx_book.proofs.Items.{box_listed, listed_box, without_member, numbers_set}
+use Rattle.rx_book.proofs.Listed.{key_finds, finding_key, has_key_is, res_key_finds, finding_res_key, has_res_key_is}
+use Rattle.rx_book.proofs.Options.{mapped, left_of}
 
 module _ {T : Type 0} where
   -- every key with a number less than n that finds a record or a resource in the new tree found one in the old tree
@@ -55,19 +44,6 @@ module _ {T : Type 0} where
   abbrev pub WasThere : Tree T → ℕ → SlotKey → Node T → Type 0
   WasThere old n key after = ((n ≤ key.number) × AddsNone n [] after.boxes) ⊎ ((before : Node T) × (find old key ≡ Some before) × AddsNone n before.boxes after.boxes)
 
-  -- resources by the record that holds them
-  pub resource_record : (tree : Tree T) (k : TreeResKey) → IsSome (resource_at tree k) → (number : ℕ) × (node : Node T) × (find tree (record { slot = k.slot; number = number }) ≡ Some node) × IsSome (box_of k.number node.boxes)
-  resource_record tree k some = by_entry (entry_at tree k.slot) refl where
-    by_entry : (o : Option (Entry (Node T))) → entry_at tree k.slot ≡ o → (number : ℕ) × (node : Node T) × (find tree (record { slot = k.slot; number = number }) ≡ Some node) × IsSome (box_of k.number node.boxes)
-    by_entry None at = absurd (true≢false (sym some ∙ rw at refl))
-    by_entry (Some e) at = let held : IsSome (box_of k.number e.value.boxes) = sym (let P : is_some (resource_at tree k) ≡ is_some (box_of k.number e.value.boxes) = rw at refl in P) ∙ some in (e.number, e.value, entry_finds tree k.slot e at, held)
-
-  pub record_resource : (tree : Tree T) (k : TreeResKey) (number : ℕ) (node : Node T) → find tree (record { slot = k.slot; number = number }) ≡ Some node → IsSome (box_of k.number node.boxes) → IsSome (resource_at tree k)
-  record_resource tree k number node found held =
-      let at = entry_found tree (record { slot = k.slot; number = number }) node found in
-      let same : is_some (resource_at tree k) ≡ is_some (box_of k.number node.boxes) = rw at refl in
-      same ∙ held
-
   -- by records
   pub keeps_keys : (old new : Tree T) (n : ℕ) → ((key : SlotKey) (after : Node T) → find new key ≡ Some after → WasThere old n key after) → KeepsKeys old new n
   keeps_keys old new n there = record { keys = keys; res_keys = res_keys } where
@@ -78,7 +54,7 @@ module _ {T : Type 0} where
       by_kind after (inr was) = ap is_some was.1
 
     res_keys : (k : TreeResKey) → k.number < n → IsSome (resource_at new k) → IsSome (resource_at old k)
-    res_keys k less some = let r = resource_record new k some in by_kind r.0 r.1 r.3 (there (record { slot = k.slot; number = r.0 }) r.1 r.2) where
+    res_keys k less some = let x = some_of (resource_at new k) some in let r = resource_record new k x.0 x.1 in by_kind r.0 r.1 (ap is_some r.3) (there (record { slot = k.slot; number = r.0 }) r.1 r.2) where
       by_kind : (number : ℕ) (after : Node T) → IsSome (box_of k.number after.boxes) → WasThere old n (record { slot = k.slot; number = number }) after → IsSome (resource_at old k)
       by_kind number after held (inl fresh) = absurd (true≢false (sym (fresh.1 k.number less held)))
       by_kind number after held (inr was) = record_resource old k number was.0 was.1 (was.2 k.number less held)
@@ -89,7 +65,7 @@ module _ {T : Type 0} where
   pub frame_same : (old new : Tree T) (n : ℕ) → new.entries ≡ old.entries → KeepsKeys old new n
   frame_same old new n same = record {
     keys = λ k less some. ap (λ es. is_some (with_number k.number (get_or es k.slot None))) (sym same) ∙ some;
-    res_keys = λ k less some. let r = resource_record new k some in record_resource old k r.0 r.1 (ap (λ es. with_number r.0 (get_or es k.slot None)) (sym same) ∙ r.2) r.3;
+    res_keys = λ k less some. let x = some_of (resource_at new k) some in let r = resource_record new k x.0 x.1 in record_resource old k r.0 r.1 (ap (λ es. with_number r.0 (get_or es k.slot None)) (sym same) ∙ r.2) (ap is_some r.3);
   }
 
   pub frame_after : (a b c : Tree T) (n : ℕ) → KeepsKeys a b n → KeepsKeys b c n → KeepsKeys a c n
@@ -112,11 +88,9 @@ module _ {T : Type 0} where
   frame_open old new key node n opens number fresh = keeps_keys old new n (λ k after found. by_slot k after found (cases_eq k.slot key.slot)) where
     by_slot : (k : SlotKey) (after : Node T) → find new k ≡ Some after → (k.slot ≡ key.slot) ⊎ (k.slot ≡ key.slot → ⊥) → WasThere old n k after
     by_slot k after found (inl same) =
-        let here : entry_at new k.slot ≡ Some (entry_of k.number after) = entry_found new k after found in
-        let there : entry_at new k.slot ≡ Some (entry_of key.number node) = ap (entry_at new) same ∙ entry_found new key node opens.opened in
-        let one = same_Some (entry_of k.number after) (entry_of key.number node) (sym here ∙ there) in
-        let number_is : k.number ≡ key.number = ap (λ (e : Entry (Node T)). e.number) one in
-        let node_is : node ≡ after = sym (ap (λ (e : Entry (Node T)). e.value) one) in
+        let one = one_key new k key after node same found opens.opened in
+        let number_is : k.number ≡ key.number = ap (λ (j : SlotKey). j.number) one.0 in
+        let node_is : node ≡ after = sym one.1 in
         inl (omega arith, λ r less some. absurd (fresh r less (ap (λ (x : Node T). is_some (box_of r x.boxes)) node_is ∙ some)))
     by_slot k after found (inr other) =
         let m = mapped (noting node.made k.number) (find old k) after (sym (opens.others k other) ∙ found) in
@@ -135,13 +109,9 @@ module _ {T : Type 0} where
   pub frame_less : (old new : Tree T) (n : ℕ) → ((key : SlotKey) (node : Node T) → find new key ≡ Some node → find old key ≡ Some node) → KeepsKeys old new n
   frame_less old new n was = keeps_keys old new n (λ k after found. inr (after, was k after found, same_boxes n after.boxes))
 
-  uncut : (b : Bool) (o : Option (Node T)) (node : Node T) → cond b None o ≡ Some node → o ≡ Some node
-  uncut true o node e = absurd (none-some node e)
-  uncut false o node e = e
-
   -- some records less
   pub frame_cut : (old new : Tree T) (gone : SlotKey → Bool) (n : ℕ) → ((other : SlotKey) → find new other ≡ cond (gone other) None (find old other)) → KeepsKeys old new n
-  frame_cut old new gone n cut = frame_less old new n (λ key node found. uncut (gone key) (find old key) node (sym (cut key) ∙ found))
+  frame_cut old new gone n cut = frame_less old new n (λ key node found. (left_of (gone key) (find old key) node (sym (cut key) ∙ found)).1)
 
   -- what changes of resources add -----------------------------------------------------------------
 
@@ -151,28 +121,13 @@ module _ {T : Type 0} where
     by_item r less item is (inl there) = listed_box r boxes item there is
     by_item r less item is (inr same) = absurd (let e : number ≡ item.0 = ap (λ (x : ℕ × T). x.0) same in omega arith)
 
-  Contains-without : (m : ℕ) (boxes : Boxes T) (item : ℕ × T) → Contains (without_box m boxes) item → Contains boxes item
-  Contains-without m [] item c = absurd (omega (arith, c.1))
-  Contains-without m (x ∷ boxes) item c = by_test (Contains-without m boxes item) (nat_eq m x.0) c where
-    by_test : (Contains (without_box m boxes) item → Contains boxes item) → (b : Bool) → Contains (cond b boxes (x ∷ without_box m boxes)) item → Contains (x ∷ boxes) item
-    by_test rest true d = Contains-later x boxes item d
-    by_test rest false (zero, within, at) = (0, omega arith, at)
-    by_test rest false (suc k, within, at) = Contains-later x boxes item (rest (k, omega arith, at))
-
   pub adds-without_box : (n number : ℕ) (boxes : Boxes T) → AddsNone n boxes (without_box number boxes)
-  adds-without_box n number boxes = λ r less some. let item = box_listed r (without_box number boxes) some in listed_box r boxes item.0 (Contains-without number boxes item.0 item.1) item.2
-
-  numbers-set : (m : ℕ) (value : T) (boxes : Boxes T) → map (λ (x : ℕ × T). x.0) (with_value m value boxes) ≡ map (λ (x : ℕ × T). x.0) boxes
-  numbers-set m value [] = refl
-  numbers-set m value (x ∷ boxes) = by_test (numbers-set m value boxes) (nat_eq m x.0) where
-    by_test : map (λ (y : ℕ × T). y.0) (with_value m value boxes) ≡ map (λ (y : ℕ × T). y.0) boxes → (b : Bool) → map (λ (y : ℕ × T). y.0) (cond b ((x.0, value) ∷ boxes) (x ∷ with_value m value boxes)) ≡ x.0 ∷ map (λ (y : ℕ × T). y.0) boxes
-    by_test rest true = refl
-    by_test rest false = ap (λ (ns : List ℕ). x.0 ∷ ns) rest
+  adds-without_box n number boxes = λ r less some. let item = box_listed r (without_box number boxes) some in listed_box r boxes item.0 (without_member number boxes item.0 item.1) item.2
 
   pub adds-with_value : (n number : ℕ) (value : T) (boxes : Boxes T) → AddsNone n boxes (with_value number value boxes)
   adds-with_value n number value boxes = λ r less some.
       let item = box_listed r (with_value number value boxes) some in
-      let listed = subst (λ ns. Contains ns item.0.0) (numbers-set number value boxes) (Contains-map (λ (x : ℕ × T). x.0) (with_value number value boxes) item.0 item.1) in
+      let listed = subst (λ ns. Contains ns item.0.0) (numbers_set number value boxes) (Contains-map (λ (x : ℕ × T). x.0) (with_value number value boxes) item.0 item.1) in
       let was = Contains-from_map (λ (x : ℕ × T). x.0) boxes item.0.0 listed in
       listed_box r boxes was.0 was.1 (was.2 ∙ item.2)
 
@@ -189,10 +144,9 @@ module _ {T : Type 0} where
   -- the record of a resource's slot
   resource_slot : (tree : Tree T) (res : TreeResKey) (P : SlotKey → Type 0) → IsSome (resource_at tree res) → IfSome (key_at tree res.slot) P → (key : SlotKey) × P key
   resource_slot tree res P some has =
-      let r = resource_record tree res some in
-      let key : SlotKey = record { slot = res.slot; number = r.0 } in
-      let at : key_at tree res.slot ≡ Some key = ap (option_map (λ (e : Entry (Node T)). record { slot = res.slot; number = e.number })) (entry_found tree key r.1 r.2) in
-      (key, subst (λ o. IfSome o P) at has)
+      let x = some_of (resource_at tree res) some in
+      let named = key_of_resource tree res x.0 x.1 in
+      (named.0, subst (λ o. IfSome o P) named.1 has)
 
   pub frame_removed : (old new : Tree T) (res : TreeResKey) (n : ℕ) → IsSome (resource_at old res) → IfSome (key_at old res.slot) (λ key. Rewrites old new key (on_boxes (without_box res.number))) → KeepsKeys old new n
   frame_removed old new res n some rest =

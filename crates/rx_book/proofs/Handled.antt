@@ -38,49 +38,18 @@ use Rattle.rx_book.specs.Causes.{by_key, by_res_key}
 use Rattle.rx_book.specs.Shown.{is_live, is_fresh_box, keys_of, res_keys_of, box_in, state_of, tree_key_of, tree_res_key_of}
 use Rattle.rx_book.specs.Answers.{Accepts}
 use Rattle.rx_book.specs.Shelved.{IsShelved, IsStanding}
-use Rattle.rx_book.proofs.Listed.{some_of, has_key_is, has_res_key_is}
+use Rattle.rx_tree.specs.Laws.Keys.{some_of}
+use Rattle.rx_book.proofs.Listed.{has_key_is, has_res_key_is}
 use Rattle.rx_book.proofs.Frames.{KeepsKeys, accepts_shown, frame_uses}
 use Rattle.rx_book.proofs.Openings.{lawful_parts}
 use Rattle.rx_book.proofs.Alive.{alive_key, live_resource, held_key, unused_resource}
 use Rattle.rx_book.proofs.Quiet.{shelved_item}
 use Rattle.rx_book.proofs.Accepted.{shelved_hold}
 use Rattle.rx_book.proofs.Released.{shelved_take}
-use Rattle.rx_book.proofs.Items.{key_of_resource}
+use Rattle.rx_book.proofs.Records.{key_of_resource}
 use Rattle.rx_book.proofs.Removed.{shelved_remove}
 use Rattle.rx_book.proofs.Used.{shelved_use}
-
--- options -----------------------------------------------------------------------------------------
-
-pub if_some : {X : Type 0} (o : Option X) (P : X → Type 0) → ((x : X) → o ≡ Some x → P x) → IfSome o P
-if_some None P holds = tt
-if_some (Some x) P holds = holds x refl
-
-pub of_some : {X : Type 0} (o : Option X) (P : X → Type 0) (x : X) → o ≡ Some x → IfSome o P → P x
-of_some o P x at holds = subst (λ p. IfSome p P) at holds
-
--- what holds of the error that is passed on holds of the result
-pub passed_on : {X E : Type 0} (r : Result X E) (e : E) (P : E → Type 0) → IsErrAnd r (λ y. y ≡ e) → P e → IfErr r P
-passed_on (Ok x) e P is holds = tt
-passed_on (Err y) e P is holds = subst P (sym is) holds
-
--- resources that are handed in --------------------------------------------------------------------
-
-pub fresh_parts : (life : Life) (used : ℕ) → is_fresh_box life used ≡ true → (life ≡ Live) × (used ≡ 0)
-fresh_parts life used fresh = let parts = and_parts (is_live life) (nat_eq used 0) fresh in (live life parts.0, eqb-true used 0 parts.1) where
-  live : (life : Life) → is_live life ≡ true → life ≡ Live
-  live Live e = refl
-  live Released e = absurd (false≢true e)
-
-past_test : {X : Type 0} (b : Bool) (x : X) (rest : Option X) → cond b (Some x) rest ≡ None → rest ≡ None
-past_test true x rest none = absurd (none-some x (sym none))
-past_test false x rest none = none
-
-fresh_or : (fresh : Bool) (rest : Option Refusal) → cond (not fresh) (Some NotFresh) rest ≡ None → fresh ≡ true
-fresh_or true rest none = refl
-fresh_or false rest none = absurd (none-some NotFresh (sym none))
-
-pub held_fresh : (h : List Event) (limit : ℕ) (fresh : Bool) (node tag : ℕ) → first_cause (causes h limit fresh (Holding node tag)) ≡ None → fresh ≡ true
-held_fresh h limit fresh node tag none = fresh_or fresh _ (past_test (not (is_open h node)) Gone _ none)
+use Rattle.rx_book.proofs.Options.{if_some, of_some}
 
 -- a resource is used no more often than there are events
 used_within : (h : List Event) (r : ℕ) → uses h r ≤ length h

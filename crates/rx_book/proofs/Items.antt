@@ -1,4 +1,4 @@
--- Resources with their numbers: one of them removed, or written anew, and the record that has it.
+-- Resources with their numbers: one found, removed, or written anew.
 use Rattle.std.proofs.Common.{◌≡◌, ◌≢◌, ℕ, nat_eq, ◌==◌, Bool, true, List, [], ◌∷◌, Option, Some, None, is_some, IsSome, option_map, refl, sym, ap, subst, ◌∙◌, inl, inr, ◌⊎◌, arith}
 use Rattle.std.proofs.Math.Bool.{not, ◌&&◌}
 use Rattle.std.specs.List.{AllPairs, Contains}
@@ -22,8 +22,9 @@ use Rattle.rx_book.specs.State.{AreJust}
 use Rattle.rx_book.specs.Shelved.{is_held_at, numbers, HasRecord, IsShelved}
 use Rattle.rx_book.proofs.Members.{All-members, Contains-head, Contains-later, Contains-none, Contains-cases, Contains-map, Contains-from_map, AllPairs-head, AllPairs-tail, AllPairs-nil}
 use Rattle.rx_book.proofs.JustNumbers.{just_passes}
-use Rattle.rx_book.proofs.Pushed.{held_at_parts}
-use Rattle.rx_book.proofs.Climbs.{cases_key, with_number-same}
+use Rattle.rx_book.proofs.HeldAt.{held_at_parts}
+use Rattle.rx_tree.specs.Laws.Keys.{cases_key, some_of}
+use Rattle.rx_tree.specs.Laws.Written.{with_number-same}
 
 module _ {X : Type 0} where
   lookup_here : (n : ℕ) (e : ℕ × X) (es : List (ℕ × X)) → e.0 ≡ n → lookup (nat_eq n) (e ∷ es) ≡ Some e.1
@@ -67,6 +68,13 @@ module _ {X : Type 0} where
           | inr later ↦ ap is_some (lookup_later r e es other) ∙ box_found r es later
         ]
       ]
+
+  -- what a number stands for is listed with it, and the other way
+  pub box_listed : (r : ℕ) (es : List (ℕ × X)) → IsSome (box_of r es) → (item : ℕ × X) × Contains es item × (item.0 ≡ r)
+  box_listed r es some = let x = some_of (box_of r es) some in ((r, x.0), box_member r es x.0 x.1, refl)
+
+  pub listed_box : (r : ℕ) (es : List (ℕ × X)) (item : ℕ × X) → Contains es item → item.0 ≡ r → IsSome (box_of r es)
+  listed_box r es item c same = box_found r es (subst (λ (n : ℕ). Contains (numbers es) n) same (Contains-map (λ (e : ℕ × X). e.0) es item c))
 
   -- another value leaves the numbers
   pub numbers_set : (r : ℕ) (w : X) (es : List (ℕ × X)) → numbers (with_value r w es) ≡ numbers es
@@ -136,72 +144,3 @@ module _ {X : Type 0} where
     every = λ n passes. let parts = and_parts (p n) (not (r == n)) passes in without_keeps r es n (λ same. both_ways (r == n) (not-true (r == n) parts.1) (eq-eqb r n same)) (just.every n parts.0);
     once = without_once r es just.once;
   }
-
-module _ {T : Type 0} where
-  -- a resource of this number is in the record of the key
-  pub record HasBox (tree : Tree T) (key : Key) (r : ℕ) (x : T) : Type 0 where
-    pub node : Node T
-    pub found : find tree key ≡ Some node
-    pub box : box_of r node.boxes ≡ Some x
-
-  abbrev named_at : ℕ → Option (Entry (Node T)) → Option Key
-  named_at slot o = option_map (λ e. record { slot = slot; number = e.number }) o
-
-  abbrev boxed_at : ℕ → Option (Entry (Node T)) → Option T
-  boxed_at r o = option_and_then (box_of r) (option_map (λ node. node.boxes) (option_map (λ e. e.value) o))
-
-  -- the key of the slot of a resource finds the record that has it
-  pub held_box : (tree : Tree T) (res : ResKey) (key : Key) (x : T) → resource_at tree res ≡ Some x → key_at tree res.slot ≡ Some key → HasBox tree key res.number x
-  held_box tree res key x at named = of (entry_at tree res.slot) refl at named where
-    of : (o : Option (Entry (Node T))) → entry_at tree res.slot ≡ o → boxed_at res.number o ≡ Some x → named_at res.slot o ≡ Some key → HasBox tree key res.number x
-    of None read at named = absurd (none-some key named)
-    of (Some e) read at named =
-        let here : Key = record { slot = res.slot; number = e.number } in
-        let has : HasBox tree here res.number x = record { node = e.value; found = ap (with_number e.number) read ∙ with_number-same e.number e refl; box = at } in
-        subst (λ (k : Key). HasBox tree k res.number x) (same_Some here key named) has
-
-  pub key_of_resource : (tree : Tree T) (res : ResKey) (x : T) → resource_at tree res ≡ Some x → (key : Key) × (key_at tree res.slot ≡ Some key)
-  key_of_resource tree res x at = of (entry_at tree res.slot) refl at where
-    of : (o : Option (Entry (Node T))) → entry_at tree res.slot ≡ o → boxed_at res.number o ≡ Some x → (key : Key) × (key_at tree res.slot ≡ Some key)
-    of None read at = absurd (none-some x at)
-    of (Some e) read at = (record { slot = res.slot; number = e.number }, ap (named_at res.slot) read)
-
-  module _ (old new : Tree T) (key : Key) (change : Node T → Node T) (rewrites : Rewrites old new key change) where
-    -- what holds of the record that changed, and of each other one
-    pub rewritten : (P : Key → Node T → Type 0) (before : Node T) → find old key ≡ Some before → P key (change before) → ((other : Key) (node : Node T) → other ≢ key → find old other ≡ Some node → P other node) → (k : Key) (node : Node T) → find new k ≡ Some node → P k node
-    rewritten P before found here there k node now = of (cases_key k key) where
-      of : (k ≡ key) ⊎ (k ≢ key) → P k node
-      of (inl same) =
-          let at_key : find new key ≡ Some (change before) = rewrites.changed ∙ ap (option_map change) found in
-          let is : change before ≡ node = same_Some (change before) node (sym at_key ∙ ap (find new) (sym same) ∙ now) in
-          subst (λ (j : Key). P j node) (sym same) (subst (λ (m : Node T). P key m) is here)
-      of (inr other) = there k node other (sym (rewrites.others k other) ∙ now)
-
-    -- each number that had a record has one
-    pub rewritten_has : (n : ℕ) → HasRecord old n → HasRecord new n
-    rewritten_has n has = of (cases_key (record { slot = has.slot; number = n }) key) where
-      k : Key
-      k = record { slot = has.slot; number = n }
-
-      of : (k ≡ key) ⊎ (k ≢ key) → HasRecord new n
-      of (inl same) = record {
-        slot = has.slot;
-        node = change has.node;
-        found = ap (find new) same ∙ rewrites.changed ∙ ap (option_map change) (ap (find old) (sym same) ∙ has.found);
-      }
-      of (inr other) = record { slot = has.slot; node = has.node; found = rewrites.others k other ∙ has.found }
-
-  module _ (g : Ghosts T) (h : List Event) (tree : Tree T) (ws : List (ℕ × T)) (shelved : IsShelved g h tree ws) (key : Key) (r : ℕ) (x : T) (has : HasBox tree key r x) where
-    -- the resource is held at the node of its record
-    pub box_held : is_held_at h key.number r ≡ true
-    box_held =
-        let was = shelved.records key has.node has.found in
-        just_passes (is_held_at h key.number) (numbers has.node.boxes) was.resources r (Contains-map (λ (item : ℕ × T). item.0) has.node.boxes (r, x) (box_member r has.node.boxes x has.box))
-
-    -- so no other record has its number
-    pub elsewhere_not : IsSound tree → (other : Key) (node : Node T) → other ≢ key → find tree other ≡ Some node → (q : ℕ) → Contains (numbers node.boxes) q → r ≢ q
-    elsewhere_not sound other node apart found q c same =
-        let was = shelved.records other node found in
-        let there : node_of h r ≡ Some other.number = ap (node_of h) same ∙ (held_at_parts h other.number q (just_passes (is_held_at h other.number) (numbers node.boxes) was.resources q c)).1 in
-        let here : node_of h r ≡ Some key.number = (held_at_parts h key.number r box_held).1 in
-        apart (sound.apart other key (ap is_some found) (ap is_some has.found) (same_Some other.number key.number (sym there ∙ here)))

@@ -24,7 +24,10 @@ use Rattle.rx_book.specs.Shown.{keys_of, res_keys_of, held_in, box_in}
 use Rattle.rx_book.specs.Shelved.{numbers, is_held_at, IsAsWritten, IsRecordOf, IsShelved}
 use Rattle.rx_book.proofs.Members.{Contains-one, Contains-head, AllPairs-nil, AllPairs-append, All-members}
 use Rattle.rx_book.proofs.Walks.{walk, walk_at, walk_has, map-walk}
-use Rattle.rx_book.proofs.Listed.{entry_found, entry_finds, key_in, res_keys_in, boxes_in, keys-walk, res_keys-walk, items-walk}
+use Rattle.rx_tree.specs.Laws.Written.{entry_found}
+use Rattle.rx_book.proofs.Records.{entry_finds}
+use Rattle.rx_book.proofs.Listed.{key_in, res_keys_in, boxes_in, keys-walk, res_keys-walk, items-walk}
+use Rattle.rx_book.proofs.HeldAt.{held_at_parts, held_at_from, held_node}
 
 -- walks over lists of numbers ---------------------------------------------------------------------
 
@@ -63,28 +66,6 @@ just_walk test f entries gives = record {
 pub map-map : {X Y : Type 0} (f : X → Y) (g : Y → ℕ) (k : X → ℕ) → ((x : X) → g (f x) ≡ k x) → (xs : List X) → map g (map f xs) ≡ map k xs
 map-map f g k same [] = refl
 map-map f g k same (x ∷ xs) = rw (same x) (ap (λ (ns : List ℕ). k x ∷ ns) (map-map f g k same xs))
-
--- resources ---------------------------------------------------------------------------------------
-
--- a held resource was accepted at an open node
-pub held_node : (h : List Event) (r : ℕ) → is_held h r ≡ true → (n : ℕ) × (node_of h r ≡ Some n) × (is_open h n ≡ true)
-unfolding is_held
-held_node h r held = by_node (node_of h r) refl where
-  by_node : (o : Option ℕ) → node_of h r ≡ o → (n : ℕ) × (node_of h r ≡ Some n) × (is_open h n ≡ true)
-  by_node None e = absurd (false≢true (sym (ap (λ p. option_map_or (is_open h) p false) e) ∙ (and_parts (option_map_or (is_open h) (node_of h r) false) (not (list_any (is_remove_of r) h)) held).0))
-  by_node (Some n) e = (n, e, held_open h r n e held)
-
-pub held_at_node : (h : List Event) (r n : ℕ) → is_held h r ≡ true → node_of h r ≡ Some n → is_held_at h n r ≡ true
-held_at_node h r n held at = rw (held, at) (eq-eqb n n refl)
-
-pub held_at_parts : (h : List Event) (r n : ℕ) → is_held_at h n r ≡ true → (is_held h r ≡ true) × (node_of h r ≡ Some n)
-held_at_parts h r n there = by_node (node_of h r) refl where
-  parts : (is_held h r ≡ true) × (option_map_or (λ m. m == n) (node_of h r) false ≡ true)
-  parts = and_parts (is_held h r) (option_map_or (λ m. m == n) (node_of h r) false) there
-
-  by_node : (o : Option ℕ) → node_of h r ≡ o → (is_held h r ≡ true) × (node_of h r ≡ Some n)
-  by_node None e = absurd (false≢true (sym (ap (λ p. option_map_or (λ m. m == n) p false) e) ∙ parts.1))
-  by_node (Some m) e = (parts.0, e ∙ ap (λ k. Some k) (eqb-true m n (sym (ap (λ p. option_map_or (λ k. k == n) p false) e) ∙ parts.1)))
 
 -- shelved stocks ----------------------------------------------------------------------------------
 
@@ -150,14 +131,14 @@ module _ {T : Type 0} where
 
       resources_given : GivesJust (is_held h) numbers_in tree.entries
       resources_given = record {
-        each = λ p e at. All-weaker (λ r. IsTrue (is_held_at h e.number r)) (λ r. IsTrue (is_held h r)) (λ r there. (held_at_parts h r e.number there).0) (numbers e.value.boxes) (record_at p e at).resources.each;
-        every = λ r held. let n = held_node h r held in let s = slot_of n.0 n.2 in (s.0, entry_of n.0 s.1, s.2, s.3.resources.every r (held_at_node h r n.0 held n.1));
+        each = λ p e at. All-weaker (λ r. IsTrue (is_held_at h e.number r)) (λ r. IsTrue (is_held h r)) (λ r there. (held_at_parts h e.number r there).0) (numbers e.value.boxes) (record_at p e at).resources.each;
+        every = λ r held. let n = held_node h r held in let s = slot_of n.0 n.2 in (s.0, entry_of n.0 s.1, s.2, s.3.resources.every r (held_at_from h n.0 r held n.1));
         once = λ p e at. (record_at p e at).resources.once;
         apart = apart;
       }
         where
           standing : (p : ℕ) (e : Entry (Node T)) (r : ℕ) → get_or tree.entries p None ≡ Some e → Contains (numbers e.value.boxes) r → node_of h r ≡ Some e.number
-          standing p e r at c = (held_at_parts h r e.number (All-contains (λ k. IsTrue (is_held_at h e.number k)) (numbers e.value.boxes) r (record_at p e at).resources.each c)).1
+          standing p e r at c = (held_at_parts h e.number r (All-contains (λ k. IsTrue (is_held_at h e.number k)) (numbers e.value.boxes) r (record_at p e at).resources.each c)).1
 
           apart : (p q : ℕ) (d e : Entry (Node T)) (r : ℕ) → get_or tree.entries p None ≡ Some d → get_or tree.entries q None ≡ Some e → Contains (numbers_in d) r → Contains (numbers_in e) r → p ≡ q
           apart p q d e r at_p at_q c k = one_slot p q d e at_p at_q (same_Some d.number e.number (sym (standing p d r at_p c) ∙ standing q e r at_q k))

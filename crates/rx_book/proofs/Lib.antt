@@ -5,7 +5,11 @@ pub mod Counted
 pub mod Views
 pub mod Frames
 pub mod Roots
-pub mod Found
+pub mod Options
+pub mod HeldAt
+pub mod Records
+pub mod Calm
+pub mod Admitted
 pub mod Alive
 pub mod Members
 pub mod Quiet

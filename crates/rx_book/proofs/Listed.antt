@@ -17,6 +17,9 @@ use Rattle.rx_book.specs.Shown.{keys_from, res_keys_from, items_in, keys_of, res
 use Rattle.rx_book.proofs.Members.{Contains-one, Contains-head, Contains-later, Contains-map, Contains-from_map}
 use Rattle.rx_book.proofs.Walks.{walk, walk_at, walk_has}
 use Rattle.std.specs.Cmp.{both_ways as same_test}
+use Rattle.rx_tree.specs.Laws.Keys.{some_of}
+use Rattle.rx_tree.specs.Laws.Written.{entry_found, with_number-same}
+use Rattle.rx_book.proofs.Items.{box_listed, listed_box}
 
 pub named : (s n : ℕ) (k : Key) → s ≡ k.slot → n ≡ k.number → (let j : Key = record { slot = s; number = n } in j ≡ k)
 named s n k a b = λ i. record { slot = a i; number = b i }
@@ -47,60 +50,7 @@ Contains-has_res_key keys k found =
     let same : a.1 ≡ k = res_named a.1.slot a.1.number k (eqb-true a.1.slot k.slot parts.0) (eqb-true a.1.number k.number parts.1) in
     subst (λ (j : ResKey). Contains keys j) same (a.0, a.2, a.3)
 
--- options -----------------------------------------------------------------------------------------
-
-pub some_of : {X : Type 0} (o : Option X) → IsSome o → (x : X) × (o ≡ Some x)
-some_of None some = absurd (true≢false (sym some))
-some_of (Some x) some = (x, refl)
-
--- entries -----------------------------------------------------------------------------------------
-
-module _ {X : Type 0} where
-  -- the number of an entry finds its value, and no other does
-  pub with_number-same : (n : ℕ) (e : Entry X) → e.number ≡ n → with_number n (Some e) ≡ Some e.value
-  with_number-same n e same = search rules
-
-  pub with_number-other : (n : ℕ) (e : Entry X) → (e.number ≡ n → ⊥) → with_number n (Some e) ≡ None
-  with_number-other n e other = search rules
-
-  numbered : (n : ℕ) (o : Option (Entry X)) (x : X) → with_number n o ≡ Some x → o ≡ Some (entry_of n x)
-  numbered n None x found = absurd (true≢false (ap is_some (sym found)))
-  numbered n (Some e) x found =
-      elim (cases_eq e.number n) [
-        | inl same ↦ let h = with_number-same n e same in let v : e.value ≡ x = cc in (λ i. Some (record { number = same i; value = v i }))
-        | inr other ↦ absurd (true≢false (ap is_some (sym found ∙ with_number-other n e other)))
-      ]
-
-  -- what stands at the slot of a key that finds a value
-  pub entry_found : (s : Slots X) (key : SlotKey) (x : X) → find s key ≡ Some x → entry_at s key.slot ≡ Some (entry_of key.number x)
-  entry_found s key x found = numbered key.number (entry_at s key.slot) x found
-
-  -- the key of an entry finds its value
-  pub entry_finds : (s : Slots X) (slot : ℕ) (e : Entry X) → entry_at s slot ≡ Some e → find s (record { slot = slot; number = e.number }) ≡ Some e.value
-  entry_finds s slot e at = ap (with_number e.number) at ∙ with_number-same e.number e refl
-
--- numbered items ----------------------------------------------------------------------------------
-
 module _ {T : Type 0} where
-  -- what a number stands for is listed with it
-  pub box_listed : (n : ℕ) (items : List (ℕ × T)) → IsSome (box_of n items) → (item : ℕ × T) × Contains items item × (item.0 ≡ n)
-  box_listed n [] some = absurd (true≢false (sym some))
-  box_listed n (item ∷ items) some = by_test (box_listed n items) (cases_Bool (nat_eq n item.0)) where
-    by_test : (IsSome (box_of n items) → (x : ℕ × T) × Contains items x × (x.0 ≡ n)) → (nat_eq n item.0 ≡ true) ⊎ (nat_eq n item.0 ≡ false) → (x : ℕ × T) × Contains (item ∷ items) x × (x.0 ≡ n)
-    by_test rest (inl same) = (item, Contains-head item items, sym (eqb-true n item.0 same))
-    by_test rest (inr other) =
-        let further : IsSome (box_of n items) = sym (ap (λ b. is_some (cond b (Some item.1) (box_of n items))) other) ∙ some in
-        let r = rest further in
-        (r.0, Contains-later item items r.0 r.1, r.2)
-
-  pub listed_box : (n : ℕ) (items : List (ℕ × T)) (item : ℕ × T) → Contains items item → item.0 ≡ n → IsSome (box_of n items)
-  listed_box n [] item c same = absurd (omega (arith, c.1))
-  listed_box n (x ∷ items) item (zero, within, at) same = let first : nat_eq n x.0 ≡ true = eq-eqb n x.0 (sym (ap (λ (y : ℕ × T). y.0) at ∙ same)) in ap (λ b. is_some (cond b (Some x.1) (box_of n items))) first
-  listed_box n (x ∷ items) item (suc k, within, at) same = by_test (listed_box n items item (k, omega arith, at) same) (cases_Bool (nat_eq n x.0)) where
-    by_test : IsSome (box_of n items) → (nat_eq n x.0 ≡ true) ⊎ (nat_eq n x.0 ≡ false) → IsSome (cond (nat_eq n x.0) (Some x.1) (box_of n items))
-    by_test rest (inl here) = ap (λ b. is_some (cond b (Some x.1) (box_of n items))) here
-    by_test rest (inr other) = ap (λ b. is_some (cond b (Some x.1) (box_of n items))) other ∙ rest
-
   -- the lists of slots as walks -------------------------------------------------------------------
 
   abbrev pub key_in : ℕ → Entry (Node T) → List Key

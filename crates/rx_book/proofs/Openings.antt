@@ -30,9 +30,13 @@ use Rattle.rx_tree.specs.Tree.{Tree, blank_node}
 use Rattle.rx_stock.specs.Stock.{Opens, noting}
 use Rattle.rx_book.specs.State.{AreJust}
 use Rattle.rx_book.specs.Shelved.{is_held_at, numbers, IsAsWritten, IsRecordOf, HasRecord, IsShelved}
-use Rattle.rx_book.proofs.Found.{same_key, same_slot, mapped}
+use Rattle.rx_tree.specs.Laws.Keys.{same_key}
+use Rattle.rx_tree.specs.Laws.Written.{one_key}
+use Rattle.rx_book.proofs.Options.{mapped}
 use Rattle.rx_book.proofs.JustNumbers.{just_none}
-use Rattle.rx_book.proofs.Quiet.{source_push, held_at_unchanged, record_noting, waits_still, all_written}
+use Rattle.rx_book.proofs.Pushed.{any_push, all_written_push}
+use Rattle.rx_book.proofs.HeldAt.{held_at_unchanged, none_held_at}
+use Rattle.rx_book.proofs.Quiet.{record_noting, waits_still}
 
 -- lawful histories --------------------------------------------------------------------------------
 
@@ -54,22 +58,7 @@ opens_no_source h _ next n past = refl
 pub no_source : (h : List Event) → IsLawful h → (n : ℕ) → length h ≤ n → list_any (is_source_of n) h ≡ false
 no_source = by_events (λ h. (n : ℕ) → length h ≤ n → list_any (is_source_of n) h ≡ false) (λ n past. refl) (λ h e law next before n past.
     let within : length h ≤ n = omega (arith, length-append h (e ∷ [])) in
-    source_push h e n ∙ or_from _ _ (before n within) (opens_no_source h e next n within))
-
--- the node of what is held
-node_is : (n : ℕ) (o : Option ℕ) → option_map_or (λ m. m == n) o false ≡ true → o ≡ Some n
-node_is n None passes = absurd (false≢true passes)
-node_is n (Some m) passes = ap (λ (x : ℕ). Some x) (eqb-true m n passes)
-
-pub held_at_parts : (h : List Event) (n r : ℕ) → is_held_at h n r ≡ true → (is_held h r ≡ true) × (node_of h r ≡ Some n)
-held_at_parts h n r held = let parts = and_parts (is_held h r) (option_map_or (λ m. m == n) (node_of h r) false) held in (parts.0, node_is n (node_of h r) parts.1)
-
--- nothing is held at a node to come
-pub none_held_at : (h : List Event) (n : ℕ) → length h ≤ n → (r : ℕ) → is_held_at h n r ≡ false
-none_held_at h n past r = false_from_ne_true (is_held_at h n r) (λ held.
-    let parts = held_at_parts h n r held in
-    let within = is_open_within h n (held_open h r n parts.1 parts.0) in
-    absurd (omega arith))
+    any_push (is_source_of n) h e ∙ or_from _ _ (before n within) (opens_no_source h e next n within))
 
 -- what is open after an event that shuts nothing was open, or is new
 pub older_open : (h : List Event) (e : Event) → shuts_none e ≡ true → (n : ℕ) → is_open (h ++ e ∷ []) n ≡ true → (n ≡ length h) ⊎ (is_open h n ≡ true)
@@ -107,7 +96,7 @@ pub record_opened : {T : Type 0} (g : Ghosts T) (h : List Event) (e : Event) (ab
 record_opened g h e above law next makes moves = record {
   made = slice_get_last h e;
   alive = is_open_new h e next ∙ makes;
-  source = sym (source_push h e (length h) ∙ or_from (list_any (is_source_of (length h)) h) (is_source_of (length h) e) (no_source h law (length h) (omega arith)) (opens_no_source h e next (length h) (omega arith)));
+  source = sym (any_push (is_source_of (length h)) h e ∙ or_from (list_any (is_source_of (length h)) h) (is_source_of (length h) e) (no_source h law (length h) (omega arith)) (opens_no_source h e next (length h) (omega arith)));
   resources = just_none (is_held_at (h ++ e ∷ []) (length h)) (λ r. held_at_unchanged h e law moves (length h) r ∙ none_held_at h (length h) (omega arith) r);
   written = All-nil (IsAsWritten g (h ++ e ∷ []));
 }
@@ -117,7 +106,7 @@ module _ {T : Type 0} (g : Ghosts T) (h : List Event) (old new : Tree T) (waitin
   found_after : (other : Key) (x : Node T) → find new other ≡ Some x → ((other.number ≡ key.number) × (node ≡ x)) ⊎ ((y : Node T) × (find old other ≡ Some y) × (noting node.made other.number y ≡ x))
   found_after other x found = by_slot (cases_eq other.slot key.slot) where
     by_slot : (other.slot ≡ key.slot) ⊎ (other.slot ≢ key.slot) → ((other.number ≡ key.number) × (node ≡ x)) ⊎ ((y : Node T) × (find old other ≡ Some y) × (noting node.made other.number y ≡ x))
-    by_slot (inl same) = let parts = same_slot new key other node x (sym same) o.opened found in inl (sym parts.0, parts.1)
+    by_slot (inl same) = let one = one_key new key other node x (sym same) o.opened found in inl (ap (λ (k : Key). k.number) (sym one.0), one.1)
     by_slot (inr apart) = inr (mapped (noting node.made other.number) (find old other) x (sym (o.others other apart) ∙ found))
 
   -- an older record is found at its slot still
@@ -149,7 +138,7 @@ module _ {T : Type 0} (g : Ghosts T) (h : List Event) (old new : Tree T) (waitin
 -- a stock after the opening of a leaf or a mirroring node
 pub shelved_open : {T : Type 0} (g : Ghosts T) (h : List Event) (old new : Tree T) (waiting : List (ℕ × T)) (key : Key) (place : Place) (kind : Kind) (above : Option Key) → IsShelved g h old waiting → IsLawful (h ++ Open place kind ∷ []) → is_plain (Open place kind) ≡ true → key.number ≡ length h → Opens old new key (blank_node (Open place kind) above) → IsShelved g (h ++ Open place kind ∷ []) new waiting
 shelved_open g h old new waiting key place kind above s lawful plain numbered o =
-    shelved_opened g h old new waiting key (blank_node e above) s o (h ++ e ∷ []) numbered (record_opened g h e above law next refl leaves.moves) (λ n x r. record_noting g h e law leaves.moves leaves.shuts leaves.unused n x r) (older_open h e leaves.shuts) (waits_still g h e law leaves.moves waiting s.waits) (all_written g h e leaves.unused waiting s.written)
+    shelved_opened g h old new waiting key (blank_node e above) s o (h ++ e ∷ []) numbered (record_opened g h e above law next refl leaves.moves) (λ n x r. record_noting g h e law leaves.moves leaves.shuts leaves.unused n x r) (older_open h e leaves.shuts) (waits_still g h e law leaves.moves waiting s.waits) (all_written_push g h e waiting (λ item c. leaves.unused item.0) s.written)
   where
     e : Event
     e = Open place kind

@@ -38,59 +38,6 @@ use Rattle.rx_book.proofs.Alive.{alive_key, placed_root}
 use Rattle.rx_book.proofs.Openings.{lawful_parts, opening_leaves, shelved_open}
 use Rattle.rx_book.proofs.UsingOpenings.{shelved_open_using}
 
--- causes ------------------------------------------------------------------------------------------
-
-past_test : {X : Type 0} (b : Bool) (x : X) (rest : Option X) → cond b (Some x) rest ≡ None → rest ≡ None
-past_test true x rest none = absurd (none-some x (sym none))
-past_test false x rest none = none
-
-unpassed : {X : Type 0} (b : Bool) (x : X) (rest : Option X) → cond b (Some x) rest ≡ None → b ≡ false
-unpassed true x rest none = absurd (none-some x (sym none))
-unpassed false x rest none = refl
-
-neither : (a b : Bool) → (a || b) ≡ false → (a ≡ false) × (b ≡ false)
-neither true b none = absurd (true≢false none)
-neither false b none = (refl, none)
-
-not_false : (b : Bool) → not b ≡ false → b ≡ true
-not_false true e = refl
-not_false false e = absurd (true≢false e)
-
--- what is built at a root or a source is plain
-plain_built : (h : List Event) (place : Place) (kind : Kind) → is_wrong_place h place ≡ false → is_built kind ≡ true → is_plain (Open place kind) ≡ true
-plain_built h Root Leaf right built = refl
-plain_built h Root Pass right built = refl
-plain_built h Root Flat right built = absurd (false≢true built)
-plain_built h Root Switch right built = absurd (false≢true built)
-plain_built h Root Until right built = absurd (false≢true built)
-plain_built h Root (Sub hub) right built = absurd (false≢true built)
-plain_built h (Source p) Leaf right built = refl
-plain_built h (Source p) Pass right built = refl
-plain_built h (Source p) Flat right built = absurd (false≢true built)
-plain_built h (Source p) Switch right built = absurd (false≢true built)
-plain_built h (Source p) Until right built = absurd (false≢true built)
-plain_built h (Source p) (Sub hub) right built = absurd (false≢true built)
-plain_built h (Inner p) kind right built = absurd (true≢false right)
-plain_built h (Notifier p) kind right built = absurd (true≢false right)
-
--- an opening against which no cause stands is plain
-pub plain_opening : (h : List Event) (limit : ℕ) (place : Place) (kind : Kind) → first_cause (causes h limit true (Opening place kind)) ≡ None → is_plain (Open place kind) ≡ true
-plain_opening h limit place kind none =
-    let parts = neither (is_wrong_place h place) (not (is_built kind)) (unpassed (is_wrong_place h place || not (is_built kind)) WrongKind _ (past_test (is_gone h place) Gone _ none)) in
-    plain_built h place kind parts.0 (not_false (is_built kind) parts.1)
-
-pub plain_using : (h : List Event) (limit : ℕ) (fresh : Bool) (place : Place) (tag : ℕ) → first_cause (causes h limit fresh (OpeningUsing place tag)) ≡ None → is_plain (Open place Pass) ≡ true
-plain_using h limit fresh place tag none = plain_built h place Pass (unpassed (is_wrong_place h place) WrongKind _ (past_test (is_gone h place) Gone _ none)) refl
-
--- and the resource is fresh
-pub used_fresh : (h : List Event) (limit : ℕ) (fresh : Bool) (place : Place) (tag : ℕ) → first_cause (causes h limit fresh (OpeningUsing place tag)) ≡ None → fresh ≡ true
-used_fresh h limit fresh place tag none =
-    not_false fresh (unpassed (not fresh) NotFresh _ (past_test (is_taken_place h place) PlaceTaken _ (past_test (is_wrong_place h place) WrongKind _ (past_test (is_gone h place) Gone _ none))))
-
-pub fresh_parts : (life : Life) (used : ℕ) → is_fresh_box life used ≡ true → (life ≡ Live) × (used ≡ 0)
-fresh_parts Live used fresh = (refl, eqb-true used 0 fresh)
-fresh_parts Released used fresh = absurd (false≢true fresh)
-
 -- an opening makes no connection
 pub unconnected : (h : List Event) (place : Place) (kind : Kind) → ◌≡◌ {A = Option ℕ} None (connection_made h (h ++ Open place kind ∷ []))
 unconnected h place kind = rw (slice_get_past (h ++ Open place kind ∷ []) (length h + 1) (omega (arith, length-append h (Open place kind ∷ [])))) refl

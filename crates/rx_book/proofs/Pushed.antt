@@ -1,10 +1,10 @@
--- A stock beside a history that goes on by an event which neither opens nor shuts a node and accepts nothing.
+-- What one event more leaves of a history that was read, and of the resources as they are written.
 use Rattle.std.proofs.Common.{◌≡◌, ℕ, ◌+◌, ◌<◌, ◌≤◌, Bool, true, false, cond, add-zero, List, [], ◌∷◌, ◌++◌, length, Option, Some, None, refl, sym, ap, ◌∙◌, arith, inl, inr, ◌⊎◌, ◌==◌, slice_get, length-append}
-use Rattle.std.proofs.Math.Bool.{not, ◌&&◌, ◌||◌}
+use Rattle.std.proofs.Math.Bool.{not, ◌&&◌, ◌||◌, or-false}
 use Rattle.std.specs.List.{All, Contains, list_any}
 use Rattle.std.specs.Option.{option_and_then, option_map_or}
 use Rattle.std.proofs.lemmas.Bool.{cases_order, and_parts, and_from, eqb-true, eq-eqb, false≢true}
-use Rattle.std.proofs.lemmas.Option.{slice_get_past}
+use Rattle.std.proofs.lemmas.Option.{slice_get_past, option_and_then_some, slice_get_within}
 use Rattle.std.proofs.lemmas.List.Folds.{list_any-append}
 use Rattle.std.proofs.lemmas.List.Elements.{All-contains}
 use Rattle.rx_resource.specs.declared.Resource.{Ghosts}
@@ -22,17 +22,9 @@ use Rattle.rx_book.specs.State.{AreJust, accepted_tag}
 use Rattle.rx_book.specs.Shelved.{is_held_at, numbers, IsAsWritten, IsRecordOf}
 use Rattle.rx_book.proofs.Members.{All-members}
 
--- the event neither makes nor shuts a node, and accepts nothing
-pub record IsCalm (e : Event) : Type 0 where
-  pub shuts : shuts_none e ≡ true
-  pub makes : makes_node e ≡ false
-  pub tag : accepted_tag e ≡ None
-  pub accepts : node_of_accept e ≡ None
-  pub source : (n : ℕ) → is_source_of n e ≡ false
-
 -- what is read of the events of a history, where the new one gives nothing
-pub read-push : {X : Type 0} (f : Event → Option X) (h : List Event) (e : Event) → f e ≡ None → (n : ℕ) → option_and_then f (slice_get (h ++ e ∷ []) n) ≡ option_and_then f (slice_get h n)
-read-push f h e none n = by_place (cases_order n (length h)) where
+pub read_push : {X : Type 0} (f : Event → Option X) (h : List Event) (e : Event) → f e ≡ None → (n : ℕ) → option_and_then f (slice_get (h ++ e ∷ []) n) ≡ option_and_then f (slice_get h n)
+read_push f h e none n = by_place (cases_order n (length h)) where
   by_place : (n ≡ length h) ⊎ ((n < length h) ⊎ (length h < n)) → option_and_then f (slice_get (h ++ e ∷ []) n) ≡ option_and_then f (slice_get h n)
   by_place (inl same) =
       ap (λ k. option_and_then f (slice_get (h ++ e ∷ []) k)) same ∙ ap (option_and_then f) (slice_get_last h e) ∙ none ∙ sym (ap (option_and_then f) (slice_get_past h n (omega arith)))
@@ -40,77 +32,19 @@ read-push f h e none n = by_place (cases_order n (length h)) where
   by_place (inr (inr g)) =
       ap (option_and_then f) (slice_get_past (h ++ e ∷ []) n (omega (arith, length-append {A = Event}))) ∙ sym (ap (option_and_then f) (slice_get_past h n (omega arith)))
 
--- a test that the new event fails
-pub any-push : (p : Event → Bool) (h : List Event) (e : Event) → p e ≡ false → list_any p (h ++ e ∷ []) ≡ list_any p h
-any-push p h e fails = list_any-append p h (e ∷ []) ∙ ap (λ b. list_any p h || (b || false)) fails ∙ or_false (list_any p h) where
-  or_false : (b : Bool) → (b || false) ≡ b
-  or_false true = refl
-  or_false false = refl
-
--- what is held after it was held, and is not what it removes
-pub is_held_calm : (h : List Event) (e : Event) → IsLawful h → IsCalm e → (r : ℕ) → is_held (h ++ e ∷ []) r ≡ (is_held h r && not (is_remove_of r e))
-is_held_calm h e law calm r = by_place (cases_order r (length h)) where
-  no_cut : (o : Option ℕ) → option_map_or (is_cut h e) o false ≡ false
-  no_cut None = refl
-  no_cut (Some n) = is_cut_none h e n calm.shuts
-
-  gone : length h ≤ r → (is_held h r && not (is_remove_of r e)) ≡ false
-  gone l = rw (is_held_past h r l) refl
-
-  by_place : (r ≡ length h) ⊎ ((r < length h) ⊎ (length h < r)) → is_held (h ++ e ∷ []) r ≡ (is_held h r && not (is_remove_of r e))
-  by_place (inl same) = ap (is_held (h ++ e ∷ [])) same ∙ is_held_last h e law ∙ ap (λ o. option_map_or (is_open h) o false) calm.accepts ∙ sym (gone (omega arith))
-  by_place (inr (inl l)) = is_held-push h e law r l ∙ ap (λ b. is_held h r && not (b || is_remove_of r e)) (no_cut (node_of h r))
-  by_place (inr (inr g)) = is_held_past (h ++ e ∷ []) r (omega (arith, length-append {A = Event})) ∙ sym (gone (omega arith))
-
--- what is held at a node after it
-pub is_held_at_calm : (h : List Event) (e : Event) → IsLawful h → IsCalm e → (n r : ℕ) → is_held_at (h ++ e ∷ []) n r ≡ (is_held_at h n r && not (is_remove_of r e))
-is_held_at_calm h e law calm n r = rw (is_held_calm h e law calm r, read-push node_of_accept h e calm.accepts r) (shape (is_held h r) (is_remove_of r e) (option_map_or (λ m. m == n) (node_of h r) false)) where
-  shape : (a b c : Bool) → ((a && not b) && c) ≡ ((a && c) && not b)
-  shape false b c = refl
-  shape true true true = refl
-  shape true true false = refl
-  shape true false true = refl
-  shape true false false = refl
-
--- what is held at a node is held, and its acceptance names the node
-pub held_at_parts : (h : List Event) (n r : ℕ) → is_held_at h n r ≡ true → (is_held h r ≡ true) × (node_of h r ≡ Some n)
-held_at_parts h n r at_n = let parts = and_parts (is_held h r) (option_map_or (λ m. m == n) (node_of h r) false) at_n in (parts.0, named (node_of h r) parts.1) where
-  named : (o : Option ℕ) → option_map_or (λ m. m == n) o false ≡ true → o ≡ Some n
-  named None fails = absurd (false≢true fails)
-  named (Some m) same = ap (λ (k : ℕ). Some k) (eqb-true m n same)
-
--- and the other way
-pub held_at_from : (h : List Event) (n r : ℕ) → is_held h r ≡ true → node_of h r ≡ Some n → is_held_at h n r ≡ true
-held_at_from h n r held named = and_from (is_held h r) (option_map_or (λ m. m == n) (node_of h r) false) held (ap (λ o. option_map_or (λ m. m == n) o false) named ∙ eq-eqb n n refl)
-
--- what is held was accepted at some node
-pub held_node : (h : List Event) (r : ℕ) → is_held h r ≡ true → (n : ℕ) × (node_of h r ≡ Some n) × (is_open h n ≡ true)
-unfolding is_held
-held_node h r held = of (node_of h r) refl (and_parts _ _ held).0 where
-  of : (o : Option ℕ) → node_of h r ≡ o → option_map_or (is_open h) o false ≡ true → (n : ℕ) × (node_of h r ≡ Some n) × (is_open h n ≡ true)
-  of None named fails = absurd (false≢true fails)
-  of (Some n) named alive = (n, named, alive)
+-- a test that an event passed before, or passes now
+pub any_push : (p : Event → Bool) (h : List Event) (e : Event) → list_any p (h ++ e ∷ []) ≡ (list_any p h || p e)
+any_push p h e = list_any-append p h (e ∷ []) ∙ ap (λ b. list_any p h || b) (or-false (p e))
 
 module _ {T : Type 0} (g : Ghosts T) (h : List Event) (e : Event) where
-  -- a resource that it does not use is as it was written
-  pub written-push : accepted_tag e ≡ None → (item : ℕ × T) → is_use_of item.0 e ≡ false → IsAsWritten g h item → IsAsWritten g (h ++ e ∷ []) item
-  written-push none item unused written = record {
-    live = written.live;
-    box = record {
-      tag = read-push accepted_tag h e none item.0 ∙ written.box.tag;
-      uses = written.box.uses ∙ sym (uses-push h e item.0 ∙ ap (λ b. uses h item.0 + cond {A = ℕ} b 1 0) unused ∙ add-zero (uses h item.0));
-    };
-  }
+  -- a resource that is as written stays so where it is not used
+  pub written_push : (item : ℕ × T) → is_use_of item.0 e ≡ false → IsAsWritten g h item → IsAsWritten g (h ++ e ∷ []) item
+  written_push item unused w = record { live = w.live; box = record { tag = ap (option_and_then accepted_tag) (slice_get-append h (e ∷ []) item.0 within) ∙ w.box.tag; uses = w.box.uses ∙ sym same_uses } } where
+    within : item.0 < length h
+    within = option_and_then_some accepted_tag (slice_get h item.0) (g.tag_of item.1) w.box.tag (λ x at_n accepts. slice_get_within h item.0 x at_n)
 
-  pub all_written-push : accepted_tag e ≡ None → (items : List (ℕ × T)) → ((item : ℕ × T) → Contains items item → is_use_of item.0 e ≡ false) → All (IsAsWritten g h) items → All (IsAsWritten g (h ++ e ∷ [])) items
-  all_written-push none items unused all = All-members (IsAsWritten g (h ++ e ∷ [])) items (λ item c. written-push none item (unused item c) (All-contains (IsAsWritten g h) items item all c))
+    same_uses : uses (h ++ e ∷ []) item.0 ≡ uses h item.0
+    same_uses = uses-push h e item.0 ∙ ap (λ b. uses h item.0 + cond {A = ℕ} b 1 0) unused ∙ add-zero (uses h item.0)
 
-  -- the record of a node after it
-  pub record_calm : IsCalm e → (n : ℕ) (before after : Node T) → IsRecordOf g h n before → after.made ≡ before.made → after.marks ≡ before.marks → AreJust (is_held_at (h ++ e ∷ []) n) (numbers after.boxes) → All (IsAsWritten g (h ++ e ∷ [])) after.boxes → IsRecordOf g (h ++ e ∷ []) n after
-  record_calm calm n before after was made marks resources written = record {
-    made = slice_get-append h (e ∷ []) n (is_open_within h n was.alive) ∙ was.made ∙ ap (λ (x : Event). Some x) (sym made);
-    alive = is_open_unchanged h e calm.shuts calm.makes n ∙ was.alive;
-    source = ap (λ m. m.source_opened) marks ∙ was.source ∙ sym (any-push (is_source_of n) h e (calm.source n));
-    resources = resources;
-    written = written;
-  }
+  pub all_written_push : (items : List (ℕ × T)) → ((item : ℕ × T) → Contains items item → is_use_of item.0 e ≡ false) → All (IsAsWritten g h) items → All (IsAsWritten g (h ++ e ∷ [])) items
+  all_written_push items unused all = All-members (IsAsWritten g (h ++ e ∷ [])) items (λ item c. written_push item (unused item c) (All-contains (IsAsWritten g h) items item all c))

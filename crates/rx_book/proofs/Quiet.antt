@@ -1,6 +1,6 @@
 -- A stock beside a history that goes on by an event which changes no resource.
 use Rattle.std.proofs.Common.{◌≡◌, ℕ, ℤ, ◌+◌, ◌<◌, ◌≤◌, Bool, true, false, List, [], ◌∷◌, ◌++◌, length, All, refl, sym, ap, subst, ◌∙◌, arith, inl, inr, ◌⊎◌, slice_get, cond, add-zero}
-use Rattle.std.proofs.Math.Bool.{◌||◌}
+use Rattle.std.proofs.Math.Bool.{◌||◌, or-false}
 use Rattle.std.specs.List.{list_any}
 use Rattle.std.specs.Option.{option_and_then}
 use Rattle.std.proofs.lemmas.Bool.{cases_order}
@@ -23,56 +23,18 @@ use Rattle.rx_stock.specs.Stock.{noting}
 use Rattle.rx_book.specs.State.{AreJust, accepted_tag}
 use Rattle.rx_book.specs.Shelved.{is_held_at, numbers, IsAsWritten, IsRecordOf, IsShelved}
 use Rattle.rx_book.proofs.JustNumbers.{just_same}
-
-pub or_false : (b : Bool) → (b || false) ≡ b
-or_false true = refl
-or_false false = refl
-
--- what the history holds where -------------------------------------------------------------------
-
--- what is not held is held nowhere
-pub unheld_at : (h : List Event) (n r : ℕ) → is_held h r ≡ false → is_held_at h n r ≡ false
-unheld_at h n r unheld = rw unheld refl
-
-pub held_at_past : (h : List Event) (n r : ℕ) → length h ≤ r → is_held_at h n r ≡ false
-held_at_past h n r past = unheld_at h n r (is_held_past h r past)
-
--- an event that moves no resource leaves each where it was
-pub held_at_unchanged : (h : List Event) (e : Event) → IsLawful h → moves_none e ≡ true → (n r : ℕ) → is_held_at (h ++ e ∷ []) n r ≡ is_held_at h n r
-held_at_unchanged h e law moves n r = by_place (cases_order r (length h)) where
-  past : length h ≤ r → is_held_at (h ++ e ∷ []) n r ≡ is_held_at h n r
-  past l = unheld_at (h ++ e ∷ []) n r (is_held_unchanged h e law moves r ∙ is_held_past h r l) ∙ sym (held_at_past h n r l)
-
-  by_place : (r ≡ length h) ⊎ ((r < length h) ⊎ (length h < r)) → is_held_at (h ++ e ∷ []) n r ≡ is_held_at h n r
-  by_place (inr (inl l)) = rw (is_held_unchanged h e law moves r, slice_get-append h (e ∷ []) r l) refl
-  by_place (inl same) = past (omega arith)
-  by_place (inr (inr g)) = past (omega arith)
-
--- a source was opened before, or is now
-pub source_push : (h : List Event) (e : Event) (n : ℕ) → list_any (is_source_of n) (h ++ e ∷ []) ≡ (list_any (is_source_of n) h || is_source_of n e)
-source_push h e n = list_any-append (is_source_of n) h (e ∷ []) ∙ ap (λ b. list_any (is_source_of n) h || b) (or_false (is_source_of n e))
+use Rattle.rx_book.proofs.Pushed.{any_push, all_written_push}
+use Rattle.rx_book.proofs.HeldAt.{held_at_unchanged}
 
 module _ {T : Type 0} (g : Ghosts T) (h : List Event) (e : Event) where
-  -- a resource that is as written stays so where it is not used
-  pub written_push : (item : ℕ × T) → is_use_of item.0 e ≡ false → IsAsWritten g h item → IsAsWritten g (h ++ e ∷ []) item
-  written_push item unused w = record { live = w.live; box = record { tag = ap (option_and_then accepted_tag) (slice_get-append h (e ∷ []) item.0 within) ∙ w.box.tag; uses = w.box.uses ∙ sym same_uses } } where
-    within : item.0 < length h
-    within = option_and_then_some accepted_tag (slice_get h item.0) (g.tag_of item.1) w.box.tag (λ x at_n accepts. slice_get_within h item.0 x at_n)
-
-    same_uses : uses (h ++ e ∷ []) item.0 ≡ uses h item.0
-    same_uses = uses-push h e item.0 ∙ ap (λ b. uses h item.0 + cond {A = ℕ} b 1 0) unused ∙ add-zero (uses h item.0)
-
-  pub all_written : ((r : ℕ) → is_use_of r e ≡ false) → (items : List (ℕ × T)) → All (IsAsWritten g h) items → All (IsAsWritten g (h ++ e ∷ [])) items
-  all_written unused items all = All-weaker (IsAsWritten g h) (IsAsWritten g (h ++ e ∷ [])) (λ item w. written_push item (unused item.0) w) items all
-
   -- the record of an older node, which notes a source that is opened below it
   pub record_noting : IsLawful h → moves_none e ≡ true → shuts_none e ≡ true → ((r : ℕ) → is_use_of r e ≡ false) → (n : ℕ) (node : Node T) → IsRecordOf g h n node → IsRecordOf g (h ++ e ∷ []) n (noting e n node)
   record_noting law moves shuts unused n node r = record {
     made = slice_get-append h (e ∷ []) n within ∙ r.made;
     alive = is_open_kept h e n within shuts ∙ r.alive;
-    source = ap (λ b. b || is_source_of n e) r.source ∙ sym (source_push h e n);
+    source = ap (λ b. b || is_source_of n e) r.source ∙ sym (any_push (is_source_of n) h e);
     resources = just_same (is_held_at h n) (is_held_at (h ++ e ∷ []) n) (numbers node.boxes) (held_at_unchanged h e law moves n) r.resources;
-    written = all_written unused node.boxes r.written;
+    written = all_written_push g h e node.boxes (λ item c. unused item.0) r.written;
   }
     where
       within : n < length h
@@ -85,7 +47,7 @@ module _ {T : Type 0} (g : Ghosts T) (h : List Event) (e : Event) where
   noting_none : (n : ℕ) (node : Node T) → is_source_of n e ≡ false → noting e n node ≡ node
   noting_none n node none = λ i. record node { marks = record node.marks { source_opened = same i } } where
     same : (node.marks.source_opened || is_source_of n e) ≡ node.marks.source_opened
-    same = ap (λ b. node.marks.source_opened || b) none ∙ or_false node.marks.source_opened
+    same = ap (λ b. node.marks.source_opened || b) none ∙ or-false node.marks.source_opened
 
   -- an event that makes no node and opens no source, and neither shuts, moves nor uses anything, leaves the stock
   pub shelved_quiet : (tree : Tree T) (waiting : List (ℕ × T)) → IsShelved g h tree waiting → IsLawful h → moves_none e ≡ true → shuts_none e ≡ true → makes_node e ≡ false → ((r : ℕ) → is_use_of r e ≡ false) → ((n : ℕ) → is_source_of n e ≡ false) → IsShelved g (h ++ e ∷ []) tree waiting
@@ -93,7 +55,7 @@ module _ {T : Type 0} (g : Ghosts T) (h : List Event) (e : Event) where
     records = λ key node found. subst (λ (x : Node T). IsRecordOf g (h ++ e ∷ []) key.number x) (noting_none key.number node (no_source key.number)) (record_noting law moves shuts unused key.number node (s.records key node found));
     every = λ n alive. s.every n (sym (is_open_unchanged h e shuts no_node n) ∙ alive);
     waits = waits_still law moves waiting s.waits;
-    written = all_written unused waiting s.written;
+    written = all_written_push g h e waiting (λ item c. unused item.0) s.written;
   }
 
 -- an item leaves the stock

@@ -17,7 +17,8 @@ use Rattle.rx_book.specs.State.{AreJust}
 use Rattle.rx_book.specs.Shelved.{is_held_at, numbers, IsAsWritten, IsRecordOf, IsShelved}
 use Rattle.rx_book.proofs.Members.{All-members}
 use Rattle.rx_book.proofs.JustNumbers.{just_same, just_first, just_passes}
-use Rattle.rx_book.proofs.Pushed.{IsCalm, is_held_at_calm, all_written-push, record_calm}
+use Rattle.rx_book.proofs.Calm.{IsCalm, is_held_at_calm, record_calm}
+use Rattle.rx_book.proofs.Pushed.{all_written_push}
 
 calm_take : (r : ℕ) → IsCalm (Take r)
 calm_take r = record { shuts = refl; makes = refl; tag = refl; accepts = refl; source = λ n. refl }
@@ -36,9 +37,9 @@ module _ {T : Type 0} (g : Ghosts T) (h : List Event) (tree : Tree T) (ws : List
     records = λ key node found. stays key node (shelved.records key node found);
     every = λ n alive. shelved.every n (sym (is_open_unchanged h (Take r) refl refl n) ∙ alive);
     waits = just_same (λ n. is_waiting h n && not (r == n)) (is_waiting (h ++ Take r ∷ [])) (numbers ws) (is_waiting-take h r law) (just_first (is_waiting h) (numbers ws) r (subst (AreJust (is_waiting h)) numbers_split shelved.waits));
-    written = all_written-push g h (Take r) refl ws (λ item c. refl) (All-members (IsAsWritten g h) ws (λ item c. All-contains (IsAsWritten g h) (ws ++ (r, x) ∷ []) item shelved.written (Contains-append_left ws ((r, x) ∷ []) item c)));
+    written = all_written_push g h (Take r) ws (λ item c. refl) (All-members (IsAsWritten g h) ws (λ item c. All-contains (IsAsWritten g h) (ws ++ (r, x) ∷ []) item shelved.written (Contains-append_left ws ((r, x) ∷ []) item c)));
   }
     where
       stays : (key : Key) (node : Node T) → IsRecordOf g h key.number node → IsRecordOf g (h ++ Take r ∷ []) key.number node
       stays key node was =
-          record_calm g h (Take r) (calm_take r) key.number node node was refl refl (just_same (is_held_at h key.number) (is_held_at (h ++ Take r ∷ []) key.number) (numbers node.boxes) (λ q. is_held_at_calm h (Take r) law (calm_take r) key.number q ∙ and-true (is_held_at h key.number q)) was.resources) (all_written-push g h (Take r) refl node.boxes (λ item c. refl) was.written)
+          record_calm g h (Take r) (calm_take r) key.number node node was refl refl (just_same (is_held_at h key.number) (is_held_at (h ++ Take r ∷ []) key.number) (numbers node.boxes) (λ q. is_held_at_calm h (Take r) law (calm_take r) key.number q ∙ and-true (is_held_at h key.number q)) was.resources) (all_written_push g h (Take r) node.boxes (λ item c. refl) was.written)

@@ -23,8 +23,12 @@ use Rattle.rx_book.specs.Shelved.{is_held_at, numbers, IsAsWritten, IsRecordOf, 
 use Rattle.std.specs.Cmp.{both_ways as same_test}
 use Rattle.rx_book.proofs.Members.{All-members}
 use Rattle.rx_book.proofs.JustNumbers.{just_same, just_append, just_one}
-use Rattle.rx_book.proofs.Pushed.{IsCalm, is_held_at_calm, held_at_parts, all_written-push, record_calm}
-use Rattle.rx_book.proofs.Items.{HasBox, held_box, box_held, box_member, elsewhere_not, just_without, without_member, rewritten, rewritten_has}
+use Rattle.rx_book.proofs.Calm.{IsCalm, is_held_at_calm, record_calm}
+use Rattle.rx_book.proofs.HeldAt.{held_at_parts}
+use Rattle.rx_book.proofs.Pushed.{all_written_push}
+use Rattle.rx_book.proofs.Records.{HasBox, held_box, rewritten, rewritten_has}
+use Rattle.rx_book.proofs.Alive.{box_held, elsewhere_not}
+use Rattle.rx_book.proofs.Items.{box_member, just_without, without_member}
 
 calm_remove : (r : ℕ) → IsCalm (Remove r)
 calm_remove r = record { shuts = refl; makes = refl; tag = refl; accepts = refl; source = λ n. refl }
@@ -49,12 +53,12 @@ module _ {T : Type 0} (g : Ghosts T) (h : List Event) (tree rest : Tree T) (ws :
   record_without : IsRecordOf g (h ++ Remove r ∷ []) key.number (on_boxes (without_box r) has.node)
   record_without =
       let was = shelved.records key has.node has.found in
-      record_calm g h (Remove r) (calm_remove r) key.number has.node (on_boxes (without_box r) has.node) was refl refl (just_same (λ q. is_held_at h key.number q && not (r == q)) (is_held_at (h ++ Remove r ∷ []) key.number) (numbers (without_box r has.node.boxes)) (is_held_at_calm h (Remove r) law (calm_remove r) key.number) (just_without (is_held_at h key.number) r has.node.boxes was.resources)) (all_written-push g h (Remove r) refl (without_box r has.node.boxes) (λ item c. refl) (All-members (IsAsWritten g h) (without_box r has.node.boxes) (λ item c. All-contains (IsAsWritten g h) has.node.boxes item was.written (without_member r has.node.boxes item c))))
+      record_calm g h (Remove r) (calm_remove r) key.number has.node (on_boxes (without_box r) has.node) was refl refl (just_same (λ q. is_held_at h key.number q && not (r == q)) (is_held_at (h ++ Remove r ∷ []) key.number) (numbers (without_box r has.node.boxes)) (is_held_at_calm h (Remove r) law (calm_remove r) key.number) (just_without (is_held_at h key.number) r has.node.boxes was.resources)) (all_written_push g h (Remove r) (without_box r has.node.boxes) (λ item c. refl) (All-members (IsAsWritten g h) (without_box r has.node.boxes) (λ item c. All-contains (IsAsWritten g h) has.node.boxes item was.written (without_member r has.node.boxes item c))))
 
   -- and each other one
   record_beside : (other : Key) (node : Node T) → other ≢ key → find tree other ≡ Some node → IsRecordOf g (h ++ Remove r ∷ []) other.number node
   record_beside other node apart found =
-      record_calm g h (Remove r) (calm_remove r) other.number node node was refl refl (just_same (is_held_at h other.number) (is_held_at (h ++ Remove r ∷ []) other.number) (numbers node.boxes) (λ q. is_held_at_calm h (Remove r) law (calm_remove r) other.number q ∙ sym (same_test _ _ (forth q) (back q))) was.resources) (all_written-push g h (Remove r) refl node.boxes (λ item c. refl) was.written)
+      record_calm g h (Remove r) (calm_remove r) other.number node node was refl refl (just_same (is_held_at h other.number) (is_held_at (h ++ Remove r ∷ []) other.number) (numbers node.boxes) (λ q. is_held_at_calm h (Remove r) law (calm_remove r) other.number q ∙ sym (same_test _ _ (forth q) (back q))) was.resources) (all_written_push g h (Remove r) node.boxes (λ item c. refl) was.written)
     where
       was : IsRecordOf g h other.number node
       was = shelved.records other node found
@@ -81,7 +85,7 @@ module _ {T : Type 0} (g : Ghosts T) (h : List Event) (tree rest : Tree T) (ws :
     records = rewritten tree rest key (on_boxes (without_box r)) rewrites (λ k node. IsRecordOf g (h ++ Remove r ∷ []) k.number node) has.node has.found record_without record_beside;
     every = λ n alive. rewritten_has tree rest key (on_boxes (without_box r)) rewrites n (shelved.every n (sym (is_open_unchanged h (Remove r) refl refl n) ∙ alive));
     waits = waits_removed;
-    written = all_written-push g h (Remove r) refl (ws ++ (r, x) ∷ []) (λ item c. refl) (All-push (IsAsWritten g h) ws (r, x) shelved.written (All-contains (IsAsWritten g h) has.node.boxes (r, x) (shelved.records key has.node has.found).written (box_member r has.node.boxes x has.box)));
+    written = all_written_push g h (Remove r) (ws ++ (r, x) ∷ []) (λ item c. refl) (All-push (IsAsWritten g h) ws (r, x) shelved.written (All-contains (IsAsWritten g h) has.node.boxes (r, x) (shelved.records key has.node has.found).written (box_member r has.node.boxes x has.box)));
   }
 
 -- a stock whose resource goes to those that wait, beside a history that removes it

@@ -21,7 +21,8 @@ use Rattle.rx_book.specs.State.{has_key}
 use Rattle.rx_book.specs.Shown.{keys_of}
 use Rattle.rx_book.specs.Answers.{is_open_root}
 use Rattle.rx_book.specs.Shelved.{IsShelved, IsLeastRoot, is_root_record, is_before}
-use Rattle.rx_book.proofs.Listed.{entry_found, has_key_is}
+use Rattle.rx_tree.specs.Laws.Written.{entry_found, key_found, slot_within}
+use Rattle.rx_book.proofs.Listed.{has_key_is}
 
 -- searches of a range -----------------------------------------------------------------------------
 
@@ -67,7 +68,7 @@ module _ {T : Type 0} where
 
   -- the key of a slot's root is that of the slot
   slot_key : (tree : Tree T) (key : SlotKey) → is_root_record tree key ≡ true → key_at tree key.slot ≡ Some key
-  slot_key tree key root = let r = root_record tree key root in ap (option_map (λ (e : Entry (Node T)). record { slot = key.slot; number = e.number })) (entry_found tree key r.0 r.1)
+  slot_key tree key root = let r = root_record tree key root in key_found tree key r.0 r.1
 
   -- a walk over the slots -------------------------------------------------------------------------
 
@@ -127,13 +128,7 @@ module _ {T : Type 0} where
         let made = (shelved.records (record { slot = has.slot; number = n }) has.node has.found).made in
         let is_so : is_root has.node.made ≡ true = sym (ap (λ o. option_map_or is_root o false) made) ∙ parts.1 in
         let here : is_root_record tree (record { slot = has.slot; number = n }) ≡ true = ap (λ (o : Option (Node T)). option_map_or (λ (node : Node T). is_root node.made) o false) has.found ∙ is_so in
-        (record { slot = has.slot; number = n }, refl, within has.slot (entry_of n has.node) (entry_found tree (record { slot = has.slot; number = n }) has.node has.found), here)
-      where
-        within : (slot : ℕ) (e : Entry (Node T)) → entry_at tree slot ≡ Some e → slot < length tree.entries
-        within slot e is = elim (cases_lt slot (length tree.entries)) [
-          | inl l ↦ l
-          | inr past ↦ absurd (none-some e (sym (get_or_past tree.entries slot None past) ∙ is))
-        ]
+        (record { slot = has.slot; number = n }, refl, slot_within tree has.slot (entry_of n has.node) (entry_found tree (record { slot = has.slot; number = n }) has.node has.found), here)
 
     -- a root's record is that of an open root
     key_root : (key : SlotKey) → is_root_record tree key ≡ true → is_open_root h key.number ≡ true

@@ -2,7 +2,7 @@
 use Rattle.std.proofs.Common.{◌≡◌, ℕ, Bool, true, false, cond, List, ◌++◌, Option, Some, None, refl, sym, ap, subst, ◌∙◌, ◌==◌, inl, inr, ◌⊎◌}
 use Rattle.std.proofs.Math.Bool.{not, ◌&&◌, ◌||◌}
 use Rattle.std.specs.List.{All, list_all}
-use Rattle.std.proofs.lemmas.Bool.{and_parts, and_from, both_ways, cases_Bool, not-true, not_from_false}
+use Rattle.std.proofs.lemmas.Bool.{and_parts, and_from, both_ways, cases_Bool, not-true, not_from_false, not-false}
 use Rattle.std.proofs.lemmas.Option.{none-some}
 use Rattle.std.proofs.lemmas.List.{map-append}
 use Rattle.std.proofs.lemmas.List.Elements.{All-append, All-contains}
@@ -29,15 +29,11 @@ use Rattle.rx_book.specs.Shelved.{is_held_at, numbers, IsAsWritten, IsRecordOf, 
 use Rattle.std.specs.Cmp.{both_ways as same_test}
 use Rattle.rx_book.proofs.Members.{All-members}
 use Rattle.rx_book.proofs.JustNumbers.{just_same, just_append}
-use Rattle.rx_book.proofs.Pushed.{held_at_parts, held_at_from, held_node}
+use Rattle.rx_book.proofs.HeldAt.{held_at_parts, held_at_from, held_node}
 use Rattle.rx_book.proofs.Climbs.{below_not_outlives}
 use Rattle.rx_book.proofs.Ended.{ends_source_none, any_ended, uses_ended, node_of_ended, tag_ended, is_held_ended, is_waiting_ended}
 use Rattle.rx_book.proofs.Moved.{held_among, among_member, member_among, moved_just, moved_written}
-
--- what is left of a tree where some of it goes
-left_of : {X : Type 0} (b : Bool) (o : Option X) (x : X) → cond b None o ≡ Some x → (b ≡ false) × (o ≡ Some x)
-left_of true o x found = absurd (none-some x found)
-left_of false o x found = (refl, found)
+use Rattle.rx_book.proofs.Options.{left_of}
 
 -- a history that goes on by ends and closings, after which just what outlives the top is open
 module _ (h ends : List Event) (top : ℕ) (each : list_all shuts_a_node ends ≡ true) (opens : (n : ℕ) → is_open (h ++ ends) n ≡ outlives h top n) where
@@ -119,14 +115,10 @@ module _ (h ends : List Event) (top : ℕ) (each : list_all shuts_a_node ends �
             closed (inr gone) = gone
             closed (inl stays) = absurd (both_ways (is_held (h ++ ends) r) (not-true (is_held (h ++ ends) r) parts.1) (is_held_ended h ends each r n at_r (was_open n) ∙ and_from (is_held h r) (is_open (h ++ ends) n) parts.0 stays))
 
-            below_where : (b : Bool) → not b ≡ false → b ≡ true
-            below_where true e = refl
-            below_where false e = sym e
-
             here : HasRecord tree n → held_among h moved r ≡ true
             here has =
                 let key : Key = record { slot = has.slot; number = n } in
-                let below : is_below tree top n ≡ true = below_where (is_below tree top n) (sym (open_beside key has.node has.found) ∙ closed (cases_Bool (is_open (h ++ ends) n))) in
+                let below : is_below tree top n ≡ true = not-false (is_below tree top n) (sym (open_beside key has.node has.found) ∙ closed (cases_Bool (is_open (h ++ ends) n))) in
                 let c : Closed T = record { key = key; node = has.node } in
                 member_among h moved r c ((subtree.exactly c).1 (record { found = has.found; below = below })) (held_at_from h n r parts.0 at_r)
 

@@ -11,7 +11,8 @@ use Rattle.rx_slots.specs.Slots.{find}
 use Rattle.rx_tree.specs.Tree.{Tree, named_above, parent_number}
 use Rattle.rx_register.specs.Kept.{top_of}
 use Rattle.rx_book.specs.Shelved.{IsShelved}
-use Rattle.rx_book.proofs.Climbs.{some_of, parent_in_tree}
+use Rattle.rx_tree.specs.Laws.Keys.{some_of}
+use Rattle.rx_book.proofs.Climbs.{parent_in_tree}
 use Rattle.rx_book.proofs.Upward.{top_of_root, top_of_parent}
 
 module _ {T : Type 0} where

@@ -18,7 +18,10 @@ use Rattle.rx_tree.specs.Tree.{Tree, IsSound, named_above, parent_number}
 use Rattle.rx_register.specs.Kept.{top_of}
 use Rattle.rx_stock.specs.Stock.{HasChild}
 use Rattle.rx_book.specs.Shelved.{HasRecord, IsShelved}
-use Rattle.rx_book.proofs.Climbs.{some_of, parent_in_tree}
+use Rattle.rx_tree.specs.Laws.Keys.{some_of}
+use Rattle.rx_book.proofs.Climbs.{parent_in_tree}
+use Rattle.rx_tree.specs.Laws.Parents.{child_found}
+use Rattle.rx_book.proofs.Options.{some_equal}
 
 -- the way up from the node above leads to the same end
 pub top_of_parent : (h : List Event) (n p : ℕ) → parent h n ≡ Some p → top_of h n ≡ top_of h p
@@ -33,17 +36,10 @@ any_place : (p : ℕ → Bool) (h : List Event) (n : ℕ) → n < length h → p
 any_place p h n l passes = list_any_at p (places h) n n (let e = length-range_with_len 0 (length h) in omega arith) (ap p (get_or-range_with_len 0 (length h) n n l ∙ omega arith) ∙ passes)
 
 module _ {T : Type 0} (g : Ghosts T) (h : List Event) (tree : Tree T) (ws : List (ℕ × T)) where
-  -- a key that stands below one finds a record
-  child_found : (key : Key) (n : ℕ) → parent_number tree key ≡ Some n → IsSome (find tree key)
-  child_found key n named = of (find tree key) named where
-    of : (o : Option (Node T)) → option_and_then (named_above key.number) o ≡ Some n → IsSome o
-    of None e = absurd (true≢false (ap is_some (sym e)))
-    of (Some node) e = refl
-
   -- a node has a child in the tree
   child_from_tree : (key : Key) → IsShelved g h tree ws → HasChild tree key → has_open_child h key.number ≡ true
   child_from_tree key shelved has =
-      let found = some_of (find tree has.child) (child_found has.child key.number has.below.named) in
+      let found = some_of (find tree has.child) (child_found tree has.child key.number has.below.named) in
       let alive = (shelved.records has.child found.0 found.1).alive in
       let named : parent h has.child.number ≡ Some key.number = sym (parent_in_tree g h tree ws has.child found.0 shelved found.1) ∙ has.below.named in
       any_place (is_open_child_of h key.number) h has.child.number (is_open_within h has.child.number alive) (and_from (is_open h has.child.number) (option_map_or (λ q. q == key.number) (parent h has.child.number) false) alive (ap (λ o. option_map_or (λ q. q == key.number) o false) named ∙ eq-eqb key.number key.number refl))
@@ -60,16 +56,12 @@ module _ {T : Type 0} (g : Ghosts T) (h : List Event) (tree : Tree T) (ws : List
     parts : (is_open h n ≡ true) × (option_map_or (λ q. q == key.number) (parent h n) false ≡ true)
     parts = and_parts (is_open h n) (option_map_or (λ q. q == key.number) (parent h n) false) a.4
 
-    named : (o : Option ℕ) → option_map_or (λ q. q == key.number) o false ≡ true → o ≡ Some key.number
-    named None fails = absurd (false≢true fails)
-    named (Some q) same = ap (λ (k : ℕ). Some k) (eqb-true q key.number same)
-
     of : HasRecord tree n → HasChild tree key
     of has = record {
       child = record { slot = has.slot; number = n };
       below = record {
         there = there;
-        named = parent_in_tree g h tree ws (record { slot = has.slot; number = n }) has.node shelved has.found ∙ named (parent h n) parts.1;
+        named = parent_in_tree g h tree ws (record { slot = has.slot; number = n }) has.node shelved has.found ∙ some_equal key.number (parent h n) parts.1;
       };
     }
 

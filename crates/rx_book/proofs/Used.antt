@@ -24,8 +24,12 @@ use Rattle.rx_book.specs.State.{AreJust, accepted_tag}
 use Rattle.rx_book.specs.Shelved.{is_held_at, numbers, IsAsWritten, IsRecordOf, IsShelved}
 use Rattle.rx_book.proofs.Members.{Contains-map, AllPairs-head, AllPairs-tail}
 use Rattle.rx_book.proofs.JustNumbers.{just_same, just_passes}
-use Rattle.rx_book.proofs.Pushed.{IsCalm, read-push, is_held_at_calm, held_at_parts, written-push, all_written-push, record_calm}
-use Rattle.rx_book.proofs.Items.{HasBox, held_box, key_of_resource, box_held, box_member, elsewhere_not, lookup_later, set_here, set_later, numbers_set, rewritten, rewritten_has}
+use Rattle.rx_book.proofs.Calm.{IsCalm, is_held_at_calm, record_calm}
+use Rattle.rx_book.proofs.Pushed.{read_push, written_push, all_written_push}
+use Rattle.rx_book.proofs.HeldAt.{held_at_parts}
+use Rattle.rx_book.proofs.Records.{HasBox, held_box, key_of_resource, rewritten, rewritten_has}
+use Rattle.rx_book.proofs.Alive.{box_held, elsewhere_not}
+use Rattle.rx_book.proofs.Items.{box_member, lookup_later, set_here, set_later, numbers_set}
 
 calm_use : (r : ℕ) → IsCalm (Use r)
 calm_use r = record { shuts = refl; makes = refl; tag = refl; accepts = refl; source = λ n. refl }
@@ -40,7 +44,7 @@ module _ {T : Type 0} (g : Ghosts T) (h : List Event) (r : ℕ) (before after : 
   written_used used tag life was = record {
     live = life ∙ was.live;
     box = record {
-      tag = read-push accepted_tag h (Use r) refl r ∙ was.box.tag ∙ ap (λ (t : ℕ). Some t) (sym tag);
+      tag = read_push accepted_tag h (Use r) refl r ∙ was.box.tag ∙ ap (λ (t : ℕ). Some t) (sym tag);
       uses = used ∙ ap (λ (m : ℕ). m + 1) was.box.uses ∙ sym (uses-push h (Use r) r ∙ ap (λ b. uses h r + cond {A = ℕ} b 1 0) (eq-eqb r r refl));
     };
   }
@@ -50,8 +54,8 @@ module _ {T : Type 0} (g : Ghosts T) (h : List Event) (r : ℕ) (before after : 
   all_used [] once found used all = absurd (none-some before found)
   all_used (e ∷ es) once found used all =
       elim (cases_eq e.0 r) [
-        | inl same ↦ subst (λ (xs : List (ℕ × T)). All (IsAsWritten g (h ++ Use r ∷ [])) xs) (sym (set_here r after e es same)) (All-cons (IsAsWritten g (h ++ Use r ∷ [])) (e.0, after) es (subst (λ (n : ℕ). IsAsWritten g (h ++ Use r ∷ []) (n, after)) (sym same) used) (all_written-push g h (Use r) refl es (λ item c. ne_eqb r item.0 (λ here. AllPairs-head (λ a b. a ≢ b) e.0 (numbers es) once item.0 (Contains-map (λ (i : ℕ × T). i.0) es item c) (same ∙ here))) (All-tail (IsAsWritten g h) e es all)))
-        | inr other ↦ subst (λ (xs : List (ℕ × T)). All (IsAsWritten g (h ++ Use r ∷ [])) xs) (sym (set_later r after e es other)) (All-cons (IsAsWritten g (h ++ Use r ∷ [])) e (with_value r after es) (written-push g h (Use r) refl e (ne_eqb r e.0 (λ here. other (sym here))) (All-head (IsAsWritten g h) e es all)) (all_used es (AllPairs-tail (λ a b. a ≢ b) e.0 (numbers es) once) (sym (lookup_later r e es other) ∙ found) used (All-tail (IsAsWritten g h) e es all)))
+        | inl same ↦ subst (λ (xs : List (ℕ × T)). All (IsAsWritten g (h ++ Use r ∷ [])) xs) (sym (set_here r after e es same)) (All-cons (IsAsWritten g (h ++ Use r ∷ [])) (e.0, after) es (subst (λ (n : ℕ). IsAsWritten g (h ++ Use r ∷ []) (n, after)) (sym same) used) (all_written_push g h (Use r) es (λ item c. ne_eqb r item.0 (λ here. AllPairs-head (λ a b. a ≢ b) e.0 (numbers es) once item.0 (Contains-map (λ (i : ℕ × T). i.0) es item c) (same ∙ here))) (All-tail (IsAsWritten g h) e es all)))
+        | inr other ↦ subst (λ (xs : List (ℕ × T)). All (IsAsWritten g (h ++ Use r ∷ [])) xs) (sym (set_later r after e es other)) (All-cons (IsAsWritten g (h ++ Use r ∷ [])) e (with_value r after es) (written_push g h (Use r) e (ne_eqb r e.0 (λ here. other (sym here))) (All-head (IsAsWritten g h) e es all)) (all_used es (AllPairs-tail (λ a b. a ≢ b) e.0 (numbers es) once) (sym (lookup_later r e es other) ∙ found) used (All-tail (IsAsWritten g h) e es all)))
       ]
 
 module _ {T : Type 0} (g : Ghosts T) (h : List Event) (tree rest : Tree T) (ws : List (ℕ × T)) (key : Key) (r : ℕ) (x after : T) (shelved : IsShelved g h tree ws) (sound : IsSound tree) (law : IsLawful h) (has : HasBox tree key r x) (used : IsAsWritten g h (r, x) → IsAsWritten g (h ++ Use r ∷ []) (r, after)) where
@@ -65,7 +69,7 @@ module _ {T : Type 0} (g : Ghosts T) (h : List Event) (tree rest : Tree T) (ws :
   record_unused : (other : Key) (node : Node T) → other ≢ key → find tree other ≡ Some node → IsRecordOf g (h ++ Use r ∷ []) other.number node
   record_unused other node apart found =
       let was = shelved.records other node found in
-      record_calm g h (Use r) (calm_use r) other.number node node was refl refl (just_same (is_held_at h other.number) (is_held_at (h ++ Use r ∷ []) other.number) (numbers node.boxes) (held_at_used h r law other.number) was.resources) (all_written-push g h (Use r) refl node.boxes (λ item c. ne_eqb r item.0 (elsewhere_not g h tree ws shelved key r x has sound other node apart found item.0 (Contains-map (λ (i : ℕ × T). i.0) node.boxes item c))) was.written)
+      record_calm g h (Use r) (calm_use r) other.number node node was refl refl (just_same (is_held_at h other.number) (is_held_at (h ++ Use r ∷ []) other.number) (numbers node.boxes) (held_at_used h r law other.number) was.resources) (all_written_push g h (Use r) node.boxes (λ item c. ne_eqb r item.0 (elsewhere_not g h tree ws shelved key r x has sound other node apart found item.0 (Contains-map (λ (i : ℕ × T). i.0) node.boxes item c))) was.written)
 
   held : is_held h r ≡ true
   held = (held_at_parts h key.number r (box_held g h tree ws shelved key r x has)).0
@@ -79,7 +83,7 @@ module _ {T : Type 0} (g : Ghosts T) (h : List Event) (tree rest : Tree T) (ws :
     records = rewritten tree rest key (on_boxes (with_value r after)) rewrites (λ k node. IsRecordOf g (h ++ Use r ∷ []) k.number node) has.node has.found record_used record_unused;
     every = λ n alive. rewritten_has tree rest key (on_boxes (with_value r after)) rewrites n (shelved.every n (sym (is_open_unchanged h (Use r) refl refl n) ∙ alive));
     waits = just_same (is_waiting h) (is_waiting (h ++ Use r ∷ [])) (numbers ws) (is_waiting_unchanged h (Use r) law refl) shelved.waits;
-    written = all_written-push g h (Use r) refl ws waits_apart shelved.written;
+    written = all_written_push g h (Use r) ws waits_apart shelved.written;
   }
 
 -- a stock whose resource was used, beside a history that uses it

@@ -19,7 +19,8 @@ use Rattle.rx_tree.specs.Tree.{Tree, blank_node, on_boxes}
 use Rattle.rx_stock.specs.Stock.{Opens, noting}
 use Rattle.rx_book.specs.Shelved.{numbers, IsRecordOf, IsShelved}
 use Rattle.rx_book.proofs.JustNumbers.{just_same}
-use Rattle.rx_book.proofs.Quiet.{record_noting, waits_still, all_written}
+use Rattle.rx_book.proofs.Quiet.{record_noting, waits_still}
+use Rattle.rx_book.proofs.Pushed.{all_written_push}
 use Rattle.rx_book.proofs.Openings.{lawful_parts, older_open, LeavesAll, opening_leaves, record_opened, shelved_opened}
 use Rattle.rx_book.proofs.Accepted.{waiting_unmoved, IsFresh, record_beside, record_holding}
 
@@ -53,7 +54,7 @@ module _ {T : Type 0} (g : Ghosts T) (h : List Event) (place : Place) (tag : ℕ
 
   after_both : (old new : Tree T) (waiting : List (ℕ × T)) (key : Key) (above : Option Key) (x : T) → IsShelved g h old waiting → key.number ≡ length h → Opens old new key (on_boxes (with_box (length h + 1) x) (blank_node e above)) → IsFresh g x tag → IsShelved g k new waiting
   after_both old new waiting key above x s numbered o fresh =
-      shelved_opened g h old new waiting key (on_boxes (with_box (length h + 1) x) (blank_node e above)) s o k numbered (first above x fresh) older opens (just_same (is_waiting m) (is_waiting k) (numbers waiting) (waiting_unmoved m (length h) tag lawful alive) (waits_still g h e law leaves.moves waiting s.waits)) (all_written g m (Accept (length h) tag) (λ i. refl) waiting (all_written g h e leaves.unused waiting s.written))
+      shelved_opened g h old new waiting key (on_boxes (with_box (length h + 1) x) (blank_node e above)) s o k numbered (first above x fresh) older opens (just_same (is_waiting m) (is_waiting k) (numbers waiting) (waiting_unmoved m (length h) tag lawful alive) (waits_still g h e law leaves.moves waiting s.waits)) (all_written_push g m (Accept (length h) tag) waiting (λ item c. refl) (all_written_push g h e waiting (λ item c. leaves.unused item.0) s.written))
 
 -- a stock after the opening of a mirroring node with a resource
 pub shelved_open_using : {T : Type 0} (g : Ghosts T) (h : List Event) (old new : Tree T) (waiting : List (ℕ × T)) (key : Key) (place : Place) (tag : ℕ) (above : Option Key) (x : T) → IsShelved g h old waiting → IsLawful (h ++ Open place Pass ∷ Accept (length h) tag ∷ []) → is_plain (Open place Pass) ≡ true → key.number ≡ length h → Opens old new key (on_boxes (with_box (length h + 1) x) (blank_node (Open place Pass) above)) → g.life_of x ≡ Live → g.tag_of x ≡ tag → g.uses_of x ≡ 0 → IsShelved g (h ++ Open place Pass ∷ Accept (length h) tag ∷ []) new waiting
