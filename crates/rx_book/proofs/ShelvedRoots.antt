@@ -22,7 +22,7 @@ use Rattle.rx_book.specs.Shown.{keys_of}
 use Rattle.rx_book.specs.Answers.{is_open_root}
 use Rattle.rx_book.specs.Shelved.{IsShelved, IsLeastRoot, is_root_record, is_before}
 use Rattle.rx_tree.specs.Laws.Written.{entry_found, key_found, slot_within}
-use Rattle.rx_book.proofs.Listed.{has_key_is}
+use Rattle.rx_book.proofs.ShownKeys.{has_key_is}
 
 -- searches of a range -----------------------------------------------------------------------------
 

@@ -14,7 +14,7 @@ use Rattle.rx_slots.specs.Slots.{find, with_number}
 use Rattle.rx_tree.specs.declared.node.Node.{Node}
 use Rattle.rx_tree.specs.Tree.{Tree}
 use Rattle.rx_book.specs.Shelved.{IsAsWritten, IsShelved}
-use Rattle.rx_book.proofs.JustNumbers.{just_none}
+use Rattle.rx_book.proofs.ListNumbers.{just_none}
 
 -- nothing is found where there is nothing
 pub find_none : {T : Type 0} (tree : Tree T) → tree.entries ≡ [] → (key : Key) → find tree key ≡ None

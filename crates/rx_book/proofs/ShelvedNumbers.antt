@@ -22,52 +22,12 @@ use Rattle.rx_book.specs.declared.key.ResKey.{ResKey}
 use Rattle.rx_book.specs.State.{Box, AreJust, IsBoxOf}
 use Rattle.rx_book.specs.Shown.{keys_of, res_keys_of, held_in, box_in}
 use Rattle.rx_book.specs.Shelved.{numbers, is_held_at, IsAsWritten, IsRecordOf, IsShelved}
-use Rattle.rx_book.proofs.Members.{Contains-one, Contains-head, AllPairs-nil, AllPairs-append, All-members}
-use Rattle.rx_book.proofs.Walks.{walk, walk_at, walk_has, map-walk}
+use Rattle.rx_book.proofs.ListMembers.{Contains-one, Contains-head, AllPairs-nil, AllPairs-append, All-members, map-map}
+use Rattle.rx_book.proofs.ListWalks.{walk, walk_at, walk_has, map-walk, same_walk, GivesJust, just_walk}
 use Rattle.rx_tree.specs.Laws.Written.{entry_found}
-use Rattle.rx_book.proofs.Records.{entry_finds}
-use Rattle.rx_book.proofs.Listed.{key_in, res_keys_in, boxes_in, keys-walk, res_keys-walk, items-walk}
-use Rattle.rx_book.proofs.HeldAt.{held_at_parts, held_at_from, held_node}
-
--- walks over lists of numbers ---------------------------------------------------------------------
-
--- no number stands twice where none stands at two slots, nor twice at one
-pub once_walk : {E X : Type 0} (f : E → List X) (first : ℕ) (entries : List (Option E)) → ((p : ℕ) (e : E) → get_or entries p None ≡ Some e → AllPairs (λ m n. m ≢ n) (f e)) → ((p q : ℕ) (d e : E) (n : X) → get_or entries p None ≡ Some d → get_or entries q None ≡ Some e → Contains (f d) n → Contains (f e) n → p ≡ q) → AllPairs (λ m n. m ≢ n) (walk (λ slot. f) first entries)
-once_walk f first [] inside apart = AllPairs-nil (λ m n. m ≢ n)
-once_walk f first (None ∷ entries) inside apart = once_walk f (suc first) entries (λ p e at. inside (suc p) e at) (λ p q d e n a b c k. let same : suc p ≡ suc q = apart (suc p) (suc q) d e n a b c k in omega arith)
-once_walk {X = X} f first (Some x ∷ entries) inside apart = AllPairs-append (λ m n. m ≢ n) (f x) (walk (λ slot. f) (suc first) entries) (inside 0 x refl) (once_walk f (suc first) entries (λ p e at. inside (suc p) e at) (λ p q d e n a b c k. let same : suc p ≡ suc q = apart (suc p) (suc q) d e n a b c k in omega arith)) across where
-  across : (m n : X) → Contains (f x) m → Contains (walk (λ slot. f) (suc first) entries) n → m ≢ n
-  across m n here further same =
-      let s = walk_at (λ slot. f) (suc first) entries n further in
-      let place : 0 ≡ suc s.place = apart 0 (suc s.place) x s.entry n refl s.at (subst (λ k. Contains (f x) k) same here) s.there in
-      absurd (omega arith)
-
--- walks that give the same at each slot
-same_walk : {E X : Type 0} (f k : ℕ → E → List X) → ((slot : ℕ) (e : E) → f slot e ≡ k slot e) → (first : ℕ) (entries : List (Option E)) → walk f first entries ≡ walk k first entries
-same_walk f k same first [] = refl
-same_walk f k same first (None ∷ entries) = same_walk f k same (suc first) entries
-same_walk f k same first (Some e ∷ entries) = λ i. same first e i ++ same_walk f k same (suc first) entries i
-
--- what the slots give are just those that pass
-pub record GivesJust {E : Type 0} (test : ℕ → Bool) (f : E → List ℕ) (entries : List (Option E)) : Type 0 where
-  pub each : (p : ℕ) (e : E) → get_or entries p None ≡ Some e → All (λ n. IsTrue (test n)) (f e)
-  pub every : (n : ℕ) → IsTrue (test n) → (p : ℕ) × (e : E) × (get_or entries p None ≡ Some e) × Contains (f e) n
-  pub once : (p : ℕ) (e : E) → get_or entries p None ≡ Some e → AllPairs (λ m n. m ≢ n) (f e)
-  pub apart : (p q : ℕ) (d e : E) (n : ℕ) → get_or entries p None ≡ Some d → get_or entries q None ≡ Some e → Contains (f d) n → Contains (f e) n → p ≡ q
-
-pub just_walk : {E : Type 0} (test : ℕ → Bool) (f : E → List ℕ) (entries : List (Option E)) → GivesJust test f entries → AreJust test (walk (λ slot. f) 0 entries)
-just_walk test f entries gives = record {
-  each = All-members (λ n. IsTrue (test n)) (walk (λ slot. f) 0 entries) (λ n c. let s = walk_at (λ slot. f) 0 entries n c in All-contains (λ k. IsTrue (test k)) (f s.entry) n (gives.each s.place s.entry s.at) s.there);
-  every = λ n passes. let g = gives.every n passes in walk_has (λ slot. f) 0 entries n g.0 g.1 g.2 g.3;
-  once = once_walk f 0 entries gives.once gives.apart;
-}
-
--- names and back
-pub map-map : {X Y : Type 0} (f : X → Y) (g : Y → ℕ) (k : X → ℕ) → ((x : X) → g (f x) ≡ k x) → (xs : List X) → map g (map f xs) ≡ map k xs
-map-map f g k same [] = refl
-map-map f g k same (x ∷ xs) = rw (same x) (ap (λ (ns : List ℕ). k x ∷ ns) (map-map f g k same xs))
-
--- shelved stocks ----------------------------------------------------------------------------------
+use Rattle.rx_book.proofs.TreeRecords.{entry_finds}
+use Rattle.rx_book.proofs.ShownKeys.{key_in, res_keys_in, boxes_in, keys-walk, res_keys-walk, items-walk}
+use Rattle.rx_book.proofs.HistoryHeldAt.{held_at_parts, held_at_from, held_node}
 
 module _ {T : Type 0} where
   abbrev pub number_in : Entry (Node T) → List ℕ

@@ -1,6 +1,6 @@
 -- What callers see of a register and a stock keeps what a book promises.
-use Rattle.std.proofs.Common.{◌≡◌, ℕ, zero, suc, ◌+◌, ◌*◌, ◌-◌, ◌≤◌, Bool, true, false, List, [], ◌∷◌, length, Option, Some, None, cond, refl, arith, slice_get}
-use Rattle.std.proofs.Math.Bool.{◌&&◌}
+use Rattle.std.proofs.Common.{◌≡◌, ℕ, zero, suc, ◌+◌, ◌*◌, ◌-◌, ◌≤◌, Bool, true, false, List, [], ◌∷◌, length, Option, Some, None, cond, refl, arith, slice_get, ap}
+use Rattle.std.proofs.Math.Bool.{◌&&◌, and-false}
 use Rattle.std.specs.List.{filter, list_all}
 use Rattle.std.specs.Option.{option_map_or}
 use Rattle.std.proofs.lemmas.Bool.{and_parts, false≢true}
@@ -27,8 +27,8 @@ use Rattle.rx_register.specs.Kept.{Kept, IsUpheld}
 use Rattle.rx_book.specs.State.{IsKept}
 use Rattle.rx_book.specs.Shown.{held_in, box_in, state_of}
 use Rattle.rx_book.specs.Shelved.{IsShelved}
-use Rattle.rx_book.proofs.JustListed.{keys_just, res_keys_just, held_just, waiting_just, held_boxes, waiting_boxes}
-use Rattle.rx_book.proofs.Counted.{held_counted, waiting_counted}
+use Rattle.rx_book.proofs.ShelvedNumbers.{keys_just, res_keys_just, held_just, waiting_just, held_boxes, waiting_boxes}
+use Rattle.rx_book.proofs.ShelvedCounts.{held_counted, waiting_counted}
 
 -- plain histories ---------------------------------------------------------------------------------
 
@@ -68,10 +68,7 @@ no_hubs h plain = none (places h) where
 
 -- where nothing merges, nothing is owed
 owed_none : (h : List Event) → list_all is_plain h ≡ true → owed_count h ≡ 0
-owed_none h p = sum_by_none (owed_open h) (length h) (λ n l. rw (never_at is_merging not_merging h p n) (shape (is_open h n) (owed h n))) where
-  shape : (b : Bool) (k : ℕ) → cond {A = ℕ} (b && false) k 0 ≡ 0
-  shape true k = refl
-  shape false k = refl
+owed_none h p = sum_by_none (owed_open h) (length h) (λ n l. rw (never_at is_merging not_merging h p n) (ap (λ b. cond {A = ℕ} b (owed h n) 0) (and-false (is_open h n))))
 
 -- debts -------------------------------------------------------------------------------------------
 

@@ -15,10 +15,10 @@ use Rattle.rx_tree.specs.declared.node.Node.{Node}
 use Rattle.rx_tree.specs.Tree.{Tree}
 use Rattle.rx_book.specs.State.{AreJust}
 use Rattle.rx_book.specs.Shelved.{is_held_at, numbers, IsAsWritten, IsRecordOf, IsShelved}
-use Rattle.rx_book.proofs.Members.{All-members}
-use Rattle.rx_book.proofs.JustNumbers.{just_same, just_first, just_passes}
-use Rattle.rx_book.proofs.Calm.{IsCalm, is_held_at_calm, record_calm}
-use Rattle.rx_book.proofs.Pushed.{all_written_push}
+use Rattle.rx_book.proofs.ListMembers.{All-members}
+use Rattle.rx_book.proofs.ListNumbers.{just_same, just_first, just_passes}
+use Rattle.rx_book.proofs.ShelvedCalm.{IsCalm, is_held_at_calm, record_calm}
+use Rattle.rx_book.proofs.HistoryPushed.{all_written_push}
 
 calm_take : (r : ℕ) → IsCalm (Take r)
 calm_take r = record { shuts = refl; makes = refl; tag = refl; accepts = refl; source = λ n. refl }

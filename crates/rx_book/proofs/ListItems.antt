@@ -20,9 +20,9 @@ use Rattle.rx_tree.specs.Boxes.{box_of, without_box, with_value}
 use Rattle.rx_tree.specs.Tree.{Tree, Rewrites, IsSound, resource_at}
 use Rattle.rx_book.specs.State.{AreJust}
 use Rattle.rx_book.specs.Shelved.{is_held_at, numbers, HasRecord, IsShelved}
-use Rattle.rx_book.proofs.Members.{All-members, Contains-head, Contains-later, Contains-none, Contains-cases, Contains-map, Contains-from_map, AllPairs-head, AllPairs-tail, AllPairs-nil}
-use Rattle.rx_book.proofs.JustNumbers.{just_passes}
-use Rattle.rx_book.proofs.HeldAt.{held_at_parts}
+use Rattle.rx_book.proofs.ListMembers.{All-members, Contains-head, Contains-later, Contains-none, Contains-cases, Contains-map, Contains-from_map, AllPairs-head, AllPairs-tail, AllPairs-nil}
+use Rattle.rx_book.proofs.ListNumbers.{just_passes}
+use Rattle.rx_book.proofs.HistoryHeldAt.{held_at_parts}
 use Rattle.rx_tree.specs.Laws.Keys.{cases_key, some_of}
 use Rattle.rx_tree.specs.Laws.Written.{with_number-same}
 

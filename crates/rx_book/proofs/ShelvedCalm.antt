@@ -20,8 +20,8 @@ use Rattle.rx_event.specs.Laws.Totals.{uses-push}
 use Rattle.rx_tree.specs.declared.node.Node.{Node}
 use Rattle.rx_book.specs.State.{AreJust, accepted_tag}
 use Rattle.rx_book.specs.Shelved.{is_held_at, numbers, IsAsWritten, IsRecordOf}
-use Rattle.rx_book.proofs.Members.{All-members}
-use Rattle.rx_book.proofs.Pushed.{read_push, any_push}
+use Rattle.rx_book.proofs.ListMembers.{All-members}
+use Rattle.rx_book.proofs.HistoryPushed.{read_push, any_push}
 
 -- the event neither makes nor shuts a node, and accepts nothing
 pub record IsCalm (e : Event) : Type 0 where

@@ -39,16 +39,16 @@ use Rattle.rx_book.specs.Shown.{is_live, is_fresh_box, keys_of, res_keys_of, box
 use Rattle.rx_book.specs.Answers.{Accepts}
 use Rattle.rx_book.specs.Shelved.{IsShelved, IsStanding}
 use Rattle.rx_tree.specs.Laws.Keys.{some_of}
-use Rattle.rx_book.proofs.Listed.{has_key_is, has_res_key_is}
-use Rattle.rx_book.proofs.Frames.{KeepsKeys, accepts_shown, frame_uses}
-use Rattle.rx_book.proofs.Openings.{lawful_parts}
-use Rattle.rx_book.proofs.Alive.{alive_key, live_resource, held_key, unused_resource}
-use Rattle.rx_book.proofs.Quiet.{shelved_item}
-use Rattle.rx_book.proofs.Accepted.{shelved_hold}
-use Rattle.rx_book.proofs.Released.{shelved_take}
-use Rattle.rx_book.proofs.Records.{key_of_resource}
-use Rattle.rx_book.proofs.Removed.{shelved_remove}
-use Rattle.rx_book.proofs.Used.{shelved_use}
+use Rattle.rx_book.proofs.ShownKeys.{has_key_is, has_res_key_is}
+use Rattle.rx_book.proofs.ShownKeysKept.{KeepsKeys, accepts_shown, frame_uses}
+use Rattle.rx_book.proofs.HistoryLawful.{lawful_parts}
+use Rattle.rx_book.proofs.ShelvedKeys.{alive_key, live_resource, held_key, unused_resource}
+use Rattle.rx_book.proofs.ShelvedQuiet.{shelved_item}
+use Rattle.rx_book.proofs.ShelvedHold.{shelved_hold}
+use Rattle.rx_book.proofs.ShelvedTake.{shelved_take}
+use Rattle.rx_book.proofs.TreeRecords.{key_of_resource}
+use Rattle.rx_book.proofs.ShelvedRemove.{shelved_remove}
+use Rattle.rx_book.proofs.ShelvedUse.{shelved_use}
 use Rattle.rx_book.proofs.Options.{if_some, of_some}
 
 -- a resource is used no more often than there are events

@@ -6,7 +6,7 @@ use Rattle.std.proofs.lemmas.Bool.{and_parts, and_from, not_from_false, ne_eqb, 
 use Rattle.std.proofs.lemmas.List.Elements.{All-append, All-contains, Contains-get_or, Contains-append_left, Contains-append_right, Contains-push_cases, All-nil, All-weaker, All-push, All-head, All-tail, Contains-push}
 use Rattle.std.proofs.lemmas.List.Kept.{AllPairs-cons}
 use Rattle.rx_book.specs.State.{AreJust}
-use Rattle.rx_book.proofs.Members.{All-members, Contains-head, Contains-none, Contains-cases, AllPairs-nil, AllPairs-append, AllPairs-first, AllPairs-across, Contains-later, AllPairs-head, AllPairs-tail}
+use Rattle.rx_book.proofs.ListMembers.{All-members, Contains-head, Contains-none, Contains-cases, AllPairs-nil, AllPairs-append, AllPairs-first, AllPairs-across, Contains-later, AllPairs-head, AllPairs-tail}
 use Rattle.std.proofs.lemmas.List.Quantifiers.{all_pairs_push}
 use Rattle.rx_event.specs.Laws.Sums.{sums_balance, sum_by_none, count_by_one, sum_by_falls}
 

@@ -19,11 +19,11 @@ use Rattle.rx_tree.specs.declared.node.ResKey.{ResKey}
 use Rattle.rx_tree.specs.Tree.{Tree, IsUnused, IsPlaced, resource_at, IsSound}
 use Rattle.rx_book.specs.Shelved.{is_held_at, numbers, IsAsWritten, IsShelved}
 use Rattle.rx_tree.specs.Laws.Keys.{some_of}
-use Rattle.rx_book.proofs.Records.{resource_found, HasBox}
-use Rattle.rx_book.proofs.Members.{Contains-map}
-use Rattle.rx_book.proofs.HeldAt.{held_at_parts}
-use Rattle.rx_book.proofs.Items.{box_member}
-use Rattle.rx_book.proofs.JustNumbers.{just_passes}
+use Rattle.rx_book.proofs.TreeRecords.{resource_found, HasBox}
+use Rattle.rx_book.proofs.ListMembers.{Contains-map}
+use Rattle.rx_book.proofs.HistoryHeldAt.{held_at_parts}
+use Rattle.rx_book.proofs.ListItems.{box_member}
+use Rattle.rx_book.proofs.ListNumbers.{just_passes}
 use Rattle.std.proofs.lemmas.Option.{same_Some}
 use Rattle.std.specs.List.{Contains}
 

@@ -1,4 +1,4 @@
--- Tops and children, in a tree and in the history beside it.
+-- The children of a tree are the open children of the history beside it.
 use Rattle.std.proofs.Common.{◌≡◌, ◌↔◌, ℕ, ◌<◌, ◌==◌, Bool, true, false, List, length, get_or, Option, Some, None, is_some, IsSome, refl, sym, ap, ◌∙◌, arith, true≢false}
 use Rattle.std.specs.List.{list_any}
 use Rattle.std.specs.Option.{option_and_then, option_map_or}
@@ -19,17 +19,9 @@ use Rattle.rx_register.specs.Kept.{top_of}
 use Rattle.rx_stock.specs.Stock.{HasChild}
 use Rattle.rx_book.specs.Shelved.{HasRecord, IsShelved}
 use Rattle.rx_tree.specs.Laws.Keys.{some_of}
-use Rattle.rx_book.proofs.Climbs.{parent_in_tree}
+use Rattle.rx_book.proofs.ShelvedClimbs.{parent_in_tree}
 use Rattle.rx_tree.specs.Laws.Parents.{child_found}
 use Rattle.rx_book.proofs.Options.{some_equal}
-
--- the way up from the node above leads to the same end
-pub top_of_parent : (h : List Event) (n p : ℕ) → parent h n ≡ Some p → top_of h n ≡ top_of h p
-top_of_parent h n p below = rw (ancestors_step h n, below, ancestors_step h p) refl
-
--- where no node is above, it ends
-pub top_of_root : (h : List Event) (n : ℕ) → parent h n ≡ None → top_of h n ≡ n
-top_of_root h n below = rw (ancestors_step h n, below) refl
 
 -- a test that an older place passes
 any_place : (p : ℕ → Bool) (h : List Event) (n : ℕ) → n < length h → p n ≡ true → list_any p (places h) ≡ true

@@ -21,14 +21,14 @@ use Rattle.rx_stock.specs.Stock.{Stock}
 use Rattle.rx_book.specs.State.{AreJust}
 use Rattle.rx_book.specs.Shelved.{is_held_at, numbers, IsAsWritten, IsRecordOf, IsShelved}
 use Rattle.std.specs.Cmp.{both_ways as same_test}
-use Rattle.rx_book.proofs.Members.{All-members}
-use Rattle.rx_book.proofs.JustNumbers.{just_same, just_append, just_one}
-use Rattle.rx_book.proofs.Calm.{IsCalm, is_held_at_calm, record_calm}
-use Rattle.rx_book.proofs.HeldAt.{held_at_parts}
-use Rattle.rx_book.proofs.Pushed.{all_written_push}
-use Rattle.rx_book.proofs.Records.{HasBox, held_box, rewritten, rewritten_has}
-use Rattle.rx_book.proofs.Alive.{box_held, elsewhere_not}
-use Rattle.rx_book.proofs.Items.{box_member, just_without, without_member}
+use Rattle.rx_book.proofs.ListMembers.{All-members}
+use Rattle.rx_book.proofs.ListNumbers.{just_same, just_append, just_one}
+use Rattle.rx_book.proofs.ShelvedCalm.{IsCalm, is_held_at_calm, record_calm}
+use Rattle.rx_book.proofs.HistoryHeldAt.{held_at_parts}
+use Rattle.rx_book.proofs.HistoryPushed.{all_written_push}
+use Rattle.rx_book.proofs.TreeRecords.{HasBox, held_box, rewritten, rewritten_has}
+use Rattle.rx_book.proofs.ShelvedKeys.{box_held, elsewhere_not}
+use Rattle.rx_book.proofs.ListItems.{box_member, just_without, without_member}
 
 calm_remove : (r : ℕ) → IsCalm (Remove r)
 calm_remove r = record { shuts = refl; makes = refl; tag = refl; accepts = refl; source = λ n. refl }

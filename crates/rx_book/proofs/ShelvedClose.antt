@@ -27,12 +27,12 @@ use Rattle.rx_register.specs.Kept.{Closes, outlives, shuts_a_node}
 use Rattle.rx_book.specs.State.{AreJust}
 use Rattle.rx_book.specs.Shelved.{is_held_at, numbers, IsAsWritten, IsRecordOf, HasRecord, IsShelved}
 use Rattle.std.specs.Cmp.{both_ways as same_test}
-use Rattle.rx_book.proofs.Members.{All-members}
-use Rattle.rx_book.proofs.JustNumbers.{just_same, just_append}
-use Rattle.rx_book.proofs.HeldAt.{held_at_parts, held_at_from, held_node}
-use Rattle.rx_book.proofs.Climbs.{below_not_outlives}
-use Rattle.rx_book.proofs.Ended.{ends_source_none, any_ended, uses_ended, node_of_ended, tag_ended, is_held_ended, is_waiting_ended}
-use Rattle.rx_book.proofs.Moved.{held_among, among_member, member_among, moved_just, moved_written}
+use Rattle.rx_book.proofs.ListMembers.{All-members}
+use Rattle.rx_book.proofs.ListNumbers.{just_same, just_append}
+use Rattle.rx_book.proofs.HistoryHeldAt.{held_at_parts, held_at_from, held_node}
+use Rattle.rx_book.proofs.ShelvedClimbs.{below_not_outlives}
+use Rattle.rx_book.proofs.HistoryEnded.{ends_source_none, any_ended, uses_ended, node_of_ended, tag_ended, is_held_ended, is_waiting_ended}
+use Rattle.rx_book.proofs.ShelvedMoved.{held_among, among_member, member_among, moved_just, moved_written}
 use Rattle.rx_book.proofs.Options.{left_of}
 
 -- a history that goes on by ends and closings, after which just what outlives the top is open

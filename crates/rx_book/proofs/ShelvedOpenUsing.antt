@@ -18,11 +18,12 @@ use Rattle.rx_tree.specs.Boxes.{with_box}
 use Rattle.rx_tree.specs.Tree.{Tree, blank_node, on_boxes}
 use Rattle.rx_stock.specs.Stock.{Opens, noting}
 use Rattle.rx_book.specs.Shelved.{numbers, IsRecordOf, IsShelved}
-use Rattle.rx_book.proofs.JustNumbers.{just_same}
-use Rattle.rx_book.proofs.Quiet.{record_noting, waits_still}
-use Rattle.rx_book.proofs.Pushed.{all_written_push}
-use Rattle.rx_book.proofs.Openings.{lawful_parts, older_open, LeavesAll, opening_leaves, record_opened, shelved_opened}
-use Rattle.rx_book.proofs.Accepted.{waiting_unmoved, IsFresh, record_beside, record_holding}
+use Rattle.rx_book.proofs.ListNumbers.{just_same}
+use Rattle.rx_book.proofs.ShelvedQuiet.{record_noting, waits_still}
+use Rattle.rx_book.proofs.HistoryPushed.{all_written_push}
+use Rattle.rx_book.proofs.HistoryLawful.{lawful_parts, lawful_two}
+use Rattle.rx_book.proofs.ShelvedOpen.{older_open, LeavesAll, opening_leaves, record_opened, shelved_opened}
+use Rattle.rx_book.proofs.ShelvedHold.{waiting_unmoved, IsFresh, record_beside, record_holding}
 
 module _ {T : Type 0} (g : Ghosts T) (h : List Event) (place : Place) (tag : ℕ) (law : IsLawful h) (next : MayFollow h (Open place Pass)) (lawful : IsLawful (h ++ Open place Pass ∷ [])) (leaves : LeavesAll (Open place Pass)) where
   -- the opening, the history after it, and that after the acceptance
@@ -65,7 +66,7 @@ shelved_open_using g h old new waiting key place tag above x s law plain numbere
     both = append_assoc h (Open place Pass ∷ []) (Accept (length h) tag ∷ [])
 
     then : IsLawful (h ++ Open place Pass ∷ []) × MayFollow (h ++ Open place Pass ∷ []) (Accept (length h) tag)
-    then = lawful_parts (h ++ Open place Pass ∷ []) (Accept (length h) tag) (subst IsLawful (sym both) law)
+    then = lawful_two h (Open place Pass) (Accept (length h) tag) law
 
     before : IsLawful h × MayFollow h (Open place Pass)
     before = lawful_parts h (Open place Pass) then.0

@@ -71,3 +71,8 @@ pub Contains-from_map : {X Y : Type 0} (f : X → Y) (xs : List X) (y : Y) → C
 Contains-from_map f [] y c = absurd (omega (arith, c.1))
 Contains-from_map f (x ∷ xs) y (zero, within, at) = (x, Contains-head x xs, at)
 Contains-from_map f (x ∷ xs) y (suc k, within, at) = let c = Contains-from_map f xs y (k, omega arith, at) in (c.0, Contains-later x xs c.0 c.1, c.2)
+
+-- a list that is mapped twice
+pub map-map : {X Y : Type 0} (f : X → Y) (g : Y → ℕ) (k : X → ℕ) → ((x : X) → g (f x) ≡ k x) → (xs : List X) → map g (map f xs) ≡ map k xs
+map-map f g k same [] = refl
+map-map f g k same (x ∷ xs) = rw (same x) (ap (λ (ns : List ℕ). k x ∷ ns) (map-map f g k same xs))

@@ -22,9 +22,9 @@ use Rattle.rx_book.specs.declared.key.Key.{Key}
 use Rattle.rx_book.specs.State.{Box, AreJust}
 use Rattle.rx_book.specs.Shown.{keys_from, keys_of, held_in, box_in}
 use Rattle.rx_book.specs.Shelved.{IsShelved}
-use Rattle.rx_book.proofs.Members.{AllPairs-head, AllPairs-tail}
-use Rattle.rx_book.proofs.JustListed.{keys_just, held_just, waiting_just}
-use Rattle.rx_book.proofs.JustNumbers.{just_counted}
+use Rattle.rx_book.proofs.ListMembers.{AllPairs-head, AllPairs-tail}
+use Rattle.rx_book.proofs.ShelvedNumbers.{keys_just, held_just, waiting_just}
+use Rattle.rx_book.proofs.ListNumbers.{just_counted}
 
 module _ {T : Type 0} where
   keys_counted : (slot : ℕ) (entries : List (Option (Entry (Node T)))) → length (keys_from slot entries) ≡ count_by is_some entries

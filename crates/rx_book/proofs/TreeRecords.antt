@@ -13,7 +13,7 @@ use Rattle.rx_tree.specs.Tree.{Tree, Rewrites, resource_at}
 use Rattle.rx_tree.specs.Laws.Keys.{cases_key}
 use Rattle.rx_tree.specs.Laws.Written.{entry_found, found_entry, key_found}
 use Rattle.rx_book.specs.Shelved.{HasRecord}
-use Rattle.rx_book.proofs.Items.{box_member}
+use Rattle.rx_book.proofs.ListItems.{box_member}
 
 -- the key of an entry finds its value
 pub entry_finds : {X : Type 0} (s : Slots X) (slot : ℕ) (e : Entry X) → entry_at s slot ≡ Some e → find s (record { slot = slot; number = e.number }) ≡ Some e.value
@@ -27,6 +27,7 @@ module _ {T : Type 0} where
     of None read at = absurd (none-some x at)
     of (Some e) read at = (e.number, e.value, entry_finds tree res.slot e read, at)
 
+  -- and a resource in the record of a slot is found there
   pub record_resource : (tree : Tree T) (k : ResKey) (number : ℕ) (node : Node T) → find tree (record { slot = k.slot; number = number }) ≡ Some node → IsSome (box_of k.number node.boxes) → IsSome (resource_at tree k)
   record_resource tree k number node found held =
       let at = entry_found tree (record { slot = k.slot; number = number }) node found in

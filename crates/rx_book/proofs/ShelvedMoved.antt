@@ -21,9 +21,9 @@ use Rattle.rx_tree.specs.Closing.{IsSubtree}
 use Rattle.rx_stock.specs.Stock.{resources_of}
 use Rattle.rx_book.specs.State.{AreJust}
 use Rattle.rx_book.specs.Shelved.{is_held_at, numbers, IsAsWritten, IsShelved}
-use Rattle.rx_book.proofs.Members.{All-members, Contains-head, Contains-later, Contains-none, AllPairs-head, AllPairs-tail, AllPairs-weaker}
-use Rattle.rx_book.proofs.JustNumbers.{just_same, just_none, just_append, just_passes, distinct_fit}
-use Rattle.rx_book.proofs.HeldAt.{held_at_parts}
+use Rattle.rx_book.proofs.ListMembers.{All-members, Contains-head, Contains-later, Contains-none, AllPairs-head, AllPairs-tail, AllPairs-weaker}
+use Rattle.rx_book.proofs.ListNumbers.{just_same, just_none, just_append, just_passes, distinct_fit}
+use Rattle.rx_book.proofs.HistoryHeldAt.{held_at_parts}
 
 module _ {T : Type 0} where
   -- the resource is held at a node of one of these records

@@ -22,14 +22,14 @@ use Rattle.rx_tree.specs.Tree.{Tree, Rewrites, IsSound, resource_at, on_boxes}
 use Rattle.rx_stock.specs.Stock.{Stock, Uses}
 use Rattle.rx_book.specs.State.{AreJust, accepted_tag}
 use Rattle.rx_book.specs.Shelved.{is_held_at, numbers, IsAsWritten, IsRecordOf, IsShelved}
-use Rattle.rx_book.proofs.Members.{Contains-map, AllPairs-head, AllPairs-tail}
-use Rattle.rx_book.proofs.JustNumbers.{just_same, just_passes}
-use Rattle.rx_book.proofs.Calm.{IsCalm, is_held_at_calm, record_calm}
-use Rattle.rx_book.proofs.Pushed.{read_push, written_push, all_written_push}
-use Rattle.rx_book.proofs.HeldAt.{held_at_parts}
-use Rattle.rx_book.proofs.Records.{HasBox, held_box, key_of_resource, rewritten, rewritten_has}
-use Rattle.rx_book.proofs.Alive.{box_held, elsewhere_not}
-use Rattle.rx_book.proofs.Items.{box_member, lookup_later, set_here, set_later, numbers_set}
+use Rattle.rx_book.proofs.ListMembers.{Contains-map, AllPairs-head, AllPairs-tail}
+use Rattle.rx_book.proofs.ListNumbers.{just_same, just_passes}
+use Rattle.rx_book.proofs.ShelvedCalm.{IsCalm, is_held_at_calm, record_calm}
+use Rattle.rx_book.proofs.HistoryPushed.{read_push, written_push, all_written_push}
+use Rattle.rx_book.proofs.HistoryHeldAt.{held_at_parts}
+use Rattle.rx_book.proofs.TreeRecords.{HasBox, held_box, key_of_resource, rewritten, rewritten_has}
+use Rattle.rx_book.proofs.ShelvedKeys.{box_held, elsewhere_not}
+use Rattle.rx_book.proofs.ListItems.{box_member, lookup_later, set_here, set_later, numbers_set}
 
 calm_use : (r : ℕ) → IsCalm (Use r)
 calm_use r = record { shuts = refl; makes = refl; tag = refl; accepts = refl; source = λ n. refl }

@@ -22,9 +22,9 @@ use Rattle.rx_tree.specs.Tree.{Tree}
 use Rattle.rx_stock.specs.Stock.{noting}
 use Rattle.rx_book.specs.State.{AreJust, accepted_tag}
 use Rattle.rx_book.specs.Shelved.{is_held_at, numbers, IsAsWritten, IsRecordOf, IsShelved}
-use Rattle.rx_book.proofs.JustNumbers.{just_same}
-use Rattle.rx_book.proofs.Pushed.{any_push, all_written_push}
-use Rattle.rx_book.proofs.HeldAt.{held_at_unchanged}
+use Rattle.rx_book.proofs.ListNumbers.{just_same}
+use Rattle.rx_book.proofs.HistoryPushed.{any_push, all_written_push}
+use Rattle.rx_book.proofs.HistoryHeldAt.{held_at_unchanged}
 
 module _ {T : Type 0} (g : Ghosts T) (h : List Event) (e : Event) where
   -- the record of an older node, which notes a source that is opened below it

@@ -27,11 +27,11 @@ use Rattle.rx_book.specs.State.{AreJust, accepted_tag}
 use Rattle.rx_book.specs.Shelved.{is_held_at, numbers, IsAsWritten, IsRecordOf, HasRecord, IsShelved}
 use Rattle.rx_tree.specs.Laws.Keys.{cases_key, some_of}
 use Rattle.rx_book.proofs.Options.{mapped}
-use Rattle.rx_book.proofs.Alive.{alive_key}
-use Rattle.rx_book.proofs.JustNumbers.{just_same, just_push}
-use Rattle.rx_book.proofs.HeldAt.{held_at_past, unheld_elsewhere, held_at_from}
-use Rattle.rx_book.proofs.Pushed.{any_push, all_written_push}
-use Rattle.rx_book.proofs.Records.{rewritten, rewritten_has}
+use Rattle.rx_book.proofs.ShelvedKeys.{alive_key}
+use Rattle.rx_book.proofs.ListNumbers.{just_same, just_push}
+use Rattle.rx_book.proofs.HistoryHeldAt.{held_at_past, unheld_elsewhere, held_at_from}
+use Rattle.rx_book.proofs.HistoryPushed.{any_push, all_written_push}
+use Rattle.rx_book.proofs.TreeRecords.{rewritten, rewritten_has}
 
 -- what is held and what waits after an acceptance --------------------------------------------------
 

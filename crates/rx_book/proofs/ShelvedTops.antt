@@ -1,19 +1,27 @@
--- The way up, key by key.
-use Rattle.std.proofs.Common.{◌≡◌, ℕ, ◌<◌, nat_lt, List, Some, None, IsSome, sym, ◌∙◌}
+-- The way up to the top, key by key, is that of the history.
+use Rattle.std.proofs.Common.{◌≡◌, ℕ, ◌<◌, nat_lt, List, Some, None, IsSome, sym, ◌∙◌, refl}
 use Rattle.std.proofs.lemmas.Bool.{ltb-true}
 use Rattle.std.proofs.lemmas.Option.{cond_some, option_and_then_some}
 use Rattle.rx_resource.specs.declared.Resource.{Ghosts}
 use Rattle.rx_event.specs.declared.event.Event.{Event}
 use Rattle.rx_event.specs.Events.{parent_named}
-use Rattle.rx_event.specs.Tree.{if_less}
+use Rattle.rx_event.specs.Tree.{if_less, parent}
 use Rattle.rx_slots.specs.declared.Key.{Key}
 use Rattle.rx_slots.specs.Slots.{find}
 use Rattle.rx_tree.specs.Tree.{Tree, named_above, parent_number}
 use Rattle.rx_register.specs.Kept.{top_of}
 use Rattle.rx_book.specs.Shelved.{IsShelved}
 use Rattle.rx_tree.specs.Laws.Keys.{some_of}
-use Rattle.rx_book.proofs.Climbs.{parent_in_tree}
-use Rattle.rx_book.proofs.Upward.{top_of_root, top_of_parent}
+use Rattle.rx_book.proofs.ShelvedClimbs.{parent_in_tree}
+use Rattle.rx_event.specs.Laws.Parents.{ancestors_step}
+
+-- the way up from the node above leads to the same end
+pub top_of_parent : (h : List Event) (n p : ℕ) → parent h n ≡ Some p → top_of h n ≡ top_of h p
+top_of_parent h n p below = rw (ancestors_step h n, below, ancestors_step h p) refl
+
+-- where no node is above, it ends
+pub top_of_root : (h : List Event) (n : ℕ) → parent h n ≡ None → top_of h n ≡ n
+top_of_root h n below = rw (ancestors_step h n, below) refl
 
 module _ {T : Type 0} where
   -- the node above has the smaller number

@@ -29,13 +29,13 @@ use Rattle.rx_book.specs.Answers.{Accepts}
 use Rattle.rx_book.specs.Shown.{tree_key_of, keys_of, state_of}
 use Rattle.rx_book.specs.Shelved.{IsShelved, IsStanding}
 use Rattle.std.specs.Cmp.{both_ways as same_test}
-use Rattle.rx_book.proofs.Listed.{has_key_is}
-use Rattle.rx_book.proofs.Upward.{child_is_child}
-use Rattle.rx_book.proofs.Counted.{waiting_counted}
-use Rattle.rx_book.proofs.Frames.{frame_cut, accepts_shown}
-use Rattle.rx_book.proofs.Moved.{moved_fit}
-use Rattle.rx_book.proofs.Shut.{shelved_close}
-use Rattle.rx_book.proofs.Ended.{count_ended, ends_make_none}
+use Rattle.rx_book.proofs.ShownKeys.{has_key_is}
+use Rattle.rx_book.proofs.ShelvedChildren.{child_is_child}
+use Rattle.rx_book.proofs.ShelvedCounts.{waiting_counted}
+use Rattle.rx_book.proofs.ShownKeysKept.{frame_cut, accepts_shown}
+use Rattle.rx_book.proofs.ShelvedMoved.{moved_fit}
+use Rattle.rx_book.proofs.ShelvedClose.{shelved_close}
+use Rattle.rx_book.proofs.HistoryEnded.{count_ended, ends_make_none}
 
 -- counts that ends and closings leave ----------------------------------------------------------------
 

@@ -33,22 +33,11 @@ use Rattle.rx_book.specs.Shelved.{is_held_at, numbers, IsAsWritten, IsRecordOf, 
 use Rattle.rx_tree.specs.Laws.Keys.{same_key}
 use Rattle.rx_tree.specs.Laws.Written.{one_key}
 use Rattle.rx_book.proofs.Options.{mapped}
-use Rattle.rx_book.proofs.JustNumbers.{just_none}
-use Rattle.rx_book.proofs.Pushed.{any_push, all_written_push}
-use Rattle.rx_book.proofs.HeldAt.{held_at_unchanged, none_held_at}
-use Rattle.rx_book.proofs.Quiet.{record_noting, waits_still}
-
--- lawful histories --------------------------------------------------------------------------------
-
-AllByRecursion-parts : {X : Type 0} (P : X → Type 0) (xs : List X) (x : X) → AllByRecursion P (xs ++ x ∷ []) → AllByRecursion P xs × P x
-AllByRecursion-parts P [] x all = (tt, all.0)
-AllByRecursion-parts P (y ∷ xs) x all = let rest = AllByRecursion-parts P xs x all.1 in ((all.0, rest.0), rest.1)
-
--- the history before the last event is lawful, and that event may follow it
-pub lawful_parts : (h : List Event) (e : Event) → IsLawful (h ++ e ∷ []) → IsLawful h × MayFollow h e
-lawful_parts h e law =
-    let parts = AllByRecursion-parts (λ (m : Moment). MayFollow m.before m.event) (moments h) (record { before = h; event = e }) (subst (λ (ms : List Moment). AllByRecursion (λ (m : Moment). MayFollow m.before m.event) ms) (moments-push h e) law.each) in
-    (record { each = parts.0 }, parts.1)
+use Rattle.rx_book.proofs.ListNumbers.{just_none}
+use Rattle.rx_book.proofs.HistoryPushed.{any_push, all_written_push}
+use Rattle.rx_book.proofs.HistoryHeldAt.{held_at_unchanged, none_held_at}
+use Rattle.rx_book.proofs.ShelvedQuiet.{record_noting, waits_still}
+use Rattle.rx_book.proofs.HistoryLawful.{lawful_parts}
 
 opens_no_source : (h : List Event) (e : Event) → MayFollow h e → (n : ℕ) → length h ≤ n → is_source_of n e ≡ false
 opens_no_source h (Open (Source q) kind) next n past = let within = is_open_within h q (may_open next).0 in ne_eqb q n (omega arith)

@@ -20,7 +20,7 @@ use Rattle.rx_event.specs.Laws.Totals.{uses-push}
 use Rattle.rx_tree.specs.declared.node.Node.{Node}
 use Rattle.rx_book.specs.State.{AreJust, accepted_tag}
 use Rattle.rx_book.specs.Shelved.{is_held_at, numbers, IsAsWritten, IsRecordOf}
-use Rattle.rx_book.proofs.Members.{All-members}
+use Rattle.rx_book.proofs.ListMembers.{All-members}
 
 -- what is read of the events of a history, where the new one gives nothing
 pub read_push : {X : Type 0} (f : Event → Option X) (h : List Event) (e : Event) → f e ≡ None → (n : ℕ) → option_and_then f (slice_get (h ++ e ∷ []) n) ≡ option_and_then f (slice_get h n)

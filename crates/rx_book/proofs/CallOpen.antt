@@ -33,10 +33,11 @@ use Rattle.rx_book.specs.Shelved.{key_above, is_there, IsSpot, IsShelved, IsStan
 use Rattle.rx_book.specs.declared.answer.At.{At}
 use Rattle.rx_book.specs.declared.answer.At.TheVariants.{Root as AtRoot, Source as AtSource, Inner as AtInner, Notifier as AtNotifier}
 use Rattle.rx_book.specs.declared.standing.Spot.{Spot}
-use Rattle.rx_book.proofs.Listed.{has_key_is}
-use Rattle.rx_book.proofs.Alive.{alive_key, placed_root}
-use Rattle.rx_book.proofs.Openings.{lawful_parts, opening_leaves, shelved_open}
-use Rattle.rx_book.proofs.UsingOpenings.{shelved_open_using}
+use Rattle.rx_book.proofs.ShownKeys.{has_key_is}
+use Rattle.rx_book.proofs.ShelvedKeys.{alive_key, placed_root}
+use Rattle.rx_book.proofs.HistoryLawful.{lawful_parts, lawful_two}
+use Rattle.rx_book.proofs.ShelvedOpen.{opening_leaves, shelved_open}
+use Rattle.rx_book.proofs.ShelvedOpenUsing.{shelved_open_using}
 
 -- an opening makes no connection
 pub unconnected : (h : List Event) (place : Place) (kind : Kind) → ◌≡◌ {A = Option ℕ} None (connection_made h (h ++ Open place kind ∷ []))
@@ -51,7 +52,7 @@ held_after h place tag law plain =
     both = append_assoc h (Open place Pass ∷ []) (Accept (length h) tag ∷ [])
 
     then : IsLawful (h ++ Open place Pass ∷ []) × MayFollow (h ++ Open place Pass ∷ []) (Accept (length h) tag)
-    then = lawful_parts (h ++ Open place Pass ∷ []) (Accept (length h) tag) (subst IsLawful (sym both) law)
+    then = lawful_two h (Open place Pass) (Accept (length h) tag) law
 
     before : IsLawful h × MayFollow h (Open place Pass)
     before = lawful_parts h (Open place Pass) then.0
