@@ -1,4 +1,4 @@
-use Rattle.rx_book.proofs.Alive.{held_key}
+use Rattle.rx_book.proofs.ShelvedKeys.{held_key}
 use Rattle.rx_book.proofs.admission.admit_applying.Goals as goal
 
 pub applying_cause-requires-clause-held : goal.applying_cause-requires-clause-held

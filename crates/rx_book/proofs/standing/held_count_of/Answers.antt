@@ -1,6 +1,6 @@
 use Rattle.std.proofs.Common.{◌≡◌, ◌∙◌}
-use Rattle.rx_book.proofs.Counted.{waiting_counted}
-use Rattle.rx_book.proofs.Views.{taken_within, waiting_within, held_is}
+use Rattle.rx_book.proofs.ShelvedCounts.{waiting_counted}
+use Rattle.rx_book.proofs.ShownPromise.{taken_within, waiting_within, held_is}
 use Rattle.rx_book.proofs.standing.held_count_of.Goals as goal
 
 pub overflow_sub-result : goal.overflow_sub-result

@@ -1,9 +1,9 @@
 use Rattle.std.proofs.Common.{◌≡◌, ◌≤◌, ℕ, subst, sym, ◌∙◌, arith}
 use Rattle.rx_slots.specs.Slots.{slot_count}
 use Rattle.rx_book.specs.Shelved.{IsLeastRoot}
-use Rattle.rx_book.proofs.Roots.{least_start, least_free, least_step}
-use Rattle.rx_book.proofs.standing.least_root.Goals as goal
+use Rattle.rx_book.proofs.ShelvedRoots.{least_start, least_free, least_step}
 use Rattle.rx_book.proofs.standing.least_root.Goals.{in-Some, in_default}
+use Rattle.rx_book.proofs.standing.least_root.Goals as goal
 
 pub loop-slot-init : goal.loop-slot-init
 loop-slot-init g c = least_start c.args.stock.now.tree

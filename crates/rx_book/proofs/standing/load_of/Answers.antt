@@ -2,8 +2,8 @@ use Rattle.std.proofs.Common.{◌≡◌, ◌+◌, ◌-◌, ◌*◌, ◌≤◌, �
 use Rattle.std.proofs.lemmas.List.Sums.{count_by-le-length}
 use Rattle.rx_event.specs.Events.{makes_resource}
 use Rattle.rx_event.specs.Totals.{debt, open_count, waiting_count}
-use Rattle.rx_book.proofs.Counted.{open_counted, waiting_counted}
-use Rattle.rx_book.proofs.Views.{taken_within, waiting_within, load_within, load_is}
+use Rattle.rx_book.proofs.ShelvedCounts.{open_counted, waiting_counted}
+use Rattle.rx_book.proofs.ShownPromise.{taken_within, waiting_within, load_within, load_is}
 use Rattle.rx_book.proofs.standing.load_of.Goals as goal
 
 pub overflow_sub-untaken : goal.overflow_sub-untaken

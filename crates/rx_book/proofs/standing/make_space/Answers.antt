@@ -3,8 +3,8 @@ use Rattle.std.specs.Prelude.{OnOk}
 use Rattle.std.proofs.lemmas.List.Sums.{count_by-le-length}
 use Rattle.rx_event.specs.Events.{makes_resource}
 use Rattle.rx_stock.specs.Stock.{Stock}
-use Rattle.rx_book.proofs.Counted.{waiting_counted}
-use Rattle.rx_book.proofs.Views.{taken_within, waiting_within, held_is}
+use Rattle.rx_book.proofs.ShelvedCounts.{waiting_counted}
+use Rattle.rx_book.proofs.ShownPromise.{taken_within, waiting_within, held_is}
 use Rattle.rx_book.proofs.standing.make_space.Goals as goal
 
 on_ok : {A E P : Type 0} (r : Result A E) → P → OnOk r P

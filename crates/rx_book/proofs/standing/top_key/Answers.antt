@@ -1,5 +1,5 @@
 use Rattle.std.proofs.Common.{refl, sym, ◌∙◌}
-use Rattle.rx_book.proofs.Tops.{above_less, top_from_above, top_here}
+use Rattle.rx_book.proofs.ShelvedTops.{above_less, top_from_above, top_here}
 use Rattle.rx_book.proofs.standing.top_key.Goals as goal
 
 pub loop-above-init : goal.loop-above-init

@@ -1,7 +1,8 @@
 use Rattle.std.proofs.Common.{length, true}
 use Rattle.rx_event.specs.Calls.{Applying}
 use Rattle.rx_book.specs.Shown.{tree_res_key_of}
-use Rattle.rx_book.proofs.Handled.{passed_on, same_history, followed, refused_by_res_key, accepted_by_res_key, held_live, held_countable, standing_use, keeps_used}
+use Rattle.rx_book.proofs.Options.{passed_on}
+use Rattle.rx_book.proofs.CallResources.{same_history, followed, refused_by_res_key, accepted_by_res_key, held_live, held_countable, standing_use, keeps_used}
 use Rattle.rx_book.proofs.book.Book.apply.Goals as goal
 
 pub returns-in_err-admit_applying-clause-refused : goal.returns-in_err-admit_applying-clause-refused

@@ -6,7 +6,7 @@ use Rattle.rx_register.specs.Causes.{causes}
 use Rattle.rx_register.specs.Kept.{top_of}
 use Rattle.rx_book.specs.State.{has_key}
 use Rattle.rx_book.specs.Shown.{keys_of}
-use Rattle.rx_book.proofs.Closings.{gone_first, cause_first, key_known, key_unknown, closes_at, closing_fits, standing_close, accepts_close}
+use Rattle.rx_book.proofs.CallClose.{gone_first, cause_first, key_known, key_unknown, closes_at, closing_fits, standing_close, accepts_close}
 use Rattle.rx_book.proofs.book.Book.end.Goals as goal
 
 pub returns-then-not-contains-clause-refused : goal.returns-then-not-contains-clause-refused

@@ -2,8 +2,9 @@ use Rattle.std.proofs.Common.{◌∙◌, sym, refl, ap, inr, length, List, arith
 use Rattle.rx_event.specs.declared.event.Event.{Event}
 use Rattle.rx_event.specs.Calls.{Holding}
 use Rattle.rx_book.specs.Shown.{tree_key_of}
-use Rattle.rx_book.proofs.Frames.{frame_hold, held_there}
-use Rattle.rx_book.proofs.Handled.{same_history, followed, refused_by_key, no_cause_by_key, accepted_by_key, rewrites_before, unused_now, fresh_parts, held_fresh, standing_held}
+use Rattle.rx_book.proofs.ShownKeysKept.{frame_hold, held_there}
+use Rattle.rx_book.proofs.CallResources.{same_history, followed, refused_by_key, no_cause_by_key, accepted_by_key, rewrites_before, unused_now, standing_held}
+use Rattle.rx_book.proofs.CallAdmitted.{fresh_parts, held_fresh}
 use Rattle.rx_book.proofs.book.Book.hold.Goals as goal
 
 pub returns-in-Err-clause-refused : goal.returns-in-Err-clause-refused

@@ -1,5 +1,6 @@
 use Rattle.std.proofs.Common.{◌≡◌, ◌∙◌, sym}
-use Rattle.rx_book.proofs.Listed.{has_res_key_is, same_test}
+use Rattle.rx_book.proofs.ShownKeys.{has_res_key_is}
+use Rattle.std.specs.Cmp.{both_ways as same_test}
 use Rattle.rx_book.proofs.book.Book.is_held.Goals as goal
 
 pub returns : goal.returns

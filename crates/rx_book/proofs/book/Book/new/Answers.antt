@@ -1,5 +1,5 @@
 use Rattle.std.proofs.Common.{◌≡◌, ◌≤◌, arith}
-use Rattle.rx_book.proofs.Begun.{shelved_new}
+use Rattle.rx_book.proofs.ShelvedNew.{shelved_new}
 use Rattle.rx_book.proofs.book.Book.new.Goals as goal
 
 pub invariant_of-result : goal.invariant_of-result

@@ -1,8 +1,9 @@
 use Rattle.std.proofs.Common.{refl, true, w64}
 use Rattle.std.proofs.lemmas.Int.{to_z-of_z}
 use Rattle.rx_event.specs.Calls.{Emitting}
-use Rattle.rx_book.proofs.Frames.{frame_same}
-use Rattle.rx_book.proofs.Handled.{passed_on, same_history, followed, refused_by_key, accepted_by_key, standing_item}
+use Rattle.rx_book.proofs.ShownKeysKept.{frame_same}
+use Rattle.rx_book.proofs.Options.{passed_on}
+use Rattle.rx_book.proofs.CallResources.{same_history, followed, refused_by_key, accepted_by_key, standing_item}
 use Rattle.rx_book.proofs.book.Book.next.Goals as goal
 
 pub returns-in_err-admit_item-clause-refused : goal.returns-in_err-admit_item-clause-refused

@@ -3,9 +3,10 @@ use Rattle.rx_event.specs.Calls.{Opening}
 use Rattle.rx_register.specs.Kept.{Kept}
 use Rattle.rx_book.specs.State.{State}
 use Rattle.rx_book.specs.Answers.{is_known}
-use Rattle.rx_book.proofs.Alive.{unused_next}
-use Rattle.rx_book.proofs.Placed.{plain_opening, unconnected, known_there, placed_spot, shelved_same, standing_open}
-use Rattle.rx_book.proofs.Frames.{accepts, frame_opened, key_there}
+use Rattle.rx_book.proofs.ShelvedKeys.{unused_next}
+use Rattle.rx_book.proofs.CallAdmitted.{plain_opening}
+use Rattle.rx_book.proofs.CallOpen.{unconnected, known_there, placed_spot, shelved_same, standing_open}
+use Rattle.rx_book.proofs.ShownKeysKept.{accepts, frame_opened, key_there}
 use Rattle.rx_book.proofs.book.Book.open.Goals as goal
 
 pub returns-in_err-spot-clause-refused : goal.returns-in_err-spot-clause-refused

@@ -1,5 +1,5 @@
 use Rattle.std.proofs.Common.{◌≡◌, ◌∙◌, sym}
-use Rattle.rx_book.proofs.Counted.{open_counted}
+use Rattle.rx_book.proofs.ShelvedCounts.{open_counted}
 use Rattle.rx_book.proofs.book.Book.open_count.Goals as goal
 
 pub returns : goal.returns

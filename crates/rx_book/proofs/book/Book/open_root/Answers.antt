@@ -1,6 +1,6 @@
 use Rattle.std.proofs.Common.{◌≡◌, ◌≤◌, None, Some, arith}
 use Rattle.rx_slots.specs.Slots.{slot_count}
-use Rattle.rx_book.proofs.Roots.{open_root, root_listed}
+use Rattle.rx_book.proofs.ShelvedRoots.{open_root, root_listed}
 use Rattle.rx_book.proofs.book.Book.open_root.Goals as goal
 
 pub returns-in_err-root-clause-least : goal.returns-in_err-root-clause-least

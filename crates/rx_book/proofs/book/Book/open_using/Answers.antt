@@ -9,9 +9,10 @@ use Rattle.rx_stock.specs.Stock.{Stock}
 use Rattle.rx_book.specs.State.{State}
 use Rattle.rx_book.specs.Answers.{is_known, place_of}
 use Rattle.rx_book.specs.Shelved.{IsShelved}
-use Rattle.rx_book.proofs.Alive.{unused_next}
-use Rattle.rx_book.proofs.Placed.{plain_using, used_fresh, fresh_parts, known_there, placed_spot, shelved_same, standing_using}
-use Rattle.rx_book.proofs.Frames.{accepts, frame_opened_using, key_there, res_key_there, box_added}
+use Rattle.rx_book.proofs.ShelvedKeys.{unused_next}
+use Rattle.rx_book.proofs.CallAdmitted.{plain_using, used_fresh, fresh_parts}
+use Rattle.rx_book.proofs.CallOpen.{known_there, placed_spot, shelved_same, standing_using}
+use Rattle.rx_book.proofs.ShownKeysKept.{accepts, frame_opened_using, key_there, res_key_there, box_added}
 use Rattle.rx_book.proofs.book.Book.open_using.Goals as goal
 
 pub returns-in-Err-clause-refused : goal.returns-in-Err-clause-refused

@@ -1,4 +1,4 @@
-use Rattle.rx_book.proofs.Views.{kept_state}
+use Rattle.rx_book.proofs.ShownPromise.{kept_state}
 use Rattle.rx_book.proofs.book.Book.promise.Goals as goal
 
 pub returns : goal.returns

@@ -4,9 +4,9 @@ use Rattle.rx_event.specs.Calls.{Removing}
 use Rattle.rx_register.specs.Causes.{causes}
 use Rattle.rx_book.specs.Causes.{by_res_key}
 use Rattle.rx_book.specs.Shown.{tree_res_key_of}
-use Rattle.rx_book.proofs.Frames.{frame_removed}
-use Rattle.rx_book.proofs.Alive.{held_key}
-use Rattle.rx_book.proofs.Handled.{unheld_by_res_key, accepted_by_res_key, room_to_remove, standing_remove}
+use Rattle.rx_book.proofs.ShownKeysKept.{frame_removed}
+use Rattle.rx_book.proofs.ShelvedKeys.{held_key}
+use Rattle.rx_book.proofs.CallResources.{unheld_by_res_key, accepted_by_res_key, room_to_remove, standing_remove}
 use Rattle.rx_book.proofs.book.Book.remove.Goals as goal
 
 pub returns-then-not-holds-clause-refused : goal.returns-then-not-holds-clause-refused

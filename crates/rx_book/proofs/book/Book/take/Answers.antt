@@ -1,4 +1,4 @@
-use Rattle.rx_book.proofs.Handled.{standing_take, last_listed}
+use Rattle.rx_book.proofs.CallResources.{standing_take, last_listed}
 use Rattle.rx_book.proofs.book.Book.take.Goals as goal
 
 pub invariant_of-self-2 : goal.invariant_of-self-2

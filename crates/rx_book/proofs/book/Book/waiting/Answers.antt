@@ -1,5 +1,5 @@
 use Rattle.std.proofs.Common.{◌≡◌, ◌∙◌}
-use Rattle.rx_book.proofs.Counted.{waiting_counted}
+use Rattle.rx_book.proofs.ShelvedCounts.{waiting_counted}
 use Rattle.rx_book.proofs.book.Book.waiting.Goals as goal
 
 pub returns : goal.returns
