@@ -390,28 +390,29 @@ fn a_thousand_nodes_are_closed_with_no_memory_left(rt: HostRuntime) -> Result<()
     Ok(())
 }
 
+// Opens a chain of 3,000 nodes in an empty tree and closes it: the slot of the first node, and
+// whether all came out, each once and after the one that it stood below.
+fn closed_chain(alloc: Global, tree: &mut Tree<Tally>, first: u64) -> Result<(usize, bool), Fail> {
+    let top = chain_from(tree, first, 3000)?;
+    let mut closed = Vec::with_capacity(alloc, 3000)?;
+    if tree.len() <= closed.capacity() && tree.contains(top) {
+        tree.close_below(top, &mut closed);
+    }
+    let mut whole = tree.len() == 0 && closed.len() == 3000;
+    let mut number = first;
+    for record in closed {
+        whole = whole && record.key.number == number;
+        number = number.wrapping_add(2);
+    }
+    Ok((top.slot, whole))
+}
+
 #[test]
 fn a_chain_is_closed_whole_whether_its_slots_rise_or_fall(rt: HostRuntime) -> Result<(), Fail> {
     let mut tree = Tree::new(rt.alloc());
+    assert_eq!(rt; closed_chain(rt.alloc(), &mut tree, 0)?, (0, true));
     // The second chain takes the slots of the first, the one that came free last first.
-    for (first, top_slot) in [(0u64, 0), (6000, 2999)] {
-        let top = chain_from(&mut tree, first, 3000)?;
-        assert_eq!(rt;
-            (top.slot, tree.len(), tree.slot_count()),
-            (top_slot, 3000, 3000)
-        );
-        let mut closed = Vec::with_capacity(rt.alloc(), 3000)?;
-        if tree.len() <= closed.capacity() && tree.contains(top) {
-            tree.close_below(top, &mut closed);
-        }
-        assert_eq!(rt; (tree.len(), closed.len()), (0, 3000));
-        // Each record comes out after the one that it stood below, and so each once.
-        let mut number = first;
-        for record in closed {
-            assert_eq!(rt; record.key.number, number);
-            number = number.wrapping_add(2);
-        }
-    }
+    assert_eq!(rt; closed_chain(rt.alloc(), &mut tree, 6000)?, (2999, true));
     Ok(())
 }
 
