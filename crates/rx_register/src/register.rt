@@ -10,7 +10,7 @@ mod open;
 mod take;
 mod uses;
 
-ghost use Rattle.std.specs.Prelude.{◌≡◌, ◌+◌, ◌≤◌, [], length, slice_get, OnOk};
+ghost use Rattle.std.specs.Prelude.{◌≡◌, ◌+◌, ◌<◌, ◌≤◌, [], length, slice_get, OnOk, OnErr};
 ghost use Rattle.rx_event.specs.Totals.{item_count, accepted_count, taken_count};
 ghost use Rattle.rx_register.specs.Kept.{IsUpheld};
 
@@ -69,11 +69,14 @@ impl Register {
     }
 
     /// Gets room for so many events in all beyond those that are there, so that writing as many takes
-    /// no memory. Refused only where memory was refused. No event changes either way.
+    /// no memory. Refused only where there was less room and memory was refused. No event changes
+    /// either way.
     pub fn reserve(&mut self, events: u64) -> Result<(), AllocError>
         requires { length self.old.history + events ≤ self.old.limit }
         ensures ok { OnOk result (events ≤ self.new.room) }
+        ensures err { OnErr result (self.old.room < events) }
         ensures kept { self.new ≡ record self.old { room = self.new.room } }
+        ensures room { self.old.room ≤ self.new.room }
     {
         match self.history.reserve(events) {
             Ok(()) => Ok(()),

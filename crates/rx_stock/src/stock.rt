@@ -216,10 +216,11 @@ impl<R: Resource> Stock<R> {
         self.tree.made(key)
     }
 
-    /// Makes room for so many resources that wait, those that wait now counted in. Refused only where memory was
-    /// refused; nothing else changes either way.
+    /// Makes room for so many resources that wait, those that wait now counted in. Refused only where
+    /// there was less room and memory was refused; nothing else changes either way.
     pub fn reserve(&mut self, resources: usize) -> Result<(), AllocError>
         ensures ok { OnOk result (resources ≤ length self.new.waiting + self.new.room) }
+        ensures err { OnErr result (length self.old.waiting + self.old.room < resources) }
         ensures kept { self.new ≡ record self.old { room = self.new.room } }
         ensures room { self.old.room ≤ self.new.room }
     {
