@@ -8,7 +8,6 @@ use Rattle.rx_slots.specs.declared.Key.{Key}
 use Rattle.rx_slots.specs.Slots.{find, entry_at, key_at}
 use Rattle.rx_tree.specs.declared.node.Node.{Node}
 use Rattle.rx_tree.specs.declared.node.Closed.{Closed}
-use Rattle.rx_tree.specs.declared.boxes.Held.{Held}
 use Rattle.rx_tree.specs.declared.node.ResKey.{ResKey}
 use Rattle.rx_tree.specs.Tree.{Tree, IsChild, Rewrites, with_marks, on_boxes}
 use Rattle.rx_tree.specs.Boxes.{with_value}
@@ -35,10 +34,6 @@ module _ {T : Type 0} where
     pub was_free : entry_at old key.slot ≡ None
     pub opened : find new key ≡ Some node
     pub others : (other : Key) → other.slot ≢ key.slot → find new other ≡ option_map (noting node.made other.number) (find old other)
-
-  -- a resource with its number, as a pair
-  abbrev pub numbered : Held T → ℕ × T
-  numbered held = (held.number, held.resource)
 
   -- the resources of records, those of the last record first
   abbrev pub resources_of : List (Closed T) → List (ℕ × T)

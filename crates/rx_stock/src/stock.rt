@@ -6,11 +6,12 @@ ghost use Rattle.rx_slots.specs.declared.Key.{Key};
 ghost use Rattle.rx_slots.specs.Slots.{find, key_at, slot_count};
 ghost use Rattle.rx_tree.specs.declared.node.ResKey.{ResKey};
 ghost use Rattle.rx_event.specs.Events.{parent_named};
-ghost use Rattle.rx_stock.specs.Stock.{noting, numbered, resources_of};
+ghost use Rattle.rx_stock.specs.Stock.{noting, resources_of};
+ghost use Rattle.rx_tree.specs.Boxes.{numbered};
 
 use rx_event::{Event, Place};
 use rx_resource::Resource;
-use rx_tree::{Boxes, Closed, Held, Key, Marks, ResKey, Tree};
+use rx_tree::{Closed, Held, Key, Marks, ResKey, Tree};
 use std::alloc::{AllocError, Global};
 use std::marker::Model;
 
@@ -24,7 +25,8 @@ pub struct Stock<R: Resource> {
 
 impl<R: Resource> Model for Stock<R> {
     ghost use Rattle.std.specs.Prelude.{◌≡◌, ◌-◌, ◌≤◌, [], map, vec_len, vec_capacity};
-    ghost use Rattle.rx_stock.specs.Stock.{Stock as Shown, numbered};
+    ghost use Rattle.rx_stock.specs.Stock.{Stock as Shown};
+    ghost use Rattle.rx_tree.specs.Boxes.{numbered};
 
     ghost Value = { Shown R };
 
@@ -74,18 +76,6 @@ fn note_source<R: Resource>(tree: &mut Tree<R>, made: Event, above: Option<Key>)
     }
 }
 
-// Moves the resources of a node to those that wait, in order of holding.
-fn move_boxes<R: Resource>(boxes: &mut Boxes<R>, waiting: &mut Vec<Held<R>>)
-    requires room { vec_len waiting.old + length boxes.old ≤ vec_capacity waiting.old }
-    ensures moved { map numbered waiting.new.items ≡ map numbered waiting.old.items ++ boxes.old }
-    ensures len { vec_len waiting.new ≡ vec_len waiting.old + length boxes.old }
-    ensures capacity { vec_capacity waiting.new ≡ vec_capacity waiting.old }
-{
-    while let Some(held) = boxes.take_first() {
-        waiting.push_reserved(held);
-    }
-}
-
 // Moves the resources of closed records to those that wait, those of the last record first.
 fn spill<R: Resource>(closed: &mut Vec<Closed<R>>, waiting: &mut Vec<Held<R>>)
     requires room { vec_len waiting.old + length (resources_of closed.old.items) ≤ vec_capacity waiting.old }
@@ -96,7 +86,7 @@ fn spill<R: Resource>(closed: &mut Vec<Closed<R>>, waiting: &mut Vec<Held<R>>)
 {
     while let Some(record) = closed.pop() {
         let mut boxes = record.node.boxes;
-        move_boxes(&mut boxes, waiting);
+        boxes.move_all(waiting);
     }
 }
 

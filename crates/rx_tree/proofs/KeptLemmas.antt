@@ -9,7 +9,7 @@ use Rattle.rx_tree.specs.declared.boxes.Held.{Held}
 use Rattle.rx_tree.specs.declared.boxes.Ticketed.{Ticketed}
 use Rattle.rx_tree.specs.Kept.{items_of, ticketed_of, IsKept}
 use Rattle.rx_tree.proofs.Entries.{lookup_at, distinct-append, distinct-remove, distinct-set}
-use Rattle.rx_tree.proofs.Members.{member_at, item_absent, item_found, items_first, entry_at, items-remove, tickets-remove, items-set, tickets-set}
+use Rattle.rx_tree.proofs.Members.{member_at, item_absent, item_found, entry_at, items-remove, tickets-remove, items-set, tickets-set}
 
 module _ {T : Type 0} (tickets : List Ticketed) (group : Group (Box (Held T))) (kept : IsKept tickets group) where
   pub kept_absent : (n : ℕ) → All (λ t. t.number ≢ n) tickets → lookup (nat_eq n) (items_of group.members) ≡ None
@@ -62,13 +62,6 @@ module _ {T : Type 0} (tickets : List Ticketed) (group : Group (Box (Held T))) (
     kept_number b found =
         let same : member.0.1 ≡ b = let e = kept_member in cc in
         ap (λ (x : Box (Held T)). x.value.number) (sym same) ∙ number_is
-
-    -- the first resource goes
-    pub items_first_removed : (b : Box (Held T)) → value_at group t.ticket ≡ Some b → place ≡ 0 → items_of group.members ≡ (b.value.number, b.value.resource) ∷ items_of (without group t.ticket).members
-    items_first_removed b found first =
-        let same : member.0.1 ≡ b = let e = kept_member in cc in
-        let start = items_first group.members member.0 (subst (λ k. k < length group.members) first inside) (subst (λ k. member.0 ≡ get_or group.members k member.0) first member.1) in
-        subst (λ k. items_of group.members ≡ (b.value.number, b.value.resource) ∷ items_of (remove_entry (nat_eq k) group.members)) ticket_is (subst (λ (x : Box (Held T)). items_of group.members ≡ (x.value.number, x.value.resource) ∷ items_of (remove_entry (nat_eq member.0.0) group.members)) same start)
 
     -- the member goes
     pub items_removed : items_of (without group t.ticket).members ≡ remove_entry (nat_eq n) (items_of group.members)

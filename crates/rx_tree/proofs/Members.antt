@@ -1,6 +1,6 @@
 -- The place of a number among the members of a group, and what becomes of the items there.
 use Rattle.std.proofs.Common.{◌≡◌, ◌≢◌, ℕ, zero, suc, ◌<◌, nat_eq, List, [], ◌∷◌, length, map, get_or, Some, None, All, refl, sym, ap, ◌∙◌, arith}
-use Rattle.std.specs.List.{remove, HoldsAt}
+use Rattle.std.specs.List.{remove}
 use Rattle.std.specs.Map.{lookup, remove_entry, set_value}
 use Rattle.std.specs.Global.{Box}
 use Rattle.std.proofs.lemmas.List.{length-map, get_or-map}
@@ -16,11 +16,6 @@ pub entry_at : (ts : List Ticketed) (i : ℕ) → i < length ts → (t : Tickete
 entry_at [] i within = absurd (omega arith)
 entry_at (t ∷ ts) zero within = (t, refl)
 entry_at (t ∷ ts) (suc i) within = entry_at ts i (omega arith)
-
-pub number_at : (ts : List Ticketed) (i : ℕ) (t : Ticketed) → i < length ts → t ≡ get_or ts i t → HoldsAt (λ x. x.number ≡ t.number) ts i
-number_at [] i t within at d = absurd (omega arith)
-number_at (u ∷ ts) zero t within at d = ap (λ x. x.number) (sym at)
-number_at (u ∷ ts) (suc i) t within at d = number_at ts i t (omega arith) at d
 
 module _ {T : Type 0} where
   -- the member of a ticket that the list has
@@ -70,13 +65,6 @@ module _ {T : Type 0} where
   tickets-remove (e ∷ ms) (suc i) m tickets within at =
       let w : i < length ms = omega arith in
       rw (remove_later m.0 e ms (ticket_differs e ms i m tickets w at)) (ap (λ (xs : List Ticketed). ticketed_of e ∷ xs) (tickets-remove ms i m tickets.1 w at))
-
-  -- the first member goes
-  pub items_first : (ms : List (ℕ × Box (Held T))) (m : ℕ × Box (Held T)) → 0 < length ms → m ≡ get_or ms 0 m → items_of ms ≡ item_of m ∷ items_of (remove_entry (nat_eq m.0) ms)
-  items_first [] m within at = absurd (omega arith)
-  items_first (e ∷ ms) m within at =
-      let here : e ≡ m = sym at in
-      ap (λ (x : ℕ × Box (Held T)). item_of x ∷ items_of ms) here ∙ ap (λ (xs : List (ℕ × Box (Held T))). item_of m ∷ items_of xs) (sym (remove_here m.0 e ms (ap (λ x. x.0) here)))
 
   module _ (b : Box (Held T)) where
     -- to write the member of a ticket is to write the item of its number

@@ -1,12 +1,17 @@
 -- What a contract sees of the resources of a node.
 use Rattle.std.specs.Prelude.{◌≡◌, ℕ, List, [], ◌∷◌, ◌++◌, Option, None, nat_eq}
 use Rattle.std.specs.Map.{lookup, remove_entry, set_value}
+use Rattle.rx_tree.specs.declared.boxes.Held.{Held}
 
 -- the resources with their numbers, in order of holding
 abbrev pub Boxes : Type 0 → Type 0
 Boxes T = List (ℕ × T)
 
 module _ {T : Type 0} where
+  -- a resource with its number, as a pair
+  abbrev pub numbered : Held T → ℕ × T
+  numbered held = (held.number, held.resource)
+
   -- the resource of a number
   abbrev pub box_of : ℕ → List (ℕ × T) → Option T
   box_of number boxes = lookup (nat_eq number) boxes

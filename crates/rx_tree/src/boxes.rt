@@ -1,6 +1,6 @@
 //! The resources of one node.
 
-ghost use Rattle.std.specs.Prelude.{◌≡◌, ◌↔◌, ◌+◌, ◌<◌, [], ◌∷◌, ◌++◌, length, IsTrue, IsSome, IfErr, IfSome, IfNone, OnOk, OnErr, None, All, ◌≢◌};
+ghost use Rattle.std.specs.Prelude.{◌≡◌, ◌↔◌, ◌+◌, ◌<◌, ◌≤◌, [], ◌∷◌, ◌++◌, length, map, vec_len, vec_capacity, IsTrue, IsSome, IfErr, IfSome, IfNone, OnOk, OnErr, None, All, ◌≢◌};
 ghost use Rattle.std.specs.Option.{option_copied_mut};
 ghost use Rattle.std.specs.Borrow.{sem};
 ghost use Rattle.std.specs.List.{HoldsAt};
@@ -59,7 +59,7 @@ fn place_of(tickets: &[Ticketed], number: u64) -> Option<usize>
 }
 
 impl<R: Drop> Boxes<R> {
-    ghost use Rattle.rx_tree.specs.Boxes.{box_of, with_box, without_box, AreDistinct};
+    ghost use Rattle.rx_tree.specs.Boxes.{box_of, numbered, with_box, without_box, AreDistinct};
     ghost use Rattle.rx_tree.specs.Lends.{LendsBox};
 
     /// No resources. It takes no memory until the first is added.
@@ -148,17 +148,18 @@ impl<R: Drop> Boxes<R> {
         Some(Box::into_inner(held).resource)
     }
 
-    /// Takes out the resource that was held first; None where none is left.
-    pub fn take_first(&mut self) -> Option<Held<R>>
-        ensures first { IfSome result (λ held. self.old ≡ (held.number, held.resource) ∷ self.new) }
-        ensures none { IfNone result (self.old ≡ []) }
-        ensures empty { IfNone result (self.new ≡ self.old) }
+    /// Moves all resources to the end of a list that has room for them, in order of holding. It goes
+    /// over them once, and takes no memory.
+    pub fn move_all(&mut self, into: &mut Vec<Held<R>>)
+        requires room { vec_len into.old + length self.old ≤ vec_capacity into.old }
+        ensures moved { map numbered into.new.items ≡ map numbered into.old.items ++ self.old }
+        ensures emptied { self.new ≡ [] }
+        ensures len { vec_len into.new ≡ vec_len into.old + length self.old }
+        ensures capacity { vec_capacity into.new ≡ vec_capacity into.old }
     {
-        if self.tickets.is_empty() {
-            return None;
+        self.tickets.clear();
+        for (_ticket, held) in self.group.clear() {
+            into.push_reserved(Box::into_inner(held));
         }
-        let Ticketed { number: _, ticket } = self.tickets.remove(0);
-        let held = self.group.remove(ticket).unwrap();
-        Some(Box::into_inner(held))
     }
 }

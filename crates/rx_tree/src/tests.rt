@@ -138,10 +138,14 @@ fn applied<R: Resource>(tree: &mut Tree<R>, res: ResKey, word: u64) -> Option<u6
 fn tags_of<R: Resource>(alloc: Global, closed: Closed<R>) -> Result<Vec<u64>, Fail> {
     let mut tags = Vec::new(alloc);
     let mut boxes = closed.node.boxes;
-    for _ in 0..boxes.len() {
-        if let Some(held) = boxes.take_first() {
-            tags.push(held.resource.tag())?;
-        }
+    let mut out = Vec::new(alloc);
+    out.reserve(boxes.len())?;
+    boxes.move_all(&mut out);
+    if !boxes.is_empty() {
+        return Err(Fail::from("a resource is left"));
+    }
+    for held in out.iter() {
+        tags.push(held.resource.tag())?;
     }
     Ok(tags)
 }

@@ -1,5 +1,6 @@
 use Rattle.std.proofs.Common.{◌≡◌, ◌+◌, ◌++◌, length, map, vec_len, vec_capacity}
-use Rattle.rx_stock.specs.Stock.{numbered, resources_of}
+use Rattle.rx_tree.specs.Boxes.{numbered}
+use Rattle.rx_stock.specs.Stock.{resources_of}
 use Rattle.rx_stock.proofs.stock.spill.Given as goal
 
 abbrev pub invariant-loop-record : goal.invariant-loop-record

@@ -1,5 +1,5 @@
 use Rattle.std.proofs.Common.{◌-◌, map, vec_capacity, vec_len}
-use Rattle.rx_stock.specs.Stock.{numbered}
+use Rattle.rx_tree.specs.Boxes.{numbered}
 use Rattle.rx_stock.proofs.Used.{used}
 use Rattle.rx_stock.proofs.stock.Stock.apply.Goals as goal
 
