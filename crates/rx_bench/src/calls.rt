@@ -1,15 +1,16 @@
 //! Calls of a book, each of which is to be accepted.
 
 ghost use Rattle.std.specs.Prelude.{◌≡◌, ◌+◌, ◌<◌, ◌^◌, pos, true, OnOk, OnErr, IfOk, IsTrue};
-ghost use Rattle.rx_event.specs.Calls.{Opening, OpeningUsing, Holding, Emitting, Disposing};
+ghost use Rattle.rx_event.specs.Calls.{Opening, OpeningUsing, Holding, Removing, Emitting, Disposing};
 ghost use Rattle.rx_event.specs.declared.event.Place.{Place};
-ghost use Rattle.rx_book.specs.State.{has_key};
-ghost use Rattle.rx_book.specs.Answers.{place_of, is_known};
+ghost use Rattle.rx_event.specs.Totals.{waiting_count};
+ghost use Rattle.rx_book.specs.State.{has_key, has_res_key};
+ghost use Rattle.rx_book.specs.Answers.{place_of, is_known, against_use, Accepts};
 ghost use Rattle.rx_bench.specs.Books.{IsIdle, Does, Tells, Releases, halt_of};
 
 use crate::done::Halt;
 use crate::token::Token;
-use rx_book::{At, Book, Key, Refused};
+use rx_book::{At, Book, Key, Refused, ResKey};
 use rx_event::{Kind, Refusal};
 use rx_note::Note;
 
@@ -48,13 +49,25 @@ pub fn open_using(book: &mut Book<Token>, tag: u64) -> Result<Key, Halt>
 }
 
 /// Holds a resource with this tag at a node.
-pub fn hold(book: &mut Book<Token>, node: Key, tag: u64) -> Result<(), Halt>
+pub fn hold(book: &mut Book<Token>, node: Key, tag: u64) -> Result<ResKey, Halt>
     ensures ok { OnOk result (Does book.old (has_key book.old.keys node) (Holding node.number tag) book.new) }
+    ensures key { IfOk result (λ res. IsTrue (has_res_key book.new.res_keys res)) }
     ensures kept { OnErr result (book.new ≡ book.old) }
 {
     match book.hold(node, Token::new(tag)) {
-        Ok(_) => Ok(()),
+        Ok(res) => Ok(res),
         Err(Refused { why, back: _ }) => Err(refused(why)),
+    }
+}
+
+/// Takes a held resource away from its node.
+pub fn remove(book: &mut Book<Token>, res: ResKey) -> Result<(), Halt>
+    ensures ok { OnOk result (Accepts book.old (against_use book.old (has_res_key book.old.res_keys res) (Removing res.number)) (Removing res.number) book.new) }
+    ensures kept { OnErr result (book.new ≡ book.old) }
+{
+    match book.remove(res) {
+        Ok(_) => Ok(()),
+        Err(why) => Err(refused(why)),
     }
 }
 
@@ -110,6 +123,17 @@ pub fn dispose(book: &mut Book<Token>, root: Key) -> Result<(), Halt>
     match book.dispose(root) {
         Ok(_) => Ok(()),
         Err(why) => Err(refused(why)),
+    }
+}
+
+/// Refuses a book where another number of resources waits.
+pub fn check_waiting(book: &Book<Token>, count: u64) -> Result<(), Halt>
+    ensures { OnOk result (waiting_count book.now.history ≡ count) }
+{
+    if book.waiting() == count {
+        Ok(())
+    } else {
+        Err(Halt::Refused)
     }
 }
 

@@ -14,7 +14,7 @@
 //! | `cycle` | a Using subscription opened with one resource and a leaf below it, one item, the disposal, the resource taken and released, the note taken; N times on one book, with a new one where its history is full | N: each cycle |
 //! | `items` | N items of a leaf below a mirroring root, whose notes are taken as they come | N: each item |
 //! | `chain` | N mirroring nodes, each at the source of the one before, and a leaf at the last; one item; the disposal of the root | N: each node |
-//! | `hold` | N resources held at one node, the disposal of the root, each resource taken and released | N: each resource |
+//! | `hold` | N resources held at one node, every second one removed, the disposal of the root, each resource taken and released | N: each resource |
 //! | `scenario` | the first N steps of this cycle, as a JSON text that is run by `rx_script` and reported: a Using root with one resource, a leaf at its source, two items, the end of the leaf or in each second cycle the disposal of the root, a drain. The text and the resources are made before the time begins | N: each step |
 //!
 //! The exit status is 0 where the case was run and what it did is written, 1 where memory, a call,

@@ -109,10 +109,12 @@ fn a_run_tells_its_work_and_its_times(rt: HostRuntime) {
             "chain 3: 3 operations, mark 1026\n",
             "chain 3: median 800.0 ns, spread 1800.0 ns for each operation, of 5 runs\n",
         ),
+        // The resources 1 and 3 are removed, and then 0 and 2 are closed with their node. The last to
+        // come is handed out first: 2, 0, 3, 1, whose mark is ((3 * 31 + 1) * 31 + 4) * 31 + 2.
         (
-            &["rx_bench", "hold", "1"],
-            "hold 1: 1 operations, mark 1\n",
-            "hold 1: median 2400.0 ns, spread 5400.0 ns for each operation, of 5 runs\n",
+            &["rx_bench", "hold", "4"],
+            "hold 4: 4 operations, mark 90460\n",
+            "hold 4: median 600.0 ns, spread 1350.0 ns for each operation, of 5 runs\n",
         ),
         (
             &["rx_bench", "scenario", "12"],
