@@ -252,10 +252,20 @@ fn closing_and_handing_out_take_no_memory(rt: HostRuntime) -> Result<(), Fail> {
     let closing = book.open_using(At::Root, new_lamp(4))?.key;
     let _below = book.open_using(At::Source(closing), new_lamp(6))?.key;
     assert_eq!(rt; book.next(leaf, 8), Ok(7));
+    // What is closed gives its memory back, so all memory is taken anew before each call.
+    let ended = {
+        let _scarce = Scarce::new(rt.alloc())?;
+        assert!(rt; !has_memory(rt.alloc()));
+        book.end(leaf, Terminal::Completed)
+    };
+    let disposed = {
+        let _scarce = Scarce::new(rt.alloc())?;
+        assert!(rt; !has_memory(rt.alloc()));
+        book.dispose(closing)
+    };
     let _scarce = Scarce::new(rt.alloc())?;
     assert!(rt; !has_memory(rt.alloc()));
-    let closed = [book.end(leaf, Terminal::Completed), book.dispose(closing)];
-    assert_eq!(rt; closed, [Ok(8), Ok(10)]);
+    assert_eq!(rt; [ended, disposed], [Ok(8), Ok(10)]);
     let given = [book.take(), book.take(), book.take()];
     for number in [1, 4, 6] {
         assert!(rt; given.contains(&Some(unused(number, number))), "{given:?}");
