@@ -9,7 +9,7 @@ use Rattle.rx_event.specs.declared.event.Event.TheVariants.{Open, Hub, Connect, 
 use Rattle.rx_event.specs.Events.{makes_resource, node_of_accept, is_remove_of, is_take_of}
 use Rattle.rx_event.specs.Tree.{at, is_open, parent}
 use Rattle.rx_event.specs.Resources.{is_held, is_taken, is_waiting}
-use Rattle.rx_event.specs.Laws.Parents.{ancestors_step}
+use Rattle.rx_event.proofs.Laws.Parents.{ancestors_step}
 use Rattle.rx_audit.specs.Rules.{is_key, removed_of, taken_of, was_removed, was_taken}
 use Rattle.rx_audit.specs.Allowing.{connects_later, is_in_order_at}
 

@@ -16,12 +16,12 @@ use Rattle.rx_event.specs.Tree.{at, parent, is_within, is_open}
 use Rattle.rx_event.specs.Moments.{is_fired, owed, stops_of, is_projection_to}
 use Rattle.rx_event.specs.Forced.{Has, ChildEnded, SourceEnded, IsConnectDue, IsDue, mirrored, fired, failed, completed, cut, left, IsForced, connecting, due, IsSettled}
 use Rattle.rx_event.specs.Lawful.{IsLawful, MayFollow}
-use Rattle.rx_event.specs.Laws.Places.{slice_get-append, slice_get_last, at-append, at_within, cases_push}
-use Rattle.rx_event.specs.Laws.Parents.{parent-append, parent_within, parent-lt, parent_name, within_cases, is_within-le}
-use Rattle.rx_event.specs.Laws.Openness.{shuts_none, is_open_kept, is_open_within, is_open-push, is_open_outside-close}
-use Rattle.rx_event.specs.Laws.Lawful.{ended_after}
-use Rattle.rx_event.specs.Laws.Steps.{named_below}
-use Rattle.rx_event.specs.Laws.Projections.{owed-push}
+use Rattle.rx_event.proofs.Laws.Places.{slice_get-append, slice_get_last, at-append, at_within, cases_push}
+use Rattle.rx_event.proofs.Laws.Parents.{parent-append, parent_within, parent-lt, parent_name, within_cases, is_within-le}
+use Rattle.rx_event.proofs.Laws.Openness.{shuts_none, is_open_kept, is_open_within, is_open-push, is_open_outside-close}
+use Rattle.rx_event.proofs.Laws.Lawful.{ended_after}
+use Rattle.rx_event.proofs.Laws.Steps.{named_below}
+use Rattle.rx_event.proofs.Laws.Projections.{owed-push}
 use Rattle.rx_audit.specs.Rules.{is_calm, IsQuiet, open_subscribed, hub_subscribed_at}
 use Rattle.rx_audit.specs.Tables.{IsTable}
 use Rattle.rx_audit.proofs.Surveying.{any_found}

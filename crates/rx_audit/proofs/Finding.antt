@@ -11,10 +11,10 @@ use Rattle.rx_event.specs.declared.event.Event.{Event}
 use Rattle.rx_event.specs.declared.event.Event.TheVariants.{Open, Hub, Connect, Accept, Use, Remove, Item, Decline, End, Close, Take}
 use Rattle.rx_event.specs.Climb.{Stop, Delivery, Projection, Firing, stop_at, climb, stops, visits}
 use Rattle.rx_event.specs.Moments.{Moment, moments, is_fired, projections, owed, stops_of, is_firing_of, is_projection_to}
-use Rattle.rx_event.specs.Laws.Lawful.{moments-push}
-use Rattle.rx_event.specs.Laws.Counts.{projections-push}
+use Rattle.rx_event.proofs.Laws.Lawful.{moments-push}
+use Rattle.rx_event.proofs.Laws.Counts.{projections-push}
 use Rattle.rx_event.specs.Tree.{is_open}
-use Rattle.rx_event.specs.Laws.Openness.{is_open_past}
+use Rattle.rx_event.proofs.Laws.Openness.{is_open_past}
 use Rattle.rx_audit.specs.Tables.{IsMarked, IsTable, IsTally, IsTold, IsCounted, marks_with, counts_with}
 use Rattle.rx_audit.specs.Rules.{is_key, fired_by, projected_by, paid_of, is_owing, source_named, notifier_named, was_sourced, was_notified}
 use Rattle.rx_audit.specs.Found.{payments, HasStops}

@@ -13,8 +13,8 @@ use Rattle.rx_event.specs.Tree.{at, is_open, open_nodes}
 use Rattle.rx_event.specs.Forced.{IsConnectDue, IsSettled, due}
 use Rattle.rx_event.specs.Allowed.{IsAllowed, emitted, accepted}
 use Rattle.rx_event.specs.Lawful.{IsLawful, MayFollow, forced, allowed, opened_with as accepted_with}
-use Rattle.rx_event.specs.Laws.Lawful.{IsLawful-push}
-use Rattle.rx_event.specs.Laws.Places.{slice_get-append, slice_get_last}
+use Rattle.rx_event.proofs.Laws.Lawful.{IsLawful-push}
+use Rattle.rx_event.proofs.Laws.Places.{slice_get-append, slice_get_last}
 use Rattle.rx_event.specs.Moments.{is_fired}
 use Rattle.rx_audit.specs.Rules.{any_connect_due, is_forced, hub_connected, hub_connected_at, IsQuiet}
 use Rattle.rx_audit.proofs.Calming.{settled_after}

@@ -10,9 +10,9 @@ use Rattle.rx_event.specs.declared.event.Event.{Event}
 use Rattle.rx_event.specs.declared.event.Event.TheVariants.{Open, Hub, Connect, Accept, Use, Remove, Item, Decline, End, Close, Take}
 use Rattle.rx_event.specs.Events.{makes_node, parent_named}
 use Rattle.rx_event.specs.Tree.{parent, ancestors, is_open, is_standing, shuts, if_less}
-use Rattle.rx_event.specs.Laws.Places.{slice_get_last}
-use Rattle.rx_event.specs.Laws.Parents.{ancestors-le, ancestors_step, option_map_or-same}
-use Rattle.rx_event.specs.Laws.Openness.{is_open_step, is_open-push, is_open_past, is_shut_last, shuts_none}
+use Rattle.rx_event.proofs.Laws.Places.{slice_get_last}
+use Rattle.rx_event.proofs.Laws.Parents.{ancestors-le, ancestors_step, option_map_or-same}
+use Rattle.rx_event.proofs.Laws.Openness.{is_open_step, is_open-push, is_open_past, is_shut_last, shuts_none}
 use Rattle.rx_audit.specs.Tables.{IsMarked}
 use Rattle.rx_audit.specs.Rules.{stays_open, opens}
 

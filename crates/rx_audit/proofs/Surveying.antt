@@ -15,7 +15,7 @@ use Rattle.rx_event.specs.Events.{is_auto_hub, is_manual_hub}
 use Rattle.rx_event.specs.Lawful.{IsLawful, MayFollow, forced, allowed}
 use Rattle.rx_event.specs.Forced.{connecting, due}
 use Rattle.rx_event.specs.Tree.{at, places, parent, is_open, has_open_child, is_open_child_of}
-use Rattle.rx_event.specs.Laws.Lawful.{lawful_at}
+use Rattle.rx_event.proofs.Laws.Lawful.{lawful_at}
 use Rattle.rx_event.specs.Allowed.{connected}
 use Rattle.rx_audit.specs.Survey.{AreHubsNamed}
 use Rattle.rx_audit.specs.Tables.{IsMarked, IsTable, marks_with}

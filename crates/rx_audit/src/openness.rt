@@ -7,7 +7,7 @@ ghost use Rattle.rx_event.specs.Events.{parent_named, is_switch, is_inner_of, ma
 ghost use Rattle.rx_event.specs.Tree.{at, parent, shuts, is_open, ancestors, is_switched_inner, if_less};
 ghost use Rattle.rx_audit.specs.Tables.{IsMarked};
 ghost use Rattle.rx_audit.specs.Rules.{stays_open, opens};
-ghost use Rattle.rx_event.specs.Laws.Openness.{shuts_none};
+ghost use Rattle.rx_event.proofs.Laws.Openness.{shuts_none};
 
 use crate::event_tests::{at, is_inner_of, is_switch, named_by};
 use crate::marks::is_marked;

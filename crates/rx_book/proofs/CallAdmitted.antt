@@ -17,8 +17,8 @@ use Rattle.rx_event.specs.Totals.{held_count}
 use Rattle.rx_event.specs.Lawful.{MayFollow, IsLawful}
 use Rattle.rx_event.specs.Calls.{Opening, OpeningUsing, Holding}
 use Rattle.rx_event.specs.Refusals.{first_cause}
-use Rattle.rx_event.specs.Laws.Openness.{is_open_within}
-use Rattle.rx_event.specs.Laws.Totals.{is_open_new, held_count_unchanged, held_count-accept}
+use Rattle.rx_event.proofs.Laws.Openness.{is_open_within}
+use Rattle.rx_event.proofs.Laws.Totals.{is_open_new, held_count_unchanged, held_count-accept}
 use Rattle.rx_register.specs.Plain.{is_plain}
 use Rattle.rx_register.specs.Causes.{causes, is_gone, is_wrong_place, is_taken_place, is_built}
 use Rattle.rx_register.specs.Kept.{Kept}

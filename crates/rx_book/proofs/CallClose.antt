@@ -11,7 +11,7 @@ use Rattle.rx_event.specs.declared.refusal.Refusal.TheVariants.{NoHub, Gone}
 use Rattle.rx_event.specs.Events.{makes_resource, is_take}
 use Rattle.rx_event.specs.Tree.{has_open_child}
 use Rattle.rx_event.specs.Totals.{accepted_count, taken_count, held_count}
-use Rattle.rx_event.specs.Laws.Totals.{accepted_count-parts}
+use Rattle.rx_event.proofs.Laws.Totals.{accepted_count-parts}
 use Rattle.rx_event.specs.Calls.{Call}
 use Rattle.rx_event.specs.Refusals.{first_cause}
 use Rattle.rx_slots.specs.declared.Key.{Key as SlotKey}

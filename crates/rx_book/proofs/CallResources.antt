@@ -22,7 +22,7 @@ use Rattle.rx_event.specs.Totals.{held_count}
 use Rattle.rx_event.specs.Lawful.{IsLawful}
 use Rattle.rx_event.specs.Refusals.{first_cause, IsRefusal}
 use Rattle.rx_event.specs.Calls.{Call, Holding}
-use Rattle.rx_event.specs.Laws.Totals.{held_count_unchanged, held_count-accept, held_count-take, held_count-remove}
+use Rattle.rx_event.proofs.Laws.Totals.{held_count_unchanged, held_count-accept, held_count-take, held_count-remove}
 use Rattle.rx_slots.specs.declared.Key.{Key as SlotKey}
 use Rattle.rx_slots.specs.Slots.{find, key_at}
 use Rattle.rx_tree.specs.declared.node.ResKey.{ResKey as TreeResKey}
@@ -38,7 +38,7 @@ use Rattle.rx_book.specs.Causes.{by_key, by_res_key}
 use Rattle.rx_book.specs.Shown.{is_live, is_fresh_box, keys_of, res_keys_of, box_in, state_of, tree_key_of, tree_res_key_of}
 use Rattle.rx_book.specs.Answers.{Accepts}
 use Rattle.rx_book.specs.Shelved.{IsShelved, IsStanding}
-use Rattle.rx_tree.specs.Laws.Keys.{some_of}
+use Rattle.rx_tree.proofs.Laws.Keys.{some_of}
 use Rattle.rx_book.proofs.ShownKeys.{has_key_is, has_res_key_is}
 use Rattle.rx_book.proofs.ShownKeysKept.{KeepsKeys, accepts_shown, frame_uses}
 use Rattle.rx_book.proofs.HistoryLawful.{lawful_parts}

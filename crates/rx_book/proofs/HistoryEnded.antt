@@ -12,7 +12,7 @@ use Rattle.rx_event.specs.Events.{makes_resource, node_of_accept, is_source_of, 
 use Rattle.rx_event.specs.Tree.{at, is_open}
 use Rattle.rx_event.specs.Resources.{is_held, is_taken, is_waiting, uses}
 use Rattle.rx_event.specs.Lawful.{IsLawful}
-use Rattle.rx_event.specs.Laws.Resources.{node_of, held_resource, held_not_taken}
+use Rattle.rx_event.proofs.Laws.Resources.{node_of, held_resource, held_not_taken}
 use Rattle.rx_register.specs.Kept.{shuts_a_node}
 use Rattle.rx_book.specs.State.{accepted_tag}
 

@@ -6,9 +6,9 @@ use Rattle.rx_event.specs.declared.event.Event.{Event}
 use Rattle.rx_event.specs.Tree.{is_open}
 use Rattle.rx_event.specs.Resources.{is_held}
 use Rattle.rx_event.specs.Lawful.{IsLawful}
-use Rattle.rx_event.specs.Laws.Places.{slice_get-append}
-use Rattle.rx_event.specs.Laws.Openness.{is_open_within}
-use Rattle.rx_event.specs.Laws.Resources.{node_of, moves_none, held_open, is_held_past, is_held_unchanged}
+use Rattle.rx_event.proofs.Laws.Places.{slice_get-append}
+use Rattle.rx_event.proofs.Laws.Openness.{is_open_within}
+use Rattle.rx_event.proofs.Laws.Resources.{node_of, moves_none, held_open, is_held_past, is_held_unchanged}
 use Rattle.rx_book.specs.Shelved.{is_held_at}
 use Rattle.rx_book.proofs.Options.{some_equal}
 

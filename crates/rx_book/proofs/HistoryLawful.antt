@@ -4,7 +4,7 @@ use Rattle.std.specs.List.{AllByRecursion}
 use Rattle.rx_event.specs.declared.event.Event.{Event}
 use Rattle.rx_event.specs.Moments.{Moment, moments}
 use Rattle.rx_event.specs.Lawful.{MayFollow, IsLawful}
-use Rattle.rx_event.specs.Laws.Lawful.{moments-push}
+use Rattle.rx_event.proofs.Laws.Lawful.{moments-push}
 
 AllByRecursion-parts : {X : Type 0} (P : X → Type 0) (xs : List X) (x : X) → AllByRecursion P (xs ++ x ∷ []) → AllByRecursion P xs × P x
 AllByRecursion-parts P [] x all = (tt, all.0)

@@ -13,10 +13,10 @@ use Rattle.rx_event.specs.Events.{makes_node, node_of_accept, is_source_of, is_u
 use Rattle.rx_event.specs.Tree.{is_open}
 use Rattle.rx_event.specs.Resources.{is_held, uses}
 use Rattle.rx_event.specs.Lawful.{IsLawful}
-use Rattle.rx_event.specs.Laws.Places.{slice_get-append, slice_get_last}
-use Rattle.rx_event.specs.Laws.Openness.{is_cut, is_cut_none, is_open_unchanged, is_open_within, shuts_none}
-use Rattle.rx_event.specs.Laws.Resources.{node_of, is_held-push, is_held_last, is_held_past}
-use Rattle.rx_event.specs.Laws.Totals.{uses-push}
+use Rattle.rx_event.proofs.Laws.Places.{slice_get-append, slice_get_last}
+use Rattle.rx_event.proofs.Laws.Openness.{is_cut, is_cut_none, is_open_unchanged, is_open_within, shuts_none}
+use Rattle.rx_event.proofs.Laws.Resources.{node_of, is_held-push, is_held_last, is_held_past}
+use Rattle.rx_event.proofs.Laws.Totals.{uses-push}
 use Rattle.rx_tree.specs.declared.node.Node.{Node}
 use Rattle.rx_book.specs.State.{AreJust, accepted_tag}
 use Rattle.rx_book.specs.Shelved.{is_held_at, numbers, IsAsWritten, IsRecordOf}

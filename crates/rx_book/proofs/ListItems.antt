@@ -10,7 +10,7 @@ use Rattle.std.proofs.lemmas.Option.{none-some, same_Some}
 use Rattle.std.proofs.lemmas.List.Kept.{AllPairs-cons}
 use Rattle.rx_resource.specs.declared.Resource.{Ghosts}
 use Rattle.rx_event.specs.declared.event.Event.{Event}
-use Rattle.rx_event.specs.Laws.Resources.{node_of}
+use Rattle.rx_event.proofs.Laws.Resources.{node_of}
 use Rattle.rx_slots.specs.declared.Entry.{Entry}
 use Rattle.rx_slots.specs.declared.Key.{Key}
 use Rattle.rx_slots.specs.Slots.{entry_at, key_at, with_number, find}
@@ -23,8 +23,8 @@ use Rattle.rx_book.specs.Shelved.{is_held_at, numbers, HasRecord, IsShelved}
 use Rattle.rx_book.proofs.ListMembers.{All-members, Contains-head, Contains-later, Contains-none, Contains-cases, Contains-map, Contains-from_map, AllPairs-head, AllPairs-tail, AllPairs-nil}
 use Rattle.rx_book.proofs.ListNumbers.{just_passes}
 use Rattle.rx_book.proofs.HistoryHeldAt.{held_at_parts}
-use Rattle.rx_tree.specs.Laws.Keys.{cases_key, some_of}
-use Rattle.rx_tree.specs.Laws.Written.{with_number-same}
+use Rattle.rx_tree.proofs.Laws.Keys.{cases_key, some_of}
+use Rattle.rx_tree.proofs.Laws.Written.{with_number-same}
 
 module _ {X : Type 0} where
   lookup_here : (n : ℕ) (e : ℕ × X) (es : List (ℕ × X)) → e.0 ≡ n → lookup (nat_eq n) (e ∷ es) ≡ Some e.1

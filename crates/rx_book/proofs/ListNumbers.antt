@@ -8,7 +8,7 @@ use Rattle.std.proofs.lemmas.List.Kept.{AllPairs-cons}
 use Rattle.rx_book.specs.State.{AreJust}
 use Rattle.rx_book.proofs.ListMembers.{All-members, Contains-head, Contains-none, Contains-cases, AllPairs-nil, AllPairs-append, AllPairs-first, AllPairs-across, Contains-later, AllPairs-head, AllPairs-tail}
 use Rattle.std.proofs.lemmas.List.Quantifiers.{all_pairs_push}
-use Rattle.rx_event.specs.Laws.Sums.{sums_balance, sum_by_none, count_by_one, sum_by_falls}
+use Rattle.rx_event.proofs.Laws.Sums.{sums_balance, sum_by_none, count_by_one, sum_by_falls}
 
 -- what is in the list passes
 pub just_passes : (p : ℕ → Bool) (ns : List ℕ) → AreJust p ns → (n : ℕ) → Contains ns n → p n ≡ true

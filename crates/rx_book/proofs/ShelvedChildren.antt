@@ -9,8 +9,8 @@ use Rattle.rx_resource.specs.declared.Resource.{Ghosts}
 use Rattle.rx_event.specs.declared.event.Event.{Event}
 use Rattle.rx_event.specs.Tree.{parent, places, is_open, is_open_child_of, has_open_child}
 use Rattle.rx_event.specs.Lawful.{IsLawful}
-use Rattle.rx_event.specs.Laws.Parents.{ancestors_step}
-use Rattle.rx_event.specs.Laws.Openness.{is_open_within}
+use Rattle.rx_event.proofs.Laws.Parents.{ancestors_step}
+use Rattle.rx_event.proofs.Laws.Openness.{is_open_within}
 use Rattle.rx_slots.specs.declared.Key.{Key}
 use Rattle.rx_slots.specs.Slots.{find}
 use Rattle.rx_tree.specs.declared.node.Node.{Node}
@@ -18,9 +18,9 @@ use Rattle.rx_tree.specs.Tree.{Tree, IsSound, named_above, parent_number}
 use Rattle.rx_register.specs.Kept.{top_of}
 use Rattle.rx_stock.specs.Stock.{HasChild}
 use Rattle.rx_book.specs.Shelved.{HasRecord, IsShelved}
-use Rattle.rx_tree.specs.Laws.Keys.{some_of}
+use Rattle.rx_tree.proofs.Laws.Keys.{some_of}
 use Rattle.rx_book.proofs.ShelvedClimbs.{parent_in_tree}
-use Rattle.rx_tree.specs.Laws.Parents.{child_found}
+use Rattle.rx_tree.proofs.Laws.Parents.{child_found}
 use Rattle.rx_book.proofs.Options.{some_equal}
 
 -- a test that an older place passes

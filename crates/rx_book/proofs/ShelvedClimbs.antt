@@ -10,8 +10,8 @@ use Rattle.rx_event.specs.declared.event.Event.{Event}
 use Rattle.rx_event.specs.Events.{parent_named}
 use Rattle.rx_event.specs.Tree.{if_less, parent, is_open, ancestors}
 use Rattle.rx_event.specs.Lawful.{IsLawful}
-use Rattle.rx_event.specs.Laws.Parents.{ancestors_step, parent-lt, option_map_or-same}
-use Rattle.rx_event.specs.Laws.Openness.{parent_open}
+use Rattle.rx_event.proofs.Laws.Parents.{ancestors_step, parent-lt, option_map_or-same}
+use Rattle.rx_event.proofs.Laws.Openness.{parent_open}
 use Rattle.rx_slots.specs.declared.Entry.{Entry}
 use Rattle.rx_slots.specs.declared.Key.{Key}
 use Rattle.rx_slots.specs.Slots.{Slots, entry_of, entry_at, with_number, find}
@@ -20,7 +20,7 @@ use Rattle.rx_tree.specs.Tree.{Tree, IsSound, named_above, parent_number}
 use Rattle.rx_tree.specs.Below.{ancestors_within, record_in, record_of, up, ancestors as tree_ancestors, is_below}
 use Rattle.rx_register.specs.Kept.{outlives}
 use Rattle.rx_book.specs.Shelved.{HasRecord, IsShelved}
-use Rattle.rx_tree.specs.Laws.Below.{climb_step, up-lt, record_found}
+use Rattle.rx_tree.proofs.Laws.Below.{climb_step, up-lt, record_found}
 
 -- the ancestors in a tree, step by step
 tree_ancestors_step : {T : Type 0} (tree : Tree T) (n : ℕ) → tree_ancestors tree n ≡ n ∷ option_map_or (tree_ancestors tree) (up tree n) []

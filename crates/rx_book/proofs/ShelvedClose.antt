@@ -12,9 +12,9 @@ use Rattle.rx_event.specs.Events.{is_source_of}
 use Rattle.rx_event.specs.Tree.{is_open, ancestors}
 use Rattle.rx_event.specs.Resources.{is_held, is_waiting}
 use Rattle.rx_event.specs.Lawful.{IsLawful}
-use Rattle.rx_event.specs.Laws.Places.{slice_get-append}
-use Rattle.rx_event.specs.Laws.Openness.{is_open_within}
-use Rattle.rx_event.specs.Laws.Resources.{node_of, held_open, waiting_parts}
+use Rattle.rx_event.proofs.Laws.Places.{slice_get-append}
+use Rattle.rx_event.proofs.Laws.Openness.{is_open_within}
+use Rattle.rx_event.proofs.Laws.Resources.{node_of, held_open, waiting_parts}
 use Rattle.rx_slots.specs.declared.Key.{Key}
 use Rattle.rx_slots.specs.Slots.{find}
 use Rattle.rx_tree.specs.declared.node.Node.{Node}

@@ -12,9 +12,9 @@ use Rattle.rx_event.specs.declared.event.Event.{Event}
 use Rattle.rx_event.specs.Tree.{is_open}
 use Rattle.rx_event.specs.Resources.{is_held, is_waiting}
 use Rattle.rx_event.specs.Totals.{open_count, held_count, waiting_count}
-use Rattle.rx_event.specs.Laws.Openness.{is_open_within}
-use Rattle.rx_event.specs.Laws.Resources.{is_held_within, is_waiting_within}
-use Rattle.rx_event.specs.Laws.Sums.{sums_balance, sum_by_none, count_by_one}
+use Rattle.rx_event.proofs.Laws.Openness.{is_open_within}
+use Rattle.rx_event.proofs.Laws.Resources.{is_held_within, is_waiting_within}
+use Rattle.rx_event.proofs.Laws.Sums.{sums_balance, sum_by_none, count_by_one}
 use Rattle.rx_slots.specs.declared.Entry.{Entry}
 use Rattle.rx_tree.specs.declared.node.Node.{Node}
 use Rattle.rx_tree.specs.Tree.{Tree, IsSound}

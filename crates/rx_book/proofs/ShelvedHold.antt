@@ -12,10 +12,10 @@ use Rattle.rx_event.specs.Events.{node_of_accept, is_source_of}
 use Rattle.rx_event.specs.Tree.{is_open}
 use Rattle.rx_event.specs.Resources.{is_held, is_waiting}
 use Rattle.rx_event.specs.Lawful.{IsLawful}
-use Rattle.rx_event.specs.Laws.Places.{slice_get-append, slice_get_last}
-use Rattle.rx_event.specs.Laws.Openness.{is_open_within, is_open_unchanged}
-use Rattle.rx_event.specs.Laws.Resources.{node_of, is_held_kept, is_held_last, is_waiting_kept, is_waiting_last, is_waiting_past}
-use Rattle.rx_event.specs.Laws.Totals.{uses_new}
+use Rattle.rx_event.proofs.Laws.Places.{slice_get-append, slice_get_last}
+use Rattle.rx_event.proofs.Laws.Openness.{is_open_within, is_open_unchanged}
+use Rattle.rx_event.proofs.Laws.Resources.{node_of, is_held_kept, is_held_last, is_waiting_kept, is_waiting_last, is_waiting_past}
+use Rattle.rx_event.proofs.Laws.Totals.{uses_new}
 use Rattle.rx_resource.specs.declared.Resource.{Ghosts}
 use Rattle.rx_resource.specs.declared.Life.TheVariants.{Live}
 use Rattle.rx_slots.specs.declared.Key.{Key}
@@ -25,7 +25,7 @@ use Rattle.rx_tree.specs.Boxes.{with_box}
 use Rattle.rx_tree.specs.Tree.{Tree, Rewrites, IsSound, on_boxes}
 use Rattle.rx_book.specs.State.{AreJust, accepted_tag}
 use Rattle.rx_book.specs.Shelved.{is_held_at, numbers, IsAsWritten, IsRecordOf, HasRecord, IsShelved}
-use Rattle.rx_tree.specs.Laws.Keys.{cases_key, some_of}
+use Rattle.rx_tree.proofs.Laws.Keys.{cases_key, some_of}
 use Rattle.rx_book.proofs.Options.{mapped}
 use Rattle.rx_book.proofs.ShelvedKeys.{alive_key}
 use Rattle.rx_book.proofs.ListNumbers.{just_same, just_push}

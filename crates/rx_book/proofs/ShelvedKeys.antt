@@ -8,8 +8,8 @@ use Rattle.rx_event.specs.declared.event.Event.{Event}
 use Rattle.rx_event.specs.declared.event.Event.TheVariants.{Open}
 use Rattle.rx_event.specs.Tree.{is_open}
 use Rattle.rx_event.specs.Resources.{is_held}
-use Rattle.rx_event.specs.Laws.Openness.{is_open_within, is_open_past}
-use Rattle.rx_event.specs.Laws.Resources.{is_held_past, node_of}
+use Rattle.rx_event.proofs.Laws.Openness.{is_open_within, is_open_past}
+use Rattle.rx_event.proofs.Laws.Resources.{is_held_past, node_of}
 use Rattle.rx_resource.specs.declared.Resource.{Ghosts}
 use Rattle.rx_register.specs.Causes.{is_taken_place}
 use Rattle.rx_slots.specs.declared.Key.{Key}
@@ -18,7 +18,7 @@ use Rattle.rx_tree.specs.declared.node.Node.{Node}
 use Rattle.rx_tree.specs.declared.node.ResKey.{ResKey}
 use Rattle.rx_tree.specs.Tree.{Tree, IsUnused, IsPlaced, resource_at, IsSound}
 use Rattle.rx_book.specs.Shelved.{is_held_at, numbers, IsAsWritten, IsShelved}
-use Rattle.rx_tree.specs.Laws.Keys.{some_of}
+use Rattle.rx_tree.proofs.Laws.Keys.{some_of}
 use Rattle.rx_book.proofs.TreeRecords.{resource_found, HasBox}
 use Rattle.rx_book.proofs.ListMembers.{Contains-map}
 use Rattle.rx_book.proofs.HistoryHeldAt.{held_at_parts}

@@ -12,8 +12,8 @@ use Rattle.rx_event.specs.declared.event.Event.{Event}
 use Rattle.rx_event.specs.Resources.{is_held}
 use Rattle.rx_event.specs.Totals.{held_count}
 use Rattle.rx_event.specs.Lawful.{IsLawful}
-use Rattle.rx_event.specs.Laws.Sums.{sum_by_falls}
-use Rattle.rx_event.specs.Laws.Resources.{is_held_within}
+use Rattle.rx_event.proofs.Laws.Sums.{sum_by_falls}
+use Rattle.rx_event.proofs.Laws.Resources.{is_held_within}
 use Rattle.rx_slots.specs.Slots.{find}
 use Rattle.rx_tree.specs.declared.node.Closed.{Closed}
 use Rattle.rx_tree.specs.Tree.{Tree, IsSound}

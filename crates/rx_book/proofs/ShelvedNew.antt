@@ -5,8 +5,8 @@ use Rattle.std.proofs.lemmas.Option.{none-some}
 use Rattle.std.proofs.lemmas.List.Elements.{All-nil}
 use Rattle.rx_event.specs.Tree.{is_open}
 use Rattle.rx_event.specs.Resources.{is_waiting}
-use Rattle.rx_event.specs.Laws.Openness.{is_open_past}
-use Rattle.rx_event.specs.Laws.Resources.{is_waiting_past}
+use Rattle.rx_event.proofs.Laws.Openness.{is_open_past}
+use Rattle.rx_event.proofs.Laws.Resources.{is_waiting_past}
 use Rattle.rx_resource.specs.declared.Resource.{Ghosts}
 use Rattle.rx_slots.specs.declared.Entry.{Entry}
 use Rattle.rx_slots.specs.declared.Key.{Key}

@@ -13,7 +13,7 @@ use Rattle.rx_event.specs.declared.event.Event.{Event}
 use Rattle.rx_event.specs.Events.{is_remove_of}
 use Rattle.rx_event.specs.Tree.{is_open}
 use Rattle.rx_event.specs.Resources.{is_held, is_waiting}
-use Rattle.rx_event.specs.Laws.Resources.{node_of, held_open}
+use Rattle.rx_event.proofs.Laws.Resources.{node_of, held_open}
 use Rattle.rx_slots.specs.declared.Entry.{Entry}
 use Rattle.rx_slots.specs.Slots.{entry_of}
 use Rattle.rx_tree.specs.declared.node.Node.{Node}
@@ -24,7 +24,7 @@ use Rattle.rx_book.specs.Shown.{keys_of, res_keys_of, held_in, box_in}
 use Rattle.rx_book.specs.Shelved.{numbers, is_held_at, IsAsWritten, IsRecordOf, IsShelved}
 use Rattle.rx_book.proofs.ListMembers.{Contains-one, Contains-head, AllPairs-nil, AllPairs-append, All-members, map-map}
 use Rattle.rx_book.proofs.ListWalks.{walk, walk_at, walk_has, map-walk, same_walk, GivesJust, just_walk}
-use Rattle.rx_tree.specs.Laws.Written.{entry_found}
+use Rattle.rx_tree.proofs.Laws.Written.{entry_found}
 use Rattle.rx_book.proofs.TreeRecords.{entry_finds}
 use Rattle.rx_book.proofs.ShownKeys.{key_in, res_keys_in, boxes_in, keys-walk, res_keys-walk, items-walk}
 use Rattle.rx_book.proofs.HistoryHeldAt.{held_at_parts, held_at_from, held_node}

@@ -15,12 +15,12 @@ use Rattle.rx_event.specs.Tree.{is_open}
 use Rattle.rx_event.specs.Resources.{is_held, is_waiting}
 use Rattle.rx_event.specs.Moments.{Moment, moments}
 use Rattle.rx_event.specs.Lawful.{MayFollow, IsLawful}
-use Rattle.rx_event.specs.Laws.Places.{slice_get_last}
-use Rattle.rx_event.specs.Laws.Openness.{shuts_none, is_open_kept, is_open_within}
-use Rattle.rx_event.specs.Laws.Lawful.{moments-push}
-use Rattle.rx_event.specs.Laws.Steps.{by_events, may_open}
-use Rattle.rx_event.specs.Laws.Resources.{node_of, moves_none, held_open}
-use Rattle.rx_event.specs.Laws.Totals.{is_open_new}
+use Rattle.rx_event.proofs.Laws.Places.{slice_get_last}
+use Rattle.rx_event.proofs.Laws.Openness.{shuts_none, is_open_kept, is_open_within}
+use Rattle.rx_event.proofs.Laws.Lawful.{moments-push}
+use Rattle.rx_event.proofs.Laws.Steps.{by_events, may_open}
+use Rattle.rx_event.proofs.Laws.Resources.{node_of, moves_none, held_open}
+use Rattle.rx_event.proofs.Laws.Totals.{is_open_new}
 use Rattle.rx_resource.specs.declared.Resource.{Ghosts}
 use Rattle.rx_register.specs.Plain.{is_plain}
 use Rattle.rx_slots.specs.declared.Key.{Key}
@@ -30,8 +30,8 @@ use Rattle.rx_tree.specs.Tree.{Tree, blank_node}
 use Rattle.rx_stock.specs.Stock.{Opens, noting}
 use Rattle.rx_book.specs.State.{AreJust}
 use Rattle.rx_book.specs.Shelved.{is_held_at, numbers, IsAsWritten, IsRecordOf, HasRecord, IsShelved}
-use Rattle.rx_tree.specs.Laws.Keys.{same_key}
-use Rattle.rx_tree.specs.Laws.Written.{one_key}
+use Rattle.rx_tree.proofs.Laws.Keys.{same_key}
+use Rattle.rx_tree.proofs.Laws.Written.{one_key}
 use Rattle.rx_book.proofs.Options.{mapped}
 use Rattle.rx_book.proofs.ListNumbers.{just_none}
 use Rattle.rx_book.proofs.HistoryPushed.{any_push, all_written_push}

@@ -7,8 +7,8 @@ use Rattle.rx_event.specs.declared.event.Event.TheVariants.{Open, Accept}
 use Rattle.rx_event.specs.Tree.{is_open}
 use Rattle.rx_event.specs.Resources.{is_waiting}
 use Rattle.rx_event.specs.Lawful.{MayFollow, IsLawful}
-use Rattle.rx_event.specs.Laws.Openness.{is_open_within, is_open_unchanged}
-use Rattle.rx_event.specs.Laws.Totals.{is_open_new}
+use Rattle.rx_event.proofs.Laws.Openness.{is_open_within, is_open_unchanged}
+use Rattle.rx_event.proofs.Laws.Totals.{is_open_new}
 use Rattle.rx_resource.specs.declared.Resource.{Ghosts}
 use Rattle.rx_resource.specs.declared.Life.TheVariants.{Live}
 use Rattle.rx_register.specs.Plain.{is_plain}

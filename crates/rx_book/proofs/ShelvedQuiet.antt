@@ -12,10 +12,10 @@ use Rattle.rx_event.specs.declared.event.Event.TheVariants.{Item}
 use Rattle.rx_event.specs.Events.{makes_node, is_source_of, is_use_of}
 use Rattle.rx_event.specs.Resources.{is_held, is_waiting, uses}
 use Rattle.rx_event.specs.Lawful.{IsLawful}
-use Rattle.rx_event.specs.Laws.Places.{slice_get-append}
-use Rattle.rx_event.specs.Laws.Openness.{shuts_none, is_open_kept, is_open_within, is_open_unchanged}
-use Rattle.rx_event.specs.Laws.Resources.{moves_none, is_held_unchanged, is_waiting_unchanged, is_held_past}
-use Rattle.rx_event.specs.Laws.Totals.{uses-push}
+use Rattle.rx_event.proofs.Laws.Places.{slice_get-append}
+use Rattle.rx_event.proofs.Laws.Openness.{shuts_none, is_open_kept, is_open_within, is_open_unchanged}
+use Rattle.rx_event.proofs.Laws.Resources.{moves_none, is_held_unchanged, is_waiting_unchanged, is_held_past}
+use Rattle.rx_event.proofs.Laws.Totals.{uses-push}
 use Rattle.rx_resource.specs.declared.Resource.{Ghosts}
 use Rattle.rx_tree.specs.declared.node.Node.{Node}
 use Rattle.rx_tree.specs.Tree.{Tree}

@@ -9,8 +9,8 @@ use Rattle.rx_event.specs.declared.event.Event.{Event}
 use Rattle.rx_event.specs.declared.event.Event.TheVariants.{Remove}
 use Rattle.rx_event.specs.Resources.{is_held, is_waiting}
 use Rattle.rx_event.specs.Lawful.{IsLawful}
-use Rattle.rx_event.specs.Laws.Openness.{is_open_unchanged}
-use Rattle.rx_event.specs.Laws.Resources.{is_held_within, is_waiting-remove, is_waiting_last, is_waiting_past, waiting_parts}
+use Rattle.rx_event.proofs.Laws.Openness.{is_open_unchanged}
+use Rattle.rx_event.proofs.Laws.Resources.{is_held_within, is_waiting-remove, is_waiting_last, is_waiting_past, waiting_parts}
 use Rattle.rx_slots.specs.declared.Key.{Key}
 use Rattle.rx_slots.specs.Slots.{find, key_at}
 use Rattle.rx_tree.specs.declared.node.Node.{Node}

@@ -11,7 +11,7 @@ use Rattle.rx_resource.specs.declared.Resource.{Ghosts}
 use Rattle.rx_event.specs.declared.event.Event.{Event}
 use Rattle.rx_event.specs.Events.{is_root}
 use Rattle.rx_event.specs.Tree.{at, is_open, places}
-use Rattle.rx_event.specs.Laws.Openness.{is_open_within}
+use Rattle.rx_event.proofs.Laws.Openness.{is_open_within}
 use Rattle.rx_slots.specs.declared.Entry.{Entry}
 use Rattle.rx_slots.specs.declared.Key.{Key as SlotKey}
 use Rattle.rx_slots.specs.Slots.{entry_of, entry_at, key_at, find as find_in}
@@ -21,7 +21,7 @@ use Rattle.rx_book.specs.State.{has_key}
 use Rattle.rx_book.specs.Shown.{keys_of}
 use Rattle.rx_book.specs.Answers.{is_open_root}
 use Rattle.rx_book.specs.Shelved.{IsShelved, IsLeastRoot, is_root_record, is_before}
-use Rattle.rx_tree.specs.Laws.Written.{entry_found, key_found, slot_within}
+use Rattle.rx_tree.proofs.Laws.Written.{entry_found, key_found, slot_within}
 use Rattle.rx_book.proofs.ShownKeys.{has_key_is}
 
 -- searches of a range -----------------------------------------------------------------------------

@@ -8,8 +8,8 @@ use Rattle.rx_event.specs.declared.event.Event.{Event}
 use Rattle.rx_event.specs.declared.event.Event.TheVariants.{Take}
 use Rattle.rx_event.specs.Resources.{is_waiting}
 use Rattle.rx_event.specs.Lawful.{IsLawful}
-use Rattle.rx_event.specs.Laws.Openness.{is_open_unchanged}
-use Rattle.rx_event.specs.Laws.Resources.{is_waiting-take}
+use Rattle.rx_event.proofs.Laws.Openness.{is_open_unchanged}
+use Rattle.rx_event.proofs.Laws.Resources.{is_waiting-take}
 use Rattle.rx_slots.specs.declared.Key.{Key}
 use Rattle.rx_tree.specs.declared.node.Node.{Node}
 use Rattle.rx_tree.specs.Tree.{Tree}

@@ -11,9 +11,9 @@ use Rattle.rx_slots.specs.Slots.{find}
 use Rattle.rx_tree.specs.Tree.{Tree, named_above, parent_number}
 use Rattle.rx_register.specs.Kept.{top_of}
 use Rattle.rx_book.specs.Shelved.{IsShelved}
-use Rattle.rx_tree.specs.Laws.Keys.{some_of}
+use Rattle.rx_tree.proofs.Laws.Keys.{some_of}
 use Rattle.rx_book.proofs.ShelvedClimbs.{parent_in_tree}
-use Rattle.rx_event.specs.Laws.Parents.{ancestors_step}
+use Rattle.rx_event.proofs.Laws.Parents.{ancestors_step}
 
 -- the way up from the node above leads to the same end
 pub top_of_parent : (h : List Event) (n p : ℕ) → parent h n ≡ Some p → top_of h n ≡ top_of h p

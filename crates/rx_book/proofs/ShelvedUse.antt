@@ -10,9 +10,9 @@ use Rattle.rx_event.specs.declared.event.Event.{Event}
 use Rattle.rx_event.specs.declared.event.Event.TheVariants.{Use}
 use Rattle.rx_event.specs.Resources.{is_held, is_waiting, uses}
 use Rattle.rx_event.specs.Lawful.{IsLawful}
-use Rattle.rx_event.specs.Laws.Openness.{is_open_unchanged}
-use Rattle.rx_event.specs.Laws.Resources.{is_waiting_unchanged, waiting_parts}
-use Rattle.rx_event.specs.Laws.Totals.{uses-push}
+use Rattle.rx_event.proofs.Laws.Openness.{is_open_unchanged}
+use Rattle.rx_event.proofs.Laws.Resources.{is_waiting_unchanged, waiting_parts}
+use Rattle.rx_event.proofs.Laws.Totals.{uses-push}
 use Rattle.rx_slots.specs.declared.Key.{Key}
 use Rattle.rx_slots.specs.Slots.{find}
 use Rattle.rx_tree.specs.declared.node.Node.{Node}

@@ -17,8 +17,8 @@ use Rattle.rx_book.specs.Shown.{keys_from, res_keys_from, items_in, keys_of, res
 use Rattle.rx_book.proofs.ListMembers.{Contains-one, Contains-head, Contains-later, Contains-map, Contains-from_map}
 use Rattle.rx_book.proofs.ListWalks.{walk, walk_at, walk_has}
 use Rattle.std.specs.Cmp.{both_ways as same_test}
-use Rattle.rx_tree.specs.Laws.Keys.{some_of}
-use Rattle.rx_tree.specs.Laws.Written.{entry_found, with_number-same}
+use Rattle.rx_tree.proofs.Laws.Keys.{some_of}
+use Rattle.rx_tree.proofs.Laws.Written.{entry_found, with_number-same}
 use Rattle.rx_book.proofs.ListItems.{box_listed, listed_box}
 
 pub named : (s n : ℕ) (k : Key) → s ≡ k.slot → n ≡ k.number → (let j : Key = record { slot = s; number = n } in j ≡ k)

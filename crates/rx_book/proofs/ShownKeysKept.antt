@@ -23,8 +23,8 @@ use Rattle.rx_book.specs.State.{has_key, has_res_key}
 use Rattle.rx_book.specs.Shown.{keys_of, res_keys_of, state_of}
 use Rattle.rx_book.specs.Answers.{Accepts}
 use Rattle.rx_book.proofs.ListMembers.{Contains-later, Contains-map, Contains-from_map}
-use Rattle.rx_tree.specs.Laws.Keys.{some_of, cases_key}
-use Rattle.rx_tree.specs.Laws.Written.{entry_found, one_key}
+use Rattle.rx_tree.proofs.Laws.Keys.{some_of, cases_key}
+use Rattle.rx_tree.proofs.Laws.Written.{entry_found, one_key}
 use Rattle.rx_book.proofs.TreeRecords.{entry_finds, resource_record, record_resource, key_of_resource}
 use Rattle.rx_book.proofs.ListItems.{box_listed, listed_box, without_member, numbers_set}
 use Rattle.rx_book.proofs.ShownKeys.{key_finds, finding_key, has_key_is, res_key_finds, finding_res_key, has_res_key_is}

@@ -16,10 +16,10 @@ use Rattle.rx_event.specs.Tree.{at, places, is_open, hubs}
 use Rattle.rx_event.specs.Moments.{owed}
 use Rattle.rx_event.specs.Totals.{debt, open_count, held_count, waiting_count, accepted_count, taken_count, owed_count, owed_open}
 use Rattle.rx_event.specs.Lawful.{IsLawful}
-use Rattle.rx_event.specs.Laws.Sums.{sum_by_none}
-use Rattle.rx_event.specs.Laws.Totals.{accepted_count-parts}
-use Rattle.rx_event.specs.Laws.Debt.{debt-counts}
-use Rattle.rx_event.specs.Laws.Notes.{notes_grammatical}
+use Rattle.rx_event.proofs.Laws.Sums.{sum_by_none}
+use Rattle.rx_event.proofs.Laws.Totals.{accepted_count-parts}
+use Rattle.rx_event.proofs.Laws.Debt.{debt-counts}
+use Rattle.rx_event.proofs.Laws.Notes.{notes_grammatical}
 use Rattle.rx_tree.specs.Tree.{IsSound}
 use Rattle.rx_stock.specs.Stock.{Stock}
 use Rattle.rx_register.specs.Plain.{is_plain}

@@ -10,8 +10,8 @@ use Rattle.rx_tree.specs.declared.node.Node.{Node}
 use Rattle.rx_tree.specs.declared.node.ResKey.{ResKey}
 use Rattle.rx_tree.specs.Boxes.{box_of}
 use Rattle.rx_tree.specs.Tree.{Tree, Rewrites, resource_at}
-use Rattle.rx_tree.specs.Laws.Keys.{cases_key}
-use Rattle.rx_tree.specs.Laws.Written.{entry_found, found_entry, key_found}
+use Rattle.rx_tree.proofs.Laws.Keys.{cases_key}
+use Rattle.rx_tree.proofs.Laws.Written.{entry_found, found_entry, key_found}
 use Rattle.rx_book.specs.Shelved.{HasRecord}
 use Rattle.rx_book.proofs.ListItems.{box_member}
 

@@ -11,4 +11,4 @@ pub mod Lawful
 pub mod Calls
 pub mod Refusals
 pub mod Stored
-pub mod Laws
+pub mod Claims

@@ -12,16 +12,16 @@
 
 mod event;
 mod history;
-mod laws;
 mod refusal;
 #[cfg(test)]
 mod tests;
+mod theorems;
 
 pub use event::{Event, Kind, Mode, Place};
 pub use history::History;
-pub use laws::{
+pub use refusal::Refusal;
+pub use rx_note::Terminal;
+pub use theorems::{
     a_hub_connects_once, a_switch_has_one_open_inner, climbs_go_on_in_order, closed_stays_closed,
     each_resource_is_in_one_place, notes_obey_the_grammar, what_one_event_changes,
 };
-pub use refusal::Refusal;
-pub use rx_note::Terminal;

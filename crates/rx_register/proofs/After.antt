@@ -11,9 +11,9 @@ use Rattle.rx_event.specs.Refusals.{first_cause}
 use Rattle.rx_event.specs.Calls.{Call, outside_of, IsStepOf}
 use Rattle.rx_event.specs.Lawful.{MayFollow, IsLawful, IsForcedOn}
 use Rattle.rx_event.specs.Forced.{IsSettled}
-use Rattle.rx_event.specs.Laws.Counts.{notes-push}
-use Rattle.rx_event.specs.Laws.Lawful.{IsLawful-push}
-use Rattle.rx_event.specs.Laws.Totals.{item_count-push, accepted_count-push, taken_count-push}
+use Rattle.rx_event.proofs.Laws.Counts.{notes-push}
+use Rattle.rx_event.proofs.Laws.Lawful.{IsLawful-push}
+use Rattle.rx_event.proofs.Laws.Totals.{item_count-push, accepted_count-push, taken_count-push}
 use Rattle.rx_register.specs.declared.register.Register.TheInside.{Inside}
 use Rattle.rx_register.specs.Plain.{is_plain}
 use Rattle.rx_register.specs.Kept.{Kept, IsUpheld, Follows}

@@ -9,7 +9,7 @@ use Rattle.rx_event.specs.declared.event.Event.TheVariants.{Open, Connect}
 use Rattle.rx_event.specs.Events.{parent_named, is_merging}
 use Rattle.rx_event.specs.Tree.{parent, ancestors, if_less}
 use Rattle.rx_event.specs.Climb.{climb, visited, onward, onward_unless, onward_from, stop_made, most_visits, visits}
-use Rattle.rx_event.specs.Laws.Parents.{ancestors_step}
+use Rattle.rx_event.proofs.Laws.Parents.{ancestors_step}
 use Rattle.rx_register.specs.Plain.{is_plain}
 use Rattle.rx_register.proofs.Plain.{plain_at, never_at, not_merging}
 

@@ -21,10 +21,10 @@ use Rattle.rx_event.specs.Lawful.{allowed, forced, MayFollow, IsLawful, IsForced
 use Rattle.rx_event.specs.Totals.{debt}
 use Rattle.rx_event.specs.Calls.{Ending, Aborting, Disposing}
 use Rattle.rx_event.specs.Refusals.{first_cause}
-use Rattle.rx_event.specs.Laws.Parents.{parent-append, parent-lt, ancestors-append, ancestors-le}
-use Rattle.rx_event.specs.Laws.Openness.{is_open_step, is_open_within, is_open_past}
-use Rattle.rx_event.specs.Laws.Lawful.{IsLawful-push, may_end}
-use Rattle.rx_event.specs.Laws.Debt.{debt_falls-close, debt_falls-end}
+use Rattle.rx_event.proofs.Laws.Parents.{parent-append, parent-lt, ancestors-append, ancestors-le}
+use Rattle.rx_event.proofs.Laws.Openness.{is_open_step, is_open_within, is_open_past}
+use Rattle.rx_event.proofs.Laws.Lawful.{IsLawful-push, may_end}
+use Rattle.rx_event.proofs.Laws.Debt.{debt_falls-close, debt_falls-end}
 use Rattle.rx_register.specs.declared.register.Register.TheInside.{Inside}
 use Rattle.rx_register.specs.Plain.{is_plain}
 use Rattle.rx_register.specs.Causes.{causes}

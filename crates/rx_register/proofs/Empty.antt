@@ -5,8 +5,8 @@ use Rattle.rx_event.specs.Tree.{is_open}
 use Rattle.rx_event.specs.Moments.{moments}
 use Rattle.rx_event.specs.Notes.{notes}
 use Rattle.rx_event.specs.Totals.{debt}
-use Rattle.rx_event.specs.Laws.Openness.{is_open_past}
-use Rattle.rx_event.specs.Laws.Lawful.{IsLawful_empty}
+use Rattle.rx_event.proofs.Laws.Openness.{is_open_past}
+use Rattle.rx_event.proofs.Laws.Lawful.{IsLawful_empty}
 use Rattle.rx_register.specs.declared.register.Register.TheInside.{Inside}
 use Rattle.rx_register.specs.Kept.{IsUpheld}
 use Rattle.rx_register.specs.Ties.{IsRegistered}

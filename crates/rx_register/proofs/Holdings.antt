@@ -13,8 +13,8 @@ use Rattle.rx_event.specs.Totals.{debt}
 use Rattle.rx_event.specs.Lawful.{allowed, MayFollow}
 use Rattle.rx_event.specs.Calls.{Holding, OpeningUsing}
 use Rattle.rx_event.specs.Refusals.{first_cause}
-use Rattle.rx_event.specs.Laws.Totals.{is_open_new}
-use Rattle.rx_event.specs.Laws.Debt.{debt-accept}
+use Rattle.rx_event.proofs.Laws.Totals.{is_open_new}
+use Rattle.rx_event.proofs.Laws.Debt.{debt-accept}
 use Rattle.rx_register.specs.declared.register.Register.TheInside.{Inside}
 use Rattle.rx_register.specs.Causes.{causes}
 use Rattle.rx_register.specs.Kept.{Kept}

@@ -13,7 +13,7 @@ use Rattle.rx_event.specs.Totals.{debt}
 use Rattle.rx_event.specs.Lawful.{allowed, MayFollow, IsLawful}
 use Rattle.rx_event.specs.Calls.{Emitting}
 use Rattle.rx_event.specs.Refusals.{first_cause}
-use Rattle.rx_event.specs.Laws.Totals.{open_count_made, held_count_unchanged, waiting_count_unchanged}
+use Rattle.rx_event.proofs.Laws.Totals.{open_count_made, held_count_unchanged, waiting_count_unchanged}
 use Rattle.rx_register.specs.declared.register.Register.TheInside.{Inside}
 use Rattle.rx_register.specs.Plain.{is_plain}
 use Rattle.rx_register.specs.Causes.{causes}

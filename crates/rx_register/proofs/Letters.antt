@@ -17,12 +17,12 @@ use Rattle.rx_event.specs.Climb.{Stop, Delivery, stops, stop_at, stop_made, visi
 use Rattle.rx_event.specs.Notes.{Mail, notes, mail_of, told}
 use Rattle.rx_event.specs.Lawful.{forced, allowed, MayFollow, IsLawful}
 use Rattle.rx_event.specs.Allowed.{emitted, IsAllowed}
-use Rattle.rx_event.specs.Laws.Places.{at-take}
-use Rattle.rx_event.specs.Laws.Parents.{ancestors_step, ancestors-append, parent-lt}
-use Rattle.rx_event.specs.Laws.Openness.{is_open_step, is_open_within}
-use Rattle.rx_event.specs.Laws.Lawful.{IsLawful-push, IsLawful_empty, lawful_at, ended_after}
-use Rattle.rx_event.specs.Laws.Steps.{by_events, may_open, may_emit, forced_kind}
-use Rattle.rx_event.specs.Laws.Counts.{notes-push}
+use Rattle.rx_event.proofs.Laws.Places.{at-take}
+use Rattle.rx_event.proofs.Laws.Parents.{ancestors_step, ancestors-append, parent-lt}
+use Rattle.rx_event.proofs.Laws.Openness.{is_open_step, is_open_within}
+use Rattle.rx_event.proofs.Laws.Lawful.{IsLawful-push, IsLawful_empty, lawful_at, ended_after}
+use Rattle.rx_event.proofs.Laws.Steps.{by_events, may_open, may_emit, forced_kind}
+use Rattle.rx_event.proofs.Laws.Counts.{notes-push}
 use Rattle.rx_register.specs.declared.mail.Mail.{Mail as Letter}
 use Rattle.rx_register.specs.declared.register.Register.TheInside.{Inside}
 use Rattle.rx_register.specs.Plain.{is_plain}

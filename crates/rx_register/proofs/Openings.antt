@@ -18,7 +18,7 @@ use Rattle.rx_event.specs.Lawful.{MayFollow, IsLawful}
 use Rattle.rx_event.specs.Forced.{IsSettled}
 use Rattle.rx_event.specs.Calls.{Opening}
 use Rattle.rx_event.specs.Refusals.{first_cause}
-use Rattle.rx_event.specs.Laws.Debt.{debt-root, debt-source}
+use Rattle.rx_event.proofs.Laws.Debt.{debt-root, debt-source}
 use Rattle.rx_register.specs.declared.register.Register.TheInside.{Inside}
 use Rattle.rx_register.specs.Plain.{is_plain}
 use Rattle.rx_register.specs.Causes.{causes, is_wrong_place, is_built}

@@ -17,10 +17,10 @@ use Rattle.rx_event.specs.Tree.{at, parent, if_less, is_open, open_nodes}
 use Rattle.rx_event.specs.Forced.{mirrored, fired, failed, completed, cut, left, connecting, due, Has, ChildEnded, IsDue, IsConnectDue, IsForced, IsSettled}
 use Rattle.rx_event.specs.Allowed.{opened, most_nodes, IsAllowed, IsFree, IsHubbed}
 use Rattle.rx_event.specs.Lawful.{forced, allowed, MayFollow, IsLawful}
-use Rattle.rx_event.specs.Laws.Places.{slice_get_last, at-take, cases_push}
-use Rattle.rx_event.specs.Laws.Parents.{parent-lt, parent-append, old_child}
-use Rattle.rx_event.specs.Laws.Openness.{is_open-push, open_before, open_before_end}
-use Rattle.rx_event.specs.Laws.Lawful.{lawful_at, ended_after}
+use Rattle.rx_event.proofs.Laws.Places.{slice_get_last, at-take, cases_push}
+use Rattle.rx_event.proofs.Laws.Parents.{parent-lt, parent-append, old_child}
+use Rattle.rx_event.proofs.Laws.Openness.{is_open-push, open_before, open_before_end}
+use Rattle.rx_event.proofs.Laws.Lawful.{lawful_at, ended_after}
 use Rattle.rx_register.specs.Plain.{is_plain}
 
 -- plain histories ---------------------------------------------------------------------------------

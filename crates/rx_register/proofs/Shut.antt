@@ -8,8 +8,8 @@ use Rattle.rx_event.specs.declared.event.Event.{Event}
 use Rattle.rx_event.specs.declared.event.Event.TheVariants.{End, Close}
 use Rattle.rx_event.specs.Events.{makes_node}
 use Rattle.rx_event.specs.Tree.{is_open, ancestors, shuts}
-use Rattle.rx_event.specs.Laws.Places.{slice_get_last}
-use Rattle.rx_event.specs.Laws.Openness.{is_open-push, is_open_step, is_open_past}
+use Rattle.rx_event.proofs.Laws.Places.{slice_get_last}
+use Rattle.rx_event.proofs.Laws.Openness.{is_open-push, is_open_step, is_open_past}
 use Rattle.rx_register.specs.Kept.{outlives}
 
 list_all-as : {X : Type 0} (p q : X → Bool) → ((x : X) → p x ≡ q x) → (xs : List X) → list_all p xs ≡ list_all q xs

@@ -8,8 +8,8 @@ use Rattle.rx_event.specs.Events.{is_merging}
 use Rattle.rx_event.specs.Tree.{is_open}
 use Rattle.rx_event.specs.Moments.{owed}
 use Rattle.rx_event.specs.Totals.{debt, open_count, held_count, waiting_count, owed_count, owed_open}
-use Rattle.rx_event.specs.Laws.Sums.{sum_by_none}
-use Rattle.rx_event.specs.Laws.Debt.{debt-counts}
+use Rattle.rx_event.proofs.Laws.Sums.{sum_by_none}
+use Rattle.rx_event.proofs.Laws.Debt.{debt-counts}
 use Rattle.rx_register.specs.Plain.{is_plain}
 use Rattle.rx_register.proofs.Plain.{never_at, not_merging}
 

@@ -6,8 +6,8 @@ use Rattle.std.specs.Option.{option_map_or}
 use Rattle.std.proofs.lemmas.Bool.{cases_Bool, eq-eqb, eqb-true, both_ways, and_parts, and_from, not_from_false}
 use Rattle.rx_event.specs.declared.event.Event.{Event}
 use Rattle.rx_event.specs.Tree.{parent, ancestors}
-use Rattle.rx_event.specs.Laws.Parents.{ancestors_step, parent-lt}
-use Rattle.rx_event.specs.Laws.Openness.{self_tested}
+use Rattle.rx_event.proofs.Laws.Parents.{ancestors_step, parent-lt}
+use Rattle.rx_event.proofs.Laws.Openness.{self_tested}
 use Rattle.rx_register.specs.Kept.{top_of}
 
 -- the way up from the node above leads to the same end

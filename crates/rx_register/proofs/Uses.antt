@@ -10,7 +10,7 @@ use Rattle.rx_event.specs.Totals.{debt}
 use Rattle.rx_event.specs.Lawful.{allowed, MayFollow}
 use Rattle.rx_event.specs.Calls.{Applying, Removing}
 use Rattle.rx_event.specs.Refusals.{first_cause}
-use Rattle.rx_event.specs.Laws.Debt.{debt-use, debt-remove, debt-take}
+use Rattle.rx_event.proofs.Laws.Debt.{debt-use, debt-remove, debt-take}
 use Rattle.rx_register.specs.declared.register.Register.TheInside.{Inside}
 use Rattle.rx_register.specs.Causes.{causes}
 use Rattle.rx_register.specs.Kept.{Kept}

@@ -21,12 +21,12 @@ use Rattle.rx_event.specs.Totals.{accepted_count, taken_count, held_count, waiti
 use Rattle.rx_event.specs.Lawful.{IsForcedOn, stays, more, IsLawful, MayFollow, forced, allowed}
 use Rattle.rx_event.specs.Calls.{Call, Disposing, Taking, outside_of, IsStepOf}
 use Rattle.rx_event.specs.Refusals.{first_cause}
-use Rattle.rx_event.specs.Laws.Places.{slice_get_last, at-append}
-use Rattle.rx_event.specs.Laws.Parents.{parent-lt}
-use Rattle.rx_event.specs.Laws.Openness.{is_open-push, is_open_step, is_open_past, is_open_within}
-use Rattle.rx_event.specs.Laws.Lawful.{lawful_at}
-use Rattle.rx_event.specs.Laws.Steps.{may_be_forced, forced_kind, may_open}
-use Rattle.rx_event.specs.Laws.Totals.{accepted_count-parts}
+use Rattle.rx_event.proofs.Laws.Places.{slice_get_last, at-append}
+use Rattle.rx_event.proofs.Laws.Parents.{parent-lt}
+use Rattle.rx_event.proofs.Laws.Openness.{is_open-push, is_open_step, is_open_past, is_open_within}
+use Rattle.rx_event.proofs.Laws.Lawful.{lawful_at}
+use Rattle.rx_event.proofs.Laws.Steps.{may_be_forced, forced_kind, may_open}
+use Rattle.rx_event.proofs.Laws.Totals.{accepted_count-parts}
 use Rattle.rx_book.specs.declared.key.Key.{Key}
 use Rattle.rx_book.specs.State.{State, AreJust, IsKept, has_key}
 use Rattle.rx_book.specs.Answers.{against, Accepts}

@@ -3,7 +3,7 @@ use Rattle.std.proofs.Common.{◌≡◌, ◌≤◌, ◌+◌, ◌++◌, ℕ, List
 use Rattle.rx_event.specs.declared.event.Event.{Event}
 use Rattle.rx_event.specs.Lawful.{IsLawful}
 use Rattle.rx_event.specs.Totals.{accepted_count, taken_count, held_count, waiting_count}
-use Rattle.rx_event.specs.Laws.Totals.{accepted_count-parts}
+use Rattle.rx_event.proofs.Laws.Totals.{accepted_count-parts}
 use Rattle.rx_script.specs.declared.answer.Answer.{Answer}
 use Rattle.rx_script.specs.Scenario.{Script}
 use Rattle.rx_script.specs.Stage.{Ware, Stage, start}

@@ -9,8 +9,8 @@ use Rattle.rx_tree.specs.declared.node.Node.{Node}
 use Rattle.rx_tree.specs.declared.node.Closed.{Closed}
 use Rattle.rx_tree.specs.Tree.{Tree}
 use Rattle.rx_tree.specs.Closing.{IsSubtree}
-use Rattle.rx_tree.specs.Laws.Keys.{cases_key}
-use Rattle.rx_tree.specs.Laws.Written.{one_key}
+use Rattle.rx_tree.proofs.Laws.Keys.{cases_key}
+use Rattle.rx_tree.proofs.Laws.Written.{one_key}
 use Rattle.rx_stock.specs.Stock.{Opens, noting, resources_of}
 
 module _ {T : Type 0} where

@@ -8,7 +8,7 @@ use Rattle.rx_tree.specs.declared.node.ResKey.{ResKey}
 use Rattle.rx_tree.specs.Boxes.{box_of, with_value}
 use Rattle.rx_tree.specs.Lends.{with_resource}
 use Rattle.rx_tree.specs.Tree.{Tree, Rewrites, resource_at, on_boxes}
-use Rattle.rx_tree.specs.Laws.Rewritten.{rewrites_written_at}
+use Rattle.rx_tree.proofs.Laws.Rewritten.{rewrites_written_at}
 use Rattle.rx_stock.specs.Stock.{Stock, Uses}
 
 module _ {T : Type 0} where

@@ -17,9 +17,9 @@ use Rattle.rx_tree.specs.Tree.{Tree, IsSound, IsPlaced}
 use Rattle.rx_tree.specs.Below.{is_below}
 use Rattle.rx_tree.specs.Closing.{IsInside, IsSubtree}
 use Rattle.rx_tree.specs.Cuts.{is_orphan, orphan_in, orphan_at, slot_of, Cuts, uncut, cut}
-use Rattle.rx_tree.specs.Laws.Keys.{some_of, none_not_some}
-use Rattle.rx_tree.specs.Laws.Written.{one_key, entry_found, found_entry, same_entry}
-use Rattle.rx_tree.specs.Laws.Below.{below_itself, below_child, not_below}
+use Rattle.rx_tree.proofs.Laws.Keys.{some_of, none_not_some}
+use Rattle.rx_tree.proofs.Laws.Written.{one_key, entry_found, found_entry, same_entry}
+use Rattle.rx_tree.proofs.Laws.Below.{below_itself, below_child, not_below}
 
 module _ {T : Type 0} where
   -- what one slot's change leaves

@@ -7,10 +7,10 @@ use Rattle.rx_tree.specs.Boxes.{Boxes, box_of, without_box}
 use Rattle.rx_tree.specs.Tree.{Tree, Rewrites, IsSound, IsChild, on_boxes, parent_number}
 use Rattle.rx_tree.proofs.Entries.{remove_absent}
 use Rattle.rx_tree.proofs.Sound.{IsSound-at}
-use Rattle.rx_tree.specs.Laws.Keys.{some_of}
-use Rattle.rx_tree.specs.Laws.Parents.{child_found, parent_key}
-use Rattle.rx_tree.specs.Laws.Rewritten.{rewrites_written_at}
-use Rattle.rx_tree.specs.Laws.Written.{key_found, find-written, KeepsOthers-written, key_of_value, with_value_at-key, with_value-same}
+use Rattle.rx_tree.proofs.Laws.Keys.{some_of}
+use Rattle.rx_tree.proofs.Laws.Parents.{child_found, parent_key}
+use Rattle.rx_tree.proofs.Laws.Rewritten.{rewrites_written_at}
+use Rattle.rx_tree.proofs.Laws.Written.{key_found, find-written, KeepsOthers-written, key_of_value, with_value_at-key, with_value-same}
 
 module _ {T : Type 0} (s : Tree T) where
   -- a record of the same event is written at a key

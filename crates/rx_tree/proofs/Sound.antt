@@ -2,7 +2,7 @@
 use Rattle.std.proofs.Common.{◌≡◌, ◌≢◌, ℕ, Option, Some, None, is_some, IsSome, IfSome, IfOk, OnErr, Result, Ok, Err, refl, sym, ap, subst, ◌∙◌, inl, inr, ◌⊎◌}
 use Rattle.rx_event.specs.declared.event.Event.{Event}
 use Rattle.rx_slots.specs.declared.Key.{Key}
-use Rattle.rx_tree.specs.Laws.Keys.{cases_key, none_not_some}
+use Rattle.rx_tree.proofs.Laws.Keys.{cases_key, none_not_some}
 use Rattle.rx_slots.specs.Slots.{entry_at, with_number, find, KeepsOthers}
 use Rattle.rx_tree.specs.declared.node.Node.{Node}
 use Rattle.rx_tree.specs.Tree.{Tree, IsUnused, IsPlaced, IsSound}

@@ -6,4 +6,3 @@ pub mod Closing
 pub mod Lends
 pub mod Cuts
 pub mod Kept
-pub mod Laws

@@ -16,7 +16,7 @@
 //! stands below the one that its event's place names. `parent_number` and `IsChild` follow from those
 //! places, and so does `is_below` (`specs/Below.antt`): the top itself, and what leads to it from
 //! parent to parent. `IsSubtree` (`specs/Closing.antt`) says what a closing moves out.
-//! `specs/Laws` has lemmas on these for the proofs of callers.
+//! `proofs/Laws` has lemmas on these for the proofs of callers.
 //!
 //! # What is promised
 //!

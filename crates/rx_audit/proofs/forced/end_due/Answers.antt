@@ -1,5 +1,5 @@
 use Rattle.std.proofs.Common.{sym, ap, ◌∙◌, get_or, false}
-use Rattle.rx_event.specs.Laws.Openness.{is_open_within}
+use Rattle.rx_event.proofs.Laws.Openness.{is_open_within}
 use Rattle.rx_audit.proofs.forced.end_due.Goals as goal
 
 pub open_end_due-requires-clause-within : goal.open_end_due-requires-clause-within

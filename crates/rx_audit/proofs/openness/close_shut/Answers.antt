@@ -1,6 +1,6 @@
 use Rattle.std.proofs.Common.{◌≡◌, ◌<◌, Some, length, arith, sym, ◌∙◌}
 use Rattle.rx_event.specs.Tree.{is_open, parent}
-use Rattle.rx_event.specs.Laws.Parents.{parent-lt}
+use Rattle.rx_event.proofs.Laws.Parents.{parent-lt}
 use Rattle.rx_audit.specs.Rules.{stays_open}
 use Rattle.rx_audit.proofs.StaysOpen.{done_cleared, rest_cleared, done_kept, all_done, stays_closed, shut_closed, below_closed, below_open, top_open, stays_as_open, stays_before, no_shut}
 use Rattle.rx_audit.proofs.openness.close_shut.Goals as goal

@@ -3,7 +3,7 @@ use Rattle.rx_event.specs.declared.event.Place.TheVariants.{Root}
 use Rattle.rx_event.specs.declared.event.Kind.TheVariants.{Leaf}
 use Rattle.rx_event.specs.declared.event.Event.{Event}
 use Rattle.rx_event.specs.declared.event.Event.TheVariants.{Open}
-use Rattle.rx_event.specs.Laws.Lawful.{IsLawful_empty}
+use Rattle.rx_event.proofs.Laws.Lawful.{IsLawful_empty}
 use Rattle.std.proofs.lemmas.Bool.{false≢true}
 use Rattle.rx_audit.proofs.Surveying.{hubs_named}
 use Rattle.rx_audit.proofs.Judging.{settled_more, unlawful_here, lawful_more, found_more, sized_as, has_few_visits}

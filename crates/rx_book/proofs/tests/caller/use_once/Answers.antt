@@ -14,7 +14,7 @@ use Rattle.rx_event.specs.Events.{is_root}
 use Rattle.rx_event.specs.Tree.{at, is_open}
 use Rattle.rx_event.specs.Calls.{OpeningUsing, Disposing, IsStepOf}
 use Rattle.rx_event.specs.Refusals.{first_cause}
-use Rattle.rx_event.specs.Laws.Places.{at-append}
+use Rattle.rx_event.proofs.Laws.Places.{at-append}
 use Rattle.rx_book.specs.declared.key.Key.{Key}
 use Rattle.rx_book.specs.State.{State, IsKept, has_key}
 use Rattle.rx_book.specs.Answers.{against}

@@ -1,6 +1,6 @@
 use Rattle.std.proofs.Common.{sym, ◌∙◌, arith}
-use Rattle.rx_event.specs.Laws.Parents.{parent-lt}
-use Rattle.rx_event.specs.Laws.Debt.{debt_falls-end}
+use Rattle.rx_event.proofs.Laws.Parents.{parent-lt}
+use Rattle.rx_event.proofs.Laws.Debt.{debt_falls-end}
 use Rattle.rx_register.proofs.Closings.{chain_first, chain_next, chain_closes}
 use Rattle.rx_register.proofs.register.close.end_chain.Goals as goal
 

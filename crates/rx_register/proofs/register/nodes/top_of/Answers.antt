@@ -1,5 +1,5 @@
 use Rattle.std.proofs.Common.{sym, ◌∙◌}
-use Rattle.rx_event.specs.Laws.Parents.{parent-lt}
+use Rattle.rx_event.proofs.Laws.Parents.{parent-lt}
 use Rattle.rx_register.proofs.Tops.{top_above, top_end}
 use Rattle.rx_register.proofs.register.nodes.top_of.Goals as goal
 

@@ -1,7 +1,7 @@
 use Rattle.std.proofs.Common.{◌≡◌, Some, true≢false, refl, sym, ◌∙◌, rules}
 use Rattle.rx_slots.specs.Slots.{number_at}
-use Rattle.rx_tree.specs.Laws.Keys.{none_not_some}
-use Rattle.rx_tree.specs.Laws.Written.{number_found}
+use Rattle.rx_tree.proofs.Laws.Keys.{none_not_some}
+use Rattle.rx_tree.proofs.Laws.Written.{number_found}
 use Rattle.rx_tree.proofs.tree.Tree.is_unused.Goals as goal
 
 pub returns-then-eq : goal.returns-then-eq

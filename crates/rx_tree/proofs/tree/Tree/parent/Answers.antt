@@ -1,5 +1,5 @@
 use Rattle.std.proofs.Common.{sym}
-use Rattle.rx_tree.specs.Laws.Parents.{named_parent}
+use Rattle.rx_tree.proofs.Laws.Parents.{named_parent}
 use Rattle.rx_tree.proofs.tree.Tree.parent.Goals as goal
 
 pub returns-clause-number : goal.returns-clause-number

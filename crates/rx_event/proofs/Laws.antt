@@ -1,0 +1,16 @@
+pub mod Lists
+pub mod Places
+pub mod Parents
+pub mod Openness
+pub mod Lawful
+pub mod Counts
+pub mod Sums
+pub mod Steps
+pub mod Switches
+pub mod Resources
+pub mod Totals
+pub mod Projections
+pub mod Debt
+pub mod Hubs
+pub mod Climbs
+pub mod Notes

@@ -1,0 +1,199 @@
+-- Hubs: at most one connection of each is open, and in a settled history a RefCount hub has one just where it has a subscriber.
+use Rattle.std.proofs.Common.{◌≡◌, ◌≢◌, ℕ, ◌+◌, ◌<◌, ◌≤◌, true, false, List, [], ◌∷◌, ◌++◌, length, Option, Some, None, refl, sym, ap, ◌∙◌, arith, inl, inr, ◌⊎◌, ◌==◌, take, drop, slice_get, length-append, take-append-drop}
+use Rattle.std.proofs.Math.Bool.{◌&&◌}
+use Rattle.std.specs.Option.{option_map_or}
+use Rattle.std.proofs.lemmas.Bool.{cases_order, both_ways, false≢true, and_parts, and_from, eq-eqb, eqb-true}
+use Rattle.std.proofs.lemmas.List.{length-take, length-take-le}
+use Rattle.std.proofs.lemmas.Option.{slice_get_within, same_Some, none-some}
+use Rattle.std.specs.List.{list_any}
+use Rattle.rx_event.specs.declared.event.Place.{Place}
+use Rattle.rx_event.specs.declared.event.Place.TheVariants.{Root, Source, Inner, Notifier}
+use Rattle.rx_event.specs.declared.event.Kind.{Kind}
+use Rattle.rx_event.specs.declared.event.Kind.TheVariants.{Sub}
+use Rattle.rx_event.specs.declared.event.Event.{Event}
+use Rattle.rx_event.specs.declared.event.Event.TheVariants.{Open, Connect, Close}
+use Rattle.rx_event.specs.Events.{makes_hub, is_auto_hub, is_connect_of, is_subscriber_of}
+use Rattle.rx_event.specs.Tree.{at, places, parent, ancestors, is_within, is_open, open_subscribers, open_connections}
+use Rattle.rx_event.specs.Forced.{cut, left, connecting, due, IsDue, IsForced, IsConnectDue, IsSettled}
+use Rattle.rx_event.specs.Allowed.{opened, connected, IsAllowed, IsHubbed, IsInOrder, IsInOrderAt}
+use Rattle.rx_event.specs.Lawful.{forced, allowed, MayFollow, IsLawful}
+use Rattle.rx_event.proofs.Laws.Lists.{first_passes, filter_nonempty, filter_few}
+use Rattle.rx_event.proofs.Laws.Places.{slice_get-append, slice_get_last, at-append, at_within}
+use Rattle.rx_event.proofs.Laws.Parents.{parent-lt, parent_name, ancestors-append, is_within-le, within_cases}
+use Rattle.rx_event.proofs.Laws.Lawful.{lawful_at}
+use Rattle.rx_event.proofs.Laws.Openness.{is_open_within, is_open_past, is_open_cut}
+use Rattle.rx_event.proofs.Laws.Steps.{by_events, forced_kind}
+
+-- a connection --------------------------------------------------------------------------------------
+
+connect_found : (g : ℕ) (o : Option Event) → option_map_or (is_connect_of g) o false ≡ true → o ≡ Some (Connect g)
+connect_found g None connects = absurd (false≢true connects)
+connect_found g (Some (Connect k)) connects = ap (λ q. Some (Connect q)) (eqb-true k g connects)
+connect_found g (Some _) connects = absurd (false≢true connects)
+
+-- what connects g is its Connect
+pub at_connect : (h : List Event) (g c : ℕ) → at (is_connect_of g) h c ≡ true → slice_get h c ≡ Some (Connect g)
+at_connect h g c connects = connect_found g (slice_get h c) connects
+
+due_connect : {h : List Event} {g : ℕ} → IsDue h (Connect g) → ⊥
+due_connect d = elim d [ ]
+
+forced_connect : {h : List Event} {g : ℕ} → IsForced h (Connect g) → open_connections h g ≡ []
+forced_connect (connecting d) = d.unconnected
+forced_connect (due n d) = absurd (due_connect d)
+
+allowed_connect : {h : List Event} {g : ℕ} → IsAllowed h (Connect g) → open_connections h g ≡ []
+allowed_connect (connected m unconnected few) = unconnected
+
+-- a hub is connected where no connection of it is open
+pub may_connect : {h : List Event} {g : ℕ} → MayFollow h (Connect g) → open_connections h g ≡ []
+may_connect (forced f) = forced_connect f
+may_connect (allowed s a) = allowed_connect a
+
+connect_free : (h : List Event) (e : Event) (g : ℕ) → MayFollow h e → is_connect_of g e ≡ true → open_connections h g ≡ []
+connect_free h (Connect k) g next connects = rw (← eqb-true k g connects) (may_connect next)
+connect_free h _ g next connects = absurd (false≢true connects)
+
+-- one connection ----------------------------------------------------------------------------------
+
+-- Two open connections of one hub
+pub record TwoConnections (h : List Event) (g a b : ℕ) : Type 0 where
+  pub one : at (is_connect_of g) h a ≡ true
+  pub one_open : is_open h a ≡ true
+  pub other : at (is_connect_of g) h b ≡ true
+  pub other_open : is_open h b ≡ true
+
+-- are the same
+pub one_connection : (h : List Event) → IsLawful h → (g a b : ℕ) → TwoConnections h g a b → a ≡ b
+one_connection = by_events (λ h. (g a b : ℕ) → TwoConnections h g a b → a ≡ b) (λ g a b two. absurd (both_ways _ (is_open_past [] a (omega arith)) two.one_open)) after where
+  before_open : (h : List Event) (e : Event) (a : ℕ) → a < length h → is_open (h ++ e ∷ []) a ≡ true → is_open h a ≡ true
+  before_open h e a l o = (and_parts _ _ (sym (is_open_cut h e a l) ∙ o)).0
+
+  clash : (h : List Event) (e : Event) → MayFollow h e → (g a b : ℕ) → a < length h → b ≡ length h → at (is_connect_of g) (h ++ e ∷ []) a ≡ true → is_open (h ++ e ∷ []) a ≡ true → at (is_connect_of g) (h ++ e ∷ []) b ≡ true → ⊥
+  clash h e next g a b l last one one_open other =
+      let new : is_connect_of g e ≡ true = sym (ap (λ o. option_map_or (is_connect_of g) o false) (ap (slice_get (h ++ e ∷ [])) last ∙ slice_get_last h e)) ∙ other in
+      let connects : at (is_connect_of g) h a ≡ true = sym (at-append (is_connect_of g) h (e ∷ []) a l) ∙ one in
+      filter_nonempty (λ n. at (is_connect_of g) h n && is_open h n) 0 (length h) a (omega arith) (omega arith) (and_from _ _ connects (before_open h e a l one_open)) (connect_free h e g next new)
+
+  after : (h : List Event) (e : Event) → IsLawful h → MayFollow h e → ((g a b : ℕ) → TwoConnections h g a b → a ≡ b) → (g a b : ℕ) → TwoConnections (h ++ e ∷ []) g a b → a ≡ b
+  after h e law next before g a b two = by_place (cases_order a (length h)) (cases_order b (length h)) where
+    within : (n : ℕ) → is_open (h ++ e ∷ []) n ≡ true → n < length h + 1
+    within n o = let l = is_open_within (h ++ e ∷ []) n o in omega (arith, length-append h (e ∷ []))
+
+    by_place : (a ≡ length h) ⊎ ((a < length h) ⊎ (length h < a)) → (b ≡ length h) ⊎ ((b < length h) ⊎ (length h < b)) → a ≡ b
+    by_place (inl p) (inl q) = p ∙ sym q
+    by_place (inr (inr l)) q = absurd (let w = within a two.one_open in omega arith)
+    by_place (inl p) (inr (inr l)) = absurd (let w = within b two.other_open in omega arith)
+    by_place (inr (inl l)) (inr (inr m)) = absurd (let w = within b two.other_open in omega arith)
+    by_place (inr (inl l)) (inl q) = absurd (clash h e next g a b l q two.one two.one_open two.other)
+    by_place (inl p) (inr (inl l)) = absurd (clash h e next g b a l p two.other two.other_open two.one)
+    by_place (inr (inl l)) (inr (inl m)) =
+        before g a b (record {
+          one = sym (at-append (is_connect_of g) h (e ∷ []) a l) ∙ two.one;
+          one_open = before_open h e a l two.one_open;
+          other = sym (at-append (is_connect_of g) h (e ∷ []) b m) ∙ two.other;
+          other_open = before_open h e b m two.other_open;
+        })
+
+-- so a hub has at most one
+pub one_open_connection : (h : List Event) → IsLawful h → (g : ℕ) → length (open_connections h g) ≤ 1
+one_open_connection h law g = filter_few (λ n. at (is_connect_of g) h n && is_open h n) 0 (length h) same where
+  same : (a b : ℕ) → (at (is_connect_of g) h a && is_open h a) ≡ true → (at (is_connect_of g) h b && is_open h b) ≡ true → a ≡ b
+  same a b one other =
+      let p : (at (is_connect_of g) h a ≡ true) × (is_open h a ≡ true) = and_parts _ _ one in
+      let q : (at (is_connect_of g) h b ≡ true) × (is_open h b ≡ true) = and_parts _ _ other in
+      one_connection h law g a b (record { one = p.0; one_open = p.1; other = q.0; other_open = q.1 })
+
+-- settled histories -------------------------------------------------------------------------------
+
+-- in a settled history no RefCount hub has a subscriber and no connection
+pub subscribed_connected : (h : List Event) (g : ℕ) → IsSettled h → at is_auto_hub h g ≡ true → open_connections h g ≡ [] → open_subscribers h g ≡ []
+subscribed_connected h g settled auto unconnected = by_list (open_subscribers h g) refl where
+  none_due : (k : ℕ) → IsConnectDue h k → ⊥
+  none_due k d = settled.none (Connect k) (connecting d)
+
+  waiting : (s : ℕ) → at (is_subscriber_of g) h s ≡ true → is_open h s ≡ true → ⊥
+  waiting s subscribes subscribed = none_due g (record { auto = auto; subscriber = s; subscribes = subscribes; subscribed = subscribed; waits = λ t ended. settled.none _ (due none_due (cut subscribed ended)); unconnected = unconnected })
+
+  by_list : (ss : List ℕ) → open_subscribers h g ≡ ss → ss ≡ []
+  by_list [] e = refl
+  by_list (s ∷ ss) e =
+      let first : (at (is_subscriber_of g) h s && is_open h s) ≡ true = first_passes (λ n. at (is_subscriber_of g) h n && is_open h n) (places h) s ss e in
+      let parts : (at (is_subscriber_of g) h s ≡ true) × (is_open h s ≡ true) = and_parts _ _ first in
+      absurd (waiting s parts.0 parts.1)
+
+-- nor a connection and no subscriber
+pub unsubscribed_unconnected : (h : List Event) (g : ℕ) → IsSettled h → at is_auto_hub h g ≡ true → open_subscribers h g ≡ [] → open_connections h g ≡ []
+unsubscribed_unconnected h g settled auto unsubscribed = by_list (open_connections h g) refl where
+  none_due : (k : ℕ) → IsConnectDue h k → ⊥
+  none_due k d = settled.none (Connect k) (connecting d)
+
+  by_list : (cs : List ℕ) → open_connections h g ≡ cs → cs ≡ []
+  by_list [] e = refl
+  by_list (c ∷ cs) e =
+      let first : (at (is_connect_of g) h c && is_open h c) ≡ true = first_passes (λ n. at (is_connect_of g) h n && is_open h n) (places h) c cs e in
+      let parts : (at (is_connect_of g) h c ≡ true) × (is_open h c ≡ true) = and_parts _ _ first in
+      absurd (settled.none (Close c) (due none_due (left parts.1 (at_connect h g c parts.0) auto unsubscribed)))
+
+-- so it has one connection where it has a subscriber
+pub one_where_subscribed : (h : List Event) (g : ℕ) → IsLawful h → IsSettled h → at is_auto_hub h g ≡ true → open_subscribers h g ≢ [] → length (open_connections h g) ≡ 1
+one_where_subscribed h g law settled auto subscribed = by_list (open_connections h g) refl (one_open_connection h law g) where
+  by_list : (cs : List ℕ) → open_connections h g ≡ cs → length cs ≤ 1 → length cs ≡ 1
+  by_list [] e few = absurd (subscribed (subscribed_connected h g settled auto e))
+  by_list (c ∷ []) e few = refl
+  by_list (c ∷ d ∷ cs) e few = absurd (omega arith)
+
+-- the order of hubs -------------------------------------------------------------------------------
+
+subscriber_found : (g : ℕ) (o : Option Event) → option_map_or (is_subscriber_of g) o false ≡ true → (place : Place) × (o ≡ Some (Open place (Sub g)))
+subscriber_found g None subscribes = absurd (false≢true subscribes)
+subscriber_found g (Some (Open place (Sub k))) subscribes = (place, ap (λ q. Some (Open place (Sub q))) (eqb-true k g subscribes))
+subscriber_found g (Some _) subscribes = absurd (false≢true subscribes)
+
+allowed_hubbed : {h : List Event} {place : Place} {kind : Kind} → IsAllowed h (Open place kind) → IsHubbed h place kind
+allowed_hubbed (opened free hubbed few room) = hubbed
+
+-- the hub of what is opened is there, and in order
+pub may_subscribe : {h : List Event} {place : Place} {kind : Kind} → MayFollow h (Open place kind) → IsHubbed h place kind
+may_subscribe (forced f) = absurd (false≢true (forced_kind f))
+may_subscribe (allowed s a) = allowed_hubbed a
+
+-- the hub of a subscriber is in the history
+pub subscriber_hub : (h : List Event) → IsLawful h → (g s : ℕ) → at (is_subscriber_of g) h s ≡ true → g < length h
+subscriber_hub h law g s subscribes =
+    let found = subscriber_found g (slice_get h s) subscribes in
+    let hubbed : IsHubbed (take s h) found.0 (Sub g) = may_subscribe (lawful_at h law s (Open found.0 (Sub g)) found.1) in
+    let l : g < length (take s h) = at_within makes_hub (take s h) g hubbed.0 in
+    omega (arith, length-take s h)
+
+-- the connections above an old node were there when it was a new one
+older_order : (h : List Event) (g s q a k : ℕ) → IsInOrderAt (take s h) g q → q < s → s < length h → is_within h a q ≡ true → slice_get h a ≡ Some (Connect k) → g < k
+older_order h g s q a k order l m within connects =
+    let same : take s h ++ drop s h ≡ h = take-append-drop s h in
+    let room : length (take s h) ≡ s = length-take-le s h (omega arith) in
+    let above : ancestors (take s h) q ≡ ancestors h q = sym (ancestors-append (take s h) (drop s h) q (omega arith)) ∙ ap (λ t. ancestors t q) same in
+    let le : a ≤ q = is_within-le h a q within in
+    let here : slice_get (take s h) a ≡ slice_get h a = sym (slice_get-append (take s h) (drop s h) a (omega arith)) ∙ ap (λ t. slice_get t a) same in
+    order a k (ap (list_any (λ b. a == b)) above ∙ within) (here ∙ connects)
+
+-- every connection above a subscriber is of a later hub, so that no item goes round in a circle
+pub hubs_in_order : (h : List Event) → IsLawful h → (g s a k : ℕ) → at (is_subscriber_of g) h s ≡ true → is_within h a s ≡ true → slice_get h a ≡ Some (Connect k) → g < k
+hubs_in_order h law g s a k subscribes within connects = by_place found.0 found.1 (may_subscribe (lawful_at h law s (Open found.0 (Sub g)) found.1)).1 (within_cases h a s within) where
+  found : (place : Place) × (slice_get h s ≡ Some (Open place (Sub g)))
+  found = subscriber_found g (slice_get h s) subscribes
+
+  itself : (place : Place) → slice_get h s ≡ Some (Open place (Sub g)) → a ≡ s → ⊥
+  itself place at_s same = false≢true (ap (is_connect_of k) (same_Some (Open place (Sub g)) (Connect k) (sym at_s ∙ ap (slice_get h) (sym same) ∙ connects)) ∙ eq-eqb k k refl)
+
+  named : (place : Place) (q p : ℕ) → slice_get h s ≡ Some (Open place (Sub g)) → IsInOrderAt (take s h) g q → Some q ≡ Some p → parent h s ≡ Some p → is_within h a p ≡ true → g < k
+  named place q p at_s order name below above =
+      let number : q ≡ p = same_Some q p name in
+      let l : p < s = parent-lt h s p below in
+      older_order h g s q a k order (omega arith) (slice_get_within h s (Open place (Sub g)) at_s) (ap (is_within h a) number ∙ above) connects
+
+  by_place : (place : Place) → slice_get h s ≡ Some (Open place (Sub g)) → IsInOrder (take s h) g place → (a ≡ s) ⊎ ((p : ℕ) × (parent h s ≡ Some p) × (is_within h a p ≡ true)) → g < k
+  by_place place at_s order (inl same) = absurd (itself place at_s same)
+  by_place Root at_s order (inr (p, below, above)) = absurd (none-some p (parent_name h s p (Open Root (Sub g)) below at_s))
+  by_place (Source q) at_s order (inr (p, below, above)) = named (Source q) q p at_s order (parent_name h s p (Open (Source q) (Sub g)) below at_s) below above
+  by_place (Inner q) at_s order (inr (p, below, above)) = named (Inner q) q p at_s order (parent_name h s p (Open (Inner q) (Sub g)) below at_s) below above
+  by_place (Notifier q) at_s order (inr (p, below, above)) = named (Notifier q) q p at_s order (parent_name h s p (Open (Notifier q) (Sub g)) below at_s) below above

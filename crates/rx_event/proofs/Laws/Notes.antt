@@ -1,0 +1,188 @@
+-- What each node is told: items, then at most one end, then nothing.
+use Rattle.std.proofs.Common.{◌≡◌, ℕ, ℤ, ◌<◌, ◌≤◌, Bool, true, false, List, [], ◌∷◌, ◌++◌, length, Some, None, cond, refl, sym, ap, ◌∙◌, arith, inl, inr, ◌⊎◌, ◌==◌, append-nil, filter, map, length-append}
+use Rattle.std.proofs.Math.Bool.{not}
+use Rattle.std.specs.List.{AllByRecursion, list_all, filter_map}
+use Rattle.std.proofs.lemmas.Bool.{cases_Bool, cases_lt, both_ways, and_from, eqb-true}
+use Rattle.std.proofs.lemmas.List.{map-append}
+use Rattle.std.proofs.lemmas.List.Elements.{filter-append}
+use Rattle.std.proofs.lemmas.List.Folds.{list_all-append}
+use Rattle.std.proofs.lemmas.Option.{slice_get_past}
+use Rattle.rx_note.specs.declared.note.Terminal.{Terminal}
+use Rattle.rx_note.specs.declared.note.Note.{Note}
+use Rattle.rx_note.specs.declared.note.Note.TheVariants.{Next, Project, End as EndNote}
+use Rattle.rx_note.specs.Notes.{is_end, IsGrammatical}
+use Rattle.rx_event.specs.declared.event.Event.{Event}
+use Rattle.rx_event.specs.declared.event.Event.TheVariants.{Item, End}
+use Rattle.rx_event.specs.Events.{is_root}
+use Rattle.rx_event.specs.Tree.{at, is_open}
+use Rattle.rx_event.specs.Climb.{Stop, Delivery, Projection, Firing, stops}
+use Rattle.rx_event.specs.Moments.{moments}
+use Rattle.rx_event.specs.Notes.{Mail, notes, notes_to, told, mail_of}
+use Rattle.rx_event.specs.Lawful.{MayFollow, IsLawful}
+use Rattle.rx_event.specs.Claims.Climbs.{StopsAtOpen}
+use Rattle.rx_event.proofs.Laws.Lists.{AllByRecursion-both}
+use Rattle.rx_event.proofs.Laws.Places.{at-append}
+use Rattle.rx_event.proofs.Laws.Openness.{is_open_within, is_open_outside-end, stays_closed}
+use Rattle.rx_event.proofs.Laws.Counts.{notes-push}
+use Rattle.rx_event.proofs.Laws.Lawful.{may_end}
+use Rattle.rx_event.proofs.Laws.Steps.{by_events, may_emit}
+use Rattle.rx_event.proofs.Laws.Totals.{is_within_self}
+use Rattle.rx_event.proofs.Laws.Projections.{stops_open}
+
+-- the notes of this mail that go to n
+abbrev pub notes_in : ℕ → List Mail → List Note
+notes_in n mail = map (λ m. m.note) (filter (λ m. m.to == n) mail)
+
+-- what n is told by one more event comes last
+pub notes_to-push : (h : List Event) (e : Event) (n : ℕ) → notes_to (h ++ e ∷ []) n ≡ notes_to h n ++ notes_in n (mail_of h e)
+notes_to-push h e n =
+    ap (notes_in n) (notes-push h e) ∙ ap (map (λ (m : Mail). m.note)) (filter-append (λ (m : Mail). m.to == n) (notes h) (mail_of h e)) ∙ map-append (λ (m : Mail). m.note) (filter (λ (m : Mail). m.to == n) (notes h)) (filter (λ (m : Mail). m.to == n) (mail_of h e))
+
+notes_to_empty : (n : ℕ) → notes_to [] n ≡ []
+unfolding notes moments
+notes_to_empty n = refl
+
+-- one item ----------------------------------------------------------------------------------------
+
+abbrev is_item_note : Note → Bool
+is_item_note note = not (is_end note)
+
+abbrev IsProjected : Note → Type 0
+IsProjected note = (value : ℤ) × (note ≡ Project value)
+
+-- what an item tells n, stop by stop
+abbrev item_notes : ℕ → ℕ → ℤ → List Stop → List Note
+item_notes n place value ss = notes_in n (filter_map (told place value) ss)
+
+abbrev noted : Bool → Note → List Note → List Note
+noted b note rest = cond b (note ∷ rest) rest
+
+noted_to : (n to place : ℕ) (note : Note) (rest : List Mail) → notes_in n ((record { place = place; to = to; note = note }) ∷ rest) ≡ noted (to == n) note (notes_in n rest)
+noted_to n to place note rest = by_number (to == n) where
+  by_number : (b : Bool) → map (λ (m : Mail). m.note) (cond b ((record { place = place; to = to; note = note }) ∷ filter (λ m. m.to == n) rest) (filter (λ m. m.to == n) rest)) ≡ noted b note (notes_in n rest)
+  by_number true = refl
+  by_number false = refl
+
+noted_items : (b : Bool) (note : Note) (rest : List Note) → is_item_note note ≡ true → list_all is_item_note rest ≡ true → list_all is_item_note (noted b note rest) ≡ true
+noted_items true note rest item items = and_from _ _ item items
+noted_items false note rest item items = items
+
+item_notes_items : (n place : ℕ) (value : ℤ) (ss : List Stop) → list_all is_item_note (item_notes n place value ss) ≡ true
+item_notes_items n place value [] = refl
+item_notes_items n place value (Firing u ∷ ss) = item_notes_items n place value ss
+item_notes_items n place value (Delivery m ∷ ss) = rw (noted_to n m place (Next value) (filter_map (told place value) ss)) (noted_items (m == n) (Next value) (item_notes n place value ss) refl (item_notes_items n place value ss))
+item_notes_items n place value (Projection f ∷ ss) = rw (noted_to n f place (Project value) (filter_map (told place value) ss)) (noted_items (f == n) (Project value) (item_notes n place value ss) refl (item_notes_items n place value ss))
+
+-- numbers that a test tells apart differ
+differ : (p : ℕ → Bool) (n m : ℕ) → p n ≡ false → p m ≡ true → (m == n) ≡ false
+differ p n m fails holds = by_number (cases_Bool (m == n)) where
+  by_number : ((m == n) ≡ true) ⊎ ((m == n) ≡ false) → (m == n) ≡ false
+  by_number (inl same) = absurd (both_ways (p n) fails (ap p (sym (eqb-true m n same)) ∙ holds))
+  by_number (inr other) = other
+
+-- nothing that is not open is told the item
+item_notes_closed : (h : List Event) (n place : ℕ) (value : ℤ) → is_open h n ≡ false → (ss : List Stop) → AllByRecursion (StopsAtOpen h) ss → item_notes n place value ss ≡ []
+item_notes_closed h n place value closed [] open_all = refl
+item_notes_closed h n place value closed (Firing u ∷ ss) open_all = item_notes_closed h n place value closed ss open_all.1
+item_notes_closed h n place value closed (Delivery m ∷ ss) open_all = rw (noted_to n m place (Next value) (filter_map (told place value) ss), differ (is_open h) n m closed open_all.0.0) (item_notes_closed h n place value closed ss open_all.1)
+item_notes_closed h n place value closed (Projection f ∷ ss) open_all = rw (noted_to n f place (Project value) (filter_map (told place value) ss), differ (is_open h) n f closed open_all.0.0) (item_notes_closed h n place value closed ss open_all.1)
+
+-- and what is no root has it projected to it alone
+item_notes_projected : (h : List Event) (n place : ℕ) (value : ℤ) → at is_root h n ≡ false → (ss : List Stop) → AllByRecursion (StopsAtOpen h) ss → AllByRecursion IsProjected (item_notes n place value ss)
+item_notes_projected h n place value plain [] open_all = tt
+item_notes_projected h n place value plain (Firing u ∷ ss) open_all = item_notes_projected h n place value plain ss open_all.1
+item_notes_projected h n place value plain (Delivery m ∷ ss) open_all = rw (noted_to n m place (Next value) (filter_map (told place value) ss), differ (at is_root h) n m plain open_all.0.1) (item_notes_projected h n place value plain ss open_all.1)
+item_notes_projected h n place value plain (Projection f ∷ ss) open_all = rw (noted_to n f place (Project value) (filter_map (told place value) ss)) (by_number (f == n) (item_notes_projected h n place value plain ss open_all.1)) where
+  by_number : (b : Bool) → AllByRecursion IsProjected (item_notes n place value ss) → AllByRecursion IsProjected (noted b (Project value) (item_notes n place value ss))
+  by_number true rest = ((value, refl), rest)
+  by_number false rest = rest
+
+-- one event ---------------------------------------------------------------------------------------
+
+-- what is not open is told nothing
+mail_silent : (h : List Event) (e : Event) → IsLawful h → MayFollow h e → (n : ℕ) → is_open h n ≡ false → notes_in n (mail_of h e) ≡ []
+mail_silent h (Item l value) law next n closed = item_notes_closed h n (length h) value closed (stops h l) (stops_open h l law (may_emit next))
+mail_silent h (End m t) law next n closed = by_root (at is_root h m) where
+  by_root : (b : Bool) → notes_in n (cond b ((record { place = length h; to = m; note = EndNote t }) ∷ []) []) ≡ []
+  by_root true = rw (noted_to n m (length h) (EndNote t) [], differ (is_open h) n m closed (may_end next)) refl
+  by_root false = refl
+mail_silent h _ law next n closed = refl
+
+-- what is no root is told projected items alone
+mail_projected : (h : List Event) (e : Event) → IsLawful h → MayFollow h e → (n : ℕ) → at is_root h n ≡ false → AllByRecursion IsProjected (notes_in n (mail_of h e))
+mail_projected h (Item l value) law next n plain = item_notes_projected h n (length h) value plain (stops h l) (stops_open h l law (may_emit next))
+mail_projected h (End m t) law next n plain = by_root (at is_root h m) refl where
+  by_root : (b : Bool) → at is_root h m ≡ b → AllByRecursion IsProjected (notes_in n (cond b ((record { place = length h; to = m; note = EndNote t }) ∷ []) []))
+  by_root true root = rw (noted_to n m (length h) (EndNote t) [], differ (at is_root h) n m plain root) tt
+  by_root false root = tt
+mail_projected h _ law next n plain = tt
+
+-- what is not open is told nothing more
+pub notes_silent : (h : List Event) (e : Event) → IsLawful h → MayFollow h e → (n : ℕ) → is_open h n ≡ false → notes_to (h ++ e ∷ []) n ≡ notes_to h n
+notes_silent h e law next n closed = notes_to-push h e n ∙ ap (λ (ns : List Note). notes_to h n ++ ns) (mail_silent h e law next n closed) ∙ append-nil (notes_to h n)
+
+-- whole histories ---------------------------------------------------------------------------------
+
+-- n was told items alone, or is not open any more
+data Told (h : List Event) (n : ℕ) : Type 0 where
+  going : list_all is_item_note (notes_to h n) ≡ true → Told h n
+  over : IsGrammatical (notes_to h n) → n < length h → is_open h n ≡ false → Told h n
+
+told_more : (h : List Event) (e : Event) (n : ℕ) → list_all is_item_note (notes_to h n) ≡ true → list_all is_item_note (notes_in n (mail_of h e)) ≡ true → Told (h ++ e ∷ []) n
+told_more h e n items more = going (rw (notes_to-push h e n, list_all-append is_item_note (notes_to h n) (notes_in n (mail_of h e))) (and_from _ _ items more))
+
+-- the end of an open root
+told_end : (h : List Event) (m n : ℕ) (t : Terminal) → is_open h m ≡ true → list_all is_item_note (notes_to h n) ≡ true → Told (h ++ End m t ∷ []) n
+told_end h m n t o items = by_root (at is_root h m) refl where
+  by_number : at is_root h m ≡ true → (m == n) ≡ true → Told (h ++ End m t ∷ []) n
+  by_number root same =
+      let number : m ≡ n = eqb-true m n same in
+      let here : is_open h n ≡ true = ap (is_open h) (sym number) ∙ o in
+      let l : n < length h = is_open_within h n here in
+      over (record {
+        items = notes_to h n;
+        last = Some t;
+        no_end = items;
+        whole = notes_to-push h (End m t) n ∙ ap (λ (ns : List Note). notes_to h n ++ ns) (rw (root, noted_to n m (length h) (EndNote t) [], same) refl);
+      }) (omega (arith, length-append {A = Event})) (rw (number) (is_open_outside-end h n t n ∙ rw (here, is_within_self h n) refl))
+
+  apart_or_not : at is_root h m ≡ true → ((m == n) ≡ true) ⊎ ((m == n) ≡ false) → Told (h ++ End m t ∷ []) n
+  apart_or_not root (inl same) = by_number root same
+  apart_or_not root (inr other) = told_more h (End m t) n items (rw (root, noted_to n m (length h) (EndNote t) [], other) refl)
+
+  by_root : (b : Bool) → at is_root h m ≡ b → Told (h ++ End m t ∷ []) n
+  by_root true root = apart_or_not root (cases_Bool (m == n))
+  by_root false root = told_more h (End m t) n items (rw root refl)
+
+told_open : (h : List Event) (e : Event) → MayFollow h e → (n : ℕ) → list_all is_item_note (notes_to h n) ≡ true → Told (h ++ e ∷ []) n
+told_open h (Item l value) next n items = told_more h (Item l value) n items (item_notes_items n (length h) value (stops h l))
+told_open h (End m t) next n items = told_end h m n t (may_end next) items
+told_open h e next n items = told_more h e n items refl
+
+told_closed : (h : List Event) (e : Event) → IsLawful h → MayFollow h e → (n : ℕ) → is_open h n ≡ false → Told h n → Told (h ++ e ∷ []) n
+told_closed h e law next n closed (going items) = going (rw (notes_silent h e law next n closed) items)
+told_closed h e law next n closed (over g l c) = over (rw (notes_silent h e law next n closed) g) (omega (arith, length-append {A = Event})) (stays_closed h e n l c)
+
+told_always : (h : List Event) → IsLawful h → (n : ℕ) → Told h n
+told_always = by_events (λ h. (n : ℕ) → Told h n) (λ n. going (rw (notes_to_empty n) refl)) (λ h e law next before n. by_test h e law next n (before n) (is_open h n) refl) where
+  by_test : (h : List Event) (e : Event) → IsLawful h → MayFollow h e → (n : ℕ) → Told h n → (b : Bool) → is_open h n ≡ b → Told (h ++ e ∷ []) n
+  by_test h e law next n before false closed = told_closed h e law next n closed before
+  by_test h e law next n (going items) true o = told_open h e next n items
+  by_test h e law next n (over g l c) true o = absurd (both_ways _ c o)
+
+-- what each node is told obeys the grammar
+pub notes_grammatical : (h : List Event) → IsLawful h → (n : ℕ) → IsGrammatical (notes_to h n)
+notes_grammatical h law n = by_told (told_always h law n) where
+  by_told : Told h n → IsGrammatical (notes_to h n)
+  by_told (going items) = record { items = notes_to h n; last = None; no_end = items; whole = sym (append-nil (notes_to h n)) }
+  by_told (over g l c) = g
+
+-- and of what is no root it is projected items
+pub notes_projected : (h : List Event) → IsLawful h → (n : ℕ) → at is_root h n ≡ false → AllByRecursion IsProjected (notes_to h n)
+notes_projected = by_events (λ h. (n : ℕ) → at is_root h n ≡ false → AllByRecursion IsProjected (notes_to h n)) (λ n plain. rw (notes_to_empty n) tt) (λ h e law next before n plain.
+    let old : at is_root h n ≡ false = plain_before h e n plain (cases_lt n (length h)) in
+    rw (notes_to-push h e n) (AllByRecursion-both IsProjected (notes_to h n) (notes_in n (mail_of h e)) (before n old) (mail_projected h e law next n old)))
+  where
+    plain_before : (h : List Event) (e : Event) (n : ℕ) → at is_root (h ++ e ∷ []) n ≡ false → (n < length h) ⊎ (length h ≤ n) → at is_root h n ≡ false
+    plain_before h e n plain (inl l) = sym (at-append is_root h (e ∷ []) n l) ∙ plain
+    plain_before h e n plain (inr g) = rw (slice_get_past h n g) refl

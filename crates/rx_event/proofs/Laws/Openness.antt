@@ -1,0 +1,319 @@
+-- Which nodes are open after one more event.
+use Rattle.std.proofs.Common.{◌≡◌, ℕ, zero, suc, ◌<◌, ◌≤◌, Bool, true, false, List, [], ◌∷◌, ◌++◌, length, drop, Option, Some, None, refl, sym, ap, ◌∙◌, arith, inl, inr, ◌⊎◌, nat_lt, ◌==◌, length-append, append-nil, append_assoc}
+use Rattle.std.proofs.Math.Bool.{not, ◌&&◌, ◌||◌}
+use Rattle.std.specs.List.{list_any, list_all, AllByRecursion}
+use Rattle.std.specs.Option.{option_and_then, option_map_or}
+use Rattle.std.proofs.lemmas.Bool.{cases_Bool, cases_lt, cases_order, ltb-true, lt-ltb, le-ltb, and_parts, both_ways, eq-eqb}
+use Rattle.std.proofs.lemmas.Option.{cond_some, option_and_then_some, slice_get_past}
+use Rattle.std.proofs.lemmas.List.{drop-append-le}
+use Rattle.std.proofs.lemmas.List.Folds.{list_any-append}
+use Rattle.rx_note.specs.declared.note.Terminal.{Terminal}
+use Rattle.rx_event.specs.declared.event.Kind.{Kind}
+use Rattle.rx_event.specs.declared.event.Place.TheVariants.{Root, Source, Inner, Notifier}
+use Rattle.rx_event.specs.declared.event.Event.{Event}
+use Rattle.rx_event.specs.declared.event.Event.TheVariants.{Open, Hub, Connect, Accept, Use, Remove, Item, Decline, End, Close, Take}
+use Rattle.rx_event.specs.Events.{makes_node, parent_named, is_switch, is_inner_of}
+use Rattle.rx_event.specs.Tree.{at, parent, if_less, ancestors, shuts, is_shut, is_open, is_standing, is_switched_inner, is_within}
+use Rattle.rx_event.proofs.Laws.Places.{slice_get_last, at-append}
+use Rattle.rx_event.proofs.Laws.Parents.{parent-lt, ancestors_step, ancestors-append, ancestors-le, option_map_or-same}
+
+-- openness ----------------------------------------------------------------------------------------
+
+-- two tests that agree at each element
+list_any-same : {X : Type 0} (p q : X → Bool) → ((x : X) → p x ≡ q x) → (xs : List X) → list_any p xs ≡ list_any q xs
+list_any-same p q same [] = refl
+list_any-same p q same (x ∷ xs) = rw (same x, list_any-same p q same xs) refl
+
+-- whether an event shuts an older node depends on the older events alone
+shuts-append : (h t : List Event) (n : ℕ) → n < length h → (e : Event) → shuts (h ++ t) n e ≡ shuts h n e
+shuts-append h t n l (End m u) = refl
+shuts-append h t n l (Close m) = refl
+shuts-append h t n l (Open (Inner f) kind) = inner_case (cases_Bool (nat_lt f n)) where
+  inner_case : (nat_lt f n ≡ true) ⊎ (nat_lt f n ≡ false) → is_switched_inner (h ++ t) f n ≡ is_switched_inner h f n
+  inner_case (inl b) = let s : f < n = ltb-true f n b in rw (at-append is_switch h t f (omega arith), at-append (is_inner_of f) h t n l) refl
+  inner_case (inr b) = rw b refl
+shuts-append h t n l (Open Root kind) = refl
+shuts-append h t n l (Open (Source f) kind) = refl
+shuts-append h t n l (Open (Notifier f) kind) = refl
+shuts-append h t n l (Hub mode) = refl
+shuts-append h t n l (Connect g) = refl
+shuts-append h t n l (Accept m tag) = refl
+shuts-append h t n l (Use r) = refl
+shuts-append h t n l (Remove r) = refl
+shuts-append h t n l (Item m v) = refl
+shuts-append h t n l (Decline f) = refl
+shuts-append h t n l (Take r) = refl
+
+-- an older node is shut if it was, or if the new event shuts it
+pub is_shut-push : (h : List Event) (e : Event) (n : ℕ) → n < length h → is_shut (h ++ e ∷ []) n ≡ (is_shut h n || shuts h n e)
+unfolding is_shut
+is_shut-push h e n l =
+    rw (drop-append-le (suc n) h (e ∷ []) (omega arith), list_any-same (shuts (h ++ e ∷ []) n) (shuts h n) (shuts-append h (e ∷ []) n l) (drop (suc n) h ++ e ∷ []), list_any-append (shuts h n) (drop (suc n) h) (e ∷ []))
+    (ap (λ b. list_any (shuts h n) (drop (suc n) h) || b) (or_false (shuts h n e)))
+  where
+    or_false : (b : Bool) → (b || false) ≡ b
+    or_false true = refl
+    or_false false = refl
+
+-- the new node is not shut
+pub is_shut_last : (h : List Event) (e : Event) → is_shut (h ++ e ∷ []) (length h) ≡ false
+unfolding is_shut
+is_shut_last h e = ap (list_any (shuts (h ++ e ∷ []) (length h))) (drop_all h e) where
+  drop_all : (h : List Event) (e : Event) → drop (suc (length h)) (h ++ e ∷ []) ≡ []
+  drop_all [] e = refl
+  drop_all (x ∷ h) e = drop_all h e
+
+list_all-same : {X : Type 0} (P : X → Type 0) (p q : X → Bool) → ((x : X) → P x → p x ≡ q x) → (xs : List X) → AllByRecursion P xs → list_all p xs ≡ list_all q xs
+list_all-same P p q same [] a = refl
+list_all-same P p q same (x ∷ xs) a = rw (same x a.0, list_all-same P p q same xs a.1) refl
+
+list_all-and : {X : Type 0} (p q : X → Bool) (xs : List X) → list_all (λ x. p x && q x) xs ≡ (list_all p xs && list_all q xs)
+list_all-and p q [] = refl
+list_all-and p q (x ∷ xs) = rw (list_all-and p q xs) (swapped (p x) (q x) (list_all p xs) (list_all q xs)) where
+  swapped : (a b c d : Bool) → ((a && b) && (c && d)) ≡ ((a && c) && (b && d))
+  swapped false b c d = refl
+  swapped true b false false = elim b as (λ v. (v && (false && false)) ≡ (false && (v && false))) [ true ↦ refl | false ↦ refl ]
+  swapped true b false true = elim b as (λ v. (v && (false && true)) ≡ (false && (v && true))) [ true ↦ refl | false ↦ refl ]
+  swapped true b true d = refl
+
+standing-push : (h : List Event) (e : Event) (n : ℕ) → n < length h → is_standing (h ++ e ∷ []) n ≡ (is_standing h n && not (shuts h n e))
+standing-push h e n l = rw (at-append makes_node h (e ∷ []) n l, is_shut-push h e n l) (shape (at makes_node h n) (is_shut h n) (shuts h n e)) where
+  shape : (a b c : Bool) → (a && not (b || c)) ≡ ((a && not b) && not c)
+  shape false b c = refl
+  shape true true c = refl
+  shape true false c = refl
+
+-- An older node is open if it was, and the new event shuts neither it nor a node above it.
+pub is_open-push : (h : List Event) (e : Event) (n : ℕ) → n < length h → is_open (h ++ e ∷ []) n ≡ (is_open h n && list_all (λ a. not (shuts h a e)) (ancestors h n))
+unfolding is_open
+is_open-push h e n l =
+    rw (ancestors-append h (e ∷ []) n l, list_all-same (λ a. a ≤ n) (is_standing (h ++ e ∷ [])) (λ a. is_standing h a && not (shuts h a e)) (λ a b. standing-push h e a (omega arith)) (ancestors h n) (ancestors-le h n))
+    (list_all-and (is_standing h) (λ a. not (shuts h a e)) (ancestors h n))
+
+-- a node is open where it stands and its parent is open
+pub is_open_step : (h : List Event) (n : ℕ) → is_open h n ≡ (is_standing h n && option_map_or (is_open h) (parent h n) true)
+unfolding is_open
+is_open_step h n = rw (ancestors_step h n) (ap (λ b. is_standing h n && b) (inside (parent h n))) where
+  inside : (o : Option ℕ) → list_all (is_standing h) (option_map_or (ancestors h) o []) ≡ option_map_or (λ m. list_all (is_standing h) (ancestors h m)) o true
+  inside None = refl
+  inside (Some p) = refl
+
+-- the event shuts no node
+abbrev pub shuts_none : Event → Bool
+shuts_none (End n t) = false
+shuts_none (Close n) = false
+shuts_none (Open (Inner f) kind) = false
+shuts_none _ = true
+
+not_shut : (h : List Event) (n : ℕ) (e : Event) → shuts_none e ≡ true → shuts h n e ≡ false
+not_shut h n (End m u) s = cc
+not_shut h n (Close m) s = cc
+not_shut h n (Open (Inner f) kind) s = cc
+not_shut h n (Open Root kind) s = refl
+not_shut h n (Open (Source f) kind) s = refl
+not_shut h n (Open (Notifier f) kind) s = refl
+not_shut h n (Hub mode) s = refl
+not_shut h n (Connect g) s = refl
+not_shut h n (Accept m tag) s = refl
+not_shut h n (Use r) s = refl
+not_shut h n (Remove r) s = refl
+not_shut h n (Item m v) s = refl
+not_shut h n (Decline f) s = refl
+not_shut h n (Take r) s = refl
+
+list_all_yes : {X : Type 0} (p : X → Bool) → ((x : X) → p x ≡ true) → (xs : List X) → list_all p xs ≡ true
+list_all_yes p holds [] = refl
+list_all_yes p holds (x ∷ xs) = rw (holds x) (list_all_yes p holds xs)
+
+and_true : (b : Bool) → (b && true) ≡ b
+and_true true = refl
+and_true false = refl
+
+-- an item, an acceptance and the like leave each node as it was
+pub is_open_kept : (h : List Event) (e : Event) (n : ℕ) → n < length h → shuts_none e ≡ true → is_open (h ++ e ∷ []) n ≡ is_open h n
+is_open_kept h e n l s = rw (is_open-push h e n l, list_all_yes (λ a. not (shuts h a e)) (λ a. ap not (not_shut h a e s)) (ancestors h n)) (and_true (is_open h n))
+
+-- the event takes away n, or a node above it
+abbrev pub is_cut : List Event → Event → ℕ → Bool
+is_cut h e n = list_any (λ a. shuts h a e) (ancestors h n)
+
+-- what an event shuts it cuts
+pub self_cut : (h : List Event) (e : Event) (n : ℕ) → shuts h n e ≡ true → is_cut h e n ≡ true
+self_cut h e n s = rw (ancestors_step h n, s) refl
+
+list_all-not : {X : Type 0} (p : X → Bool) (xs : List X) → list_all (λ x. not (p x)) xs ≡ not (list_any p xs)
+list_all-not p [] = refl
+list_all-not p (x ∷ xs) = rw (list_all-not p xs) (shape (p x) (list_any p xs)) where
+  shape : (a b : Bool) → (not a && not b) ≡ not (a || b)
+  shape true b = refl
+  shape false b = refl
+
+-- an older node is open if it was, and the new event does not cut it. (Cut by the end or the closing of c is what is within c.)
+pub is_open_cut : (h : List Event) (e : Event) (n : ℕ) → n < length h → is_open (h ++ e ∷ []) n ≡ (is_open h n && not (is_cut h e n))
+is_open_cut h e n l = is_open-push h e n l ∙ ap (λ b. is_open h n && b) (list_all-not (λ a. shuts h a e) (ancestors h n))
+
+-- an event that shuts no node cuts none
+pub is_cut_none : (h : List Event) (e : Event) (n : ℕ) → shuts_none e ≡ true → is_cut h e n ≡ false
+is_cut_none h e n s = none (ancestors h n) where
+  none : (xs : List ℕ) → list_any (λ a. shuts h a e) xs ≡ false
+  none [] = refl
+  none (a ∷ xs) = rw (not_shut h a e s) (none xs)
+
+-- an end shuts just the nodes that it is above
+pub is_open-end : (h : List Event) (c : ℕ) (t : Terminal) (n : ℕ) → n < length h → is_open (h ++ End c t ∷ []) n ≡ (is_open h n && list_all (λ a. not (c == a)) (ancestors h n))
+is_open-end h c t n l = is_open-push h (End c t) n l
+
+pub is_open-close : (h : List Event) (c : ℕ) (n : ℕ) → n < length h → is_open (h ++ Close c ∷ []) n ≡ (is_open h n && list_all (λ a. not (c == a)) (ancestors h n))
+is_open-close h c n l = is_open-push h (Close c) n l
+
+-- beyond the end there is no node
+pub is_open_past : (h : List Event) (n : ℕ) → length h ≤ n → is_open h n ≡ false
+is_open_past h n l = is_open_step h n ∙ rw (slice_get_past h n l) refl
+
+-- a new root is open, and a new node below an open node too, where it shuts none
+pub is_open_last : (h : List Event) (e : Event) → shuts_none e ≡ true → is_open (h ++ e ∷ []) (length h) ≡ (makes_node e && option_map_or (is_open h) (option_and_then (if_less (length h)) (parent_named e)) true)
+unfolding parent
+is_open_last h e s =
+    rw (is_open_step (h ++ e ∷ []) (length h), is_shut_last h e, slice_get_last h e)
+    (and_same (makes_node e) _ _ (option_map_or-same (is_open (h ++ e ∷ [])) (is_open h) (option_and_then (if_less (length h)) (parent_named e)) true (λ p o. is_open_kept h e p (less (parent_named e) p o) s)))
+  where
+    and_same : (a b c : Bool) → b ≡ c → ((a && true) && b) ≡ (a && c)
+    and_same true b c e = e
+    and_same false b c e = refl
+
+    less : (o : Option ℕ) (p : ℕ) → option_and_then (if_less (length h)) o ≡ Some p → p < length h
+    less o p e = option_and_then_some (if_less (length h)) o p e (λ x a b. let w = cond_some (nat_lt x (length h)) x p b in rw (← w.1) (ltb-true x (length h) w.0))
+
+-- an open node is in the history
+pub is_open_within : (h : List Event) (n : ℕ) → is_open h n ≡ true → n < length h
+is_open_within h n o = within (cases_lt n (length h)) where
+  within : (n < length h) ⊎ (length h ≤ n) → n < length h
+  within (inl l) = l
+  within (inr g) = absurd (both_ways _ (is_open_past h n g) o)
+
+-- n is among its ancestors
+pub self_tested : (h : List Event) (n : ℕ) (q : ℕ → Bool) → list_all q (ancestors h n) ≡ true → q n ≡ true
+self_tested h n q a = let b = rw (ancestors_step h n) at a in (and_parts (q n) (list_all q (option_map_or (ancestors h) (parent h n) [])) b).0
+
+-- what is open after an event that makes no node was open before
+pub open_before : (h : List Event) (e : Event) (p : ℕ) → makes_node e ≡ false → is_open (h ++ e ∷ []) p ≡ true → is_open h p ≡ true
+open_before h e p no_node o = by_place (cases_order p (length h)) where
+  by_place : (p ≡ length h) ⊎ ((p < length h) ⊎ (length h < p)) → is_open h p ≡ true
+  by_place (inr (inl l)) = (and_parts _ _ (sym (is_open-push h e p l) ∙ o)).0
+  by_place (inl same) = absurd (both_ways _ (is_open_step (h ++ e ∷ []) (length h) ∙ rw (slice_get_last h e, no_node) refl) (ap (is_open (h ++ e ∷ [])) (sym same) ∙ o))
+  by_place (inr (inr g)) = let l = is_open_within (h ++ e ∷ []) p o in absurd (omega (arith, length-append {A = Event}))
+
+-- an open node of a history with an end more was open before, and is not what ended
+pub open_before_end : (h : List Event) (q : ℕ) (u : Terminal) (p : ℕ) → is_open (h ++ End q u ∷ []) p ≡ true → (p < length h) × (is_open h p ≡ true) × (q ≡ p → ⊥)
+open_before_end h q u p o = (within, parts.0, λ same. both_ways _ (ap not (eq-eqb q p same)) (self_tested h p (λ a. not (q == a)) parts.1)) where
+  within : p < length h
+  within = by_place (cases_order p (length h)) where
+    by_place : (p ≡ length h) ⊎ ((p < length h) ⊎ (length h < p)) → p < length h
+    by_place (inr (inl l)) = l
+    by_place (inl same) = absurd (both_ways _ (is_open_step (h ++ End q u ∷ []) (length h) ∙ rw (slice_get_last h (End q u)) refl) (ap (is_open (h ++ End q u ∷ [])) (sym same) ∙ o))
+    by_place (inr (inr g)) = let l = is_open_within (h ++ End q u ∷ []) p o in absurd (omega (arith, length-append {A = Event}))
+
+  parts : (is_open h p ≡ true) × (list_all (λ a. not (q == a)) (ancestors h p) ≡ true)
+  parts = and_parts _ _ (sym (is_open-push h (End q u) p within) ∙ o)
+
+-- an event that neither shuts nor makes a node leaves each number as it was
+pub is_open_unchanged : (h : List Event) (e : Event) → shuts_none e ≡ true → makes_node e ≡ false → (n : ℕ) → is_open (h ++ e ∷ []) n ≡ is_open h n
+is_open_unchanged h e s no_node n = by_place (cases_order n (length h)) where
+  by_place : (n ≡ length h) ⊎ ((n < length h) ⊎ (length h < n)) → is_open (h ++ e ∷ []) n ≡ is_open h n
+  by_place (inr (inl l)) = is_open_kept h e n l s
+  by_place (inl same) = ap (is_open (h ++ e ∷ [])) same ∙ (is_open_step (h ++ e ∷ []) (length h) ∙ rw (slice_get_last h e, no_node) refl) ∙ sym (is_open_past h n (omega arith))
+  by_place (inr (inr g)) = is_open_past (h ++ e ∷ []) n (omega (arith, length-append {A = Event})) ∙ sym (is_open_past h n (omega arith))
+
+list_any_never : {X : Type 0} (P : X → Type 0) (p : X → Bool) → ((x : X) → P x → p x ≡ false) → (xs : List X) → AllByRecursion P xs → list_any p xs ≡ false
+list_any_never P p never [] a = refl
+list_any_never P p never (x ∷ xs) a = rw (never x a.0) (list_any_never P p never xs a.1)
+
+-- the opening of an inner cuts nothing at or above its parent
+pub is_cut_inner : (h : List Event) (f : ℕ) (kind : Kind) (n : ℕ) → n ≤ f → is_cut h (Open (Inner f) kind) n ≡ false
+is_cut_inner h f kind n l = list_any_never (λ a. a ≤ n) (λ a. is_switched_inner h f a) (λ a b. let above : nat_lt f a ≡ false = ltb_not f a (omega arith) in rw above refl) (ancestors h n) (ancestors-le h n) where
+  ltb_not : (m n : ℕ) → n ≤ m → nat_lt m n ≡ false
+  ltb_not m n le = le-ltb m n le
+
+-- nor does that of a FlatMap cut anything
+pub is_cut_inner_flat : (h : List Event) (f : ℕ) (kind : Kind) → at is_switch h f ≡ false → (n : ℕ) → is_cut h (Open (Inner f) kind) n ≡ false
+is_cut_inner_flat h f kind flat n = none (ancestors h n) where
+  no_switch : (b c : Bool) → ((b && false) && c) ≡ false
+  no_switch true c = refl
+  no_switch false c = refl
+
+  none : (xs : List ℕ) → list_any (λ a. is_switched_inner h f a) xs ≡ false
+  none [] = refl
+  none (a ∷ xs) = rw (flat, no_switch (nat_lt f a) (at (is_inner_of f) h a)) (none xs)
+
+-- a new node below an open one is open, where it does not cut it
+pub is_open_made : (h : List Event) (e : Event) (p : ℕ) → makes_node e ≡ true → parent_named e ≡ Some p → is_open h p ≡ true → is_cut h e p ≡ false → is_open (h ++ e ∷ []) (length h) ≡ true
+unfolding parent
+is_open_made h e p node named o kept = is_open_step (h ++ e ∷ []) (length h) ∙ rw (is_shut_last h e, slice_get_last h e, node, named, lt-ltb p (length h) l) (is_open_cut h e p l ∙ rw (o, kept) refl) where
+  l : p < length h
+  l = is_open_within h p o
+
+-- an event that makes no node opens none
+pub is_open_last_none : (h : List Event) (e : Event) → makes_node e ≡ false → is_open (h ++ e ∷ []) (length h) ≡ false
+is_open_last_none h e no_node = is_open_step (h ++ e ∷ []) (length h) ∙ rw (slice_get_last h e, no_node) refl
+
+-- the parent of an open node is open
+pub parent_open : (h : List Event) (n p : ℕ) → is_open h n ≡ true → parent h n ≡ Some p → is_open h p ≡ true
+parent_open h n p o below = (and_parts _ _ (sym (is_open_step h n ∙ ap (λ q. is_standing h n && option_map_or (is_open h) q true) below) ∙ o)).1
+
+-- closed nodes ------------------------------------------------------------------------------------
+
+-- a node whose parent is not open is not open
+pub closed_below : (h : List Event) (n p : ℕ) → parent h n ≡ Some p → is_open h p ≡ false → is_open h n ≡ false
+closed_below h n p below closed = is_open_step h n ∙ ap (λ q. is_standing h n && option_map_or (is_open h) q true) below ∙ ap (λ b. is_standing h n && b) closed ∙ and_false (is_standing h n) where
+  and_false : (b : Bool) → (b && false) ≡ false
+  and_false true = refl
+  and_false false = refl
+
+-- what is not open stays so, whatever comes
+pub stays_closed : (h : List Event) (e : Event) (n : ℕ) → n < length h → is_open h n ≡ false → is_open (h ++ e ∷ []) n ≡ false
+stays_closed h e n l closed = is_open_cut h e n l ∙ ap (λ b. b && not (is_cut h e n)) closed
+
+pub stays_closed_after : (h t : List Event) (n : ℕ) → n < length h → is_open h n ≡ false → is_open (h ++ t) n ≡ false
+stays_closed_after h [] n l closed = rw (append-nil h) closed
+stays_closed_after h (e ∷ t) n l closed = rw (← append_assoc h (e ∷ []) t) (stays_closed_after (h ++ e ∷ []) t n (omega (arith, length-append {A = Event})) (stays_closed h e n l closed))
+
+-- what an end and a closing close ------------------------------------------------------------------
+
+closed_outside : (h : List Event) (e : Event) (c : ℕ) → makes_node e ≡ false → ((n : ℕ) → is_cut h e n ≡ is_within h c n) → (n : ℕ) → is_open (h ++ e ∷ []) n ≡ (is_open h n && not (is_within h c n))
+closed_outside h e c no_node cuts n = by_place (cases_order n (length h)) where
+  gone : length h ≤ n → (is_open h n && not (is_within h c n)) ≡ false
+  gone l = rw (is_open_past h n l) refl
+
+  by_place : (n ≡ length h) ⊎ ((n < length h) ⊎ (length h < n)) → is_open (h ++ e ∷ []) n ≡ (is_open h n && not (is_within h c n))
+  by_place (inr (inl l)) = is_open_cut h e n l ∙ ap (λ b. is_open h n && not b) (cuts n)
+  by_place (inl same) = ap (is_open (h ++ e ∷ [])) same ∙ is_open_last_none h e no_node ∙ sym (gone (omega arith))
+  by_place (inr (inr g)) = is_open_past (h ++ e ∷ []) n (omega (arith, length-append {A = Event})) ∙ sym (gone (omega arith))
+
+-- after the end or the closing of c just what was open outside c is open
+pub is_open_outside-end : (h : List Event) (c : ℕ) (t : Terminal) (n : ℕ) → is_open (h ++ End c t ∷ []) n ≡ (is_open h n && not (is_within h c n))
+is_open_outside-end h c t = closed_outside h (End c t) c refl (λ n. refl)
+
+pub is_open_outside-close : (h : List Event) (c : ℕ) (n : ℕ) → is_open (h ++ Close c ∷ []) n ≡ (is_open h n && not (is_within h c n))
+is_open_outside-close h c = closed_outside h (Close c) c refl (λ n. refl)
+
+-- all above an open node is open -------------------------------------------------------------------
+
+open_above : (k : ℕ) (h : List Event) (n : ℕ) → n < k → is_open h n ≡ true → AllByRecursion (λ a. is_open h a ≡ true) (ancestors h n)
+open_above zero h n l o = absurd (omega arith)
+open_above (suc k) h n l o = rw (ancestors_step h n) (o, above (open_above k h) (parent h n) refl) where
+  above : ((p : ℕ) → p < k → is_open h p ≡ true → AllByRecursion (λ a. is_open h a ≡ true) (ancestors h p)) → (q : Option ℕ) → parent h n ≡ q → AllByRecursion (λ a. is_open h a ≡ true) (option_map_or (ancestors h) q [])
+  above rest None below = tt
+  above rest (Some p) below = let s : p < n = parent-lt h n p below in rest p (omega arith) (parent_open h n p o below)
+
+pub ancestors_open : (h : List Event) (n : ℕ) → is_open h n ≡ true → AllByRecursion (λ a. is_open h a ≡ true) (ancestors h n)
+ancestors_open h n o = open_above (suc n) h n (omega arith) o
+
+-- an event that shuts nothing closes nothing
+pub is_cut_never : (h : List Event) (e : Event) → ((m : ℕ) → shuts h m e ≡ false) → (n : ℕ) → is_cut h e n ≡ false
+is_cut_never h e never n = none (ancestors h n) where
+  none : (xs : List ℕ) → list_any (λ a. shuts h a e) xs ≡ false
+  none [] = refl
+  none (a ∷ xs) = rw (never a) (none xs)
+
+pub is_open_uncut : (h : List Event) (e : Event) → ((m : ℕ) → shuts h m e ≡ false) → (n : ℕ) → n < length h → is_open (h ++ e ∷ []) n ≡ is_open h n
+is_open_uncut h e never n l = is_open_cut h e n l ∙ ap (λ b. is_open h n && not b) (is_cut_never h e never n) ∙ and_true (is_open h n)

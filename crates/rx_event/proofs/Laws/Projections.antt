@@ -1,0 +1,212 @@
+-- Projected items: where they go, and what each FlatMap and Switch owes after one more event.
+use Rattle.std.proofs.Common.{◌≡◌, ℕ, zero, suc, ◌+◌, ◌-◌, ◌<◌, ◌≤◌, Bool, true, false, List, [], ◌∷◌, ◌++◌, length, Option, Some, None, cond, refl, sym, ap, ◌∙◌, arith, inl, inr, ◌⊎◌, ◌==◌, slice_get, length-append}
+use Rattle.std.proofs.Math.Bool.{◌&&◌}
+use Rattle.std.specs.List.{AllByRecursion, sum_by, count_by, range_with_len, filter_map}
+use Rattle.std.specs.Option.{option_and_then, option_map_or, option_to_list}
+use Rattle.std.proofs.lemmas.Bool.{cases_Bool, both_ways, false≢true, and_parts, eqb-true}
+use Rattle.std.proofs.lemmas.List.Sums.{sum_by_push, sum_by-cons}
+use Rattle.std.proofs.lemmas.Option.{slice_get_past, slice_get_within}
+use Rattle.rx_event.specs.declared.event.Place.TheVariants.{Root, Source, Inner, Notifier}
+use Rattle.rx_event.specs.declared.event.Kind.{Kind}
+use Rattle.rx_event.specs.declared.event.Event.{Event}
+use Rattle.rx_event.specs.declared.event.Event.TheVariants.{Open, Connect, Item, Decline}
+use Rattle.rx_event.specs.Events.{is_merging, is_until, pays}
+use Rattle.rx_event.specs.Tree.{at, places, parent, is_open}
+use Rattle.rx_event.specs.Climb.{Stop, Delivery, Projection, Firing, stop_made, stop_at, onward_from, onward, onward_unless, visited, climb, stops, most_visits}
+use Rattle.rx_event.specs.Moments.{moments, projections, owed, is_projection, is_projection_to, stops_of}
+use Rattle.rx_event.specs.Lawful.{MayFollow, IsLawful}
+use Rattle.rx_event.proofs.Laws.Openness.{is_open_within, parent_open}
+use Rattle.rx_event.specs.Claims.Climbs.{StopsAtOpen}
+use Rattle.rx_event.proofs.Laws.Places.{at-take}
+use Rattle.rx_event.proofs.Laws.Lawful.{lawful_at}
+use Rattle.rx_event.proofs.Laws.Lists.{AllByRecursion-both, filtered}
+use Rattle.rx_event.proofs.Laws.Counts.{projections-push}
+use Rattle.rx_event.proofs.Laws.Steps.{by_pushes, by_events, may_open, may_decline, named_below, parent-named}
+use Rattle.rx_event.proofs.Laws.Sums.{sum_by-same, sum_by-plus, sum_by_none, count_by_one}
+
+-- who is projected to ------------------------------------------------------------------------------
+
+-- the stop at a node is no projection to what is no FlatMap or Switch
+stop_not_to : (h : List Event) (f : ℕ) → at is_merging h f ≡ false → (n : ℕ) → option_map_or (is_projection_to f) (stop_at h n) false ≡ false
+stop_not_to h f plain n = by_event (slice_get h n) where
+  if_merging : (g : ℕ) (b : Bool) → at is_merging h g ≡ b → option_map_or (is_projection_to f) (cond b (Some (Projection g)) None) false ≡ false
+  if_merging g false m = refl
+  if_merging g true m = by_number (cases_Bool (g == f)) where
+    by_number : ((g == f) ≡ true) ⊎ ((g == f) ≡ false) → (g == f) ≡ false
+    by_number (inr apart) = apart
+    by_number (inl same) = absurd (both_ways _ plain (ap (at is_merging h) (sym (eqb-true g f same)) ∙ m))
+
+  by_event : (o : Option Event) → option_map_or (is_projection_to f) (option_and_then (stop_made h n) o) false ≡ false
+  by_event None = refl
+  by_event (Some (Open Root kind)) = refl
+  by_event (Some (Open (Source g) kind)) = if_merging g (at is_merging h g) refl
+  by_event (Some (Open (Inner g) kind)) = refl
+  by_event (Some (Open (Notifier u) kind)) = refl
+  by_event (Some _) = refl
+
+count_by-filter_map_none : {X Y : Type 0} (p : Y → Bool) (s : X → Option Y) → ((x : X) → option_map_or p (s x) false ≡ false) → (xs : List X) → count_by p (filter_map s xs) ≡ 0
+count_by-filter_map_none p s never [] = refl
+count_by-filter_map_none {Y = Y} p s never (x ∷ xs) = by_stop (s x) (never x) (count_by-filter_map_none p s never xs) where
+  by_stop : (o : Option Y) → option_map_or p o false ≡ false → count_by p (filter_map s xs) ≡ 0 → count_by p (Rattle.std.specs.List.cons_option o (filter_map s xs)) ≡ 0
+  by_stop None none rest = rest
+  by_stop (Some y) none rest = sum_by-cons (λ z. cond (p z) 1 0) y (filter_map s xs) ∙ rw (none, rest) refl
+
+-- an event projects nothing to what is no FlatMap or Switch
+pub projects_none : (h : List Event) (e : Event) (f : ℕ) → at is_merging h f ≡ false → count_by (is_projection_to f) (stops_of h e) ≡ 0
+unfolding stops
+projects_none h (Item l v) f plain = count_by-filter_map_none (is_projection_to f) (stop_at h) (stop_not_to h f plain) (climb h l)
+projects_none h _ f plain = refl
+
+-- nothing was projected beyond the end
+pub projections_past : (h : List Event) (f : ℕ) → length h ≤ f → projections h f ≡ 0
+unfolding projections moments
+projections_past = by_pushes (λ h. (f : ℕ) → length h ≤ f → projections h f ≡ 0) (λ f l. refl) (λ h e before f l.
+    let b : length h ≤ f = omega (arith, length-append h (e ∷ [])) in
+    projections-push h e f ∙ rw (before f b, projects_none h e f (rw (slice_get_past h f b) refl)) refl)
+
+-- owed --------------------------------------------------------------------------------------------
+
+-- nothing is owed beyond the end
+pub owed_past : (h : List Event) (f : ℕ) → length h ≤ f → owed h f ≡ 0
+unfolding owed
+owed_past h f l = let p = projections_past h f l in omega arith
+
+-- a new node owes nothing
+pub owed_new : (h : List Event) (e : Event) → owed (h ++ e ∷ []) (length h) ≡ 0
+unfolding owed
+owed_new h e =
+    let p = projections_past h (length h) (omega arith) in
+    let q = projects_none h e (length h) (rw (slice_get_past h (length h) (omega arith)) refl) in
+    let r = projections-push h e (length h) in
+    omega arith
+
+pays_owed : (h : List Event) (e : Event) → MayFollow h e → (f : ℕ) → pays f e ≡ true → 0 < owed h f
+pays_owed h (Open (Inner g) kind) next f same = rw (← eqb-true g f same) (may_open next).2
+pays_owed h (Decline g) next f same = rw (← eqb-true g f same) (may_decline next).2
+pays_owed h (Open Root kind) next f same = absurd (false≢true same)
+pays_owed h (Open (Source g) kind) next f same = absurd (false≢true same)
+pays_owed h (Open (Notifier g) kind) next f same = absurd (false≢true same)
+pays_owed h _ next f same = absurd (false≢true same)
+
+-- no more was paid than was projected
+pub paid-le : (h : List Event) → IsLawful h → (f : ℕ) → count_by (pays f) h ≤ projections h f
+unfolding owed
+paid-le = by_events (λ h. (f : ℕ) → count_by (pays f) h ≤ projections h f) (λ f. omega arith) (λ h e law next before f. by_payment h e f (pays f e) (before f) (projections-push h e f) (sum_by_push (λ (x : Event). cond (pays f x) 1 0) h e) (pays_owed h e next f)) where
+  by_payment : (h : List Event) (e : Event) (f : ℕ) (b : Bool) → count_by (pays f) h ≤ projections h f → projections (h ++ e ∷ []) f ≡ projections h f + count_by (is_projection_to f) (stops_of h e) → count_by (pays f) (h ++ e ∷ []) ≡ count_by (pays f) h + cond b 1 0 → (b ≡ true → 0 < projections h f - count_by (pays f) h) → count_by (pays f) (h ++ e ∷ []) ≤ projections (h ++ e ∷ []) f
+  by_payment h e f true before more one some = let k = some refl in omega arith
+  by_payment h e f false before more one some = omega arith
+
+-- what f owes after the event, and what it pays by it, it owed before, or was projected to it
+pub owed-push : (h : List Event) (e : Event) → IsLawful h → MayFollow h e → (f : ℕ) → owed (h ++ e ∷ []) f + cond (pays f e) 1 0 ≡ owed h f + count_by (is_projection_to f) (stops_of h e)
+unfolding owed
+owed-push h e law next f = by_payment (pays f e) (paid-le h law f) (projections-push h e f) (sum_by_push (λ (x : Event). cond (pays f x) 1 0) h e) (pays_owed h e next f) where
+  by_payment : (b : Bool) → count_by (pays f) h ≤ projections h f → projections (h ++ e ∷ []) f ≡ projections h f + count_by (is_projection_to f) (stops_of h e) → count_by (pays f) (h ++ e ∷ []) ≡ count_by (pays f) h + cond b 1 0 → (b ≡ true → 0 < projections h f - count_by (pays f) h) → projections (h ++ e ∷ []) f - count_by (pays f) (h ++ e ∷ []) + cond b 1 0 ≡ (projections h f - count_by (pays f) h) + count_by (is_projection_to f) (stops_of h e)
+  by_payment true before more one some = let k = some refl in omega arith
+  by_payment false before more one some = omega arith
+
+-- an event that neither projects nor pays
+pub owed_kept : (h : List Event) (e : Event) (f : ℕ) → stops_of h e ≡ [] → pays f e ≡ false → owed (h ++ e ∷ []) f ≡ owed h f
+unfolding owed
+owed_kept h e f no_stops pays_none =
+    let same : projections (h ++ e ∷ []) f ≡ projections h f + 0 = projections-push h e f ∙ ap (λ (ss : List Stop). projections h f + count_by (is_projection_to f) ss) no_stops in
+    let paid : count_by (pays f) (h ++ e ∷ []) ≡ count_by (pays f) h + 0 = sum_by_push (λ (x : Event). cond (pays f x) 1 0) h e ∙ ap (λ (b : Bool). count_by (pays f) h + cond b 1 0) pays_none in
+    omega arith
+
+-- projections of one item ---------------------------------------------------------------------------
+
+-- from an open node the climb goes on to open nodes
+pub onward_open : (h : List Event) (n : ℕ) → is_open h n ≡ true → AllByRecursion (λ m. is_open h m ≡ true) (onward h n)
+onward_open h n o = by_stop (stop_at h n) where
+  by_parent : (p : Option ℕ) → parent h n ≡ p → AllByRecursion (λ m. is_open h m ≡ true) (option_to_list p)
+  by_parent None below = tt
+  by_parent (Some p) below = (parent_open h n p o below, tt)
+
+  by_event : (e : Option Event) → AllByRecursion (λ m. is_open h m ≡ true) (option_map_or (onward_from h n) e [])
+  by_event None = tt
+  by_event (Some (Connect g)) = filtered _ (λ m. is_open h m ≡ true) (λ m both. (and_parts _ _ both).1) (places h)
+  by_event (Some _) = by_parent (parent h n) refl
+
+  by_stop : (s : Option Stop) → AllByRecursion (λ m. is_open h m ≡ true) (onward_unless s (option_map_or (onward_from h n) (slice_get h n) []))
+  by_stop (Some s) = tt
+  by_stop None = by_event (slice_get h n)
+
+visited_open : (k : ℕ) (h : List Event) (todo : List ℕ) → AllByRecursion (λ m. is_open h m ≡ true) todo → AllByRecursion (λ m. is_open h m ≡ true) (visited k h todo)
+visited_open zero h todo open_all = tt
+visited_open (suc k) h [] open_all = tt
+visited_open (suc k) h (n ∷ todo) open_all = (open_all.0, visited_open k h (onward h n ++ todo) (AllByRecursion-both (λ m. is_open h m ≡ true) (onward h n) todo (onward_open h n open_all.0) open_all.1))
+
+-- what an open leaf's item reaches is open
+pub climb_open : (h : List Event) (l : ℕ) → is_open h l ≡ true → AllByRecursion (λ m. is_open h m ≡ true) (climb h l)
+unfolding climb
+climb_open h l o = visited_open (suc most_visits) h (l ∷ []) (o, tt)
+
+abbrev StopsWell : List Event → Option Stop → Type 0
+StopsWell h None = Unit {0}
+StopsWell h (Some s) = StopsAtOpen h s
+
+-- the climb stops at an open root, FlatMap, Switch or TakeUntil
+stop_open : (h : List Event) → IsLawful h → (n : ℕ) → is_open h n ≡ true → StopsWell h (stop_at h n)
+stop_open h law n o = by_event (slice_get h n) refl where
+  if_merging : (f : ℕ) (kind : Kind) → slice_get h n ≡ Some (Open (Source f) kind) → (b : Bool) → at is_merging h f ≡ b → StopsWell h (cond b (Some (Projection f)) None)
+  if_merging f kind at_n false m = tt
+  if_merging f kind at_n true m = (parent_open h n f o (parent-named h law n f (Open (Source f) kind) at_n refl), m)
+
+  until : (u : ℕ) (kind : Kind) → slice_get h n ≡ Some (Open (Notifier u) kind) → at is_until h u ≡ true
+  until u kind at_n =
+      let l : u < n = named_below h law n u (Open (Notifier u) kind) at_n refl in
+      sym (at-take is_until h n u l (slice_get_within h n (Open (Notifier u) kind) at_n)) ∙ (may_open (lawful_at h law n (Open (Notifier u) kind) at_n)).1
+
+  by_event : (e : Option Event) → slice_get h n ≡ e → StopsWell h (option_and_then (stop_made h n) e)
+  by_event None at_n = tt
+  by_event (Some (Open Root kind)) at_n = (o, rw at_n refl)
+  by_event (Some (Open (Source f) kind)) at_n = if_merging f kind at_n (at is_merging h f) refl
+  by_event (Some (Open (Inner f) kind)) at_n = tt
+  by_event (Some (Open (Notifier u) kind)) at_n = (parent_open h n u o (parent-named h law n u (Open (Notifier u) kind) at_n refl), until u kind at_n)
+  by_event (Some _) at_n = tt
+
+stops_well : (h : List Event) → IsLawful h → (ns : List ℕ) → AllByRecursion (λ m. is_open h m ≡ true) ns → AllByRecursion (StopsAtOpen h) (filter_map (stop_at h) ns)
+stops_well h law [] open_all = tt
+stops_well h law (n ∷ ns) open_all = by_stop (stop_at h n) (stop_open h law n open_all.0) (stops_well h law ns open_all.1) where
+  by_stop : (s : Option Stop) → StopsWell h s → AllByRecursion (StopsAtOpen h) (filter_map (stop_at h) ns) → AllByRecursion (StopsAtOpen h) (Rattle.std.specs.List.cons_option s (filter_map (stop_at h) ns))
+  by_stop None well rest = rest
+  by_stop (Some s) well rest = (well, rest)
+
+-- so does the item of an open leaf
+pub stops_open : (h : List Event) (l : ℕ) → IsLawful h → is_open h l ≡ true → AllByRecursion (StopsAtOpen h) (stops h l)
+unfolding stops
+stops_open h l law o = stops_well h law (climb h l) (climb_open h l o)
+
+zero_or_zero : (b : Bool) → cond {A = ℕ} b 0 0 ≡ 0
+zero_or_zero true = refl
+zero_or_zero false = refl
+
+-- what stops project to n, where it is an open FlatMap or Switch
+abbrev pub projected_open : List Event → List Stop → ℕ → ℕ
+projected_open h ss n = cond (is_open h n && at is_merging h n) (count_by (is_projection_to n) ss) 0
+
+-- so all projections are to open FlatMaps and Switches
+pub projected_count : (h : List Event) (ss : List Stop) → AllByRecursion (StopsAtOpen h) ss → sum_by (projected_open h ss) (places h) ≡ count_by is_projection ss
+projected_count h [] well = sum_by_none (projected_open h []) (length h) (λ n l. zero_or_zero (is_open h n && at is_merging h n))
+projected_count h (s ∷ ss) well =
+    let each : sum_by (projected_open h (s ∷ ss)) (places h) ≡ sum_by (λ n. cond (is_open h n && at is_merging h n) (cond (is_projection_to n s) 1 0) 0 + projected_open h ss n) (places h) = sum_by-same (λ n. cond (is_open h n && at is_merging h n) (cond (is_projection_to n s) 1 0) 0 + projected_open h ss n) (projected_open h (s ∷ ss)) (length h) (λ n l. shape (is_open h n && at is_merging h n) _ _ _ (sum_by-cons (λ t. cond (is_projection_to n t) 1 0) s ss)) in
+    let split = sum_by-plus (λ n. cond (is_open h n && at is_merging h n) (cond (is_projection_to n s) 1 0) 0) (projected_open h ss) (length h) in
+    let rest = projected_count h ss well.1 in
+    let first = by_stop s well.0 in
+    let whole = sum_by-cons (λ t. cond (is_projection t) 1 0) s ss in
+    omega arith
+  where
+    shape : (b : Bool) (x y z : ℕ) → x ≡ y + z → cond b x 0 ≡ cond b y 0 + cond b z 0
+    shape true x y z same = same
+    shape false x y z same = refl
+
+    to_one : (f n : ℕ) → (is_open h f ≡ true) × (at is_merging h f ≡ true) → (b : Bool) → (f == n) ≡ b → cond (is_open h n && at is_merging h n) (cond b 1 0) 0 ≡ cond {A = ℕ} b 1 0
+    to_one f n well true same =
+        let o : is_open h n ≡ true = rw (← eqb-true f n same) well.0 in
+        let m : at is_merging h n ≡ true = rw (← eqb-true f n same) well.1 in
+        rw (o, m) refl
+    to_one f n well false apart = zero_or_zero (is_open h n && at is_merging h n)
+
+    by_stop : (s : Stop) → StopsAtOpen h s → sum_by (λ n. cond (is_open h n && at is_merging h n) (cond (is_projection_to n s) 1 0) 0) (places h) ≡ cond {A = ℕ} (is_projection s) 1 0
+    by_stop (Projection f) well = sum_by-same (λ n. cond (f == n) 1 0) (λ n. cond (is_open h n && at is_merging h n) (cond (f == n) 1 0) 0) (length h) (λ n l. to_one f n well (f == n) refl) ∙ count_by_one f (length h) (is_open_within h f well.0)
+    by_stop (Delivery m) well = sum_by_none _ (length h) (λ n l. zero_or_zero (is_open h n && at is_merging h n))
+    by_stop (Firing u) well = sum_by_none _ (length h) (λ n l. zero_or_zero (is_open h n && at is_merging h n))

@@ -1,0 +1,318 @@
+-- What one more event adds to the totals.
+use Rattle.std.proofs.Common.{◌≡◌, ℕ, ◌+◌, ◌≤◌, Bool, true, false, List, [], ◌∷◌, ◌++◌, length, Option, Some, None, cond, refl, sym, ap, ◌∙◌, arith, inl, inr, ◌⊎◌, ◌==◌, length-append}
+use Rattle.std.proofs.Math.Bool.{not, ◌&&◌, ◌||◌}
+use Rattle.std.specs.List.{sum_by, count_by}
+use Rattle.std.specs.Option.{option_map_or}
+use Rattle.std.proofs.lemmas.Bool.{cases_Bool, both_ways, false≢true, eq-eqb, eqb-true, ne_eqb}
+use Rattle.std.proofs.lemmas.List.Sums.{sum_by_push}
+use Rattle.rx_note.specs.declared.note.Terminal.{Terminal}
+use Rattle.rx_event.specs.declared.event.Place.TheVariants.{Root, Source, Inner, Notifier}
+use Rattle.rx_event.specs.declared.event.Kind.{Kind}
+use Rattle.rx_event.specs.declared.event.Event.{Event}
+use Rattle.rx_event.specs.declared.event.Event.TheVariants.{Open, Hub, Connect, Accept, Use, Remove, Item, Decline, End, Close, Take}
+use Rattle.rx_event.specs.Events.{makes_node, makes_resource, node_of_accept, is_switch, is_inner_of, is_use_of, is_take_of, is_item, is_take}
+use Rattle.rx_event.specs.Tree.{at, places, is_open, is_within}
+use Rattle.rx_event.specs.Resources.{is_held, is_waiting, uses}
+use Rattle.rx_event.specs.Totals.{item_count, accepted_count, taken_count, held_count, waiting_count, open_count}
+use Rattle.rx_event.specs.Lawful.{MayFollow, IsLawful}
+use Rattle.rx_event.proofs.Laws.Parents.{ancestors_step}
+use Rattle.rx_event.proofs.Laws.Openness.{is_cut, is_cut_none, is_cut_inner, is_cut_inner_flat, is_open_cut, is_open_last, is_open_made, is_open_within, is_open_last_none, shuts_none}
+use Rattle.rx_event.proofs.Laws.Steps.{by_events, may_open, may_accept, may_use, may_remove, may_take}
+use Rattle.rx_event.proofs.Laws.Sums.{sum_by-places-push, sums_balance, sum_by-same, sum_by_falls, sum_by_none, count_by_one}
+use Rattle.rx_event.proofs.Laws.Switches.{is_cut-inner_switch}
+use Rattle.rx_event.proofs.Laws.Resources.{loses, node_of, moves_none, is_held-push, is_held_last, is_held_within, is_held_unchanged, is_waiting-push, is_waiting_new, is_waiting_within, is_waiting_unchanged, is_waiting_past, is_held_past, waiting_parts}
+
+pub one_if : {a b : Bool} → a ≡ b → cond {A = ℕ} a 1 0 ≡ cond {A = ℕ} b 1 0
+one_if same = ap (λ (b : Bool). cond {A = ℕ} b 1 0) same
+
+-- events counted ----------------------------------------------------------------------------------
+
+pub item_count-push : (h : List Event) (e : Event) → item_count (h ++ e ∷ []) ≡ item_count h + cond (is_item e) 1 0
+item_count-push h e = sum_by_push (λ (x : Event). cond (is_item x) 1 0) h e
+
+pub accepted_count-push : (h : List Event) (e : Event) → accepted_count (h ++ e ∷ []) ≡ accepted_count h + cond (makes_resource e) 1 0
+accepted_count-push h e = sum_by_push (λ (x : Event). cond (makes_resource x) 1 0) h e
+
+pub taken_count-push : (h : List Event) (e : Event) → taken_count (h ++ e ∷ []) ≡ taken_count h + cond (is_take e) 1 0
+taken_count-push h e = sum_by_push (λ (x : Event). cond (is_take x) 1 0) h e
+
+pub uses-push : (h : List Event) (e : Event) (r : ℕ) → uses (h ++ e ∷ []) r ≡ uses h r + cond (is_use_of r e) 1 0
+unfolding uses
+uses-push h e r = sum_by_push (λ (x : Event). cond (is_use_of r x) 1 0) h e
+
+uses_none : (h : List Event) (e : Event) → MayFollow h e → (r : ℕ) → length h ≤ r → is_use_of r e ≡ false
+uses_none h (Use q) next r l = let b = is_held_within h q (may_use next) in ne_eqb q r (omega arith)
+uses_none h _ next r l = refl
+
+-- only older resources were used
+pub uses_past : (h : List Event) → IsLawful h → (r : ℕ) → length h ≤ r → uses h r ≡ 0
+unfolding uses
+uses_past = by_events (λ h. (r : ℕ) → length h ≤ r → uses h r ≡ 0) (λ r l. refl) (λ h e law next before r l.
+    let b : length h ≤ r = omega (arith, length-append h (e ∷ [])) in
+    uses-push h e r ∙ rw (before r b, uses_none h e next r b) refl)
+
+-- so a new resource was not used
+pub uses_new : (h : List Event) (e : Event) → IsLawful h → makes_resource e ≡ true → uses (h ++ e ∷ []) (length h) ≡ 0
+uses_new h e law made = uses-push h e (length h) ∙ rw (uses_past h law (length h) (omega arith)) (ap (λ b. 0 + cond b 1 0) (no_use e made)) where
+  no_use : (e : Event) → makes_resource e ≡ true → is_use_of (length h) e ≡ false
+  no_use (Use q) made = absurd (false≢true made)
+  no_use _ made = refl
+
+-- resources counted -------------------------------------------------------------------------------
+
+-- how many resources the event takes from their nodes
+abbrev pub lost_count : List Event → Event → ℕ
+lost_count h e = count_by (λ r. is_held h r && loses h e r) (places h)
+
+-- what is held after the event, and what it lost, was held before, or is new
+pub held_count-push : (h : List Event) (e : Event) → IsLawful h → held_count (h ++ e ∷ []) + lost_count h e ≡ held_count h + cond (option_map_or (is_open h) (node_of_accept e) false) 1 0
+held_count-push h e law =
+    let older : count_by (is_held (h ++ e ∷ [])) (places h) + lost_count h e ≡ held_count h + sum_by (λ (r : ℕ). 0) (places h) =
+    sums_balance (λ r. cond (is_held (h ++ e ∷ []) r) 1 0) (λ r. cond (is_held h r && loses h e r) 1 0) (λ r. cond (is_held h r) 1 0) (λ r. 0) (length h) (λ r l. rw (is_held-push h e law r l) (shape (is_held h r) (loses h e r))) in
+    let none = sum_by_none (λ r. 0) (length h) (λ r l. refl) in
+    let last = sum_by-places-push (λ r. cond (is_held (h ++ e ∷ []) r) 1 0) h e in
+    let new = one_if (is_held_last h e law) in
+    omega arith
+  where
+    shape : (held lost : Bool) → cond (held && not lost) 1 0 + cond (held && lost) 1 0 ≡ cond held 1 0 + 0
+    shape true true = refl
+    shape true false = refl
+    shape false lost = refl
+
+takes_once : (h : List Event) (e : Event) → MayFollow h e → count_by (λ r. is_take_of r e) (places h) ≡ cond (is_take e) 1 0
+takes_once h (Take q) next = count_by_one q (length h) (is_waiting_within h q (may_take next))
+takes_once h _ next = sum_by_none (λ r. 0) (length h) (λ r l. refl)
+
+taken_waited : (h : List Event) (e : Event) → MayFollow h e → (r : ℕ) → is_take_of r e ≡ true → is_waiting h r ≡ true
+taken_waited h (Take q) next r same = rw (← eqb-true q r same) (may_take next)
+taken_waited h _ next r same = absurd (false≢true same)
+
+-- what waits after the event, and what it takes, waited before, or was lost by it
+pub waiting_count-push : (h : List Event) (e : Event) → IsLawful h → MayFollow h e → waiting_count (h ++ e ∷ []) + cond (is_take e) 1 0 ≡ waiting_count h + lost_count h e
+waiting_count-push h e law next =
+    let older : count_by (is_waiting (h ++ e ∷ [])) (places h) + count_by (λ r. is_take_of r e) (places h) ≡ waiting_count h + lost_count h e =
+    sums_balance (λ r. cond (is_waiting (h ++ e ∷ []) r) 1 0) (λ r. cond (is_take_of r e) 1 0) (λ r. cond (is_waiting h r) 1 0) (λ r. cond (is_held h r && loses h e r) 1 0) (length h) (λ r l. rw (is_waiting-push h e law r l) (shape (is_waiting h r) (is_held h r) (loses h e r) (is_take_of r e) (λ w. (waiting_parts h r w).1) (taken_waited h e next r))) in
+    let once = takes_once h e next in
+    let last = sum_by-places-push (λ r. cond (is_waiting (h ++ e ∷ []) r) 1 0) h e in
+    let new = one_if (is_waiting_new h e law next) in
+    omega arith
+  where
+    shape : (w b k t : Bool) → (w ≡ true → b ≡ false) → (t ≡ true → w ≡ true) → cond ((w || (b && k)) && not t) 1 0 + cond t 1 0 ≡ cond w 1 0 + cond (b && k) 1 0
+    shape true true k t apart waited = absurd (both_ways _ (apart refl) refl)
+    shape true false k true apart waited = refl
+    shape true false k false apart waited = refl
+    shape false b k true apart waited = absurd (false≢true (waited refl))
+    shape false true true false apart waited = refl
+    shape false true false false apart waited = refl
+    shape false false k false apart waited = refl
+
+pub accepts_open : (h : List Event) (e : Event) → MayFollow h e → option_map_or (is_open h) (node_of_accept e) false ≡ makes_resource e
+accepts_open h (Accept n tag) next = may_accept next
+accepts_open h _ next = refl
+
+-- each accepted resource is held, waits, or was taken, and once
+pub accepted_count-parts : (h : List Event) → IsLawful h → accepted_count h ≡ held_count h + waiting_count h + taken_count h
+accepted_count-parts = by_events (λ h. accepted_count h ≡ held_count h + waiting_count h + taken_count h) refl (λ h e law next before.
+    let a = accepted_count-push h e in
+    let b = held_count-push h e law in
+    let c = waiting_count-push h e law next in
+    let d = taken_count-push h e in
+    let n = one_if (accepts_open h e next) in
+    omega arith)
+
+pub lost_none : (h : List Event) (e : Event) → ((r : ℕ) → loses h e r ≡ false) → lost_count h e ≡ 0
+lost_none h e keeps = sum_by_none (λ r. cond (is_held h r && loses h e r) 1 0) (length h) (λ r l. rw (keeps r) (shape (is_held h r))) where
+  shape : (b : Bool) → cond {A = ℕ} (b && false) 1 0 ≡ 0
+  shape true = refl
+  shape false = refl
+
+-- no event but an acceptance raises what is held
+pub held_count_no_rise : (h : List Event) (e : Event) → IsLawful h → makes_resource e ≡ false → held_count (h ++ e ∷ []) ≤ held_count h
+held_count_no_rise h e law none = let b = held_count-push h e law in let n = one_if (no_accept e none) in omega arith where
+  no_accept : (e : Event) → makes_resource e ≡ false → option_map_or (is_open h) (node_of_accept e) false ≡ false
+  no_accept (Accept n tag) none = absurd (false≢true (sym none))
+  no_accept _ none = refl
+
+-- what is held and what waits go over into each other, but for an acceptance and a taking
+pub held_waiting_count-push : (h : List Event) (e : Event) → IsLawful h → MayFollow h e → held_count (h ++ e ∷ []) + waiting_count (h ++ e ∷ []) + cond (is_take e) 1 0 ≡ held_count h + waiting_count h + cond (makes_resource e) 1 0
+held_waiting_count-push h e law next =
+    let b = held_count-push h e law in
+    let c = waiting_count-push h e law next in
+    let n = one_if (accepts_open h e next) in
+    omega arith
+
+-- an event that moves no resource
+pub held_count_unchanged : (h : List Event) (e : Event) → IsLawful h → moves_none e ≡ true → held_count (h ++ e ∷ []) ≡ held_count h
+held_count_unchanged h e law m =
+    let older = sum_by-same (λ r. cond (is_held h r) 1 0) (λ r. cond (is_held (h ++ e ∷ []) r) 1 0) (length h) (λ r l. one_if (is_held_unchanged h e law m r)) in
+    let last = sum_by-places-push (λ r. cond (is_held (h ++ e ∷ []) r) 1 0) h e in
+    let new = one_if (is_held_unchanged h e law m (length h) ∙ is_held_past h (length h) (omega arith)) in
+    omega arith
+
+pub waiting_count_unchanged : (h : List Event) (e : Event) → IsLawful h → moves_none e ≡ true → waiting_count (h ++ e ∷ []) ≡ waiting_count h
+waiting_count_unchanged h e law m =
+    let older = sum_by-same (λ r. cond (is_waiting h r) 1 0) (λ r. cond (is_waiting (h ++ e ∷ []) r) 1 0) (length h) (λ r l. one_if (is_waiting_unchanged h e law m r)) in
+    let last = sum_by-places-push (λ r. cond (is_waiting (h ++ e ∷ []) r) 1 0) h e in
+    let new = one_if (is_waiting_unchanged h e law m (length h) ∙ is_waiting_past h (length h) (omega arith)) in
+    omega arith
+
+-- an acceptance at an open node
+accept_keeps : (h : List Event) (n tag r : ℕ) → loses h (Accept n tag) r ≡ false
+accept_keeps h n tag r = by_node (node_of h r) where
+  by_node : (o : Option ℕ) → (option_map_or (is_cut h (Accept n tag)) o false || false) ≡ false
+  by_node None = refl
+  by_node (Some m) = rw (is_cut_none h (Accept n tag) m refl) refl
+
+pub held_count-accept : (h : List Event) (n tag : ℕ) → IsLawful h → is_open h n ≡ true → held_count (h ++ Accept n tag ∷ []) ≡ held_count h + 1
+held_count-accept h n tag law o =
+    let b = held_count-push h (Accept n tag) law in
+    let k = lost_none h (Accept n tag) (accept_keeps h n tag) in
+    let c = one_if o in
+    omega arith
+
+pub waiting_count-accept : (h : List Event) (n tag : ℕ) → IsLawful h → MayFollow h (Accept n tag) → waiting_count (h ++ Accept n tag ∷ []) ≡ waiting_count h
+waiting_count-accept h n tag law next =
+    let b = waiting_count-push h (Accept n tag) law next in
+    let k = lost_none h (Accept n tag) (accept_keeps h n tag) in
+    omega arith
+
+-- a taking of what waits
+take_keeps : (h : List Event) (q r : ℕ) → loses h (Take q) r ≡ false
+take_keeps h q r = by_node (node_of h r) where
+  by_node : (o : Option ℕ) → (option_map_or (is_cut h (Take q)) o false || false) ≡ false
+  by_node None = refl
+  by_node (Some m) = rw (is_cut_none h (Take q) m refl) refl
+
+pub held_count-take : (h : List Event) (q : ℕ) → IsLawful h → held_count (h ++ Take q ∷ []) ≡ held_count h
+held_count-take h q law =
+    let b = held_count-push h (Take q) law in
+    let k = lost_none h (Take q) (take_keeps h q) in
+    omega arith
+
+pub waiting_count-take : (h : List Event) (q : ℕ) → IsLawful h → MayFollow h (Take q) → waiting_count (h ++ Take q ∷ []) + 1 ≡ waiting_count h
+waiting_count-take h q law next =
+    let b = waiting_count-push h (Take q) law next in
+    let k = lost_none h (Take q) (take_keeps h q) in
+    omega arith
+
+-- a removal of what is held
+pub lost_one : (h : List Event) (q : ℕ) → is_held h q ≡ true → lost_count h (Remove q) ≡ 1
+lost_one h q held = sum_by-same (λ r. cond (q == r) 1 0) (λ r. cond (is_held h r && loses h (Remove q) r) 1 0) (length h) (λ r l. one_if (just_that r (node_of h r) (cases_Bool (q == r)))) ∙ count_by_one q (length h) (is_held_within h q held) where
+  no_cut : (o : Option ℕ) (b : Bool) → (option_map_or (is_cut h (Remove q)) o false || b) ≡ b
+  no_cut None b = refl
+  no_cut (Some m) b = rw (is_cut_none h (Remove q) m refl) refl
+
+  and_false : (b : Bool) → (b && false) ≡ false
+  and_false true = refl
+  and_false false = refl
+
+  just_that : (r : ℕ) (o : Option ℕ) → ((q == r) ≡ true) ⊎ ((q == r) ≡ false) → (is_held h r && (option_map_or (is_cut h (Remove q)) o false || q == r)) ≡ (q == r)
+  just_that r o (inl same) = let there : is_held h r ≡ true = rw (← eqb-true q r same) held in rw (no_cut o (q == r), there) refl
+  just_that r o (inr apart) = rw (no_cut o (q == r), apart) (and_false (is_held h r))
+
+pub held_count-remove : (h : List Event) (q : ℕ) → IsLawful h → is_held h q ≡ true → held_count (h ++ Remove q ∷ []) + 1 ≡ held_count h
+held_count-remove h q law held =
+    let b = held_count-push h (Remove q) law in
+    let k = lost_one h q held in
+    omega arith
+
+pub waiting_count-remove : (h : List Event) (q : ℕ) → IsLawful h → MayFollow h (Remove q) → waiting_count (h ++ Remove q ∷ []) ≡ waiting_count h + 1
+waiting_count-remove h q law next =
+    let b = waiting_count-push h (Remove q) law next in
+    let k = lost_one h q (may_remove next) in
+    omega arith
+
+-- open nodes counted ------------------------------------------------------------------------------
+
+-- how many open nodes the event cuts
+abbrev pub cut_count : List Event → Event → ℕ
+cut_count h e = count_by (λ n. is_open h n && is_cut h e n) (places h)
+
+-- what is open after the event, and what it cut, was open before, or is new
+pub open_count-push : (h : List Event) (e : Event) → open_count (h ++ e ∷ []) + cut_count h e ≡ open_count h + cond (is_open (h ++ e ∷ []) (length h)) 1 0
+open_count-push h e =
+    let older : count_by (is_open (h ++ e ∷ [])) (places h) + cut_count h e ≡ open_count h + sum_by (λ (n : ℕ). 0) (places h) =
+    sums_balance (λ n. cond (is_open (h ++ e ∷ []) n) 1 0) (λ n. cond (is_open h n && is_cut h e n) 1 0) (λ n. cond (is_open h n) 1 0) (λ n. 0) (length h) (λ n l. rw (is_open_cut h e n l) (shape (is_open h n) (is_cut h e n))) in
+    let none = sum_by_none (λ n. 0) (length h) (λ n l. refl) in
+    let last = sum_by-places-push (λ n. cond (is_open (h ++ e ∷ []) n) 1 0) h e in
+    omega arith
+  where
+    shape : (o c : Bool) → cond (o && not c) 1 0 + cond (o && c) 1 0 ≡ cond o 1 0 + 0
+    shape true true = refl
+    shape true false = refl
+    shape false c = refl
+
+-- what is made is open
+pub is_open_new : (h : List Event) (e : Event) → MayFollow h e → is_open (h ++ e ∷ []) (length h) ≡ makes_node e
+is_open_new h (Open Root kind) next = is_open_last h (Open Root kind) refl
+is_open_new h (Open (Source p) kind) next = is_open_made h (Open (Source p) kind) p refl refl (may_open next).0 (is_cut_none h (Open (Source p) kind) p refl)
+is_open_new h (Open (Inner p) kind) next = is_open_made h (Open (Inner p) kind) p refl refl (may_open next).0 (is_cut_inner h p kind p (omega arith))
+is_open_new h (Open (Notifier p) kind) next = is_open_made h (Open (Notifier p) kind) p refl refl (may_open next).0 (is_cut_none h (Open (Notifier p) kind) p refl)
+is_open_new h (Connect g) next = is_open_last h (Connect g) refl
+is_open_new h (Hub mode) next = is_open_last h (Hub mode) refl
+is_open_new h (Accept n tag) next = is_open_last h (Accept n tag) refl
+is_open_new h (Use r) next = is_open_last h (Use r) refl
+is_open_new h (Remove r) next = is_open_last h (Remove r) refl
+is_open_new h (Item l v) next = is_open_last h (Item l v) refl
+is_open_new h (Decline f) next = is_open_last h (Decline f) refl
+is_open_new h (Take r) next = is_open_last h (Take r) refl
+is_open_new h (End n t) next = is_open_last_none h (End n t) refl
+is_open_new h (Close n) next = is_open_last_none h (Close n) refl
+
+-- an event that cuts no node
+pub open_count_uncut : (h : List Event) (e : Event) → MayFollow h e → ((n : ℕ) → is_cut h e n ≡ false) → open_count (h ++ e ∷ []) ≡ open_count h + cond (makes_node e) 1 0
+open_count_uncut h e next whole =
+    let b = open_count-push h e in
+    let n = one_if (is_open_new h e next) in
+    let k = sum_by_none (λ n. cond (is_open h n && is_cut h e n) 1 0) (length h) (λ n l. rw (whole n) (shape (is_open h n))) in
+    omega arith
+  where
+    shape : (b : Bool) → cond {A = ℕ} (b && false) 1 0 ≡ 0
+    shape true = refl
+    shape false = refl
+
+pub open_count_made : (h : List Event) (e : Event) → MayFollow h e → shuts_none e ≡ true → open_count (h ++ e ∷ []) ≡ open_count h + cond (makes_node e) 1 0
+open_count_made h e next s = open_count_uncut h e next (λ n. is_cut_none h e n s)
+
+-- c is within itself
+pub is_within_self : (h : List Event) (c : ℕ) → is_within h c c ≡ true
+is_within_self h c = rw (ancestors_step h c, eq-eqb c c refl) refl
+
+pub within_some : (h : List Event) (c : ℕ) → is_open h c ≡ true → 1 ≤ count_by (λ n. is_open h n && is_within h c n) (places h)
+within_some h c o =
+    let here : cond {A = ℕ} (is_open h c && is_within h c c) 1 0 ≡ 1 = rw (o, is_within_self h c) refl in
+    let none = sum_by_none (λ n. 0) (length h) (λ n l. refl) in
+    let falls = sum_by_falls (λ n. cond (is_open h n && is_within h c n) 1 0) (λ n. 0) (length h) c (is_open_within h c o) (λ n l. omega arith) (omega arith) in
+    omega arith
+
+-- the end or the closing of c closes c and what is open below it
+pub open_count-end : (h : List Event) (c : ℕ) (t : Terminal) → open_count (h ++ End c t ∷ []) + count_by (λ n. is_open h n && is_within h c n) (places h) ≡ open_count h
+open_count-end h c t =
+    let b = open_count-push h (End c t) in
+    let n = one_if (is_open_last_none h (End c t) refl) in
+    omega arith
+
+pub open_count-close : (h : List Event) (c : ℕ) → open_count (h ++ Close c ∷ []) + count_by (λ n. is_open h n && is_within h c n) (places h) ≡ open_count h
+open_count-close h c =
+    let b = open_count-push h (Close c) in
+    let n = one_if (is_open_last_none h (Close c) refl) in
+    omega arith
+
+-- so there is at least one open node less
+pub open_count_falls-end : (h : List Event) (c : ℕ) (t : Terminal) → is_open h c ≡ true → open_count (h ++ End c t ∷ []) + 1 ≤ open_count h
+open_count_falls-end h c t o = let b = open_count-end h c t in let s = within_some h c o in omega arith
+
+pub open_count_falls-close : (h : List Event) (c : ℕ) → is_open h c ≡ true → open_count (h ++ Close c ∷ []) + 1 ≤ open_count h
+open_count_falls-close h c o = let b = open_count-close h c in let s = within_some h c o in omega arith
+
+-- an inner of a FlatMap is one open node more
+pub open_count-inner_flat : (h : List Event) (f : ℕ) (kind : Kind) → MayFollow h (Open (Inner f) kind) → at is_switch h f ≡ false → open_count (h ++ Open (Inner f) kind ∷ []) ≡ open_count h + 1
+open_count-inner_flat h f kind next flat = open_count_uncut h (Open (Inner f) kind) next (is_cut_inner_flat h f kind flat)
+
+-- an inner of a Switch comes in place of the open inner c, and of what is open below it
+pub open_count-inner_switch : (h : List Event) (f c : ℕ) (kind : Kind) → IsLawful h → MayFollow h (Open (Inner f) kind) → at is_switch h f ≡ true → at (is_inner_of f) h c ≡ true → is_open h c ≡ true → open_count (h ++ Open (Inner f) kind ∷ []) + count_by (λ n. is_open h n && is_within h c n) (places h) ≡ open_count h + 1
+open_count-inner_switch h f c kind law next switch inner o =
+    let b = open_count-push h (Open (Inner f) kind) in
+    let n = one_if (is_open_new h (Open (Inner f) kind) next) in
+    let k = sum_by-same (λ n. cond (is_open h n && is_within h c n) 1 0) (λ n. cond (is_open h n && is_cut h (Open (Inner f) kind) n) 1 0) (length h) (λ n l. one_if (is_cut-inner_switch h f c kind law switch inner o n)) in
+    omega arith

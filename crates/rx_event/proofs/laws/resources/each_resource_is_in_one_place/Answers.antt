@@ -1,6 +1,0 @@
-use Rattle.rx_event.specs.Laws.Resources.{in_one_place}
-use Rattle.rx_event.specs.Laws.Totals.{accepted_count-parts}
-use Rattle.rx_event.proofs.laws.resources.each_resource_is_in_one_place.Goals as goal
-
-pub returns : goal.returns
-returns c = record { one = in_one_place; all = accepted_count-parts }

@@ -1,0 +1,76 @@
+use Rattle.std.proofs.Common.{ap}
+use Rattle.std.specs.Option.{option_and_then}
+use Rattle.rx_event.specs.Events.{node_of_accept}
+use Rattle.rx_event.proofs.Laws.Openness.{is_cut_never, is_open_outside-end, is_open_outside-close, is_open_uncut}
+use Rattle.rx_event.proofs.Laws.Switches.{is_open-inner_switch, is_open-inner_first, is_open-inner_flat}
+use Rattle.rx_event.proofs.Laws.Resources.{is_held-open, is_waiting-unheld, is_taken-push, is_held_new, is_waiting_new, is_taken_last, is_held-end, is_waiting-end, is_held-close, is_waiting-close}
+use Rattle.rx_event.proofs.Laws.Totals.{item_count-push, accepted_count-push, taken_count-push, uses-push, uses_past, held_waiting_count-push, held_count_no_rise, held_count-accept, held_count-remove, waiting_count-remove, waiting_count-take, open_count_uncut, is_open_new, open_count-end, open_count-close, open_count-inner_switch}
+use Rattle.rx_event.proofs.Laws.Steps.{may_remove}
+use Rattle.rx_event.proofs.Laws.Projections.{owed-push}
+use Rattle.rx_event.proofs.Laws.Debt.{debt-counts, debt-root, debt-source, debt-notifier, debt-inner_flat, debt_no_rise-inner, debt-hub, debt-connect, debt-accept, debt-use, debt-remove, debt-item, debt-decline, debt_falls-end, debt_falls-close, debt-take}
+use Rattle.rx_event.proofs.theorems.changes.what_one_event_changes.Goals as goal
+
+pub returns-clause-nodes : goal.returns-clause-nodes
+returns-clause-nodes c = record {
+  made = is_open_new;
+  ended = is_open_outside-end;
+  closed = is_open_outside-close;
+  exchanged = λ h law f c kind switch inner o. is_open-inner_switch h f c kind law switch inner o;
+  first_inner = is_open-inner_first;
+  flat_inner = is_open-inner_flat;
+  kept = is_open_uncut;
+}
+
+pub returns-clause-resources : goal.returns-clause-resources
+returns-clause-resources c = record {
+  held = λ h e law r n tag at_r. is_held-open h e law r n (ap (option_and_then node_of_accept) at_r);
+  waiting = is_waiting-unheld;
+  taken = is_taken-push;
+  new_held = is_held_new;
+  new_waiting = is_waiting_new;
+  new_taken = is_taken_last;
+  left_by_end = λ h c t law r n tag at_r. is_held-end h c t law r n (ap (option_and_then node_of_accept) at_r);
+  wait_after_end = λ h c t law r n tag at_r. is_waiting-end h c t law r n (ap (option_and_then node_of_accept) at_r);
+  left_by_close = λ h c law r n tag at_r. is_held-close h c law r n (ap (option_and_then node_of_accept) at_r);
+  wait_after_close = λ h c law r n tag at_r. is_waiting-close h c law r n (ap (option_and_then node_of_accept) at_r);
+}
+
+pub returns-clause-totals : goal.returns-clause-totals
+returns-clause-totals c = record {
+  items = item_count-push;
+  accepted = accepted_count-push;
+  taken = taken_count-push;
+  used = uses-push;
+  unused = uses_past;
+  owed = owed-push;
+  unreleased = held_waiting_count-push;
+  held = held_count_no_rise;
+  held_more = held_count-accept;
+  removed = λ h r law next. held_count-remove h r law (may_remove next);
+  waiting_more = waiting_count-remove;
+  waiting_less = waiting_count-take;
+  opened = λ h e next never. open_count_uncut h e next (is_cut_never h e never);
+  ended = open_count-end;
+  closed = open_count-close;
+  exchanged = open_count-inner_switch;
+}
+
+pub returns-clause-debt : goal.returns-clause-debt
+returns-clause-debt c = record {
+  counts = debt-counts;
+  root = debt-root;
+  source = debt-source;
+  notifier = debt-notifier;
+  flat_inner = debt-inner_flat;
+  inner = debt_no_rise-inner;
+  hub = debt-hub;
+  connected = debt-connect;
+  accepted = debt-accept;
+  used = debt-use;
+  removed = debt-remove;
+  item = debt-item;
+  declined = debt-decline;
+  ended = debt_falls-end;
+  closed = debt_falls-close;
+  taken = debt-take;
+}

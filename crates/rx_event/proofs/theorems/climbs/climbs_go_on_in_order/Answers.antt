@@ -1,0 +1,27 @@
+use Rattle.rx_event.proofs.Laws.Hubs.{hubs_in_order}
+use Rattle.rx_event.proofs.Laws.Projections.{stops_open}
+use Rattle.rx_event.proofs.Laws.Climbs.{visits_end, visits_only, visits_open, climb_cut_off, visits_within, climb_whole, climb_in_order, stops_stop, stops_whole, stops_in_order, visits_each, visits_by_node, visits_all}
+use Rattle.rx_event.proofs.theorems.climbs.climbs_go_on_in_order.Goals as goal
+
+pub returns-clause-end : goal.returns-clause-end
+returns-clause-end c = record {
+  ends = visits_end;
+  only = λ h ns vs ws p q. visits_only p q;
+  opened = λ h n vs o p. visits_open h p (o, tt);
+  stopped = λ h law n o. stops_open h n law o;
+  later = hubs_in_order;
+}
+
+pub returns-clause-whole : goal.returns-clause-whole
+returns-clause-whole c = record {
+  cut_off = climb_cut_off;
+  within = visits_within;
+  whole = climb_whole;
+  all_stops = stops_whole;
+  in_order = climb_in_order;
+  stop = stops_stop;
+  stops_in_order = stops_in_order;
+}
+
+pub returns-clause-counted : goal.returns-clause-counted
+returns-clause-counted c = record { each = λ h ns vs p k. visits_each h k p; by_node = visits_by_node; all = visits_all }

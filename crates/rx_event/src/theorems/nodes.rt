@@ -1,0 +1,14 @@
+//! Open nodes.
+
+ghost use Rattle.rx_event.specs.Claims.Nodes.{ClosedStaysClosed, OneOpenInner};
+
+/// A node below one that is not open is not open, and a node that is not open stays so under any
+/// further event.
+pub fn closed_stays_closed()
+    ensures { ClosedStaysClosed }
+{}
+
+/// A Switch has at most one open inner observable: the latest.
+pub fn a_switch_has_one_open_inner()
+    ensures { OneOpenInner }
+{}
