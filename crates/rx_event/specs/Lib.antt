@@ -6,6 +6,7 @@ pub mod Moments
 pub mod Notes
 pub mod Totals
 pub mod Forced
+pub mod Marks
 pub mod Allowed
 pub mod Lawful
 pub mod Calls

@@ -12,6 +12,8 @@
 
 mod event;
 mod history;
+mod mail;
+mod marks;
 mod refusal;
 #[cfg(test)]
 mod tests;
@@ -19,6 +21,8 @@ mod theorems;
 
 pub use event::{Event, Kind, Mode, Place};
 pub use history::History;
+pub use mail::Mail;
+pub use marks::Marks;
 pub use refusal::Refusal;
 pub use rx_note::Terminal;
 pub use theorems::{
