@@ -14,6 +14,7 @@ pub mod Debt
 pub mod Hubs
 pub mod Climbs
 pub mod Notes
+pub mod Sames
 pub mod Searches
 pub mod MarksFound
 pub mod MarksDue

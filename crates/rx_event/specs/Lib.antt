@@ -1,4 +1,5 @@
 pub mod Events
+pub mod Sames
 pub mod Tree
 pub mod Resources
 pub mod Climb
