@@ -24,3 +24,6 @@ pub mod MarksInner
 pub mod MarksNew
 pub mod MarksBounds
 pub mod MarksTouched
+pub mod Waits
+pub mod Stands
+pub mod Released

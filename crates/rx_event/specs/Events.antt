@@ -201,3 +201,7 @@ completed_of _ = None
 abbrev pub failed_of : Event → Option ℕ
 failed_of (End n (Error code)) = Some n
 failed_of _ = None
+
+abbrev pub is_connect : Event → Bool
+is_connect (Connect g) = true
+is_connect _ = false

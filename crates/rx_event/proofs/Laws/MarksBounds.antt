@@ -1,28 +1,17 @@
 -- What the marks count is within the debt.
-use Rattle.std.proofs.Common.{◌≡◌, ℕ, ◌<◌, ◌≤◌, Bool, true, false, List, length, cond, refl, arith, ◌==◌}
+use Rattle.std.proofs.Common.{◌≡◌, ℕ, ◌≤◌, Bool, true, false, List, length, cond, refl, arith}
 use Rattle.std.proofs.Math.Bool.{◌&&◌}
-use Rattle.std.specs.List.{sum_by, range_with_len}
 use Rattle.rx_event.specs.declared.event.Event.{Event}
 use Rattle.rx_event.specs.Events.{is_merging}
 use Rattle.rx_event.specs.Tree.{at, is_open, is_open_child_of}
 use Rattle.rx_event.specs.Moments.{owed}
 use Rattle.rx_event.specs.Marks.{is_child_of, open_children}
 use Rattle.rx_event.proofs.Laws.Openness.{is_open_within}
-use Rattle.rx_event.proofs.Laws.Sums.{sum_by_no_rise, sum_by_one}
+use Rattle.rx_event.proofs.Laws.Sums.{term_in_sum, sum_by_no_rise}
 use Rattle.rx_event.specs.Totals.{owed_open, debt}
 use Rattle.rx_event.proofs.Laws.Debt.{debt-counts}
 
 -- bounds ------------------------------------------------------------------------------------------
-
-term_in_sum : (f : ℕ → ℕ) (c n : ℕ) → c < n → f c ≤ sum_by f (range_with_len 0 n)
-term_in_sum f c n l =
-    let one = sum_by_one f c n l in
-    let less = sum_by_no_rise f (λ k. cond (c == k) (f k) 0) n (λ k m. by_test k (c == k)) in
-    omega arith
-  where
-    by_test : (k : ℕ) (b : Bool) → cond b (f k) 0 ≤ f k
-    by_test k true = omega arith
-    by_test k false = omega arith
 
 -- the debt covers what is counted in the marks
 pub open_children-le : (h : List Event) (n : ℕ) → open_children h n ≤ debt h

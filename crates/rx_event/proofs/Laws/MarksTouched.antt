@@ -19,7 +19,7 @@ use Rattle.rx_event.specs.Tree.{at, parent, is_open}
 use Rattle.rx_event.specs.Climb.{Stop, Delivery, Projection, Firing, stops}
 use Rattle.rx_event.specs.Moments.{is_fired, is_firing_of, is_projection_to}
 use Rattle.rx_event.specs.Forced.{IsForced}
-use Rattle.rx_event.specs.Marks.{after_source, after_notifier, after_inner, after_decline, after_child, after_stops, blank_marks, is_child_of, completes_source, passes_on, child_terminal, source_completed, open_children, marks_of, due_at}
+use Rattle.rx_event.specs.Marks.{touches, after_source, after_notifier, after_inner, after_decline, after_child, after_stops, blank_marks, completes_source, passes_on, child_terminal, source_completed, open_children, marks_of, due_at}
 use Rattle.rx_event.specs.Lawful.{forced, MayFollow, IsLawful}
 use Rattle.rx_event.proofs.Laws.Openness.{is_open_within}
 use Rattle.rx_event.proofs.Laws.Steps.{forced_kind, may_open, may_decline}
@@ -33,17 +33,6 @@ use Rattle.rx_event.proofs.Laws.MarksInner.{marks-inner_other, marks-inner_flat,
 use Rattle.rx_event.proofs.Laws.MarksNew.{marks-new}
 
 -- which marks change ------------------------------------------------------------------------------
-
--- the event may change the marks of n
-abbrev pub touches : List Event → ℕ → Event → Bool
-touches h n (Open (Source p) kind) = p == n
-touches h n (Open (Inner f) kind) = f == n
-touches h n (Open (Notifier u) kind) = u == n
-touches h n (Item leaf v) = list_any (λ s. is_firing_of n s || is_projection_to n s) (stops h leaf)
-touches h n (Decline f) = f == n
-touches h n (End c t) = is_child_of h n c
-touches h n (Close c) = is_child_of h n c
-touches h n _ = false
 
 or_parts_false : (a b : Bool) → (a || b) ≡ false → (a ≡ false) × (b ≡ false)
 or_parts_false false false e = (refl, refl)
