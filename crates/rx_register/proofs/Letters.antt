@@ -14,7 +14,8 @@ use Rattle.rx_event.specs.declared.event.Event.TheVariants.{Open, Connect, Item,
 use Rattle.rx_event.specs.Events.{makes_node, parent_named, is_root, is_merging}
 use Rattle.rx_event.specs.Tree.{at, parent, if_less, ancestors, is_open, is_standing}
 use Rattle.rx_event.specs.Climb.{Stop, Delivery, stops, stop_at, stop_made, visits, most_visits}
-use Rattle.rx_event.specs.Notes.{Mail, notes, mail_of, told}
+use Rattle.rx_event.specs.Notes.{notes, mail_of, told}
+use Rattle.rx_event.specs.declared.mail.Mail.{Mail}
 use Rattle.rx_event.specs.Lawful.{forced, allowed, MayFollow, IsLawful}
 use Rattle.rx_event.specs.Allowed.{emitted, IsAllowed}
 use Rattle.rx_event.proofs.Laws.Places.{at-take}

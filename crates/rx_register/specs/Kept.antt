@@ -6,7 +6,8 @@ use Rattle.rx_event.specs.declared.event.Event.{Event}
 use Rattle.rx_event.specs.declared.event.Event.TheVariants.{End, Close}
 use Rattle.rx_event.specs.declared.refusal.Refusal.{Refusal}
 use Rattle.rx_event.specs.Tree.{is_open, ancestors}
-use Rattle.rx_event.specs.Notes.{Mail, notes}
+use Rattle.rx_event.specs.Notes.{notes}
+use Rattle.rx_event.specs.declared.mail.Mail.{Mail}
 use Rattle.rx_event.specs.Totals.{debt, open_count}
 use Rattle.rx_event.specs.Lawful.{IsLawful, IsStep}
 use Rattle.rx_event.specs.Forced.{IsSettled}
