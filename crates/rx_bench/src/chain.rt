@@ -2,7 +2,7 @@
 
 ghost use Rattle.std.specs.Prelude.{◌≡◌, ◌+◌, ◌^◌, ◌<◌, ◌≤◌, IfOk};
 
-use crate::calls::{check_idle, dispose, emit, open, told};
+use crate::calls::{check_done, dispose, emit, open, told};
 use crate::done::{Done, Halt};
 use crate::token::Token;
 use rx_book::{At, Book, Key};
@@ -39,6 +39,6 @@ pub fn run_chain(alloc: Global, count: u64) -> Result<Done, Halt>
     emit(&mut book, leaf, count)?;
     told(&mut book, count)?;
     dispose(&mut book, root)?;
-    check_idle(&book)?;
+    check_done(&book, count + 3)?;
     Ok(done)
 }

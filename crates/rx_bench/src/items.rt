@@ -2,7 +2,7 @@
 
 ghost use Rattle.std.specs.Prelude.{◌≡◌, ◌≤◌, IfOk};
 
-use crate::calls::{check_idle, dispose, emit, open, told};
+use crate::calls::{check_done, dispose, emit, open, told};
 use crate::done::{Done, Halt};
 use crate::token::Token;
 use rx_book::{At, Book};
@@ -25,6 +25,6 @@ pub fn run_items(alloc: Global, count: u64) -> Result<Done, Halt>
         done = done.and(number);
     }
     dispose(&mut book, root)?;
-    check_idle(&book)?;
+    check_done(&book, count + 3)?;
     Ok(done)
 }
