@@ -23,7 +23,7 @@ use std::time::{Clock, Duration, Instant};
 
 /// What the runs of a case did, each the same, and the tenths of a nanosecond that an operation
 /// took in them.
-#[derive(Clone, Copy, Debug, PartialEq, Eq)]
+#[derive(Clone, Copy)]
 pub struct Measured {
     pub done: Done,
     pub times: Summary,

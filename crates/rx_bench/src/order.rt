@@ -1,7 +1,7 @@
 //! The orders in which work is scheduled.
 
 /// How the due times follow one another.
-#[derive(Clone, Copy, Debug, PartialEq, Eq)]
+#[derive(Clone, Copy)]
 pub enum Order {
     /// Each before the one that was scheduled before it.
     Falling,

@@ -7,7 +7,7 @@ use crate::done::Halt;
 use std::alloc::Global;
 
 /// A number, and when it is due.
-#[derive(Clone, Copy, Debug, PartialEq, Eq)]
+#[derive(Clone, Copy)]
 pub struct Entry {
     pub due: u64,
     pub number: u64,

@@ -4,7 +4,7 @@
 pub const RUNS: usize = 5;
 
 /// What is told of the times of several runs, in the unit of those.
-#[derive(Clone, Copy, Debug, PartialEq, Eq)]
+#[derive(Clone, Copy)]
 pub struct Summary {
     /// The middle one of the times in rising order.
     pub median: u64,

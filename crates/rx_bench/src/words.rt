@@ -5,7 +5,7 @@ ghost use Rattle.std.specs.Prelude.{◌<◌, ◌≤◌};
 use crate::case::Case;
 
 /// What the words ask for: a case, at a size from 1 to the greatest of the case.
-#[derive(Clone, Copy, Debug, PartialEq, Eq)]
+#[derive(Clone, Copy)]
 pub struct Request {
     pub case: Case,
     pub size: u64,
@@ -27,7 +27,7 @@ impl Request {
 }
 
 /// Why the words are refused. The first of these in this order is given.
-#[derive(Clone, Copy, Debug, PartialEq, Eq)]
+#[derive(Clone, Copy)]
 pub enum Fault {
     /// There is no word beside the program's name.
     NoCase,
