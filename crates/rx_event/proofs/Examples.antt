@@ -3,3 +3,4 @@ pub mod FlatMap
 pub mod Switch
 pub mod TakeUntil
 pub mod Hubs
+pub mod Marking

@@ -14,3 +14,16 @@ pub mod Debt
 pub mod Hubs
 pub mod Climbs
 pub mod Notes
+pub mod Sames
+pub mod Searches
+pub mod MarksFound
+pub mod MarksDue
+pub mod MarksAfter
+pub mod MarksEnds
+pub mod MarksInner
+pub mod MarksNew
+pub mod MarksBounds
+pub mod MarksTouched
+pub mod Waits
+pub mod Stands
+pub mod Released

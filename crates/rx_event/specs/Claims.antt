@@ -5,3 +5,5 @@ pub mod Debt
 pub mod Hubs
 pub mod Climbs
 pub mod Notes
+pub mod Forced
+pub mod Marks

@@ -1,5 +1,6 @@
 -- Tests of one event. Numbers are places in a history: each names what the event at that place made.
 use Rattle.std.specs.Prelude.{ℕ, Bool, true, false, ◌==◌, Option, Some, None}
+use Rattle.rx_note.specs.declared.note.Terminal.TheVariants.{Completed, Error}
 use Rattle.rx_event.specs.declared.event.Place.{Place}
 use Rattle.rx_event.specs.declared.event.Place.TheVariants.{Root, Source, Inner, Notifier}
 use Rattle.rx_event.specs.declared.event.Kind.TheVariants.{Leaf, Pass, Flat, Switch, Until, Sub}
@@ -45,6 +46,19 @@ parent_named _ = None
 abbrev pub is_root : Event → Bool
 is_root (Open Root kind) = true
 is_root _ = false
+
+-- the node whose source, inner or notifier is opened
+abbrev pub source_named : Event → Option ℕ
+source_named (Open (Source f) kind) = Some f
+source_named _ = None
+
+abbrev pub inner_named : Event → Option ℕ
+inner_named (Open (Inner f) kind) = Some f
+inner_named _ = None
+
+abbrev pub notifier_named : Event → Option ℕ
+notifier_named (Open (Notifier u) kind) = Some u
+notifier_named _ = None
 
 abbrev pub is_source_of : ℕ → Event → Bool
 is_source_of f (Open (Source g) kind) = g == f
@@ -106,6 +120,15 @@ abbrev pub is_manual_hub : Event → Bool
 is_manual_hub (Hub Manual) = true
 is_manual_hub _ = false
 
+-- the hub that is connected, or subscribed to
+abbrev pub hub_connected : Event → Option ℕ
+hub_connected (Connect g) = Some g
+hub_connected _ = None
+
+abbrev pub hub_subscribed : Event → Option ℕ
+hub_subscribed (Open place (Sub g)) = Some g
+hub_subscribed _ = None
+
 abbrev pub is_connect_of : ℕ → Event → Bool
 is_connect_of g (Connect k) = k == g
 is_connect_of g _ = false
@@ -115,6 +138,19 @@ is_subscriber_of g (Open place (Sub k)) = k == g
 is_subscriber_of g _ = false
 
 -- what befalls a resource -------------------------------------------------------------------------
+
+-- the resource that is used, removed or handed out
+abbrev pub used_of : Event → Option ℕ
+used_of (Use r) = Some r
+used_of _ = None
+
+abbrev pub removed_of : Event → Option ℕ
+removed_of (Remove r) = Some r
+removed_of _ = None
+
+abbrev pub taken_of : Event → Option ℕ
+taken_of (Take r) = Some r
+taken_of _ = None
 
 abbrev pub is_use_of : ℕ → Event → Bool
 is_use_of r (Use q) = q == r
@@ -131,6 +167,11 @@ is_take_of r _ = false
 -- what is counted ---------------------------------------------------------------------------------
 
 -- an inner observable of f is opened, or declined: so one projected item of f is paid
+abbrev pub paid_of : Event → Option ℕ
+paid_of (Open (Inner f) kind) = Some f
+paid_of (Decline f) = Some f
+paid_of _ = None
+
 abbrev pub pays : ℕ → Event → Bool
 pays f (Open (Inner g) kind) = g == f
 pays f (Decline g) = g == f
@@ -147,3 +188,20 @@ is_take _ = false
 abbrev pub is_end : Event → Bool
 is_end (End n t) = true
 is_end _ = false
+
+-- the node that ends by itself, and how
+abbrev pub ended_of : Event → Option ℕ
+ended_of (End n t) = Some n
+ended_of _ = None
+
+abbrev pub completed_of : Event → Option ℕ
+completed_of (End n Completed) = Some n
+completed_of _ = None
+
+abbrev pub failed_of : Event → Option ℕ
+failed_of (End n (Error code)) = Some n
+failed_of _ = None
+
+abbrev pub is_connect : Event → Bool
+is_connect (Connect g) = true
+is_connect _ = false

@@ -54,10 +54,19 @@ pub record IsConnectDue (h : List Event) (g : ℕ) : Type 0 where
   pub waits : (t : Terminal) → ¬ SourceEnded h subscriber t
   pub unconnected : open_connections h g ≡ []
 
+-- no hub waits for a connection
+abbrev pub IsConnected : List Event → Type 0
+IsConnected h = (g : ℕ) → ¬ IsConnectDue h g
+
+-- so many hubs may wait: none, or one
+pub data MayWait (h : List Event) : ℕ → Type 0 where
+  none_waits : IsConnected h → MayWait h 0
+  one_waits : {g : ℕ} → ((k : ℕ) → IsConnectDue h k → k ≡ g) → MayWait h 1
+
 -- the event must come before a caller may go on
 pub data IsForced (h : List Event) : Event → Type 0 where
   connecting : {g : ℕ} → IsConnectDue h g → IsForced h (Connect g)
-  due : {e : Event} → ((g : ℕ) → ¬ IsConnectDue h g) → IsDue h e → IsForced h e
+  due : {e : Event} → IsConnected h → IsDue h e → IsForced h e
 
 -- no operator's rule is left undone
 pub record IsSettled (h : List Event) : Type 0 where

@@ -1,4 +1,5 @@
 pub mod Events
+pub mod Sames
 pub mod Tree
 pub mod Resources
 pub mod Climb
@@ -6,6 +7,7 @@ pub mod Moments
 pub mod Notes
 pub mod Totals
 pub mod Forced
+pub mod Marks
 pub mod Allowed
 pub mod Lawful
 pub mod Calls

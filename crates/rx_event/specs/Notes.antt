@@ -3,18 +3,13 @@ use Rattle.std.specs.Prelude.{ℕ, ℤ, ◌==◌, Option, Some, None, List, [], 
 use Rattle.std.specs.List.{filter_map, flat_map}
 use Rattle.rx_note.specs.declared.note.Note.{Note}
 use Rattle.rx_note.specs.declared.note.Note.TheVariants.{Next, Project}
+use Rattle.rx_event.specs.declared.mail.Mail.{Mail}
 use Rattle.rx_event.specs.declared.event.Event.{Event}
 use Rattle.rx_event.specs.declared.event.Event.TheVariants.{Item, End}
 use Rattle.rx_event.specs.Events.{is_root}
 use Rattle.rx_event.specs.Tree.{at}
 use Rattle.rx_event.specs.Climb.{Stop, Delivery, Projection, Firing, stops}
 use Rattle.rx_event.specs.Moments.{moments}
-
--- a note, with the place of its event and the node that it goes to
-pub record Mail : Type 0 where
-  pub place : ℕ
-  pub to : ℕ
-  pub note : Note
 
 -- what a stop of the item tells: a delivery and a projection the item, a firing nothing
 abbrev pub told : ℕ → ℤ → Stop → Option Mail

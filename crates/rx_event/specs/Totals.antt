@@ -1,7 +1,7 @@
 -- Counts over a history.
 use Rattle.std.specs.Prelude.{ℕ, ◌+◌, ◌&&◌, List, count_by, sum_by, if◌then◌else◌}
 use Rattle.rx_event.specs.declared.event.Event.{Event}
-use Rattle.rx_event.specs.Events.{is_item, is_take, makes_resource, is_merging}
+use Rattle.rx_event.specs.Events.{is_item, is_take, is_connect, makes_resource, is_merging}
 use Rattle.rx_event.specs.Tree.{at, places, is_open}
 use Rattle.rx_event.specs.Resources.{is_held, is_waiting}
 use Rattle.rx_event.specs.Moments.{owed}
@@ -14,6 +14,10 @@ accepted_count h = count_by makes_resource h
 
 abbrev pub taken_count : List Event → ℕ
 taken_count h = count_by is_take h
+
+-- how often a hub was connected
+abbrev pub connect_count : List Event → ℕ
+connect_count h = count_by is_connect h
 
 abbrev pub held_count : List Event → ℕ
 held_count h = count_by (is_held h) (places h)

@@ -1,5 +1,11 @@
 //! What may happen, and where.
 
+mod done;
+mod kinds;
+mod made;
+mod places;
+mod same;
+
 use rx_note::Terminal;
 
 /// Where a node is opened. Each number is the number of the node above.

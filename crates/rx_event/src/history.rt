@@ -1,6 +1,6 @@
 //! A list of events that only grows, up to a limit.
 
-ghost use Rattle.std.specs.Prelude.{◌≡◌, ◌+◌, ◌<◌, ◌≤◌, ◌↔◌, ◌⊎◌, [], ◌∷◌, ◌++◌, length, slice_get, OnOk, IsErrOf, IfErr};
+ghost use Rattle.std.specs.Prelude.{◌≡◌, ◌+◌, ◌<◌, ◌≤◌, ◌↔◌, ◌⊎◌, [], ◌∷◌, ◌++◌, length, slice_get, OnOk, OnErr, IsErrOf, IfErr};
 
 use crate::event::Event;
 use crate::refusal::Refusal;
@@ -32,6 +32,7 @@ impl History {
         requires { limit ≤ 4294967295 }
         ensures events { result.events ≡ [] }
         ensures limit { result.limit ≡ limit }
+        ensures room { result.room ≡ 0 }
     {
         History {
             events: Vec::new(alloc),
@@ -43,6 +44,7 @@ impl History {
     pub fn len(&self) -> u64
         ensures value { result ≡ length self.now.events }
         ensures limited { length self.now.events ≤ self.now.limit }
+        ensures within { length self.now.events + self.now.room ≤ self.now.limit }
     {
         let count = self.events.len();
         count as u64
@@ -56,14 +58,15 @@ impl History {
     }
 
     /// Gets room for `n` more events. `Full` exactly where that would pass the limit; `NoMemory`
-    /// where memory was asked for and refused. Neither changes the events.
+    /// where memory was asked for and refused. Neither changes anything.
     pub fn reserve(&mut self, n: u64) -> Result<(), Refusal>
         ensures events { self.new.events ≡ self.old.events }
         ensures limit { self.new.limit ≡ self.old.limit }
         ensures ok { OnOk result (n ≤ self.new.room) }
         ensures refused_full { IsErrOf result Refusal.Full ↔ (self.old.limit < length self.old.events + n) }
         ensures refused_no_memory { IfErr result (λ why. (why ≡ Refusal.Full) ⊎ ((why ≡ Refusal.NoMemory) × (self.old.room < n))) }
-        ensures kept { self.old.room ≤ self.new.room }
+        ensures more { self.old.room ≤ self.new.room }
+        ensures kept { OnErr result (self.new ≡ self.old) }
     {
         if n > self.limit - self.events.len() as u64 {
             return Err(Refusal::Full);
@@ -79,11 +82,8 @@ impl History {
         requires { 0 < self.old.room }
         ensures events { self.new.events ≡ self.old.events ++ event ∷ [] }
         ensures limit { self.new.limit ≡ self.old.limit }
-        ensures room { self.old.room ≤ self.new.room + 1 }
+        ensures room { self.new.room + 1 ≡ self.old.room }
     {
-        match self.events.push(event) {
-            Ok(()) => {}
-            Err(_) => unreachable!(),
-        }
+        self.events.push_reserved(event);
     }
 }

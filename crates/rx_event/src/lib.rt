@@ -12,6 +12,8 @@
 
 mod event;
 mod history;
+mod mail;
+mod marks;
 mod refusal;
 #[cfg(test)]
 mod tests;
@@ -19,9 +21,13 @@ mod theorems;
 
 pub use event::{Event, Kind, Mode, Place};
 pub use history::History;
+pub use mail::Mail;
+pub use marks::Marks;
 pub use refusal::Refusal;
 pub use rx_note::Terminal;
 pub use theorems::{
-    a_hub_connects_once, a_switch_has_one_open_inner, climbs_go_on_in_order, closed_stays_closed,
-    each_resource_is_in_one_place, notes_obey_the_grammar, what_one_event_changes,
+    a_closed_history_holds_nothing, a_hub_connects_once, a_step_connects_one_hub,
+    a_switch_has_one_open_inner, climbs_go_on_in_order, closed_stays_closed,
+    each_resource_is_in_one_place, marks_say_what_is_due, nodes_stand_below_nodes,
+    notes_obey_the_grammar, what_one_event_changes,
 };

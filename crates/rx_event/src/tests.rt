@@ -47,3 +47,24 @@ fn a_refused_reservation_changes_nothing(rt: HostRuntime) -> Result<(), Fail> {
     assert_eq!(rt; history.reserve(1000), Err(Refusal::Full));
     Ok(())
 }
+
+#[test]
+fn what_was_reserved_is_pushed_with_no_memory_left(rt: HostRuntime) -> Result<(), Fail> {
+    let mut history = History::new(rt.alloc(), 3);
+    let mut scarce = Scarce::new(rt.alloc())?;
+    assert_eq!(rt; history.reserve(3), Err(Refusal::NoMemory));
+    for _ in 0..100_000 {
+        if history.reserve(3).is_ok() {
+            break;
+        }
+        assert!(rt; scarce.give_back_one());
+    }
+    assert_eq!(rt; history.reserve(3), Ok(()));
+    history.push_reserved(Event::Item(0, 7));
+    history.push_reserved(Event::Item(0, 8));
+    history.push_reserved(Event::Item(0, 9));
+    assert_eq!(rt; history.len(), 3);
+    assert_eq!(rt; history.get(2), Some(Event::Item(0, 9)));
+    assert_eq!(rt; history.reserve(1), Err(Refusal::Full));
+    Ok(())
+}

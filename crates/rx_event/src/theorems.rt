@@ -3,13 +3,15 @@
 mod changes;
 mod climbs;
 mod hubs;
+mod marks;
 mod nodes;
 mod notes;
 mod resources;
 
 pub use changes::what_one_event_changes;
 pub use climbs::climbs_go_on_in_order;
-pub use hubs::a_hub_connects_once;
-pub use nodes::{a_switch_has_one_open_inner, closed_stays_closed};
+pub use hubs::{a_hub_connects_once, a_step_connects_one_hub};
+pub use marks::marks_say_what_is_due;
+pub use nodes::{a_switch_has_one_open_inner, closed_stays_closed, nodes_stand_below_nodes};
 pub use notes::notes_obey_the_grammar;
-pub use resources::each_resource_is_in_one_place;
+pub use resources::{a_closed_history_holds_nothing, each_resource_is_in_one_place};

@@ -5,7 +5,8 @@ use Rattle.std.proofs.lemmas.List.Sums.{sum_by-append, sum_by-cons}
 use Rattle.std.proofs.lemmas.List.Concat.{flat_map-append}
 use Rattle.rx_event.specs.declared.event.Event.{Event}
 use Rattle.rx_event.specs.Moments.{Moment, moments, projections, stops_of, is_projection_to}
-use Rattle.rx_event.specs.Notes.{Mail, notes, mail_of}
+use Rattle.rx_event.specs.declared.mail.Mail.{Mail}
+use Rattle.rx_event.specs.Notes.{notes, mail_of}
 use Rattle.rx_event.proofs.Laws.Lawful.{moments-push}
 
 -- the notes of one more event come last

@@ -128,7 +128,7 @@ may_decline (forced f) = absurd (false≢true (forced_kind f))
 may_decline (allowed s a) = allowed_decline a
 
 -- a node that may be opened is named below an open node
-may_name : {h : List Event} {e : Event} {p : ℕ} → MayFollow h e → parent_named e ≡ Some p → is_open h p ≡ true
+pub may_name : {h : List Event} {e : Event} {p : ℕ} → MayFollow h e → parent_named e ≡ Some p → is_open h p ≡ true
 may_name {h = h} {e = Open (Source q) kind} {p = p} next named = rw (← same_Some q p named) (may_open next).0
 may_name {h = h} {e = Open (Inner q) kind} {p = p} next named = rw (← same_Some q p named) (may_open next).0
 may_name {h = h} {e = Open (Notifier q) kind} {p = p} next named = rw (← same_Some q p named) (may_open next).0

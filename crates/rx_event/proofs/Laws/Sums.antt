@@ -1,5 +1,5 @@
 -- Sums over the places of a history.
-use Rattle.std.proofs.Common.{◌≡◌, ℕ, zero, suc, ◌+◌, ◌<◌, ◌≤◌, Bool, List, [], ◌∷◌, ◌++◌, length, cond, refl, sym, ap, ◌∙◌, arith, inl, inr, ◌⊎◌, ◌==◌, add-zero, length-append}
+use Rattle.std.proofs.Common.{◌≡◌, ℕ, zero, suc, ◌+◌, ◌<◌, ◌≤◌, Bool, true, false, List, [], ◌∷◌, ◌++◌, length, cond, refl, sym, ap, ◌∙◌, arith, inl, inr, ◌⊎◌, ◌==◌, add-zero, length-append}
 use Rattle.std.specs.List.{sum_by, count_by, range_with_len}
 use Rattle.std.proofs.lemmas.Bool.{cases_order, eq-eqb, ne_eqb}
 use Rattle.std.proofs.lemmas.List.Sums.{sum_by_push}
@@ -86,6 +86,17 @@ sum_by_one f c (suc n) l = sum_below-suc (λ k. cond (c == k) (f k) 0) n ∙ by_
   by_place before (inl same) = rw (eq-eqb c n same) (let r = sum_by_none (λ k. cond (c == k) (f k) 0) n (λ k m. rw (ne_eqb c k (omega arith)) refl) in let e : f c ≡ f n = ap f same in omega arith)
   by_place before (inr (inl m)) = rw (ne_eqb c n (omega arith)) (let r = before m in omega arith)
   by_place before (inr (inr m)) = absurd (omega arith)
+
+-- a term is within the sum
+pub term_in_sum : (f : ℕ → ℕ) (c n : ℕ) → c < n → f c ≤ sum_by f (range_with_len 0 n)
+term_in_sum f c n l =
+    let one = sum_by_one f c n l in
+    let less = sum_by_no_rise f (λ k. cond (c == k) (f k) 0) n (λ k m. by_test k (c == k)) in
+    omega arith
+  where
+    by_test : (k : ℕ) (b : Bool) → cond b (f k) 0 ≤ f k
+    by_test k true = omega arith
+    by_test k false = omega arith
 
 -- one number is counted once
 pub count_by_one : (c n : ℕ) → c < n → count_by (λ k. c == k) (range_with_len 0 n) ≡ 1

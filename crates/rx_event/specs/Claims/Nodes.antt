@@ -1,12 +1,12 @@
 -- What is promised of nodes.
-use Rattle.std.specs.Prelude.{◌≡◌, ℕ, ◌<◌, false, ◌&&◌, Some, List, [], ◌∷◌, ◌++◌, length, IsTrue}
+use Rattle.std.specs.Prelude.{◌≡◌, ℕ, ◌<◌, false, ◌&&◌, Some, List, [], ◌∷◌, ◌++◌, length, slice_get, IsTrue}
 use Rattle.std.proofs.Math.Bool.{not}
 use Rattle.rx_note.specs.declared.note.Terminal.{Terminal}
-use Rattle.rx_event.specs.declared.event.Place.TheVariants.{Inner}
+use Rattle.rx_event.specs.declared.event.Place.TheVariants.{Source, Inner, Notifier}
 use Rattle.rx_event.specs.declared.event.Kind.{Kind}
 use Rattle.rx_event.specs.declared.event.Event.{Event}
-use Rattle.rx_event.specs.declared.event.Event.TheVariants.{Open, End, Close}
-use Rattle.rx_event.specs.Events.{makes_node, is_switch, is_inner_of}
+use Rattle.rx_event.specs.declared.event.Event.TheVariants.{Open, Connect, End, Close}
+use Rattle.rx_event.specs.Events.{makes_node, has_source, is_merging, is_until, is_switch, is_inner_of}
 use Rattle.rx_event.specs.Tree.{at, parent, is_within, is_open, shuts}
 use Rattle.rx_event.specs.Lawful.{MayFollow, IsLawful}
 
@@ -35,3 +35,14 @@ pub record NodeChanges : Type 0 where
   pub flat_inner : (h : List Event) (f : ℕ) (kind : Kind) → at is_switch h f ≡ false → (n : ℕ) → n < length h → is_open (h ++ Open (Inner f) kind ∷ []) n ≡ is_open h n
   -- nor any other event, which shuts no node
   pub kept : (h : List Event) (e : Event) → ((m : ℕ) → shuts h m e ≡ false) → (n : ℕ) → n < length h → is_open (h ++ e ∷ []) n ≡ is_open h n
+
+-- where nodes stand
+pub record NodesPlaced : Type 0 where
+  -- a node is open only below a node: its parent is one
+  pub parent : (h : List Event) → IsLawful h → (n p : ℕ) → parent h n ≡ Some p → IsTrue (at makes_node h p)
+  -- a source below what has a place for one, an inner observable below a FlatMap or Switch, a notifier below a TakeUntil
+  pub source : (h : List Event) → IsLawful h → (n p : ℕ) (kind : Kind) → slice_get h n ≡ Some (Open (Source p) kind) → IsTrue (at has_source h p)
+  pub inner : (h : List Event) → IsLawful h → (n p : ℕ) (kind : Kind) → slice_get h n ≡ Some (Open (Inner p) kind) → IsTrue (at is_merging h p)
+  pub notifier : (h : List Event) → IsLawful h → (n p : ℕ) (kind : Kind) → slice_get h n ≡ Some (Open (Notifier p) kind) → IsTrue (at is_until h p)
+  -- a connection topmost: whatever else a node stands below stands below the connection
+  pub topmost : (h : List Event) (c g n : ℕ) → slice_get h c ≡ Some (Connect g) → IsTrue (is_within h c n) → (a : ℕ) → IsTrue (is_within h a n) → IsTrue (is_within h c a)

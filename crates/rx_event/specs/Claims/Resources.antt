@@ -7,13 +7,18 @@ use Rattle.rx_event.specs.declared.event.Event.TheVariants.{Accept, End, Close}
 use Rattle.rx_event.specs.Events.{makes_resource, is_remove_of, is_take_of}
 use Rattle.rx_event.specs.Tree.{at, is_within, is_open}
 use Rattle.rx_event.specs.Resources.{is_held, is_taken, is_waiting}
-use Rattle.rx_event.specs.Totals.{accepted_count, held_count, waiting_count, taken_count}
+use Rattle.rx_event.specs.Totals.{open_count, accepted_count, held_count, waiting_count, taken_count}
 use Rattle.rx_event.specs.Lawful.{MayFollow, IsLawful}
 
 -- each resource is held, waits, or was taken, and only one of these
 pub record EachInOnePlace : Type 0 where
   pub one : (h : List Event) → IsLawful h → (r : ℕ) → (if is_held h r then 1 else 0) + (if is_waiting h r then 1 else 0) + (if is_taken h r then 1 else 0) ≡ (if at makes_resource h r then 1 else 0)
   pub all : (h : List Event) → IsLawful h → accepted_count h ≡ held_count h + waiting_count h + taken_count h
+
+-- where no node is open nothing is held, and where nothing waits either all that was accepted was handed out
+pub record AllReleased : Type 0 where
+  pub held : (h : List Event) → open_count h ≡ 0 → held_count h ≡ 0
+  pub taken : (h : List Event) → IsLawful h → open_count h ≡ 0 → waiting_count h ≡ 0 → taken_count h ≡ accepted_count h
 
 -- where each resource is after one more event
 pub record ResourceChanges : Type 0 where

@@ -8,6 +8,9 @@ use Rattle.rx_event.proofs.Laws.Totals.{item_count-push, accepted_count-push, ta
 use Rattle.rx_event.proofs.Laws.Steps.{may_remove}
 use Rattle.rx_event.proofs.Laws.Projections.{owed-push}
 use Rattle.rx_event.proofs.Laws.Debt.{debt-counts, debt-root, debt-source, debt-notifier, debt-inner_flat, debt_no_rise-inner, debt-hub, debt-connect, debt-accept, debt-use, debt-remove, debt-item, debt-decline, debt_falls-end, debt_falls-close, debt-take}
+use Rattle.rx_event.proofs.Laws.MarksNew.{marks-new}
+use Rattle.rx_event.proofs.Laws.MarksEnds.{marks_closed}
+use Rattle.rx_event.proofs.Laws.MarksTouched.{marks_untouched, marks-source_at, marks-notifier_at, marks-inner_at_flat, marks-inner_at_first, marks-inner_at_next, marks-item_at, marks-decline_at, marks-end_at}
 use Rattle.rx_event.proofs.theorems.changes.what_one_event_changes.Goals as goal
 
 pub returns-clause-nodes : goal.returns-clause-nodes
@@ -73,4 +76,19 @@ returns-clause-debt c = record {
   ended = debt_falls-end;
   closed = debt_falls-close;
   taken = debt-take;
+}
+
+pub returns-clause-marks : goal.returns-clause-marks
+returns-clause-marks c = record {
+  made = marks-new;
+  untouched = marks_untouched;
+  source = marks-source_at;
+  notifier = marks-notifier_at;
+  flat_inner = marks-inner_at_flat;
+  first_inner = marks-inner_at_first;
+  next_inner = marks-inner_at_next;
+  item = marks-item_at;
+  declined = marks-decline_at;
+  ended = marks-end_at;
+  closed = marks_closed;
 }

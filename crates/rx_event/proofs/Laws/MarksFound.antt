@@ -1,0 +1,96 @@
+-- What each mark of a node finds in the history.
+use Rattle.std.proofs.Common.{◌≡◌, ℕ, ◌≤◌, Bool, true, false, List, length, Option, Some, None, cond, refl, sym, ap, ◌∙◌, arith, inl, inr, ◌⊎◌, ◌==◌}
+use Rattle.std.proofs.Math.Bool.{◌&&◌}
+use Rattle.std.specs.List.{count_by}
+use Rattle.std.specs.Option.{option_map_or}
+use Rattle.std.proofs.lemmas.Bool.{cases_Bool, both_ways, false≢true, and_parts, and_from, eq-eqb, eqb-true}
+use Rattle.std.proofs.lemmas.Option.{cond_some, none-some}
+use Rattle.rx_note.specs.declared.note.Terminal.{Terminal}
+use Rattle.rx_note.specs.declared.note.Terminal.TheVariants.{Completed, Error}
+use Rattle.rx_event.specs.declared.event.Event.{Event}
+use Rattle.rx_event.specs.declared.event.Event.TheVariants.{End}
+use Rattle.rx_event.specs.Events.{is_merging, is_source_of}
+use Rattle.rx_event.specs.Tree.{at, places, parent, is_open, is_open_child_of}
+use Rattle.rx_event.specs.Forced.{Has, ChildEnded}
+use Rattle.rx_event.specs.Marks.{is_child_of, completes_source, passes_on, ends_by, child_terminal, source_completed, open_children}
+use Rattle.rx_event.proofs.Laws.Openness.{is_open_within}
+use Rattle.rx_event.proofs.Laws.Sums.{sum_by_none, sum_by_no_rise, count_by_one}
+use Rattle.rx_event.proofs.Laws.Searches.{list_any_found, list_any_holds, first_found, first_none}
+
+-- what the marks find -----------------------------------------------------------------------------
+
+child_named : (o : Option ℕ) (p : ℕ) → option_map_or (λ q. q == p) o false ≡ true → o ≡ Some p
+child_named None p named = absurd (false≢true named)
+child_named (Some q) p named = ap Some (eqb-true q p named)
+
+pub is_child_parent : (h : List Event) (p n : ℕ) → is_child_of h p n ≡ true → parent h n ≡ Some p
+is_child_parent h p n child = child_named (parent h n) p child
+
+pub parent_is_child : (h : List Event) (p n : ℕ) → parent h n ≡ Some p → is_child_of h p n ≡ true
+parent_is_child h p n below = rw below (eq-eqb p p refl)
+
+ends_by_end : (h : List Event) (p : ℕ) (e : Event) (t : Terminal) → ends_by h p e ≡ Some t → (c : ℕ) × (e ≡ End c t) × (parent h c ≡ Some p) × (passes_on (at is_merging h p) t ≡ true)
+ends_by_end h p (End c u) t found =
+    let w : (is_child_of h p c && passes_on (at is_merging h p) u ≡ true) × (u ≡ t) = cond_some (is_child_of h p c && passes_on (at is_merging h p) u) u t found in
+    let parts = and_parts (is_child_of h p c) (passes_on (at is_merging h p) u) w.0 in
+    (c, ap (λ v. End c v) w.1, is_child_parent h p c parts.0, ap (passes_on (at is_merging h p)) (sym w.1) ∙ parts.1)
+ends_by_end h p _ t found = absurd (none-some t found)
+
+-- the terminal is that of a child
+pub child_terminal_some : (h : List Event) (n : ℕ) (t : Terminal) → child_terminal h n ≡ Some t → ChildEnded h n t × (passes_on (at is_merging h n) t ≡ true)
+unfolding child_terminal
+child_terminal_some h n t found =
+    let r = first_found (ends_by h n) h t found in
+    let w = ends_by_end h n r.1 t r.3 in
+    (record { child = w.0; below = w.2; ended = record { place = r.0; found = r.2 ∙ ap Some w.1 } }, w.3)
+
+-- where there is none, no child ended so that the node ends by it
+pub child_terminal_none : (h : List Event) (n : ℕ) (t : Terminal) → child_terminal h n ≡ None → passes_on (at is_merging h n) t ≡ true → ¬ ChildEnded h n t
+unfolding child_terminal
+child_terminal_none h n t none passes c =
+    let e : ends_by h n (End c.child t) ≡ None = first_none (ends_by h n) h none c.ended.place (End c.child t) c.ended.found in
+    let s : ends_by h n (End c.child t) ≡ Some t = rw (parent_is_child h n c.child c.below, passes) refl in
+    none-some t (sym e ∙ s)
+
+completes_end : (h : List Event) (p : ℕ) (e : Event) → completes_source h p e ≡ true → (s : ℕ) × (e ≡ End s Completed) × (at (is_source_of p) h s ≡ true)
+completes_end h p (End s Completed) found = (s, refl, found)
+completes_end h p (End s (Error c)) found = absurd (false≢true found)
+completes_end h p _ found = absurd (false≢true found)
+
+pub source_completed_true : (h : List Event) (n : ℕ) → source_completed h n ≡ true → (s : ℕ) × (at (is_source_of n) h s ≡ true) × Has h (End s Completed)
+unfolding source_completed
+source_completed_true h n found =
+    let r = list_any_found (completes_source h n) h found in
+    let w = completes_end h n r.1 r.3 in
+    (w.0, w.2, record { place = r.0; found = r.2 ∙ ap Some w.1 })
+
+pub source_completed_has : (h : List Event) (n s : ℕ) → at (is_source_of n) h s ≡ true → Has h (End s Completed) → source_completed h n ≡ true
+unfolding source_completed
+source_completed_has h n s source ended = list_any_holds (completes_source h n) h ended.place (End s Completed) ended.found source
+
+pub open_children_none : (h : List Event) (n : ℕ) → open_children h n ≡ 0 → (c : ℕ) → parent h c ≡ Some n → is_open h c ≡ false
+unfolding open_children
+open_children_none h n none c below = by_test (cases_Bool (is_open h c)) where
+  least : (k : ℕ) → (b : Bool) → (c == k) ≡ b → is_open h c ≡ true → cond {A = ℕ} b 1 0 ≤ cond (is_open_child_of h n k) 1 0
+  least k true same o =
+      let child : is_open_child_of h n k ≡ true = ap (is_open_child_of h n) (sym (eqb-true c k same)) ∙ and_from (is_open h c) (is_child_of h n c) o (parent_is_child h n c below) in
+      rw child (omega arith)
+  least k false apart o = omega arith
+
+  by_test : (is_open h c ≡ true) ⊎ (is_open h c ≡ false) → is_open h c ≡ false
+  by_test (inr closed) = closed
+  by_test (inl o) = absurd (
+      let one : count_by (λ k. c == k) (places h) ≡ 1 = count_by_one c (length h) (is_open_within h c o) in
+      let less = sum_by_no_rise (λ k. cond (is_open_child_of h n k) 1 0) (λ k. cond (c == k) 1 0) (length h) (λ k l. least k (c == k) refl o) in
+      omega arith)
+
+pub open_children_zero : (h : List Event) (n : ℕ) → ((c : ℕ) → parent h c ≡ Some n → is_open h c ≡ false) → open_children h n ≡ 0
+unfolding open_children
+open_children_zero h n closed = sum_by_none (λ k. cond (is_open_child_of h n k) 1 0) (length h) (λ k l. ap (λ b. cond {A = ℕ} b 1 0) (by_test k (is_open h k) refl (parent h k) refl)) where
+  by_test : (k : ℕ) → (b : Bool) → is_open h k ≡ b → (o : Option ℕ) → parent h k ≡ o → (b && option_map_or (λ q. q == n) o false) ≡ false
+  by_test k false out o below = refl
+  by_test k true o None below = refl
+  by_test k true o (Some q) below = by_number (cases_Bool (q == n)) where
+    by_number : ((q == n) ≡ true) ⊎ ((q == n) ≡ false) → (q == n) ≡ false
+    by_number (inr apart) = apart
+    by_number (inl same) = absurd (both_ways (is_open h k) (closed k (below ∙ ap Some (eqb-true q n same))) o)

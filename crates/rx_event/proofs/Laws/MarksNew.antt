@@ -1,0 +1,95 @@
+-- A new node has blank marks.
+use Rattle.std.proofs.Common.{◌≡◌, ℕ, ◌<◌, ◌≤◌, Bool, true, false, List, [], ◌∷◌, ◌++◌, length, Option, Some, None, refl, ap, ◌∙◌, arith, slice_get, length-append}
+use Rattle.std.specs.List.{AllByRecursion, list_any}
+use Rattle.std.specs.Option.{option_map_or}
+use Rattle.std.proofs.lemmas.Bool.{false≢true, eqb-true, ne_eqb}
+use Rattle.std.proofs.lemmas.Option.{slice_get_within}
+use Rattle.rx_note.specs.declared.note.Terminal.{Terminal}
+use Rattle.rx_event.specs.declared.event.Place.TheVariants.{Root, Source, Inner, Notifier}
+use Rattle.rx_event.specs.declared.event.Event.{Event}
+use Rattle.rx_event.specs.declared.event.Event.TheVariants.{Open, Item}
+use Rattle.rx_event.specs.Events.{is_source_of, is_notifier_of, parent_named}
+use Rattle.rx_event.specs.Tree.{parent}
+use Rattle.rx_event.specs.Climb.{Stop, Delivery, Projection, Firing, stops}
+use Rattle.rx_event.specs.Moments.{moments, is_fired, stops_of, is_firing_of}
+use Rattle.rx_event.specs.Marks.{blank_marks, child_terminal, marks_of}
+use Rattle.rx_event.specs.Lawful.{MayFollow, IsLawful}
+use Rattle.rx_event.proofs.Laws.Parents.{parent-lt, parent_within}
+use Rattle.rx_event.proofs.Laws.Openness.{is_open_within}
+use Rattle.rx_event.proofs.Laws.Lawful.{IsLawful-push}
+use Rattle.rx_event.proofs.Laws.Steps.{by_events, may_emit, named_below}
+use Rattle.rx_event.specs.Claims.Climbs.{StopsAtOpen}
+use Rattle.rx_event.proofs.Laws.Projections.{stops_open, owed_new}
+use Rattle.rx_event.proofs.Laws.Searches.{list_any_found}
+use Rattle.rx_event.proofs.Laws.MarksFound.{child_terminal_some, source_completed_true, open_children_zero}
+use Rattle.rx_event.proofs.Laws.MarksAfter.{is_fired-push, same_marks}
+
+-- a new node --------------------------------------------------------------------------------------
+
+names_new : (h : List Event) (e : Event) → IsLawful h → MayFollow h e → (i : ℕ) (x : Event) → slice_get (h ++ e ∷ []) i ≡ Some x → parent_named x ≡ Some (length h) → ⊥
+names_new h e law next i x at_i named =
+    let a : length h < i = named_below (h ++ e ∷ []) (IsLawful-push h e law next) i (length h) x at_i named in
+    let b : i < length (h ++ e ∷ []) = slice_get_within (h ++ e ∷ []) i x at_i in
+    absurd (omega (arith, length-append h (e ∷ [])))
+
+source_names : (n : ℕ) (x : Event) → is_source_of n x ≡ true → parent_named x ≡ Some n
+source_names n (Open (Source q) kind) source = ap Some (eqb-true q n source)
+source_names n (Open Root kind) source = absurd (false≢true source)
+source_names n (Open (Inner q) kind) source = absurd (false≢true source)
+source_names n (Open (Notifier q) kind) source = absurd (false≢true source)
+source_names n _ source = absurd (false≢true source)
+
+notifier_names : (n : ℕ) (x : Event) → is_notifier_of n x ≡ true → parent_named x ≡ Some n
+notifier_names n (Open (Notifier q) kind) notifier = ap Some (eqb-true q n notifier)
+notifier_names n (Open Root kind) notifier = absurd (false≢true notifier)
+notifier_names n (Open (Inner q) kind) notifier = absurd (false≢true notifier)
+notifier_names n (Open (Source q) kind) notifier = absurd (false≢true notifier)
+notifier_names n _ notifier = absurd (false≢true notifier)
+
+pub never : (b : Bool) → (b ≡ true → ⊥) → b ≡ false
+never true no_way = absurd (no_way refl)
+never false no_way = refl
+
+-- stops of an open leaf fire what is there
+firing_old : (h : List Event) (ss : List Stop) → AllByRecursion (StopsAtOpen h) ss → (u : ℕ) → length h ≤ u → list_any (is_firing_of u) ss ≡ false
+firing_old h [] well u past = refl
+firing_old h (Firing v ∷ ss) well u past =
+    let l : v < length h = is_open_within h v well.0.0 in
+    rw (ne_eqb v u (omega arith)) (firing_old h ss well.1 u past)
+firing_old h (Delivery m ∷ ss) well u past = firing_old h ss well.1 u past
+firing_old h (Projection m ∷ ss) well u past = firing_old h ss well.1 u past
+
+fires_old : (h : List Event) (e : Event) → IsLawful h → MayFollow h e → (u : ℕ) → length h ≤ u → list_any (is_firing_of u) (stops_of h e) ≡ false
+fires_old h (Item leaf v) law next u past = firing_old h (stops h leaf) (stops_open h leaf law (may_emit next)) u past
+fires_old h _ law next u past = refl
+
+pub fired_past : (h : List Event) → IsLawful h → (u : ℕ) → length h ≤ u → is_fired h u ≡ false
+unfolding is_fired moments
+fired_past = by_events (λ h. (u : ℕ) → length h ≤ u → is_fired h u ≡ false) (λ u l. refl) (λ h e law next before u past.
+    let b : length h ≤ u = omega (arith, length-append h (e ∷ [])) in
+    is_fired-push h e u ∙ rw (before u b, fires_old h e law next u b) refl)
+
+child_new_none : (h : List Event) (e : Event) (c : ℕ) → parent (h ++ e ∷ []) c ≡ Some (length h) → ⊥
+child_new_none h e c below =
+    let a : length h < c = parent-lt (h ++ e ∷ []) c (length h) below in
+    let b : c < length (h ++ e ∷ []) = parent_within (h ++ e ∷ []) c (length h) below in
+    absurd (omega (arith, length-append h (e ∷ [])))
+
+pub marks-new : (h : List Event) (e : Event) → IsLawful h → MayFollow h e → marks_of (h ++ e ∷ []) (length h) ≡ blank_marks
+marks-new h e law next =
+    same_marks
+    (never _ (λ s. let r = list_any_found (is_source_of (length h)) (h ++ e ∷ []) s in names_new h e law next r.0 r.1 r.2 (source_names (length h) r.1 r.3)))
+    (never _ (λ s. let r = list_any_found (is_notifier_of (length h)) (h ++ e ∷ []) s in names_new h e law next r.0 r.1 r.2 (notifier_names (length h) r.1 r.3)))
+    (is_fired-push h e (length h) ∙ rw (fired_past h law (length h) (omega arith), fires_old h e law next (length h) (omega arith)) refl)
+    (never _ (λ s. let r = source_completed_true (h ++ e ∷ []) (length h) s in source_new r.0 (slice_get (h ++ e ∷ []) r.0) refl r.1))
+    (terminal_new (child_terminal (h ++ e ∷ []) (length h)) refl)
+    (owed_new h e)
+    (open_children_zero (h ++ e ∷ []) (length h) (λ c below. absurd (child_new_none h e c below)))
+  where
+    source_new : (s : ℕ) (x : Option Event) → slice_get (h ++ e ∷ []) s ≡ x → option_map_or (is_source_of (length h)) x false ≡ true → ⊥
+    source_new s None at_s source = false≢true source
+    source_new s (Some x) at_s source = names_new h e law next s x at_s (source_names (length h) x source)
+
+    terminal_new : (o : Option Terminal) → child_terminal (h ++ e ∷ []) (length h) ≡ o → o ≡ None
+    terminal_new None ended = refl
+    terminal_new (Some t) ended = let c = (child_terminal_some (h ++ e ∷ []) (length h) t ended).0 in absurd (child_new_none h e c.child c.below)

@@ -1,0 +1,177 @@
+-- An event changes the marks of one node at most, but for an item.
+use Rattle.std.proofs.Common.{◌≡◌, ℕ, ℤ, ◌+◌, ◌-◌, ◌<◌, ◌≤◌, Bool, true, false, List, [], ◌∷◌, ◌++◌, length, Some, None, cond, refl, sym, ap, ◌∙◌, arith, inl, inr, ◌⊎◌, ◌==◌, slice_get}
+use Rattle.std.proofs.Math.Bool.{not, ◌&&◌, ◌||◌}
+use Rattle.std.specs.Prelude.{if◌then◌else◌}
+use Rattle.std.specs.List.{list_any, count_by}
+use Rattle.std.specs.Option.{option_map_or, option_or}
+use Rattle.std.proofs.lemmas.Bool.{cases_order, both_ways, false≢true, eq-eqb}
+use Rattle.std.proofs.lemmas.List.Sums.{sum_by-cons}
+use Rattle.rx_note.specs.declared.note.Terminal.{Terminal}
+use Rattle.rx_note.specs.declared.note.Terminal.TheVariants.{Completed, Error}
+use Rattle.rx_event.specs.declared.event.Place.TheVariants.{Root, Source, Inner, Notifier}
+use Rattle.rx_event.specs.declared.event.Kind.{Kind}
+use Rattle.rx_event.specs.declared.event.Kind.TheVariants.{Leaf, Pass, Flat, Switch, Until, Sub}
+use Rattle.rx_event.specs.declared.event.Event.{Event}
+use Rattle.rx_event.specs.declared.event.Event.TheVariants.{Open, Hub, Connect, Accept, Use, Remove, Item, Decline, End, Close, Take}
+use Rattle.rx_event.specs.declared.marks.Marks.{Marks}
+use Rattle.rx_event.specs.Events.{is_merging, is_source_of, is_notifier_of, is_inner_of, is_switch, makes_node}
+use Rattle.rx_event.specs.Tree.{at, parent, is_open}
+use Rattle.rx_event.specs.Climb.{Stop, Delivery, Projection, Firing, stops}
+use Rattle.rx_event.specs.Moments.{is_fired, is_firing_of, is_projection_to}
+use Rattle.rx_event.specs.Forced.{IsForced}
+use Rattle.rx_event.specs.Marks.{touches, after_source, after_notifier, after_inner, after_decline, after_child, after_stops, blank_marks, completes_source, passes_on, child_terminal, source_completed, open_children, marks_of, due_at}
+use Rattle.rx_event.specs.Lawful.{forced, MayFollow, IsLawful}
+use Rattle.rx_event.proofs.Laws.Openness.{is_open_within}
+use Rattle.rx_event.proofs.Laws.Steps.{forced_kind, may_open, may_decline}
+use Rattle.rx_event.specs.Totals.{debt}
+use Rattle.rx_event.proofs.Laws.Debt.{debt_falls-end, debt_falls-close}
+use Rattle.rx_event.proofs.Laws.Searches.{or_false}
+use Rattle.rx_event.proofs.Laws.MarksFound.{open_children_none}
+use Rattle.rx_event.proofs.Laws.MarksAfter.{same_marks, marks-item, marks-decline, marks_kept, marks-source, marks-notifier}
+use Rattle.rx_event.proofs.Laws.MarksEnds.{marks-end_other, marks-close_other, marks-end_parent}
+use Rattle.rx_event.proofs.Laws.MarksInner.{marks-inner_other, marks-inner_flat, marks-inner_first, marks-inner_next}
+use Rattle.rx_event.proofs.Laws.MarksNew.{marks-new}
+
+-- which marks change ------------------------------------------------------------------------------
+
+or_parts_false : (a b : Bool) → (a || b) ≡ false → (a ≡ false) × (b ≡ false)
+or_parts_false false false e = (refl, refl)
+or_parts_false false true e = absurd (false≢true (sym e))
+or_parts_false true b e = absurd (false≢true (sym e))
+
+stops_apart : (n : ℕ) (ss : List Stop) → list_any (λ s. is_firing_of n s || is_projection_to n s) ss ≡ false → (list_any (is_firing_of n) ss ≡ false) × (count_by (is_projection_to n) ss ≡ 0)
+stops_apart n [] apart = (refl, refl)
+stops_apart n (s ∷ ss) apart =
+    let a = or_parts_false (is_firing_of n s || is_projection_to n s) (list_any (λ x. is_firing_of n x || is_projection_to n x) ss) apart in
+    let b = or_parts_false (is_firing_of n s) (is_projection_to n s) a.0 in
+    let rest = stops_apart n ss a.1 in
+    (rw (b.0, rest.0) refl, sum_by-cons (λ x. cond (is_projection_to n x) 1 0) s ss ∙ rw (b.1, rest.1) refl)
+
+-- All marks of a node that stays open, and that the event does not touch, stay
+pub marks_untouched : (h : List Event) (e : Event) → IsLawful h → MayFollow h e → (n : ℕ) → n < length h → is_open (h ++ e ∷ []) n ≡ true → touches h n e ≡ false → marks_of (h ++ e ∷ []) n ≡ marks_of h n
+marks_untouched h (Open (Source p) kind) law next n l o apart =
+    let w : cond {A = ℕ} (p == n) 1 0 ≡ 0 = ap (λ b. cond {A = ℕ} b 1 0) apart in
+    marks-source h p kind law next n l ∙ same_marks (ap (λ b. list_any (is_source_of n) h || b) apart ∙ or_false (list_any (is_source_of n) h)) refl refl refl refl refl (omega arith)
+marks_untouched h (Open (Notifier p) kind) law next n l o apart =
+    let w : cond {A = ℕ} (p == n) 1 0 ≡ 0 = ap (λ b. cond {A = ℕ} b 1 0) apart in
+    marks-notifier h p kind law next n l ∙ same_marks refl (ap (λ b. list_any (is_notifier_of n) h || b) apart ∙ or_false (list_any (is_notifier_of n) h)) refl refl refl refl (omega arith)
+marks_untouched h (Open (Inner f) kind) law next n l o apart = marks-inner_other h f kind law next n l o apart
+marks_untouched h (Open Root kind) law next n l o apart = marks_kept h (Open Root kind) law next refl n l
+marks_untouched h (Item leaf v) law next n l o apart =
+    let w = stops_apart n (stops h leaf) apart in
+    let k = w.1 in
+    marks-item h leaf v law next n l ∙ same_marks refl refl (ap (λ b. is_fired h n || b) w.0 ∙ or_false (is_fired h n)) refl refl (omega arith) refl
+marks_untouched h (Decline f) law next n l o apart =
+    let w : cond {A = ℕ} (f == n) 1 0 ≡ 0 = ap (λ b. cond {A = ℕ} b 1 0) apart in
+    marks-decline h f law next n l ∙ same_marks refl refl refl refl refl (omega arith) refl
+marks_untouched h (End c t) law next n l o apart = marks-end_other h c t law next n o apart
+marks_untouched h (Close c) law next n l o apart = marks-close_other h c law next n o apart
+marks_untouched h (Hub mode) law next n l o apart = marks_kept h (Hub mode) law next refl n l
+marks_untouched h (Connect g) law next n l o apart = marks_kept h (Connect g) law next refl n l
+marks_untouched h (Accept m tag) law next n l o apart = marks_kept h (Accept m tag) law next refl n l
+marks_untouched h (Use r) law next n l o apart = marks_kept h (Use r) law next refl n l
+marks_untouched h (Remove r) law next n l o apart = marks_kept h (Remove r) law next refl n l
+marks_untouched h (Take r) law next n l o apart = marks_kept h (Take r) law next refl n l
+
+-- of the parent of what ended, by the events of both
+pub marks-end_parent_at : (h : List Event) (c p : ℕ) (made above : Event) (t : Terminal) → IsLawful h → MayFollow h (End c t) → parent h c ≡ Some p → slice_get h c ≡ Some made → slice_get h p ≡ Some above → marks_of (h ++ End c t ∷ []) p ≡ record (marks_of h p) { source_completed = source_completed h p || (is_source_of p made && not (passes_on true t)); child_terminal = option_or (child_terminal h p) (if passes_on (is_merging above) t then Some t else None); open_children = open_children h p - 1 }
+marks-end_parent_at h c p made above t law next below at_c at_p =
+    marks-end_parent h c p t law next below ∙ same_marks refl refl refl (ap (λ b. source_completed h p || b) (source_is t)) (ap (λ o. option_or (child_terminal h p) (if passes_on (option_map_or is_merging o false) t then Some t else None)) at_p) refl refl
+  where
+    and_yes : (b : Bool) → b ≡ (b && true)
+    and_yes true = refl
+    and_yes false = refl
+
+    and_no : (b : Bool) → false ≡ (b && false)
+    and_no true = refl
+    and_no false = refl
+
+    source_is : (u : Terminal) → completes_source h p (End c u) ≡ (is_source_of p made && not (passes_on true u))
+    source_is Completed = ap (λ o. option_map_or (is_source_of p) o false) at_c ∙ and_yes (is_source_of p made)
+    source_is (Error code) = and_no (is_source_of p made)
+
+-- the marks of the one node that an event touches -------------------------------------------------
+
+or_true : (b : Bool) → (b || true) ≡ true
+or_true true = refl
+or_true false = refl
+
+pub marks-source_at : (h : List Event) (p : ℕ) (kind : Kind) → IsLawful h → MayFollow h (Open (Source p) kind) → marks_of (h ++ Open (Source p) kind ∷ []) p ≡ after_source (marks_of h p)
+marks-source_at h p kind law next =
+    let same : (p == p) ≡ true = eq-eqb p p refl in
+    let w : cond {A = ℕ} (p == p) 1 0 ≡ 1 = ap (λ b. cond {A = ℕ} b 1 0) same in
+    marks-source h p kind law next p (is_open_within h p (may_open next).0) ∙ same_marks (ap (λ b. list_any (is_source_of p) h || b) same ∙ or_true (list_any (is_source_of p) h)) refl refl refl refl refl (omega arith)
+
+pub marks-notifier_at : (h : List Event) (p : ℕ) (kind : Kind) → IsLawful h → MayFollow h (Open (Notifier p) kind) → marks_of (h ++ Open (Notifier p) kind ∷ []) p ≡ after_notifier (marks_of h p)
+marks-notifier_at h p kind law next =
+    let same : (p == p) ≡ true = eq-eqb p p refl in
+    let w : cond {A = ℕ} (p == p) 1 0 ≡ 1 = ap (λ b. cond {A = ℕ} b 1 0) same in
+    marks-notifier h p kind law next p (is_open_within h p (may_open next).0) ∙ same_marks refl (ap (λ b. list_any (is_notifier_of p) h || b) same ∙ or_true (list_any (is_notifier_of p) h)) refl refl refl refl (omega arith)
+
+pub marks-decline_at : (h : List Event) (f : ℕ) → IsLawful h → MayFollow h (Decline f) → marks_of (h ++ Decline f ∷ []) f ≡ after_decline (marks_of h f)
+marks-decline_at h f law next =
+    let w : cond {A = ℕ} (f == f) 1 0 ≡ 1 = ap (λ b. cond {A = ℕ} b 1 0) (eq-eqb f f refl) in
+    marks-decline h f law next f (is_open_within h f (may_decline next).0) ∙ same_marks refl refl refl refl refl (omega arith) refl
+
+pub marks-end_at : (h : List Event) (c p : ℕ) (made above : Event) (t : Terminal) → IsLawful h → MayFollow h (End c t) → parent h c ≡ Some p → slice_get h c ≡ Some made → slice_get h p ≡ Some above → marks_of (h ++ End c t ∷ []) p ≡ after_child (is_source_of p made) (is_merging above) t (marks_of h p)
+marks-end_at h c p made above t law next below at_c at_p = marks-end_parent_at h c p made above t law next below at_c at_p
+
+-- stops one at a time say what all together do
+stops_together : (n : ℕ) (ss : List Stop) (m : Marks) → after_stops n ss m ≡ record m { fired = m.fired || list_any (is_firing_of n) ss; owed = m.owed + count_by (is_projection_to n) ss }
+stops_together n [] m = sym (same_marks refl refl (or_false m.fired) refl refl (omega arith) refl)
+stops_together n (Delivery r ∷ ss) m =
+    let k = sum_by-cons (λ s. cond (is_projection_to n s) 1 0) (Delivery r) ss in
+    stops_together n ss m ∙ same_marks refl refl refl refl refl (omega arith) refl
+stops_together n (Projection f ∷ ss) m = by_test (f == n) (sum_by-cons (λ s. cond (is_projection_to n s) 1 0) (Projection f) ss) (λ x. stops_together n ss x) where
+  by_test : (b : Bool) → count_by (is_projection_to n) (Projection f ∷ ss) ≡ cond b 1 0 + count_by (is_projection_to n) ss → ((x : Marks) → after_stops n ss x ≡ record x { fired = x.fired || list_any (is_firing_of n) ss; owed = x.owed + count_by (is_projection_to n) ss }) → after_stops n ss (cond b (record m { owed = m.owed + 1 }) m) ≡ record m { fired = m.fired || list_any (is_firing_of n) ss; owed = m.owed + count_by (is_projection_to n) (Projection f ∷ ss) }
+  by_test true k rest = rest (record m { owed = m.owed + 1 }) ∙ same_marks refl refl refl refl refl (omega arith) refl
+  by_test false k rest = rest m ∙ same_marks refl refl refl refl refl (omega arith) refl
+stops_together n (Firing u ∷ ss) m = by_test (u == n) (sum_by-cons (λ s. cond (is_projection_to n s) 1 0) (Firing u) ss) (λ x. stops_together n ss x) where
+  by_test : (b : Bool) → count_by (is_projection_to n) (Firing u ∷ ss) ≡ 0 + count_by (is_projection_to n) ss → ((x : Marks) → after_stops n ss x ≡ record x { fired = x.fired || list_any (is_firing_of n) ss; owed = x.owed + count_by (is_projection_to n) ss }) → after_stops n ss (cond b (record m { fired = true }) m) ≡ record m { fired = m.fired || (b || list_any (is_firing_of n) ss); owed = m.owed + count_by (is_projection_to n) (Firing u ∷ ss) }
+  by_test true k rest = rest (record m { fired = true }) ∙ same_marks refl refl (sym (or_true m.fired)) refl refl (omega arith) refl
+  by_test false k rest = rest m ∙ same_marks refl refl refl refl refl (omega arith) refl
+
+pub marks-item_at : (h : List Event) (leaf : ℕ) (v : ℤ) → IsLawful h → MayFollow h (Item leaf v) → (n : ℕ) → n < length h → marks_of (h ++ Item leaf v ∷ []) n ≡ after_stops n (stops h leaf) (marks_of h n)
+marks-item_at h leaf v law next n l = marks-item h leaf v law next n l ∙ sym (stops_together n (stops h leaf) (marks_of h n))
+
+-- an open child is counted, so the count does not fall below 0
+pub child_counted : (h : List Event) (c p : ℕ) → is_open h c ≡ true → parent h c ≡ Some p → 0 < open_children h p
+child_counted h c p o below = by_count (cases_order (open_children h p) 0) where
+  by_count : (open_children h p ≡ 0) ⊎ ((open_children h p < 0) ⊎ (0 < open_children h p)) → 0 < open_children h p
+  by_count (inl zero_of) = absurd (both_ways (is_open h c) (open_children_none h p zero_of c below) o)
+  by_count (inr (inl less)) = absurd (omega arith)
+  by_count (inr (inr some)) = some
+
+pub marks-inner_at_flat : (h : List Event) (f : ℕ) (kind : Kind) → IsLawful h → MayFollow h (Open (Inner f) kind) → at is_switch h f ≡ false → marks_of (h ++ Open (Inner f) kind ∷ []) f ≡ after_inner false (marks_of h f)
+marks-inner_at_flat h f kind law next flat = marks-inner_flat h f kind law next flat
+
+pub marks-inner_at_first : (h : List Event) (f : ℕ) (kind : Kind) → IsLawful h → MayFollow h (Open (Inner f) kind) → ((k : ℕ) → at (is_inner_of f) h k ≡ true → is_open h k ≡ false) → marks_of (h ++ Open (Inner f) kind ∷ []) f ≡ after_inner false (marks_of h f)
+marks-inner_at_first h f kind law next closed = marks-inner_first h f kind law next closed
+
+pub marks-inner_at_next : (h : List Event) (f old : ℕ) (kind : Kind) → IsLawful h → MayFollow h (Open (Inner f) kind) → at is_switch h f ≡ true → at (is_inner_of f) h old ≡ true → is_open h old ≡ true → marks_of (h ++ Open (Inner f) kind ∷ []) f ≡ after_inner true (marks_of h f)
+marks-inner_at_next h f old kind law next switch inner o = marks-inner_next h f old kind law next switch inner o
+
+-- a new node has nothing to do
+pub blank_quiet : (made : Event) (n : ℕ) → due_at made blank_marks n ≡ None
+blank_quiet (Open place Pass) n = refl
+blank_quiet (Open place Flat) n = refl
+blank_quiet (Open place Switch) n = refl
+blank_quiet (Open place Until) n = refl
+blank_quiet (Open place Leaf) n = refl
+blank_quiet (Open place (Sub g)) n = refl
+blank_quiet (Connect g) n = refl
+blank_quiet _ n = refl
+
+pub quiet_new : (h : List Event) (e : Event) → IsLawful h → MayFollow h e → due_at e (marks_of (h ++ e ∷ []) (length h)) (length h) ≡ None
+quiet_new h e law next = ap (λ m. due_at e m (length h)) (marks-new h e law next) ∙ blank_quiet e (length h)
+
+-- what has nothing to do, and is not touched, has nothing to do
+pub quiet_untouched : (h : List Event) (e : Event) → IsLawful h → MayFollow h e → (n : ℕ) (made : Event) → n < length h → is_open (h ++ e ∷ []) n ≡ true → touches h n e ≡ false → due_at made (marks_of h n) n ≡ None → due_at made (marks_of (h ++ e ∷ []) n) n ≡ None
+quiet_untouched h e law next n made l o apart quiet = ap (λ m. due_at made m n) (marks_untouched h e law next n l o apart) ∙ quiet
+
+-- each forced event but a Connect lowers the debt
+pub forced_falls : (h : List Event) (e : Event) → IsLawful h → IsForced h e → makes_node e ≡ false → debt (h ++ e ∷ []) + 1 ≤ debt h
+forced_falls h (End c t) law f no_node = debt_falls-end h c t law (forced f)
+forced_falls h (Close c) law f no_node = debt_falls-close h c law (forced f)
+forced_falls h (Connect g) law f no_node = absurd (false≢true (sym no_node))
+forced_falls h _ law f no_node = absurd (false≢true (forced_kind f))

@@ -1,0 +1,77 @@
+-- Where nodes stand in a lawful history: below nodes, each place below what has such a place, connections topmost.
+use Rattle.std.proofs.Common.{◌≡◌, ℕ, ◌<◌, Bool, true, List, [], ◌∷◌, length, Some, None, refl, sym, ap, ◌∙◌, arith, zero, suc, inl, inr, ◌⊎◌, take, slice_get}
+use Rattle.std.specs.Option.{option_map_or}
+use Rattle.std.proofs.lemmas.Bool.{and_parts}
+use Rattle.std.proofs.lemmas.List.{length-take-le}
+use Rattle.std.proofs.lemmas.Option.{slice_get_within, same_Some, none-some}
+use Rattle.rx_event.specs.declared.event.Place.{Place}
+use Rattle.rx_event.specs.declared.event.Place.TheVariants.{Source, Inner, Notifier}
+use Rattle.rx_event.specs.declared.event.Kind.{Kind}
+use Rattle.rx_event.specs.declared.event.Event.{Event}
+use Rattle.rx_event.specs.declared.event.Event.TheVariants.{Open, Connect}
+use Rattle.rx_event.specs.Events.{makes_node, has_source, is_merging, is_until}
+use Rattle.rx_event.specs.Tree.{at, parent, is_within, is_open, is_standing}
+use Rattle.rx_event.specs.Allowed.{IsFree}
+use Rattle.rx_event.specs.Lawful.{IsLawful}
+use Rattle.rx_event.proofs.Laws.Places.{at-take, at_within}
+use Rattle.rx_event.proofs.Laws.Parents.{parent-lt, parent_within, parent_name, within_cases}
+use Rattle.rx_event.proofs.Laws.Openness.{is_open_step}
+use Rattle.rx_event.proofs.Laws.Lawful.{lawful_at}
+use Rattle.rx_event.proofs.Laws.Steps.{may_open, may_name}
+
+-- what is true of an older event is so in the whole history
+at_older : (q : Event → Bool) (h : List Event) (n p : ℕ) → n < length h → at q (take n h) p ≡ true → at q h p ≡ true
+at_older q h n p l passes =
+    let w : p < length (take n h) = at_within q (take n h) p passes in
+    let k : length (take n h) ≡ n = length-take-le n h (omega arith) in
+    sym (at-take q h n p (omega arith) l) ∙ passes
+
+event_at : (h : List Event) (n : ℕ) → n < length h → (e : Event) × (slice_get h n ≡ Some e)
+event_at [] n l = absurd (omega arith)
+event_at (x ∷ h) zero l = (x, refl)
+event_at (x ∷ h) (suc n) l = event_at h n (let m = l in omega arith)
+
+-- an open node is a node
+pub open_node : (h : List Event) (n : ℕ) → is_open h n ≡ true → at makes_node h n ≡ true
+open_node h n o = (and_parts _ _ (and_parts (is_standing h n) (option_map_or (is_open h) (parent h n) true) (sym (is_open_step h n) ∙ o)).0).0
+
+-- the parent of a node is a node
+pub parent_node : (h : List Event) → IsLawful h → (n p : ℕ) → parent h n ≡ Some p → at makes_node h p ≡ true
+parent_node h law n p below =
+    let l : n < length h = parent_within h n p below in
+    let e = event_at h n l in
+    at_older makes_node h n p l (open_node (take n h) p (may_name (lawful_at h law n e.0 e.1) (parent_name h n p e.0 below e.1)))
+
+-- what was opened was opened at a free place
+opened_free : (h : List Event) → IsLawful h → (n : ℕ) (place : Place) (kind : Kind) → slice_get h n ≡ Some (Open place kind) → IsFree (take n h) place
+opened_free h law n place kind at_n = may_open (lawful_at h law n (Open place kind) at_n)
+
+-- a source stands below what has a place for one
+pub source_stands : (h : List Event) → IsLawful h → (n p : ℕ) (kind : Kind) → slice_get h n ≡ Some (Open (Source p) kind) → at has_source h p ≡ true
+source_stands h law n p kind at_n = at_older has_source h n p (slice_get_within h n _ at_n) (opened_free h law n (Source p) kind at_n).1
+
+-- an inner observable stands below a FlatMap or a Switch
+pub inner_stands : (h : List Event) → IsLawful h → (n p : ℕ) (kind : Kind) → slice_get h n ≡ Some (Open (Inner p) kind) → at is_merging h p ≡ true
+inner_stands h law n p kind at_n = at_older is_merging h n p (slice_get_within h n _ at_n) (opened_free h law n (Inner p) kind at_n).1
+
+-- a notifier stands below a TakeUntil
+pub notifier_stands : (h : List Event) → IsLawful h → (n p : ℕ) (kind : Kind) → slice_get h n ≡ Some (Open (Notifier p) kind) → at is_until h p ≡ true
+notifier_stands h law n p kind at_n = at_older is_until h n p (slice_get_within h n _ at_n) (opened_free h law n (Notifier p) kind at_n).1
+
+-- a connection stands below no node
+pub connection_parent : (h : List Event) (c g : ℕ) → slice_get h c ≡ Some (Connect g) → parent h c ≡ None
+unfolding parent
+connection_parent h c g at_c = rw at_c refl
+
+topmost_after : (steps : ℕ) (h : List Event) (a b g n : ℕ) → n < steps → slice_get h a ≡ Some (Connect g) → is_within h a n ≡ true → is_within h b n ≡ true → is_within h a b ≡ true
+topmost_after zero h a b g n l at_a above other = absurd (omega arith)
+topmost_after (suc steps) h a b g n l at_a above other = by_case (within_cases h a n above) (within_cases h b n other) (λ p less one two. topmost_after steps h a b g p (let m = l in let k = less in omega arith) at_a one two) where
+  by_case : (a ≡ n) ⊎ ((p : ℕ) × (parent h n ≡ Some p) × (is_within h a p ≡ true)) → (b ≡ n) ⊎ ((p : ℕ) × (parent h n ≡ Some p) × (is_within h b p ≡ true)) → ((p : ℕ) → p < n → is_within h a p ≡ true → is_within h b p ≡ true → is_within h a b ≡ true) → is_within h a b ≡ true
+  by_case one (inl same) rest = ap (is_within h a) same ∙ above
+  by_case (inl same) (inr (p, below, within)) rest = absurd (none-some p (sym (connection_parent h n g (ap (slice_get h) (sym same) ∙ at_a)) ∙ below))
+  by_case (inr (p, below, within)) (inr (q, other_below, other_within)) rest =
+      rest p (parent-lt h n p below) within (ap (is_within h b) (same_Some p q (sym below ∙ other_below)) ∙ other_within)
+
+-- among the ancestors of a node a connection is the topmost: the others stand below it
+pub connection_topmost : (h : List Event) (a b g n : ℕ) → slice_get h a ≡ Some (Connect g) → is_within h a n ≡ true → is_within h b n ≡ true → is_within h a b ≡ true
+connection_topmost h a b g n at_a above other = topmost_after (suc n) h a b g n (omega arith) at_a above other

@@ -1,0 +1,7 @@
+use Rattle.rx_event.proofs.Laws.Waits.{settled_connected, waits_after, kept_unsubscribed, forced_connected, forced_connects, forced_closes}
+use Rattle.rx_event.specs.declared.event.Event.TheVariants.{Accept}
+use Rattle.std.proofs.Common.{refl}
+use Rattle.rx_event.proofs.theorems.hubs.a_step_connects_one_hub.Goals as goal
+
+pub returns : goal.returns
+returns c = record { settled = settled_connected; allowed = waits_after; accepted = λ h n tag law none. kept_unsubscribed h (Accept n tag) law none refl refl; forced = forced_connected; connects = forced_connects; closes = forced_closes }

@@ -1,0 +1,5 @@
+use Rattle.rx_event.proofs.Laws.Stands.{parent_node, source_stands, inner_stands, notifier_stands, connection_topmost}
+use Rattle.rx_event.proofs.theorems.nodes.nodes_stand_below_nodes.Goals as goal
+
+pub returns : goal.returns
+returns c = record { parent = parent_node; source = source_stands; inner = inner_stands; notifier = notifier_stands; topmost = λ h c g n at_c above a other. connection_topmost h c a g n at_c above other }

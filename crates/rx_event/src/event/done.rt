@@ -1,0 +1,105 @@
+//! What an event does to what others made.
+
+ghost use Rattle.std.specs.Prelude.{◌≡◌};
+ghost use Rattle.rx_event.specs.Events.{is_item, is_take, is_end, ended_of, completed_of, failed_of, used_of, removed_of, taken_of, paid_of};
+
+use super::{Event, Place};
+use rx_note::Terminal;
+
+impl Event {
+    /// Whether a leaf emits an item.
+    pub fn is_item(self) -> bool
+        ensures { result ≡ is_item self }
+    {
+        matches!(self, Event::Item(_, _))
+    }
+
+    /// Whether a resource is handed out for its release.
+    pub fn is_take(self) -> bool
+        ensures { result ≡ is_take self }
+    {
+        matches!(self, Event::Take(_))
+    }
+
+    /// Whether a node ends by itself.
+    pub fn is_end(self) -> bool
+        ensures { result ≡ is_end self }
+    {
+        matches!(self, Event::End(_, _))
+    }
+
+    /// The node that it ends.
+    pub fn ended(self) -> Option<u64>
+        ensures { result ≡ ended_of self }
+    {
+        match self {
+            Event::End(n, _) => Some(n),
+            _ => None,
+        }
+    }
+
+    /// The node that it ends without an error.
+    pub fn completed(self) -> Option<u64>
+        ensures { result ≡ completed_of self }
+    {
+        match self {
+            Event::End(n, Terminal::Completed) => Some(n),
+            _ => None,
+        }
+    }
+
+    /// The node that it ends with an error.
+    pub fn failed(self) -> Option<u64>
+        ensures { result ≡ failed_of self }
+    {
+        match self {
+            Event::End(n, Terminal::Error(_)) => Some(n),
+            _ => None,
+        }
+    }
+
+    /// The resource that it uses.
+    pub fn used(self) -> Option<u64>
+        ensures { result ≡ used_of self }
+    {
+        match self {
+            Event::Use(r) => Some(r),
+            _ => None,
+        }
+    }
+
+    /// The resource that it removes.
+    pub fn removed(self) -> Option<u64>
+        ensures { result ≡ removed_of self }
+    {
+        match self {
+            Event::Remove(r) => Some(r),
+            _ => None,
+        }
+    }
+
+    /// The resource that it hands out.
+    pub fn taken(self) -> Option<u64>
+        ensures { result ≡ taken_of self }
+    {
+        match self {
+            Event::Take(r) => Some(r),
+            _ => None,
+        }
+    }
+
+    /// The FlatMap or Switch of which it pays one projected item: it opens an inner observable,
+    /// or declines.
+    pub fn pays(self) -> Option<u64>
+        ensures { result ≡ paid_of self }
+    {
+        match self {
+            Event::Open {
+                place: Place::Inner(f),
+                ..
+            }
+            | Event::Decline(f) => Some(f),
+            _ => None,
+        }
+    }
+}
