@@ -3,10 +3,10 @@
 ghost use Rattle.std.specs.Prelude.{◌<◌, ◌^◌};
 
 use crate::done::Halt;
-use crate::token::Token;
 use rx_book::{At, Book, Key, Refused, ResKey};
 use rx_event::{Kind, Refusal};
 use rx_note::{Note, Terminal};
+use rx_resource::Sample;
 
 /// Why a call was refused.
 fn refused(why: Refusal) -> Halt {
@@ -17,7 +17,7 @@ fn refused(why: Refusal) -> Halt {
 }
 
 /// Opens a node.
-pub fn open(book: &mut Book<Token>, at: At, kind: Kind) -> Result<Key, Halt> {
+pub fn open(book: &mut Book<Sample>, at: At, kind: Kind) -> Result<Key, Halt> {
     match book.open(at, kind) {
         Ok(opened) => Ok(opened.key),
         Err(why) => Err(refused(why)),
@@ -25,23 +25,23 @@ pub fn open(book: &mut Book<Token>, at: At, kind: Kind) -> Result<Key, Halt> {
 }
 
 /// Opens a mirroring root that holds a resource with this tag.
-pub fn open_using(book: &mut Book<Token>, tag: u64) -> Result<Key, Halt> {
-    match book.open_using(At::Root, Token::new(tag)) {
+pub fn open_using(book: &mut Book<Sample>, tag: u64) -> Result<Key, Halt> {
+    match book.open_using(At::Root, Sample::new(tag)) {
         Ok(opened) => Ok(opened.key),
         Err(Refused { why, back: _ }) => Err(refused(why)),
     }
 }
 
 /// Holds a resource with this tag at a node.
-pub fn hold(book: &mut Book<Token>, node: Key, tag: u64) -> Result<ResKey, Halt> {
-    match book.hold(node, Token::new(tag)) {
+pub fn hold(book: &mut Book<Sample>, node: Key, tag: u64) -> Result<ResKey, Halt> {
+    match book.hold(node, Sample::new(tag)) {
         Ok(res) => Ok(res),
         Err(Refused { why, back: _ }) => Err(refused(why)),
     }
 }
 
 /// Takes a held resource away from its node.
-pub fn remove(book: &mut Book<Token>, res: ResKey) -> Result<(), Halt> {
+pub fn remove(book: &mut Book<Sample>, res: ResKey) -> Result<(), Halt> {
     match book.remove(res) {
         Ok(_) => Ok(()),
         Err(why) => Err(refused(why)),
@@ -49,7 +49,7 @@ pub fn remove(book: &mut Book<Token>, res: ResKey) -> Result<(), Halt> {
 }
 
 /// Emits an item at a leaf.
-pub fn emit(book: &mut Book<Token>, leaf: Key, number: u64) -> Result<(), Halt>
+pub fn emit(book: &mut Book<Sample>, leaf: Key, number: u64) -> Result<(), Halt>
     requires { number < 2 ^ 63 }
 {
     match book.next(leaf, number as i64) {
@@ -59,7 +59,7 @@ pub fn emit(book: &mut Book<Token>, leaf: Key, number: u64) -> Result<(), Halt>
 }
 
 /// Ends a leaf without an error.
-pub fn complete(book: &mut Book<Token>, leaf: Key) -> Result<(), Halt> {
+pub fn complete(book: &mut Book<Sample>, leaf: Key) -> Result<(), Halt> {
     match book.end(leaf, Terminal::Completed) {
         Ok(_) => Ok(()),
         Err(why) => Err(refused(why)),
@@ -67,7 +67,7 @@ pub fn complete(book: &mut Book<Token>, leaf: Key) -> Result<(), Halt> {
 }
 
 /// Disposes of a root.
-pub fn dispose(book: &mut Book<Token>, root: Key) -> Result<(), Halt> {
+pub fn dispose(book: &mut Book<Sample>, root: Key) -> Result<(), Halt> {
     match book.dispose(root) {
         Ok(_) => Ok(()),
         Err(why) => Err(refused(why)),
@@ -75,7 +75,7 @@ pub fn dispose(book: &mut Book<Token>, root: Key) -> Result<(), Halt> {
 }
 
 /// Takes the next note, which is to be this one.
-fn take_note(book: &mut Book<Token>, wanted: Note) -> Result<(), Halt> {
+fn take_note(book: &mut Book<Sample>, wanted: Note) -> Result<(), Halt> {
     match book.take_mail() {
         Some(mail) if mail.note == wanted => Ok(()),
         _ => Err(Halt::Refused),
@@ -83,19 +83,19 @@ fn take_note(book: &mut Book<Token>, wanted: Note) -> Result<(), Halt> {
 }
 
 /// Takes the next note, which is to be this item.
-pub fn told(book: &mut Book<Token>, number: u64) -> Result<(), Halt>
+pub fn told(book: &mut Book<Sample>, number: u64) -> Result<(), Halt>
     requires { number < 2 ^ 63 }
 {
     take_note(book, Note::Next(number as i64))
 }
 
 /// Takes the next note, which is to be the end without an error.
-pub fn told_completed(book: &mut Book<Token>) -> Result<(), Halt> {
+pub fn told_completed(book: &mut Book<Sample>) -> Result<(), Halt> {
     take_note(book, Note::End(Terminal::Completed))
 }
 
 /// Takes a resource that waits and releases it, and answers its tag.
-pub fn release(book: &mut Book<Token>) -> Result<u64, Halt> {
+pub fn release(book: &mut Book<Sample>) -> Result<u64, Halt> {
     match book.take() {
         Some(handed) => Ok(handed.release().tag),
         None => Err(Halt::Refused),
@@ -103,7 +103,7 @@ pub fn release(book: &mut Book<Token>) -> Result<u64, Halt> {
 }
 
 /// Refuses a book where another number of resources waits.
-pub fn check_waiting(book: &Book<Token>, count: u64) -> Result<(), Halt> {
+pub fn check_waiting(book: &Book<Sample>, count: u64) -> Result<(), Halt> {
     if book.waiting() == count {
         Ok(())
     } else {
@@ -113,7 +113,7 @@ pub fn check_waiting(book: &Book<Token>, count: u64) -> Result<(), Halt> {
 
 /// Refuses a book that has another number of events, an open node, or a resource that is held or
 /// waits.
-pub fn check_done(book: &Book<Token>, events: u64) -> Result<(), Halt> {
+pub fn check_done(book: &Book<Sample>, events: u64) -> Result<(), Halt> {
     if book.len() == events && book.open_count() == 0 && book.held() == 0 && book.waiting() == 0 {
         Ok(())
     } else {

@@ -4,13 +4,13 @@ ghost use Rattle.std.specs.Prelude.{◌≡◌, ◌≤◌, ◌<◌, ◌^◌, IfOk
 
 use crate::calls::{check_done, complete, dispose, emit, open, told, told_completed};
 use crate::done::{Done, Halt};
-use crate::token::Token;
 use rx_book::{At, Book, Key};
 use rx_event::Kind;
+use rx_resource::Sample;
 use std::alloc::Global;
 
 /// Opens so many subscriptions that stay, each a leaf without an observable below it.
-fn gather(alloc: Global, book: &mut Book<Token>, count: u64) -> Result<Vec<Key>, Halt> {
+fn gather(alloc: Global, book: &mut Book<Sample>, count: u64) -> Result<Vec<Key>, Halt> {
     let mut crowd = Vec::new(alloc);
     for _opened in 0..count {
         crowd.push(open(book, At::Root, Kind::Leaf)?)?;
@@ -19,7 +19,7 @@ fn gather(alloc: Global, book: &mut Book<Token>, count: u64) -> Result<Vec<Key>,
 }
 
 /// Opens a subscription, emits an item at it and ends it, and takes what it tells.
-fn pass_by(book: &mut Book<Token>, number: u64) -> Result<(), Halt>
+fn pass_by(book: &mut Book<Sample>, number: u64) -> Result<(), Halt>
     requires { number < 2 ^ 63 }
 {
     let leaf = open(book, At::Root, Kind::Leaf)?;
@@ -30,7 +30,7 @@ fn pass_by(book: &mut Book<Token>, number: u64) -> Result<(), Halt>
 }
 
 /// Disposes of all subscriptions that stayed.
-fn disperse(book: &mut Book<Token>, crowd: &[Key]) -> Result<(), Halt> {
+fn disperse(book: &mut Book<Sample>, crowd: &[Key]) -> Result<(), Halt> {
     for root in crowd {
         dispose(book, *root)?;
     }
@@ -43,7 +43,7 @@ pub fn run_crowd(alloc: Global, count: u64) -> Result<Done, Halt>
     requires { count ≤ 10000000 }
     ensures { IfOk result (λ done. done.operations ≡ count) }
 {
-    let mut book: Book<Token> = Book::new(alloc, 5 * count + 8);
+    let mut book: Book<Sample> = Book::new(alloc, 5 * count + 8);
     let crowd = gather(alloc, &mut book, count)?;
     let mut done = Done::NOTHING;
     for number in 0..count {

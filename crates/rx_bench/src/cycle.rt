@@ -4,9 +4,9 @@ ghost use Rattle.std.specs.Prelude.{◌≡◌, ◌≤◌, ◌<◌, ◌^◌, IfOk
 
 use crate::calls::{check_done, dispose, emit, open, open_using, release, told};
 use crate::done::{Done, Halt};
-use crate::token::Token;
 use rx_book::{At, Book};
 use rx_event::Kind;
+use rx_resource::Sample;
 use std::alloc::Global;
 
 /// How many events the book of the case has at most.
@@ -20,7 +20,7 @@ const ROOM: u64 = 8;
 
 /// Opens a mirroring root with a resource and a leaf below it, emits an item, disposes of the
 /// root, releases the resource, and takes the note.
-fn cycle(book: &mut Book<Token>, number: u64) -> Result<(), Halt>
+fn cycle(book: &mut Book<Sample>, number: u64) -> Result<(), Halt>
     requires { number < 2 ^ 63 }
 {
     let before = book.len();

@@ -4,14 +4,19 @@ ghost use Rattle.std.specs.Prelude.{◌≡◌, ◌≤◌, IfOk};
 
 use crate::calls::{check_done, check_waiting, dispose, hold, open, release, remove};
 use crate::done::{Done, Halt};
-use crate::token::Token;
 use rx_book::{At, Book, Key};
 use rx_event::Kind;
+use rx_resource::Sample;
 use std::alloc::Global;
 
 /// Holds so many resources at a node, with the tags from 0 on, and takes those with odd tags away
 /// again, which then wait.
-fn hold_and_remove(alloc: Global, book: &mut Book<Token>, node: Key, count: u64) -> Result<(), Halt> {
+fn hold_and_remove(
+    alloc: Global,
+    book: &mut Book<Sample>,
+    node: Key,
+    count: u64,
+) -> Result<(), Halt> {
     let mut odd = Vec::new(alloc);
     for tag in 0..count {
         let res = hold(book, node, tag)?;
@@ -31,7 +36,7 @@ pub fn run_hold(alloc: Global, count: u64) -> Result<Done, Halt>
     requires { count ≤ 10000000 }
     ensures { IfOk result (λ done. done.operations ≡ count) }
 {
-    let mut book: Book<Token> = Book::new(alloc, 3 * count + 8);
+    let mut book: Book<Sample> = Book::new(alloc, 3 * count + 8);
     let root = open(&mut book, At::Root, Kind::Pass)?;
     hold_and_remove(alloc, &mut book, root, count)?;
     dispose(&mut book, root)?;

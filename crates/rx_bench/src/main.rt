@@ -53,7 +53,6 @@ mod sorted;
 mod tests;
 mod timeline;
 mod times;
-mod token;
 mod trampoline;
 mod words;
 

@@ -3,7 +3,7 @@
 ghost use Rattle.std.specs.Prelude.{◌≡◌, ◌≤◌, IfOk};
 
 use crate::done::{Done, Halt, mark_of};
-use crate::token::Token;
+use rx_resource::Sample;
 use rx_script::{Form, ScriptError, Watched, run};
 use std::alloc::{AllocError, Global};
 
@@ -11,7 +11,7 @@ use std::alloc::{AllocError, Global};
 #[derive(Drop)]
 pub struct Scenario {
     pub text: String,
-    pub stock: Vec<Token>,
+    pub stock: Vec<Sample>,
 }
 
 fn push_using(text: &mut String, cycle: u64) -> Result<(), AllocError> {
@@ -80,10 +80,10 @@ fn text_of(alloc: Global, steps: u64) -> Result<String, AllocError> {
 }
 
 /// So many fresh resources, with the tags from 0 on.
-fn fill(alloc: Global, count: u64) -> Result<Vec<Token>, AllocError> {
+fn fill(alloc: Global, count: u64) -> Result<Vec<Sample>, AllocError> {
     let mut stock = Vec::new(alloc);
     for tag in 0..count {
-        stock.push(Token::new(tag))?;
+        stock.push(Sample::new(tag))?;
     }
     Ok(stock)
 }
