@@ -6,11 +6,11 @@ use Rattle.std.specs.Option.{option_and_then}
 use Rattle.std.proofs.lemmas.Option.{slice_get_within, option_and_then_some}
 use Rattle.rx_event.specs.declared.event.Event.{Event}
 use Rattle.rx_event.specs.declared.event.Event.TheVariants.{Open, Hub, Connect, Accept, Use, Remove, Item, Decline, End, Close, Take}
-use Rattle.rx_event.specs.Events.{makes_resource, node_of_accept, is_remove_of, is_take_of}
+use Rattle.rx_event.specs.Events.{makes_resource, node_of_accept, is_remove_of, is_take_of, removed_of, taken_of}
 use Rattle.rx_event.specs.Tree.{at, is_open, parent}
 use Rattle.rx_event.specs.Resources.{is_held, is_taken, is_waiting}
 use Rattle.rx_event.proofs.Laws.Parents.{ancestors_step}
-use Rattle.rx_audit.specs.Rules.{is_key, removed_of, taken_of, was_removed, was_taken}
+use Rattle.rx_audit.specs.Rules.{is_key, was_removed, was_taken}
 use Rattle.rx_audit.specs.Allowing.{connects_later, is_in_order_at}
 
 list_any-same : {X : Type 0} (p q : X → Bool) → ((x : X) → p x ≡ q x) → (xs : List X) → list_any p xs ≡ list_any q xs

@@ -4,9 +4,9 @@ use Rattle.std.proofs.lemmas.Bool.{cases_Bool, cases_order, both_ways, eq-eqb, e
 use Rattle.std.proofs.lemmas.List.{length-replicate, get_or-replicate}
 use Rattle.std.proofs.Math.ListN.{length-set}
 use Rattle.rx_event.specs.declared.event.Event.{Event}
-use Rattle.rx_event.specs.Events.{is_subscriber_of}
+use Rattle.rx_event.specs.Events.{is_subscriber_of, hub_subscribed}
 use Rattle.rx_event.specs.Tree.{is_open, open_subscribers}
-use Rattle.rx_audit.specs.Rules.{is_key, hub_subscribed, open_subscribed}
+use Rattle.rx_audit.specs.Rules.{is_key, open_subscribed}
 use Rattle.rx_audit.specs.declared.subscribers.Subscribers.{Subscribers}
 use Rattle.rx_audit.specs.Chain.{subscribes, subscribers_from, first_or, subscriber_from, IsChained}
 use Rattle.rx_audit.proofs.Deciding.{guarded, same_subscribed}

@@ -11,10 +11,11 @@ use Rattle.rx_note.specs.declared.note.Terminal.TheVariants.{Completed, Error}
 use Rattle.rx_event.specs.declared.event.Kind.TheVariants.{Leaf, Pass, Flat, Switch, Until, Sub}
 use Rattle.rx_event.specs.declared.event.Event.{Event}
 use Rattle.rx_event.specs.declared.event.Event.TheVariants.{Open, Hub, Connect, Accept, Use, Remove, Item, Decline, End, Close, Take}
-use Rattle.rx_event.specs.Events.{is_subscriber_of, is_connect_of}
+use Rattle.rx_event.specs.Events.{is_subscriber_of, is_connect_of, ended_of, failed_of, completed_of, hub_subscribed, hub_connected}
 use Rattle.rx_event.specs.Tree.{at, places, parent, is_open}
 use Rattle.rx_event.specs.Forced.{Has, ChildEnded, SourceEnded}
-use Rattle.rx_audit.specs.Rules.{is_key, same_terminal, has_ended, has_failed, has_completed, ended_of, failed_of, completed_of, hub_subscribed, hub_connected, hub_subscribed_at, hub_connected_at, joins, ends_source, ends_source_so, is_cut, is_cut_so, ends_child_so, fails_child, open_subscribed, open_connected, has_key}
+use Rattle.rx_event.specs.Sames.{same_terminal}
+use Rattle.rx_audit.specs.Rules.{is_key, has_ended, has_failed, has_completed, hub_subscribed_at, hub_connected_at, joins, ends_source, ends_source_so, is_cut, is_cut_so, ends_child_so, fails_child, open_subscribed, open_connected, has_key}
 
 -- tests ----------------------------------------------------------------------------------------------
 

@@ -11,12 +11,12 @@ use Rattle.rx_note.specs.declared.note.Terminal.TheVariants.{Completed, Error}
 use Rattle.rx_event.specs.declared.event.Place.TheVariants.{Root, Source, Inner, Notifier}
 use Rattle.rx_event.specs.declared.event.Event.{Event}
 use Rattle.rx_event.specs.declared.event.Event.TheVariants.{Open, Hub, Connect, Accept, Use, Remove, Item, Decline, End, Close, Take}
-use Rattle.rx_event.specs.Events.{is_subscriber_of, is_connect_of, is_auto_hub, is_source_of, is_mirroring, is_merging, is_until}
+use Rattle.rx_event.specs.Events.{is_subscriber_of, is_connect_of, is_auto_hub, is_source_of, is_mirroring, is_merging, is_until, source_named}
 use Rattle.rx_event.specs.Tree.{at, places, parent, is_open, is_open_child_of, has_open_child, open_subscribers}
 use Rattle.rx_event.specs.Moments.{is_fired, owed}
 use Rattle.rx_event.specs.Forced.{Has, IsConnectDue, IsDue, mirrored, fired, failed, completed, cut, left, IsForced, connecting, due, IsSettled}
 use Rattle.rx_event.proofs.Laws.Parents.{parent_within}
-use Rattle.rx_audit.specs.Rules.{is_key, has_ended, has_failed, has_completed, source_named, source_named_at, hub_subscribed_at, hub_connected_at, is_cut, is_cut_so, ends_child_so, fails_child, completes_source, open_subscribed, open_connected, open_waiting, has_key, connect_due, any_connect_due, passes_on, completes, is_left, is_owing, must_go, makes_due, any_due, completion_due, end_due_by_kind, open_end_due, end_due, close_due, is_forced}
+use Rattle.rx_audit.specs.Rules.{is_key, has_ended, has_failed, has_completed, source_named_at, hub_subscribed_at, hub_connected_at, is_cut, is_cut_so, ends_child_so, fails_child, completes_source, open_subscribed, open_connected, open_waiting, has_key, connect_due, any_connect_due, passes_on, completes, is_left, is_owing, must_go, makes_due, any_due, completion_due, end_due_by_kind, open_end_due, end_due, close_due, is_forced}
 use Rattle.rx_audit.proofs.Surveying.{any_found, at_within}
 use Rattle.rx_audit.proofs.Deciding.{both, left as or_left, right as or_right, either, not_not, is_false, not_true, key_is, is_key_of, find, FoundNumber, find_number, ended_has, has_ended_of, failed_has, has_failed_of, completed_has, has_completed_of, child_ended, child_ended_of, child_failed, child_failed_of, subscriber_at, at_subscriber, connection_at, at_connection, source_ended, source_ended_of, cut_ended, is_cut_of, filter_none, none_filtered, subscribed_key, connected_key}
 

@@ -16,11 +16,11 @@ use Rattle.rx_event.proofs.Laws.Counts.{projections-push}
 use Rattle.rx_event.specs.Tree.{is_open}
 use Rattle.rx_event.proofs.Laws.Openness.{is_open_past}
 use Rattle.rx_audit.specs.Tables.{IsMarked, IsTable, IsTally, IsTold, IsCounted, marks_with, counts_with}
-use Rattle.rx_audit.specs.Rules.{is_key, fired_by, projected_by, paid_of, is_owing, source_named, notifier_named, was_sourced, was_notified}
+use Rattle.rx_audit.specs.Rules.{is_key, fired_by, projected_by, is_owing, was_sourced, was_notified}
 use Rattle.rx_audit.specs.Found.{payments, HasStops}
 use Rattle.rx_audit.specs.declared.reach.Visit.{Visit}
 use Rattle.rx_audit.specs.Flow.{times, IsOften, IsReached}
-use Rattle.rx_event.specs.Events.{pays, is_source_of, is_notifier_of}
+use Rattle.rx_event.specs.Events.{pays, is_source_of, is_notifier_of, paid_of, source_named, notifier_named}
 use Rattle.std.proofs.lemmas.Bool.{cases_lt, cases_Bool, lt-ltb, le-ltb}
 use Rattle.rx_audit.proofs.Keys.{length-marks_with, length-counts_with, marks_with_at, counts_with_at, counts_few}
 

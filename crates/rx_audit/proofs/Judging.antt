@@ -16,7 +16,8 @@ use Rattle.rx_event.specs.Lawful.{IsLawful, MayFollow, forced, allowed, opened_w
 use Rattle.rx_event.proofs.Laws.Lawful.{IsLawful-push}
 use Rattle.rx_event.proofs.Laws.Places.{slice_get-append, slice_get_last}
 use Rattle.rx_event.specs.Moments.{is_fired}
-use Rattle.rx_audit.specs.Rules.{any_connect_due, is_forced, hub_connected, hub_connected_at, IsQuiet}
+use Rattle.rx_event.specs.Events.{hub_connected}
+use Rattle.rx_audit.specs.Rules.{any_connect_due, is_forced, hub_connected_at, IsQuiet}
 use Rattle.rx_audit.proofs.Calming.{settled_after}
 use Rattle.rx_audit.specs.Survey.{AreHubsNamed, IsSized}
 use Rattle.std.proofs.lemmas.List.{take_more}

@@ -11,7 +11,7 @@ use Rattle.std.proofs.Math.Bool.{◌||◌, ◌&&◌}
 use Rattle.std.specs.List.{list_any, range_with_len}
 use Rattle.rx_event.specs.declared.event.Event.{Event}
 use Rattle.rx_event.specs.declared.event.Event.TheVariants.{Open, Hub, Connect, Accept, Use, Remove, Item, Decline, End, Close, Take}
-use Rattle.rx_event.specs.Events.{is_auto_hub, is_manual_hub}
+use Rattle.rx_event.specs.Events.{is_auto_hub, is_manual_hub, hub_connected}
 use Rattle.rx_event.specs.Lawful.{IsLawful, MayFollow, forced, allowed}
 use Rattle.rx_event.specs.Forced.{connecting, due}
 use Rattle.rx_event.specs.Tree.{at, places, parent, is_open, has_open_child, is_open_child_of}
@@ -19,7 +19,7 @@ use Rattle.rx_event.proofs.Laws.Lawful.{lawful_at}
 use Rattle.rx_event.specs.Allowed.{connected}
 use Rattle.rx_audit.specs.Survey.{AreHubsNamed}
 use Rattle.rx_audit.specs.Tables.{IsMarked, IsTable, marks_with}
-use Rattle.rx_audit.specs.Rules.{is_key, has_key, open_parent, hub_connected_at, hub_connected, hub_subscribed_at, hub_ended, hub_ended_at, joins, is_cut}
+use Rattle.rx_audit.specs.Rules.{is_key, has_key, open_parent, hub_connected_at, hub_subscribed_at, hub_ended, hub_ended_at, joins, is_cut}
 use Rattle.rx_audit.proofs.Keys.{length-marks_with, marks_with_at}
 use Rattle.rx_audit.proofs.Finding.{no_table}
 

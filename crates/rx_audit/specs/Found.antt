@@ -9,7 +9,8 @@ use Rattle.rx_event.specs.Tree.{is_open}
 use Rattle.rx_event.specs.Moments.{is_fired, projections}
 use Rattle.rx_audit.specs.declared.found.Found.{Found}
 use Rattle.rx_audit.specs.Tables.{IsMarked, IsTable, IsTally}
-use Rattle.rx_audit.specs.Rules.{has_ended, has_failed, has_completed, was_removed, was_taken, was_sourced, was_notified, paid_of, is_key, fired_by, projected_by}
+use Rattle.rx_event.specs.Events.{paid_of}
+use Rattle.rx_audit.specs.Rules.{has_ended, has_failed, has_completed, was_removed, was_taken, was_sourced, was_notified, is_key, fired_by, projected_by}
 
 -- how many projected items of f were paid
 abbrev pub payments : List Event → ℕ → ℕ

@@ -4,7 +4,7 @@ use Rattle.std.proofs.Math.Bool.{not}
 use Rattle.std.specs.List.{list_all, list_any}
 use Rattle.std.specs.Option.{option_and_then, option_map_or}
 use Rattle.rx_event.specs.declared.event.Place.{Place}
-use Rattle.rx_event.specs.declared.event.Place.TheVariants.{Source, Inner, Notifier}
+use Rattle.rx_event.specs.declared.event.Place.TheVariants.{Inner}
 use Rattle.rx_event.specs.declared.event.Kind.{Kind}
 use Rattle.rx_event.specs.declared.event.Kind.TheVariants.{Sub}
 use Rattle.rx_event.specs.declared.event.Event.{Event}
@@ -12,43 +12,15 @@ use Rattle.rx_event.specs.declared.event.Event.TheVariants.{Open, Hub, Connect, 
 use Rattle.rx_note.specs.declared.note.Terminal.TheVariants.{Completed, Error}
 use Rattle.rx_event.specs.Climb.{Stop, Projection, Firing}
 use Rattle.rx_event.specs.Tree.{at, places, parent, is_open, shuts, ancestors, if_less, has_open_child}
-use Rattle.rx_event.specs.Events.{makes_node, is_root, parent_named, is_source_of, is_auto_hub, is_mirroring, is_merging, is_until}
+use Rattle.rx_event.specs.Events.{makes_node, is_root, parent_named, source_named, notifier_named, ended_of, failed_of, completed_of, removed_of, taken_of, hub_connected, hub_subscribed, is_source_of, is_auto_hub, is_mirroring, is_merging, is_until}
 use Rattle.rx_event.specs.Moments.{is_fired, owed}
 use Rattle.rx_note.specs.declared.note.Terminal.{Terminal}
+use Rattle.rx_event.specs.Sames.{same_terminal}
 
 -- the number is the one that was named, if one was
 abbrev pub is_key : Option ℕ → ℕ → Bool
 is_key None n = false
 is_key (Some r) n = r == n
-
--- the node that an event ends
-abbrev pub ended_of : Event → Option ℕ
-ended_of (End n t) = Some n
-ended_of _ = None
-
--- the node that an event ends with an error
-abbrev pub failed_of : Event → Option ℕ
-failed_of (End n (Error code)) = Some n
-failed_of _ = None
-
--- the node that an event ends without one
-abbrev pub completed_of : Event → Option ℕ
-completed_of (End n Completed) = Some n
-completed_of _ = None
-
-abbrev pub removed_of : Event → Option ℕ
-removed_of (Remove r) = Some r
-removed_of _ = None
-
-abbrev pub taken_of : Event → Option ℕ
-taken_of (Take r) = Some r
-taken_of _ = None
-
--- the FlatMap or Switch of which an event pays one projected item
-abbrev pub paid_of : Event → Option ℕ
-paid_of (Open (Inner f) kind) = Some f
-paid_of (Decline f) = Some f
-paid_of _ = None
 
 abbrev pub fired_by : Stop → Option ℕ
 fired_by (Firing u) = Some u
@@ -73,26 +45,6 @@ was_removed h r = list_any (λ e. is_key (removed_of e) r) h
 abbrev pub was_taken : List Event → ℕ → Bool
 was_taken h r = list_any (λ e. is_key (taken_of e) r) h
 
--- the hub that an event connects
-abbrev pub hub_connected : Event → Option ℕ
-hub_connected (Connect g) = Some g
-hub_connected _ = None
-
--- the hub that an event subscribes to
-abbrev pub hub_subscribed : Event → Option ℕ
-hub_subscribed (Open place (Sub g)) = Some g
-hub_subscribed _ = None
-
--- the node whose source an event opens
-abbrev pub source_named : Event → Option ℕ
-source_named (Open (Source f) kind) = Some f
-source_named _ = None
-
--- the node whose notifier an event opens
-abbrev pub notifier_named : Event → Option ℕ
-notifier_named (Open (Notifier u) kind) = Some u
-notifier_named _ = None
-
 -- a source was opened below p
 abbrev pub was_sourced : List Event → ℕ → Bool
 was_sourced h p = list_any (λ e. is_key (source_named e) p) h
@@ -112,12 +64,6 @@ opens h e = makes_node e && option_map_or (stays_open h e) (option_and_then (if_
 -- something is owed at f
 unfoldable pub is_owing : List Event → ℕ → Bool
 is_owing h f = nat_lt 0 (owed h f)
-
--- the same end
-abbrev pub same_terminal : Terminal → Terminal → Bool
-same_terminal Completed Completed = true
-same_terminal (Error c) (Error d) = c == d
-same_terminal _ _ = false
 
 -- what open nodes stand for --------------------------------------------------------------------------
 

@@ -15,9 +15,7 @@ ghost use Rattle.rx_audit.specs.Survey.{AreHubsNamed, IsSized};
 ghost use Rattle.rx_audit.specs.Rules.{was_removed, was_taken};
 ghost use Rattle.rx_audit.specs.Allowing.{connects_later, is_in_order_at, is_in_order, is_hubbed, is_free, failure_allowed, end_allowed, close_allowed, connect_allowed, decline_allowed, allowed_simply, item_allowed, open_allowed};
 
-use crate::event_tests::{
-    at, has_source, is_leaf, is_manual_hub, is_merging, is_root, is_until, makes_hub,
-};
+use crate::event_tests::at;
 use crate::found::{self, Found};
 use crate::marks::is_marked;
 use crate::openness::parent_of;
@@ -58,7 +56,7 @@ fn hub_count(past: &[Event]) -> usize
     ensures { result ≡ length (hubs past.now) }
 {
     (0..past.len() as u64)
-        .filter(|k| at(makes_hub, past, *k))
+        .filter(|k| at(Event::makes_hub, past, *k))
         .count()
 }
 
@@ -104,7 +102,7 @@ fn is_hubbed(past: &[Event], place: Place, kind: Kind) -> bool
     ensures { result ≡ is_hubbed past.now place kind }
 {
     match kind {
-        Kind::Sub(g) => at(makes_hub, past, g) && is_in_order(past, g, place),
+        Kind::Sub(g) => at(Event::makes_hub, past, g) && is_in_order(past, g, place),
         _ => true,
     }
 }
@@ -118,24 +116,14 @@ fn is_free(past: &[Event], found: &Found, place: Place) -> bool
     match place {
         Place::Root => true,
         Place::Source(p) => {
-            is_marked(live, p) && at(has_source, past, p) && !found::was_sourced(past, found, p)
+            is_marked(live, p) && at(Event::has_source, past, p) && !found::was_sourced(past, found, p)
         }
         Place::Inner(p) => {
-            is_marked(live, p) && at(is_merging, past, p) && found::is_owing(past, found, p)
+            is_marked(live, p) && at(Event::is_merging, past, p) && found::is_owing(past, found, p)
         }
         Place::Notifier(p) => {
-            is_marked(live, p) && at(is_until, past, p) && !found::was_notified(past, found, p)
+            is_marked(live, p) && at(Event::is_until, past, p) && !found::was_notified(past, found, p)
         }
-    }
-}
-
-/// The node at which the event accepts a resource.
-fn node_of_accept(event: Event) -> Option<u64>
-    ensures { result ≡ node_of_accept event }
-{
-    match event {
-        Event::Accept(n, _) => Some(n),
-        _ => None,
     }
 }
 
@@ -144,7 +132,7 @@ fn node_of_resource(past: &[Event], r: u64) -> Option<u64>
     ensures { result ≡ option_and_then node_of_accept (slice_get past.now r) }
 {
     match past.get(r as usize).copied() {
-        Some(event) => node_of_accept(event),
+        Some(event) => event.held_at(),
         None => None,
     }
 }
@@ -169,21 +157,11 @@ pub fn is_held(past: &[Event], found: &Found, r: u64) -> bool
     }
 }
 
-/// Whether the event accepts a resource.
-fn makes_resource(event: Event) -> bool
-    ensures { result ≡ makes_resource event }
-{
-    match event {
-        Event::Accept(_, _) => true,
-        _ => false,
-    }
-}
-
 /// Whether `r` is a resource.
 fn is_resource(past: &[Event], r: u64) -> bool
     ensures { result ≡ at makes_resource past.now r }
 {
-    at(makes_resource, past, r)
+    at(Event::makes_resource, past, r)
 }
 
 /// Whether resource `r`, which is in the history, is neither held nor handed out.
@@ -212,8 +190,8 @@ fn failure_allowed(past: &[Event], found: &Found, survey: &Survey, n: u64) -> bo
     requires survey { IsSurveyed past.now survey.now }
     ensures { result ≡ failure_allowed past.now n }
 {
-    at(has_source, past, n) && !survey::has_open_child(past, survey, n)
-        || at(is_merging, past, n) && found::is_owing(past, found, n)
+    at(Event::has_source, past, n) && !survey::has_open_child(past, survey, n)
+        || at(Event::is_merging, past, n) && found::is_owing(past, found, n)
 }
 
 /// Whether a caller may end node `n` so.
@@ -224,7 +202,7 @@ fn end_allowed(past: &[Event], found: &Found, survey: &Survey, n: u64, terminal:
     ensures { result ≡ end_allowed past.now n terminal }
 {
     is_marked(found.live.as_slice(), n)
-        && (at(is_leaf, past, n)
+        && (at(Event::is_leaf, past, n)
             || match terminal {
                 Terminal::Completed => false,
                 Terminal::Error(_) => failure_allowed(past, found, survey, n),
@@ -238,9 +216,9 @@ fn close_allowed(past: &[Event], found: &Found, n: u64) -> bool
     ensures { result ≡ close_allowed past.now n }
 {
     is_marked(found.live.as_slice(), n)
-        && (at(is_root, past, n)
+        && (at(Event::is_root, past, n)
             || match hub_connected_at(past, n) {
-                Some(g) => at(is_manual_hub, past, g),
+                Some(g) => at(Event::is_manual_hub, past, g),
                 None => false,
             })
 }
@@ -281,7 +259,7 @@ fn connect_allowed(past: &[Event], found: &Found, survey: &Survey, g: u64) -> bo
     requires survey { IsSurveyed past.now survey.now }
     ensures { result ≡ connect_allowed past.now g }
 {
-    at(is_manual_hub, past, g) && !survey::is_connected(past, survey, g) && has_room(past, found)
+    at(Event::is_manual_hub, past, g) && !survey::is_connected(past, survey, g) && has_room(past, found)
 }
 
 /// Whether a caller may decline an item that was projected to `f`.
@@ -291,7 +269,7 @@ fn decline_allowed(past: &[Event], found: &Found, f: u64) -> bool
     ensures { result ≡ decline_allowed past.now f }
 {
     is_marked(found.live.as_slice(), f)
-        && at(is_merging, past, f)
+        && at(Event::is_merging, past, f)
         && found::is_owing(past, found, f)
 }
 
@@ -317,7 +295,7 @@ fn is_open_leaf(past: &[Event], found: &Found, l: u64) -> bool
     requires { IsFoundHere past.now found.now }
     ensures { result ≡ (is_open past.now l && at is_leaf past.now l) }
 {
-    is_marked(found.live.as_slice(), l) && at(is_leaf, past, l)
+    is_marked(found.live.as_slice(), l) && at(Event::is_leaf, past, l)
 }
 
 /// Whether a caller may open a node there, as far as connections that this forces do not matter.

@@ -10,7 +10,7 @@ ghost use Rattle.std.specs.Option.{ForSome};
 ghost use Rattle.rx_audit.specs.Chain.{IsChained};
 ghost use Rattle.rx_audit.specs.Rules.{fired_by, projected_by};
 
-use crate::event_tests::{at, hub_subscribed, is_merging};
+use crate::event_tests::at;
 use crate::marks::is_marked;
 use crate::openness::parent_of;
 use crate::subscribers::{Subscribers, chained};
@@ -31,7 +31,7 @@ pub fn projected_at(past: &[Event], n: u64) -> Option<u64>
                 ..
             },
         ) => {
-            if at(is_merging, past, f) {
+            if at(Event::is_merging, past, f) {
                 Some(f)
             } else {
                 None
@@ -63,7 +63,7 @@ fn stops_at(past: &[Event], n: u64) -> bool
     match past.get(n as usize).copied() {
         Some(Event::Open { place, .. }) => match place {
             Place::Root | Place::Notifier(_) => true,
-            Place::Source(f) => at(is_merging, past, f),
+            Place::Source(f) => at(Event::is_merging, past, f),
             Place::Inner(_) => false,
         },
         _ => false,
@@ -79,7 +79,7 @@ pub fn is_open_subscriber(past: &[Event], live: &[bool], g: u64, k: u64) -> bool
         && past
             .get(k as usize)
             .copied()
-            .is_some_and(|e| hub_subscribed(e) == Some(g))
+            .is_some_and(|e| e.subscribes_to() == Some(g))
 }
 
 /// The open subscribers of hub `g`.

@@ -6,9 +6,10 @@ ghost use Rattle.std.specs.Option.{option_map_or};
 ghost use Rattle.rx_event.specs.Tree.{at, is_open, parent};
 ghost use Rattle.rx_event.specs.Forced.{IsSettled};
 ghost use Rattle.rx_audit.specs.Known.{IsFoundHere, IsSurveyed};
-ghost use Rattle.rx_audit.specs.Rules.{same_terminal, connect_due, any_connect_due, passes_on, completes, is_left, must_go, source_named_at, makes_due, any_due, ends_child_so, fails_child, completes_source, ends_source_so, is_cut_so, completion_due, failure_due, end_due_by_kind, open_end_due, end_due, close_due, is_forced, hub_connected_at};
+ghost use Rattle.rx_event.specs.Sames.{same_terminal};
+ghost use Rattle.rx_audit.specs.Rules.{connect_due, any_connect_due, passes_on, completes, is_left, must_go, source_named_at, makes_due, any_due, ends_child_so, fails_child, completes_source, ends_source_so, is_cut_so, completion_due, failure_due, end_due_by_kind, open_end_due, end_due, close_due, is_forced, hub_connected_at};
 
-use crate::event_tests::{at, is_auto_hub, is_merging, is_mirroring, is_until, source_named};
+use crate::event_tests::at;
 use crate::found::{self, Found};
 use crate::marks::is_marked;
 use crate::openness::parent_of;
@@ -32,7 +33,7 @@ fn connect_due(past: &[Event], survey: &Survey, g: u64) -> bool
     requires survey { IsSurveyed past.now survey.now }
     ensures { result ≡ connect_due past.now g }
 {
-    at(is_auto_hub, past, g)
+    at(Event::is_auto_hub, past, g)
         && survey::is_waited_for(past, survey, g)
         && !survey::is_connected(past, survey, g)
 }
@@ -51,7 +52,7 @@ fn is_left(past: &[Event], survey: &Survey, g: u64) -> bool
     requires survey { IsSurveyed past.now survey.now }
     ensures { result ≡ is_left past.now g }
 {
-    at(is_auto_hub, past, g) && !survey::is_subscribed(past, survey, g)
+    at(Event::is_auto_hub, past, g) && !survey::is_subscribed(past, survey, g)
 }
 
 /// Whether node `p` passes on how its child `k` ended.
@@ -61,8 +62,8 @@ fn passes_on(past: &[Event], found: &Found, k: u64, p: u64) -> bool
     ensures { result ≡ passes_on past.now k p }
 {
     is_marked(found.live.as_slice(), p)
-        && (at(is_mirroring, past, p) && found::has_ended(past, found, k)
-            || at(is_merging, past, p) && found::has_failed(past, found, k))
+        && (at(Event::is_mirroring, past, p) && found::has_ended(past, found, k)
+            || at(Event::is_merging, past, p) && found::has_failed(past, found, k))
 }
 
 /// Whether FlatMap or Switch `f` completes, now that its source `k` has.
@@ -74,7 +75,7 @@ fn completes(past: &[Event], found: &Found, survey: &Survey, k: u64, f: u64) -> 
 {
     found::has_completed(past, found, k)
         && is_marked(found.live.as_slice(), f)
-        && at(is_merging, past, f)
+        && at(Event::is_merging, past, f)
         && !survey::has_open_child(past, survey, f)
         && !found::is_owing(past, found, f)
 }
@@ -87,7 +88,7 @@ fn must_go(past: &[Event], found: &Found, survey: &Survey, k: u64) -> bool
     ensures { result ≡ must_go past.now k }
 {
     is_marked(found.live.as_slice(), k)
-        && (at(is_until, past, k) && found::is_fired(past, found, k)
+        && (at(Event::is_until, past, k) && found::is_fired(past, found, k)
             || survey::is_cut(past, survey, k)
             || match hub_connected_at(past, k) {
                 Some(g) => is_left(past, survey, g),
@@ -100,7 +101,7 @@ fn source_named_at(past: &[Event], k: u64) -> Option<u64>
     ensures { result ≡ source_named_at past.now k }
 {
     match past.get(k as usize).copied() {
-        Some(event) => source_named(event),
+        Some(event) => event.source_of(),
         None => None,
     }
 }
@@ -157,7 +158,7 @@ fn completes_source(past: &[Event], f: u64, event: Event) -> bool
     ensures { result ≡ completes_source past.now f event }
 {
     match event {
-        Event::End(s, Terminal::Completed) => at(|e| source_named(e) == Some(f), past, s),
+        Event::End(s, Terminal::Completed) => at(|e| e.source_of() == Some(f), past, s),
         _ => false,
     }
 }
@@ -220,8 +221,8 @@ fn completion_due(past: &[Event], found: &Found, survey: &Survey, n: u64) -> boo
     requires within { n < length past.now }
     ensures { result ≡ completion_due past.now n }
 {
-    at(is_until, past, n) && found::is_fired(past, found, n)
-        || at(is_merging, past, n)
+    at(Event::is_until, past, n) && found::is_fired(past, found, n)
+        || at(Event::is_merging, past, n)
             && !child_failed(past, n)
             && source_completed(past, n)
             && !survey::has_open_child(past, survey, n)
@@ -243,7 +244,7 @@ fn end_due_by_kind(
 {
     match terminal {
         Terminal::Completed => completion_due(past, found, survey, n),
-        Terminal::Error(_) => at(is_merging, past, n) && child_ended_so(past, n, terminal),
+        Terminal::Error(_) => at(Event::is_merging, past, n) && child_ended_so(past, n, terminal),
     }
 }
 
@@ -254,7 +255,7 @@ fn open_end_due(past: &[Event], found: &Found, survey: &Survey, n: u64, terminal
     requires within { n < length past.now }
     ensures { result ≡ open_end_due past.now n terminal }
 {
-    at(is_mirroring, past, n) && child_ended_so(past, n, terminal)
+    at(Event::is_mirroring, past, n) && child_ended_so(past, n, terminal)
         || end_due_by_kind(past, found, survey, n, terminal)
         || is_cut_so(past, n, terminal)
 }

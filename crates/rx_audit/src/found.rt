@@ -13,9 +13,6 @@ ghost use Rattle.rx_audit.specs.Rules.{fired_by, projected_by, is_key, has_ended
 ghost use Rattle.rx_audit.specs.Tables.{IsMarked, IsTable, IsTally, IsTold, IsCounted};
 
 use crate::climb::{fired_at, projected_at};
-use crate::event_tests::{
-    completed_of, ended_of, failed_of, notifier_named, paid_of, removed_of, source_named, taken_of,
-};
 use crate::marks::{count, count_more, count_of, is_marked, mark};
 use crate::openness::mark_open;
 use crate::reach::{Visit, reached};
@@ -188,14 +185,14 @@ pub fn follow(
         found.projected.as_mut_slice(),
     )?;
     mark_open(past, event, found.live.as_mut_slice());
-    mark(found.ended.as_mut_slice(), ended_of(event));
-    mark(found.failed.as_mut_slice(), failed_of(event));
-    mark(found.completed.as_mut_slice(), completed_of(event));
-    mark(found.removed.as_mut_slice(), removed_of(event));
-    mark(found.taken.as_mut_slice(), taken_of(event));
-    count(found.paid.as_mut_slice(), paid_of(event));
-    mark(found.sourced.as_mut_slice(), source_named(event));
-    mark(found.notified.as_mut_slice(), notifier_named(event));
+    mark(found.ended.as_mut_slice(), event.ended());
+    mark(found.failed.as_mut_slice(), event.failed());
+    mark(found.completed.as_mut_slice(), event.completed());
+    mark(found.removed.as_mut_slice(), event.removed());
+    mark(found.taken.as_mut_slice(), event.taken());
+    count(found.paid.as_mut_slice(), event.pays());
+    mark(found.sourced.as_mut_slice(), event.source_of());
+    mark(found.notified.as_mut_slice(), event.notifier_of());
     Ok(fires)
 }
 

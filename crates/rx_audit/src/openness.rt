@@ -9,7 +9,7 @@ ghost use Rattle.rx_audit.specs.Tables.{IsMarked};
 ghost use Rattle.rx_audit.specs.Rules.{stays_open, opens};
 ghost use Rattle.rx_event.proofs.Laws.Openness.{shuts_none};
 
-use crate::event_tests::{at, is_inner_of, is_switch, named_by};
+use crate::event_tests::{at, is_inner_of};
 use crate::marks::is_marked;
 use rx_event::{Event, Place};
 
@@ -19,7 +19,7 @@ pub fn parent_of(past: &[Event], n: usize) -> Option<u64>
     ensures { result ≡ parent past.now n }
 {
     let named = match past.get(n).copied() {
-        Some(Event::Open { place, .. }) => named_by(place),
+        Some(Event::Open { place, .. }) => place.above(),
         _ => None,
     };
     match named {
@@ -32,7 +32,7 @@ pub fn parent_of(past: &[Event], n: usize) -> Option<u64>
 fn is_switched_inner(past: &[Event], f: u64, n: u64) -> bool
     ensures { result ≡ is_switched_inner past.now f n }
 {
-    f < n && at(is_switch, past, f) && at(|e| is_inner_of(f, e), past, n)
+    f < n && at(Event::is_switch, past, f) && at(|e| is_inner_of(f, e), past, n)
 }
 
 /// Whether the event takes node `n` away.
@@ -106,21 +106,11 @@ fn parent_of_new(event: Event, n: u64) -> Option<u64>
     ensures { result ≡ option_and_then (if_less n) (parent_named event) }
 {
     match event {
-        Event::Open { place, .. } => match named_by(place) {
+        Event::Open { place, .. } => match place.above() {
             Some(p) if p < n => Some(p),
             _ => None,
         },
         _ => None,
-    }
-}
-
-/// Whether the event makes a node.
-fn makes_node(event: Event) -> bool
-    ensures { result ≡ makes_node event }
-{
-    match event {
-        Event::Open { .. } | Event::Connect(_) => true,
-        _ => false,
     }
 }
 
@@ -130,7 +120,7 @@ fn opens(past: &[Event], event: Event, marks: &[bool]) -> bool
     ensures { result ≡ opens past.now event }
 {
     let n = past.len() as u64;
-    makes_node(event) && parent_of_new(event, n).is_none_or(|p| is_marked(marks, p))
+    event.makes_node() && parent_of_new(event, n).is_none_or(|p| is_marked(marks, p))
 }
 
 /// The marks of the open nodes, with one event more.

@@ -8,7 +8,6 @@ ghost use Rattle.rx_audit.specs.Survey.{AreHubsNamed, IsSized, IsSurvey};
 ghost use Rattle.rx_audit.specs.Rules.{open_parent, hub_subscribed_at, hub_connected_at, open_subscribed, open_connected, open_waiting, has_key, is_cut, hub_ended_at};
 ghost use Rattle.std.specs.Option.{option_map_or};
 
-use crate::event_tests::{hub_connected, hub_subscribed};
 use crate::found::unmarked;
 use crate::marks::{clear, is_marked, mark};
 use crate::openness::parent_of;
@@ -48,7 +47,7 @@ pub fn hub_subscribed_at(past: &[Event], k: u64) -> Option<u64>
     ensures { result ≡ hub_subscribed_at past.now k }
 {
     match past.get(k as usize).copied() {
-        Some(event) => hub_subscribed(event),
+        Some(event) => event.subscribes_to(),
         None => None,
     }
 }
@@ -58,7 +57,7 @@ pub fn hub_connected_at(past: &[Event], k: u64) -> Option<u64>
     ensures { result ≡ hub_connected_at past.now k }
 {
     match past.get(k as usize).copied() {
-        Some(event) => hub_connected(event),
+        Some(event) => event.connects(),
         None => None,
     }
 }

@@ -17,7 +17,7 @@ use crate::allowed::{
     MOST_NODES, is_allowed_simply, is_held, is_item_allowed, is_open_allowed, is_waiting,
     open_count,
 };
-use crate::event_tests::{at, is_calm, is_root};
+use crate::event_tests::{at, is_calm};
 use crate::forced::{any_connect_due, is_forced, is_settled};
 use crate::found::{self, Found, follow, nothing_found};
 use crate::marks::is_marked;
@@ -244,7 +244,7 @@ fn is_quiet(past: &[Event], found: &Found, event: Event) -> bool
     ensures { result ≡ true → IsQuiet past.now event }
 {
     match event {
-        Event::Close(n) => at(is_root, past, n) && !has_later_subscriber(past, found, n),
+        Event::Close(n) => at(Event::is_root, past, n) && !has_later_subscriber(past, found, n),
         _ => is_calm(event),
     }
 }

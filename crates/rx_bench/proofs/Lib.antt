@@ -1,3 +1,0 @@
-pub mod SortedLemmas
-pub mod ScenarioLemmas
-pub mod Refusals

@@ -21,7 +21,8 @@ pub trait Agenda: Drop {
 
     /// Takes the next entry out, and answers what stands for it, or `None` where there is none.
     fn take(&mut self) -> Result<Option<u64>, Halt>
-        ensures { IfOk result (λ taken. MatchOption taken ((left self.old ≡ 0) × (left self.new ≡ 0)) (λ _. left self.new + 1 ≡ left self.old)) };
+        ensures { IfOk result (λ taken. MatchOption taken
+            ((left self.old ≡ 0) × (left self.new ≡ 0)) (λ _. left self.new + 1 ≡ left self.old)) };
 }
 
 /// Puts in the numbers from 0 up to a count.

@@ -2,16 +2,16 @@
 
 ghost use Rattle.std.specs.Prelude.{◌≡◌, ◌+◌, ◌^◌, ◌<◌, ◌≤◌, IfOk};
 
-use crate::calls::{check_idle, dispose, emit, open, told};
+use crate::calls::{check_done, dispose, emit, open, told};
 use crate::done::{Done, Halt};
-use crate::token::Token;
 use rx_book::{At, Book, Key};
 use rx_event::Kind;
+use rx_resource::Sample;
 use std::alloc::Global;
 
 /// Opens so many mirroring nodes, the first below this one and each at the source of the one before, and
 /// answers the last.
-fn lengthen(book: &mut Book<Token>, root: Key, count: u64, done: Done) -> Result<(Key, Done), Halt>
+fn lengthen(book: &mut Book<Sample>, root: Key, count: u64, done: Done) -> Result<(Key, Done), Halt>
     requires { done.operations + count < 2 ^ 64 }
     ensures { IfOk result (λ r. r.1.operations ≡ done.operations + count) }
 {
@@ -31,7 +31,7 @@ pub fn run_chain(alloc: Global, count: u64) -> Result<Done, Halt>
     requires within { count ≤ 10000000 }
     ensures { IfOk result (λ done. done.operations ≡ count) }
 {
-    let mut book: Book<Token> = Book::new(alloc, 2 * count + 8);
+    let mut book: Book<Sample> = Book::new(alloc, 2 * count + 8);
     let root = open(&mut book, At::Root, Kind::Pass)?;
     let first = Done::NOTHING.and(root.number);
     let (last, done) = lengthen(&mut book, root, count - 1, first)?;
@@ -39,6 +39,6 @@ pub fn run_chain(alloc: Global, count: u64) -> Result<Done, Halt>
     emit(&mut book, leaf, count)?;
     told(&mut book, count)?;
     dispose(&mut book, root)?;
-    check_idle(&book)?;
+    check_done(&book, count + 3)?;
     Ok(done)
 }

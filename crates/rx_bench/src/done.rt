@@ -1,22 +1,16 @@
 //! What a run did.
 
-ghost use Rattle.std.specs.Prelude.{◌≡◌, ◌+◌, ◌<◌, ◌^◌, fold};
-ghost use Rattle.rx_bench.specs.Done.{marked};
+ghost use Rattle.std.specs.Prelude.{◌≡◌, ◌+◌, ◌<◌, ◌^◌};
 
-use std::alloc::AllocError;
+use std::alloc::{AllocError, AllocFailed};
 
 /// A mark, with one value more behind it.
-fn marked(mark: u64, value: u64) -> u64
-    ensures { result ≡ marked mark value }
-{
-    let shifted = mark.wrapping_mul(31);
-    shifted.wrapping_add(value).wrapping_add(1)
+fn marked(mark: u64, value: u64) -> u64 {
+    mark.wrapping_mul(31).wrapping_add(value).wrapping_add(1)
 }
 
 /// The mark of the bytes of a text.
-pub fn mark_of(text: &[u8]) -> u64
-    ensures { result ≡ fold marked 0 text.now }
-{
+pub fn mark_of(text: &[u8]) -> u64 {
     let mut mark = 0;
     for byte in text {
         mark = marked(mark, u64::from(*byte));
@@ -43,8 +37,7 @@ impl Done {
     /// After one operation more, by which this value came out.
     pub fn and(self, value: u64) -> Done
         requires { self.operations + 1 < 2 ^ 64 }
-        ensures operations { result.operations ≡ self.operations + 1 }
-        ensures mark { result.mark ≡ marked self.mark value }
+        ensures { result.operations ≡ self.operations + 1 }
     {
         Done {
             operations: self.operations + 1,
@@ -69,11 +62,13 @@ pub enum Halt {
 }
 
 impl From<AllocError> for Halt {
-    ghost use Rattle.rx_bench.specs.declared.done.Halt.TheVariants.{Memory};
-
-    ghost from_gives = { λ _ e. e ≡ Memory };
-
     fn from(_error: AllocError) -> Halt {
+        Halt::Memory
+    }
+}
+
+impl<T: Drop> From<AllocFailed<T>> for Halt {
+    fn from(_failed: AllocFailed<T>) -> Halt {
         Halt::Memory
     }
 }

@@ -1,43 +1,30 @@
 //! The case `hold`: many resources at one node.
 
-ghost use Rattle.std.specs.Prelude.{◌≡◌, ◌/◌, ◌≤◌, vec_len, OnOk, IfOk};
-ghost use Rattle.rx_event.specs.Totals.{waiting_count};
+ghost use Rattle.std.specs.Prelude.{◌≡◌, ◌≤◌, IfOk};
 
-use crate::calls::{check_idle, check_waiting, dispose, hold, open, release, remove};
+use crate::calls::{check_done, check_waiting, dispose, hold, open, release, remove};
 use crate::done::{Done, Halt};
-use crate::token::Token;
-use rx_book::{At, Book, Key, ResKey};
+use rx_book::{At, Book, Key};
 use rx_event::Kind;
+use rx_resource::Sample;
 use std::alloc::Global;
 
-/// Holds so many resources at a node, with the tags from 0 on, and answers the keys of those with
-/// odd tags.
-fn hold_all(
+/// Holds so many resources at a node, with the tags from 0 on, and takes those with odd tags away
+/// again, which then wait.
+fn hold_and_remove(
     alloc: Global,
-    book: &mut Book<Token>,
+    book: &mut Book<Sample>,
     node: Key,
     count: u64,
-) -> Result<Vec<ResKey>, Halt>
-    requires { count ≤ 10000000 }
-    ensures { IfOk result (λ odd. vec_len odd ≡ count / 2) }
-{
-    let mut odd = Vec::with_capacity(alloc, count as usize / 2)?;
+) -> Result<(), Halt> {
+    let mut odd = Vec::new(alloc);
     for tag in 0..count {
         let res = hold(book, node, tag)?;
         if tag % 2 == 1 {
-            odd.push_reserved(res);
+            odd.push(res)?;
         }
     }
-    Ok(odd)
-}
-
-/// Holds so many resources at a node and takes every second one away again, which then wait.
-fn hold_and_remove(alloc: Global, book: &mut Book<Token>, node: Key, count: u64) -> Result<(), Halt>
-    requires { count ≤ 10000000 }
-    ensures { OnOk result (waiting_count book.new.history ≡ count / 2) }
-{
-    let odd = hold_all(alloc, book, node, count)?;
-    for res in odd.iter() {
+    for res in odd.as_slice() {
         remove(book, *res)?;
     }
     check_waiting(book, count / 2)
@@ -49,7 +36,7 @@ pub fn run_hold(alloc: Global, count: u64) -> Result<Done, Halt>
     requires { count ≤ 10000000 }
     ensures { IfOk result (λ done. done.operations ≡ count) }
 {
-    let mut book: Book<Token> = Book::new(alloc, 3 * count + 8);
+    let mut book: Book<Sample> = Book::new(alloc, 3 * count + 8);
     let root = open(&mut book, At::Root, Kind::Pass)?;
     hold_and_remove(alloc, &mut book, root, count)?;
     dispose(&mut book, root)?;
@@ -57,6 +44,6 @@ pub fn run_hold(alloc: Global, count: u64) -> Result<Done, Halt>
     for _released in 0..count {
         done = done.and(release(&mut book)?);
     }
-    check_idle(&book)?;
+    check_done(&book, 2 + 2 * count + count / 2)?;
     Ok(done)
 }

@@ -2,11 +2,11 @@
 
 ghost use Rattle.std.specs.Prelude.{◌≡◌, ◌≤◌, IfOk};
 
-use crate::calls::{check_idle, dispose, emit, open, told};
+use crate::calls::{check_done, dispose, emit, open, told};
 use crate::done::{Done, Halt};
-use crate::token::Token;
 use rx_book::{At, Book};
 use rx_event::Kind;
+use rx_resource::Sample;
 use std::alloc::Global;
 
 /// So many items of a leaf below a mirroring root, whose notes are taken as they come: an operation
@@ -15,7 +15,7 @@ pub fn run_items(alloc: Global, count: u64) -> Result<Done, Halt>
     requires { count ≤ 10000000 }
     ensures { IfOk result (λ done. done.operations ≡ count) }
 {
-    let mut book: Book<Token> = Book::new(alloc, count + 8);
+    let mut book: Book<Sample> = Book::new(alloc, count + 8);
     let root = open(&mut book, At::Root, Kind::Pass)?;
     let leaf = open(&mut book, At::Source(root), Kind::Leaf)?;
     let mut done = Done::NOTHING;
@@ -25,6 +25,6 @@ pub fn run_items(alloc: Global, count: u64) -> Result<Done, Halt>
         done = done.and(number);
     }
     dispose(&mut book, root)?;
-    check_idle(&book)?;
+    check_done(&book, count + 3)?;
     Ok(done)
 }

@@ -12,6 +12,7 @@
 //! | `trampoline` | the same on a trampoline | 6N: each call |
 //! | `sorted` | the same on a sorted list, which stands here to be compared with the timeline | 6N: each call |
 //! | `cycle` | a Using subscription opened with one resource and a leaf below it, one item, the disposal, the resource taken and released, the note taken; N times on one book, with a new one where its history is full | N: each cycle |
+//! | `crowd` | N subscriptions opened that stay open; then N times one more opened, an item emitted at it, its end and its notes taken; then the disposal of those that stayed | N: each subscription that comes and goes |
 //! | `items` | N items of a leaf below a mirroring root, whose notes are taken as they come | N: each item |
 //! | `chain` | N mirroring nodes, each at the source of the one before, and a leaf at the last; one item; the disposal of the root | N: each node |
 //! | `hold` | N resources held at one node, every second one removed, the disposal of the root, each resource taken and released | N: each resource |
@@ -23,20 +24,21 @@
 //!
 //! # Promised, and not
 //!
-//! - The words are read exactly as stated, in the order of the refusals; refused words write nothing
-//!   to standard output.
-//! - A line on standard output tells the operations that the case states for that size. An agenda
-//!   that is drained is empty, and a book that is left has no open node and no resource that is held
-//!   or waits.
-//! - The median is the middle one of the five times, and the spread the greatest less the least.
-//! - The order in which a case's items come out is tested here by the mark; what orders them is
-//!   proved where it is kept. No time is promised.
+//! - What was told was done: a run counts an operation with each value that came out, and the line
+//!   tells the count that the case states for its size. An agenda that is drained is empty.
+//! - The time of an operation is the time of the run, divided by that count.
+//! - Tested, and not proved: the words and their refusals, the lines and the statuses, the median and
+//!   the spread, the order in which items come out (by the mark), and that a book is left with the
+//!   events that the case states, with no open node and no resource that is held or waits: a run that
+//!   leaves another is refused.
+//! - No time is promised.
 #![tactic(auto)]
 
 mod agenda;
 mod calls;
 mod case;
 mod chain;
+mod crowd;
 mod cycle;
 mod done;
 mod hold;
@@ -51,7 +53,6 @@ mod sorted;
 mod tests;
 mod timeline;
 mod times;
-mod token;
 mod trampoline;
 mod words;
 

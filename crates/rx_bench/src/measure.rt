@@ -1,33 +1,29 @@
 //! Several runs of a case, and how long they took.
 
-ghost use Rattle.std.specs.Prelude.{◌≡◌, ◌+◌, ◌-◌, ◌*◌, ◌/◌, ◌^◌, ◌<◌, ◌≤◌, min, ℕ, List, length, string_bytes, IfOk};
+ghost use Rattle.std.specs.Prelude.{◌≡◌, ◌-◌, ◌*◌, ◌/◌, ◌^◌, ◌<◌, min, IfOk};
 ghost use Rattle.std.specs.Duration.{as_nanos};
-ghost use Rattle.rx_bench.specs.Cases.{operations_of, steps_of};
-ghost use Rattle.rx_bench.specs.Scenario.{scenario_text};
-ghost use Rattle.rx_bench.specs.Times.{Summarizes};
+ghost use Rattle.rx_bench.specs.Cases.{operations_of};
 
 use crate::agenda::run_orders;
 use crate::case::Case;
 use crate::chain::run_chain;
+use crate::crowd::run_crowd;
 use crate::cycle::{HISTORY, run_cycles};
 use crate::done::{Done, Halt};
 use crate::hold::run_hold;
 use crate::items::run_items;
 use crate::scenario::{Scenario, run_scenario};
 use crate::sorted::SortedList;
-use crate::times::{Summary, summarize};
+use crate::times::{RUNS, Summary, summarize};
 use crate::words::Request;
 use rx_time::{Timeline, Trampoline};
 use std::alloc::Global;
 use std::io;
 use std::time::{Clock, Duration, Instant};
 
-/// How often a case is run.
-pub const RUNS: usize = 5;
-
 /// What the runs of a case did, each the same, and the tenths of a nanosecond that an operation
 /// took in them.
-#[derive(Clone, Copy, Debug, PartialEq, Eq)]
+#[derive(Clone, Copy)]
 pub struct Measured {
     pub done: Done,
     pub times: Summary,
@@ -35,7 +31,6 @@ pub struct Measured {
 
 /// Runs a case once, of which the scenario is made before.
 pub fn run(alloc: Global, request: Request, scenario: Scenario) -> Result<Done, Halt>
-    requires { string_bytes scenario.text ≡ scenario_text (steps_of request.case request.size) }
     ensures { IfOk result (λ done. done.operations ≡ operations_of request.case request.size) }
 {
     match request.case {
@@ -43,6 +38,7 @@ pub fn run(alloc: Global, request: Request, scenario: Scenario) -> Result<Done, 
         Case::Trampoline => run_orders::<Trampoline<u64>>(alloc, request.size),
         Case::Sorted => run_orders::<SortedList>(alloc, request.size),
         Case::Cycle => run_cycles(alloc, request.size, HISTORY),
+        Case::Crowd => run_crowd(alloc, request.size),
         Case::Items => run_items(alloc, request.size),
         Case::Chain => run_chain(alloc, request.size),
         Case::Hold => run_hold(alloc, request.size),
@@ -51,9 +47,7 @@ pub fn run(alloc: Global, request: Request, scenario: Scenario) -> Result<Done, 
 }
 
 /// The clock's error, which tells no more than that it could not be read.
-fn unread(_error: io::Error) -> Halt
-    ensures { result ≡ Halt.Clock }
-{
+fn unread(_error: io::Error) -> Halt {
     Halt::Clock
 }
 
@@ -80,8 +74,7 @@ fn time_run<C: Clock>(clock: &C, alloc: Global, request: Request) -> Result<(Don
 
 /// Runs a case [`RUNS`] times by this clock.
 pub fn measure<C: Clock>(clock: &C, alloc: Global, request: Request) -> Result<Measured, Halt>
-    ensures done { IfOk result (λ m. m.done.operations ≡ operations_of request.case request.size) }
-    ensures times { IfOk result (λ m. (times : List ℕ) × (length times ≡ RUNS) × Summarizes times m.times) }
+    ensures { IfOk result (λ m. m.done.operations ≡ operations_of request.case request.size) }
 {
     let (done, first) = time_run(clock, alloc, request)?;
     let mut times = [first; RUNS];

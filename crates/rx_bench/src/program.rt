@@ -1,15 +1,9 @@
 //! The program over any streams and clock.
 
-ghost use Rattle.std.specs.Prelude.{◌≡◌, Result, map, OnOk};
-ghost use Rattle.std.specs.Io.KnownBytes.{Appends};
-ghost use Rattle.rx_bench.specs.declared.words.Fault.{Fault};
-ghost use Rattle.rx_bench.specs.declared.words.Request.{Request};
-ghost use Rattle.rx_bench.specs.Words.{Reads};
-ghost use Rattle.rx_bench.specs.Served.{Benches, Serves, done_line};
-
 use crate::done::{Done, Halt};
-use crate::measure::{Measured, RUNS, measure};
+use crate::measure::{Measured, measure};
 use crate::reading::request;
+use crate::times::RUNS;
 use crate::words::{Fault, Request};
 use std::alloc::Global;
 use std::convert::AsStr;
@@ -27,9 +21,7 @@ const HALTED: u8 = 1;
 pub const REFUSED: u8 = 2;
 
 /// Writes what a run did.
-fn write_done<O: Write>(output: &mut O, request: Request, done: Done) -> io::Result<()>
-    ensures { OnOk result (Appends (O.contents output.old) (O.contents output.new) (done_line request done)) }
-{
+fn write_done<O: Write>(output: &mut O, request: Request, done: Done) -> io::Result<()> {
     let name = request.case.name();
     let size = request.size;
     let operations = done.operations;
@@ -87,9 +79,7 @@ fn bench<C: Clock, O: Write>(
     request: Request,
     clock: &C,
     output: &mut O,
-) -> Result<Measured, Halt>
-    ensures { Benches request (O.contents output.old) (O.contents output.new) result }
-{
+) -> Result<Measured, Halt> {
     let measured = measure(clock, alloc, request)?;
     if write_done(output, request, measured.done).is_err() {
         return Err(Halt::Write);
@@ -109,10 +99,7 @@ pub fn serve<S: AsStr, C: Clock, O: Write, E: Write>(
     clock: &C,
     output: &mut O,
     errors: &mut E,
-) -> u8
-    ensures { (asked : Result Request Fault) × Reads (map S.text words.now) asked
-        × Serves asked (O.contents output.old) (O.contents output.new) result }
-{
+) -> u8 {
     match request(words) {
         Ok(request) => match bench(alloc, request, clock, output) {
             Ok(measured) => {

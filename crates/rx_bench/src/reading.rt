@@ -1,7 +1,6 @@
 //! The reading of the words of a command line.
 
-ghost use Rattle.std.specs.Prelude.{map};
-ghost use Rattle.rx_bench.specs.Words.{Reads, ReadsSize};
+ghost use Rattle.std.specs.Prelude.{◌<◌, ◌≤◌, IfOk};
 
 use crate::case::case_named;
 use crate::words::{Fault, Request};
@@ -9,7 +8,7 @@ use std::convert::AsStr;
 
 /// The size that the word is, from 1 to `most`.
 fn size_of(word: &str, most: u64) -> Result<u64, Fault>
-    ensures { ReadsSize most word.now result }
+    ensures { IfOk result (λ size. (0 < size) × (size ≤ most)) }
 {
     match word.parse::<u64>() {
         Ok(size) if 0 < size && size <= most => Ok(size),
@@ -19,9 +18,7 @@ fn size_of(word: &str, most: u64) -> Result<u64, Fault>
 }
 
 /// What the words ask for, of which the first is the program's name.
-pub fn request<S: AsStr>(words: &[S]) -> Result<Request, Fault>
-    ensures { Reads (map S.text words.now) result }
-{
+pub fn request<S: AsStr>(words: &[S]) -> Result<Request, Fault> {
     if words.len() < 2 {
         return Err(Fault::NoCase);
     }

@@ -73,7 +73,7 @@ fn call(alloc: Global, words: &[&str]) -> Left {
 
 #[test]
 fn a_run_tells_its_work_and_its_times(rt: HostRuntime) {
-    let cases: [(&[&str], &str, &str); 9] = [
+    let cases: [(&[&str], &str, &str); 10] = [
         (
             &["rx_bench", "timeline", "1"],
             "timeline 1: 6 operations, mark 993\n",
@@ -98,6 +98,11 @@ fn a_run_tells_its_work_and_its_times(rt: HostRuntime) {
             &["rx_bench", "cycle", "3"],
             "cycle 3: 3 operations, mark 1026\n",
             "cycle 3: median 800.0 ns, spread 1800.0 ns for each operation, of 5 runs\n",
+        ),
+        (
+            &["rx_bench", "crowd", "3"],
+            "crowd 3: 3 operations, mark 1026\n",
+            "crowd 3: median 800.0 ns, spread 1800.0 ns for each operation, of 5 runs\n",
         ),
         (
             &["rx_bench", "items", "3"],

@@ -65,12 +65,12 @@ impl<T> Counted<T> {
     /// Refused, with nothing changed: `Disposed` after `dispose`, and then `TooMany` where
     /// `MAX_LEASES` leases are out.
     pub fn lease(&mut self) -> Result<(), Denied>
-        ensures accepted { self.old.disposed ≡ false → self.old.leases < MAX_LEASES → IsOk result }
+        ensures accepted { self.old.disposed ≡ false → self.old.leases < 4294967295 → IsOk result }
         ensures ok { OnOk result (self.new ≡ record self.old { leases = self.old.leases + 1 }) }
 
         ensures refused_disposed { (result ≡ Err Denied.Disposed) ↔ (self.old.disposed ≡ true) }
         ensures refused_too_many { (result ≡ Err Denied.TooMany)
-            ↔ ((self.old.disposed ≡ false) × (MAX_LEASES ≤ self.old.leases)) }
+            ↔ ((self.old.disposed ≡ false) × (self.old.leases ≡ 4294967295)) }
         ensures err { OnErr result (self.new ≡ self.old) }
     {
         if self.disposed {

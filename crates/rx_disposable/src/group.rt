@@ -80,7 +80,7 @@ impl<T: Drop> Group<T> {
     /// `TooMany` after `MAX_TICKETS` tickets, then `NoMemory`, which cannot come while fewer than
     /// `INLINE_LEN` values are inside.
     pub fn add(&mut self, value: T) -> Result<u64, Back<T>>
-        ensures accepted { OnOk result ((self.old.disposed ≡ false) × (self.old.given < MAX_TICKETS)) }
+        ensures accepted { OnOk result ((self.old.disposed ≡ false) × (self.old.given < 4294967295)) }
         ensures ok { IfOk result (λ ticket. ticket ≡ self.old.given) }
         ensures added { OnOk result (self.new ≡ with_added self.old value) }
 
@@ -90,7 +90,7 @@ impl<T: Drop> Group<T> {
 
         ensures refused_disposed { (result ≡ Err (refusal Why.Disposed value)) ↔ (self.old.disposed ≡ true) }
         ensures refused_too_many { (result ≡ Err (refusal Why.TooMany value))
-            ↔ ((self.old.disposed ≡ false) × (self.old.given ≡ MAX_TICKETS)) }
+            ↔ ((self.old.disposed ≡ false) × (self.old.given ≡ 4294967295)) }
         ensures refused_no_memory { IfErr result (λ back. self.old.disposed ≡ false
             → self.old.given < MAX_TICKETS → back.why ≡ Why.NoMemory) }
         ensures succeeds_inline { self.old.disposed ≡ false → self.old.given < MAX_TICKETS

@@ -12,12 +12,15 @@
 //! often it was applied to a word. A contract sees a [`Handed`] as the pair of its number and its
 //! resource.
 //!
+//! A [`Sample`] is a resource that keeps what was done to it, for tests and measures.
+//!
 //! What keeps resources is generic in `R: Resource`. `Box<dyn Resource>` is itself a resource, so a
 //! caller with one kind of resource needs no box, and a caller with many hands in boxes.
 //!
 //! # Promised, and not
 //!
-//! - A `Handed` is live, and its release makes it released whatever the resource answers.
+//! - A `Handed` is live, and its release makes it released whatever the resource answers, and does not
+//!   use it.
 //! - No call of a `Handed` takes memory or waits, beside what the resource's own call does.
 //! - Nothing is promised of the word that `apply` answers, nor of what `release` answers: an
 //!   implementation is free in both. That [`Released`] passes on what the resource answered is tested.
@@ -28,10 +31,12 @@ ghost use Rattle.std.specs.Prelude.{◌≡◌, ℕ, ◌+◌, ◌<◌, ◌^◌};
 ghost use Rattle.rx_resource.specs.declared.Life.{Life};
 
 mod release;
+mod sample;
 #[cfg(test)]
 mod tests;
 
 pub use release::{Handed, Released};
+pub use sample::Sample;
 
 /// Whether a resource was released.
 #[derive(Clone, Copy, Debug, PartialEq, Eq)]
@@ -83,9 +88,11 @@ pub trait Resource: Send + Drop {
         ensures kept_life { life_of self.new ≡ life_of self.old };
 
     /// Releases the resource. Err has the code of a fault that it met; it is released all the same.
+    /// A release is no use.
     fn release(&mut self) -> Result<(), u32>
         ensures released { life_of self.new ≡ Life.Released }
-        ensures kept_tag { tag_of self.new ≡ tag_of self.old };
+        ensures kept_tag { tag_of self.new ≡ tag_of self.old }
+        ensures kept_uses { uses_of self.new ≡ uses_of self.old };
 }
 
 /// A box of any kind of resource is a resource: it has the tag, life and uses of what is in it.

@@ -78,6 +78,7 @@ impl<R: Resource> Handed<R> {
         ensures tag { result.tag ≡ R.tag_of self.1 }
         ensures spent_released { R.life_of result.spent ≡ Life.Released }
         ensures spent_tag { R.tag_of result.spent ≡ R.tag_of self.1 }
+        ensures spent_uses { R.uses_of result.spent ≡ R.uses_of self.1 }
     {
         let Handed {
             number,

@@ -3,7 +3,7 @@
 ghost use Rattle.std.specs.Prelude.{◌≡◌, ℕ, ◌+◌, ◌<◌, ◌^◌};
 ghost use Rattle.rx_resource.specs.declared.Life.{Life};
 
-use crate::{Handed, Life, Released, Resource};
+use crate::{Handed, Life, Released, Resource, Sample};
 use rx_scarce::Scarce;
 use std::test::Fail;
 use std::thread;
@@ -62,59 +62,6 @@ fn live_faulty(tag: u64) -> Faulty
     }
 }
 
-// Keeps the exclusive or of its words and answers it; its release meets no fault.
-#[derive(Drop)]
-struct Tally {
-    tag: u64,
-    uses: u64,
-    life: Life,
-    kept: u64,
-}
-
-impl Resource for Tally {
-    ghost tag_of = { λ t. t.tag };
-
-    ghost life_of = { λ t. t.life };
-
-    ghost uses_of = { λ t. t.uses };
-
-    fn tag(&self) -> u64 {
-        self.tag
-    }
-
-    fn life(&self) -> Life {
-        self.life
-    }
-
-    fn uses(&self) -> u64 {
-        self.uses
-    }
-
-    fn apply(&mut self, word: u64) -> u64 {
-        self.uses += 1;
-        self.kept ^= word;
-        self.kept
-    }
-
-    fn release(&mut self) -> Result<(), u32> {
-        self.life = Life::Released;
-        Ok(())
-    }
-}
-
-fn live_tally(tag: u64) -> Tally
-    ensures tag { result.tag ≡ tag }
-    ensures live { result.life ≡ Life.Live }
-    ensures unused { result.uses ≡ 0 }
-{
-    Tally {
-        tag,
-        uses: 0,
-        life: Life::Live,
-        kept: 0,
-    }
-}
-
 // What a caller sees of a resource that it used and handed back.
 #[derive(Drop)]
 struct Course<R> {
@@ -165,7 +112,7 @@ fn a_fault_is_what_the_resource_answered(rt: HostRuntime) {
 
 #[test]
 fn no_fault_is_none_and_the_words_are_kept(rt: HostRuntime) {
-    let mut resource = live_tally(5);
+    let mut resource = Sample::new(5);
     assert_eq!(rt; resource.apply(12), 12);
     assert_eq!(rt; resource.apply(10), 6);
     let handed = Handed::new(u64::MAX, resource);
@@ -174,13 +121,13 @@ fn no_fault_is_none_and_the_words_are_kept(rt: HostRuntime) {
     assert_eq!(rt; released.number, u64::MAX);
     assert_eq!(rt; released.tag, 5);
     assert_eq!(rt; released.fault, None);
-    assert_eq!(rt; released.spent.kept, 6);
+    assert_eq!(rt; released.spent.sum, 6);
 }
 
 #[test]
 fn boxes_of_two_kinds_are_resources(rt: HostRuntime) -> Result<(), Fail> {
     let first: Box<dyn Resource> = Box::new(rt.alloc(), live_faulty(3))?;
-    let second: Box<dyn Resource> = Box::new(rt.alloc(), live_tally(5))?;
+    let second: Box<dyn Resource> = Box::new(rt.alloc(), Sample::new(5))?;
     let course = use_and_release(7, first, 12);
     assert_eq!(rt; course.answered, 12);
     assert_eq!(rt; (course.tag, course.uses), (3, 1));
@@ -234,7 +181,7 @@ fn release_apart<R: Resource, T: Threads>(rt: &T, first: R, second: R) -> Apart<
 #[test]
 fn another_thread_releases_it(rt: HostRuntime) -> Result<(), Fail> {
     let first: Box<dyn Resource> = Box::new(rt.alloc(), live_faulty(3))?;
-    let second: Box<dyn Resource> = Box::new(rt.alloc(), live_tally(5))?;
+    let second: Box<dyn Resource> = Box::new(rt.alloc(), Sample::new(5))?;
     let Apart { released, left } = release_apart(&rt, first, second);
     assert!(rt; left[0].is_none() && left[1].is_none());
     let [there, here] = released;

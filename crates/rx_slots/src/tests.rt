@@ -192,6 +192,19 @@ fn a_refused_reserve_changes_no_entry(rt: HostRuntime) -> Result<(), Fail> {
     Ok(())
 }
 
+// A value of one word takes three: its number, itself, and whether it is there.
+#[test]
+fn a_reserve_is_met_by_just_the_memory_that_it_needs(rt: HostRuntime) -> Result<(), Fail> {
+    let mut slots: Slots<u64> = Slots::new(rt.alloc());
+    let block: Vec<[u64; 3]> = Vec::with_capacity(rt.alloc(), 1000)?;
+    let _scarce = Scarce::new(rt.alloc())?;
+    assert!(rt; slots.reserve(1000).is_err());
+    drop(block);
+    assert!(rt; slots.reserve(1001).is_err());
+    assert_eq!(rt; slots.reserve(1000), Ok(()));
+    Ok(())
+}
+
 #[test]
 fn inserts_after_a_reserve_take_no_memory(rt: HostRuntime) -> Result<(), Fail> {
     let mut slots = Slots::new(rt.alloc());

