@@ -27,6 +27,8 @@
 mod ledgers;
 mod receipt;
 mod seat;
+#[cfg(test)]
+mod tests;
 
 pub use ledgers::{Ledgers, Sums};
 pub use receipt::Receipt;
