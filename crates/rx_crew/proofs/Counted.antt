@@ -53,7 +53,7 @@ sums-outside h (OpeningUsing place tag) =
     let accept = Accept (length h) tag in
     let both : h ++ Open place Pass ∷ accept ∷ [] ≡ (h ++ Open place Pass ∷ []) ++ accept ∷ [] = sym (append_assoc h (Open place Pass ∷ []) (accept ∷ [])) in
     ap sums_of both ∙ sums-push (h ++ Open place Pass ∷ []) accept ∙ ap (counts accept) opened
-      ∙ same_sums (counts accept (sums_of h)) (record (sums_of h) { accepted = accepted_count h + 1 }) (omega arith) refl (omega arith)
+    ∙ same_sums (counts accept (sums_of h)) (record (sums_of h) { accepted = accepted_count h + 1 }) (omega arith) refl (omega arith)
 sums-outside h (Holding node tag) = one_more h (Accept node tag) (record (sums_of h) { accepted = accepted_count h + 1 }) (same_sums (counts (Accept node tag) (sums_of h)) (record (sums_of h) { accepted = accepted_count h + 1 }) (omega arith) refl (omega arith))
 sums-outside h (Applying r) = one_more h (Use r) (sums_of h) (plain (Use r) (sums_of h) refl refl refl)
 sums-outside h (Removing r) = one_more h (Remove r) (sums_of h) (plain (Remove r) (sums_of h) refl refl refl)

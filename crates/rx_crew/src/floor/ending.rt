@@ -15,12 +15,7 @@ use std::sync::ledger::Ledger;
 
 impl<R: Resource, I: Ledger, A: Ledger, K: Ledger> Floor<R, I, A, K> {
     /// A leaf emits an item, as [`rx_book::Book::next`] says; it counts as the seat's.
-    pub fn next(
-        &mut self,
-        seat: &mut Seat<I, A, K>,
-        leaf: Key,
-        value: i64,
-    ) -> Result<u64, Refusal>
+    pub fn next(&mut self, seat: &mut Seat<I, A, K>, leaf: Key, value: i64) -> Result<u64, Refusal>
         ensures book { AnswersPlaceOrWant self.old.book (next_request self.old.book leaf value) self.new.book result }
         ensures counts { Counts (Emitting leaf.number value) seat.old seat.new result }
         ensures shut { self.new.is_shut ≡ self.old.is_shut }

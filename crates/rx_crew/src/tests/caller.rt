@@ -46,7 +46,13 @@ fn subscribe_once<R: Resource, I: Ledger, A: Ledger, K: Ledger>(
 
 // One thread subscribes, another releases. With both seats the verdict is Ok, whatever was refused.
 #[tactic(auto, using(crate::proofs::Agreed::agreed))]
-fn hand_over<R: Resource, I: Ledger + Send + Sync, A: Ledger + Send + Sync, K: Ledger + Send + Sync, T: Threads + Wait + Sync>(
+fn hand_over<
+    R: Resource,
+    I: Ledger + Send + Sync,
+    A: Ledger + Send + Sync,
+    K: Ledger + Send + Sync,
+    T: Threads + Wait + Sync,
+>(
     rt: &T,
     alloc: Global,
     desk: Desk<R, I, A, K>,
@@ -74,11 +80,12 @@ fn hand_over<R: Resource, I: Ledger + Send + Sync, A: Ledger + Send + Sync, K: L
 }
 
 // Makes the desk for it, and answers how many were taken.
-fn handed_over<I: Ledger + Send + Sync, A: Ledger + Send + Sync, K: Ledger + Send + Sync, T: Threads + Wait + Sync>(
-    rt: &T,
-    alloc: Global,
-    blanks: (Blank, Blank, Blank),
-) -> Result<u64, Fail>
+fn handed_over<
+    I: Ledger + Send + Sync,
+    A: Ledger + Send + Sync,
+    K: Ledger + Send + Sync,
+    T: Threads + Wait + Sync,
+>(rt: &T, alloc: Global, blanks: (Blank, Blank, Blank)) -> Result<u64, Fail>
     requires items { Opens I.name I.parts blanks.0.name blanks.0.parts }
     requires accepted { Opens A.name A.parts blanks.1.name blanks.1.parts }
     requires taken { Opens K.name K.parts blanks.2.name blanks.2.parts }

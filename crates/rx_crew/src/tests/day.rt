@@ -30,7 +30,11 @@ fn day<I: Ledger, A: Ledger, K: Ledger>(
     let book = Book::new(alloc, 1000);
     let (desk, mut a) = Desk::<Lamp, I, A, K>::new(book, blanks.0, blanks.1, blanks.2);
     let mut b = a.split().ok_or("no second seat")?;
-    let opened = match desk.floor.lock(rt).open_using(&mut a, At::Root, new_lamp(7)) {
+    let opened = match desk
+        .floor
+        .lock(rt)
+        .open_using(&mut a, At::Root, new_lamp(7))
+    {
         Ok(opened) => opened,
         Err(_) => return Err(Fail::from("nothing was opened")),
     };

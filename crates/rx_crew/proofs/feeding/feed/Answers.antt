@@ -1,9 +1,9 @@
-use Rattle.std.proofs.Common.{◌≡◌, ◌+◌, ◌<◌, ◌≤◌, [], ◌∷◌, ◌++◌, List, map, take, length, vec_len, true, false, ℕ, refl, sym, ap, ◌∙◌, arith, count_by}
+use Rattle.std.proofs.Common.{◌≡◌, ◌+◌, [], ◌∷◌, ◌++◌, List, vec_len, ℕ, sym, ap, ◌∙◌, arith, count_by}
 use Rattle.rx_event.specs.Events.{is_item}
 use Rattle.rx_ledger.specs.Shares.{Shares}
 use Rattle.rx_ledger.specs.declared.receipt.Receipt.{Receipt}
 use Rattle.rx_crew.specs.declared.feeding.Pull.{Pull}
-use Rattle.rx_crew.specs.Feeds.{ends_once, items_of}
+use Rattle.rx_crew.specs.Feeds.{items_of}
 use Rattle.rx_crew.proofs.Pulls.{one_more, is_within, is_last, ends_here, goes_on, items-push}
 use Rattle.rx_crew.proofs.feeding.feed.Goals as goal
 

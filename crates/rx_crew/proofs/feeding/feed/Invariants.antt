@@ -1,4 +1,4 @@
-use Rattle.std.specs.Prelude.{◌≡◌, ◌+◌, true, IsTrue, vec_len, count_by}
+use Rattle.std.specs.Prelude.{◌≡◌, ◌+◌, IsTrue, vec_len, count_by}
 use Rattle.rx_event.specs.Events.{is_item}
 use Rattle.rx_crew.specs.Feeds.{ends_once}
 use Rattle.rx_crew.proofs.Pulls.{SoFar}
