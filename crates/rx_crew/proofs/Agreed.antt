@@ -1,0 +1,22 @@
+-- Where the seats have all parts and there is no receipt, the verdict is Ok.
+use Rattle.std.proofs.Common.{◌≡◌, Result, Ok, Err, Some, None, List, [], refl, sym, ap, ◌∙◌, arith}
+use Rattle.std.specs.Prelude.{IsOk}
+use Rattle.std.proofs.lemmas.Option.{slice_get_past}
+use Rattle.rx_event.specs.declared.event.Event.{Event}
+use Rattle.rx_ledger.specs.declared.ledgers.Sums.{Sums}
+use Rattle.rx_ledger.specs.declared.receipt.Receipt.{Receipt as Slip}
+use Rattle.rx_crew.specs.declared.finishing.Totals.{Totals}
+use Rattle.rx_crew.specs.declared.finishing.Mismatch.{Mismatch}
+use Rattle.rx_crew.specs.declared.finishing.Mismatch.TheVariants.{Items, Accepted, Taken, Receipt}
+use Rattle.rx_crew.specs.Counting.{sums_of}
+use Rattle.rx_crew.specs.Verdicts.{IsVerdict}
+
+pub agreed : (h : List Event) (s : Sums) (verdict : Result Totals Mismatch) → s ≡ sums_of h → IsVerdict h s [] verdict → IsOk verdict
+agreed h s (Ok totals) same is = refl
+agreed h s (Err (Items shares book)) same is = absurd (is.2 (is.0 ∙ ap (λ (x : Sums). x.items) same ∙ sym is.1))
+agreed h s (Err (Accepted shares book)) same is = let d = is.1 in absurd (d.2 (d.0 ∙ ap (λ (x : Sums). x.accepted) same ∙ sym d.1))
+agreed h s (Err (Taken shares book)) same is = let d = is.2 in absurd (d.2 (d.0 ∙ ap (λ (x : Sums). x.taken) same ∙ sym d.1))
+agreed h s (Err (Receipt place)) same is =
+    let w = is.3 in
+    let gone : None ≡ Some w.wrong = sym (slice_get_past {X = Slip} [] w.index (omega arith)) ∙ w.here in
+    cc

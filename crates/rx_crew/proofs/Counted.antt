@@ -1,0 +1,73 @@
+-- What a step adds to the totals.
+use Rattle.std.proofs.Common.{◌≡◌, Result, Ok, Err, ℕ, ◌+◌, Bool, true, false, List, [], ◌∷◌, ◌++◌, length, refl, sym, ap, ◌∙◌, arith, append_assoc, cond}
+use Rattle.rx_event.specs.declared.event.Event.{Event}
+use Rattle.rx_event.specs.declared.event.Event.TheVariants.{Open, Hub, Connect, Accept, Use, Remove, Item, Decline, End, Close, Take}
+use Rattle.rx_note.specs.declared.note.Terminal.TheVariants.{Error}
+use Rattle.rx_event.specs.declared.event.Kind.TheVariants.{Pass}
+use Rattle.rx_event.specs.Events.{is_item, makes_resource, is_take}
+use Rattle.rx_event.specs.Lawful.{stays, more, IsForcedOn}
+use Rattle.rx_event.specs.Calls.{Call, Opening, OpeningUsing, Holding, Applying, Removing, Emitting, Ending, Aborting, Declining, Failing, Disposing, Publishing, Connecting, Disconnecting, Taking, outside_of, IsStepOf}
+use Rattle.rx_event.specs.Totals.{item_count, accepted_count, taken_count}
+use Rattle.rx_event.proofs.Laws.Steps.{forced_kind, may_be_forced}
+use Rattle.rx_event.proofs.Laws.Totals.{item_count-push, accepted_count-push, taken_count-push}
+use Rattle.rx_ledger.specs.declared.ledgers.Sums.{Sums}
+use Rattle.rx_crew.specs.Counting.{sums_of, counting}
+
+abbrev counts : Event → Sums → Sums
+counts e s = record { items = s.items + cond (is_item e) 1 0; accepted = s.accepted + cond (makes_resource e) 1 0; taken = s.taken + cond (is_take e) 1 0 }
+
+same_sums : (a b : Sums) → a.items ≡ b.items → a.accepted ≡ b.accepted → a.taken ≡ b.taken → a ≡ b
+same_sums a b i j k = rw (i, j, k) refl
+
+sums-push : (h : List Event) (e : Event) → sums_of (h ++ e ∷ []) ≡ counts e (sums_of h)
+sums-push h e = same_sums (sums_of (h ++ e ∷ [])) (counts e (sums_of h)) (item_count-push h e) (accepted_count-push h e) (taken_count-push h e)
+
+plain : (e : Event) (s : Sums) → is_item e ≡ false → makes_resource e ≡ false → is_take e ≡ false → counts e s ≡ s
+plain e s i a k = same_sums (counts e s) s (rw i (omega arith)) (rw a (omega arith)) (rw k (omega arith))
+
+counts_none : (e : Event) (s : Sums) → may_be_forced e ≡ true → counts e s ≡ s
+counts_none (Connect g) s m = plain (Connect g) s refl refl refl
+counts_none (End n t) s m = plain (End n t) s refl refl refl
+counts_none (Close n) s m = plain (Close n) s refl refl refl
+counts_none (Open place kind) s m = cc
+counts_none (Hub mode) s m = cc
+counts_none (Accept n tag) s m = cc
+counts_none (Use r) s m = cc
+counts_none (Remove r) s m = cc
+counts_none (Item l v) s m = cc
+counts_none (Decline f) s m = cc
+counts_none (Take r) s m = cc
+
+-- what is forced counts nothing
+sums-forced : {h k : List Event} → IsForcedOn h k → sums_of k ≡ sums_of h
+sums-forced stays = refl
+sums-forced (more {h} {k} {e} before is_forced) = sums-push k e ∙ counts_none e (sums_of k) (forced_kind is_forced) ∙ sums-forced before
+
+one_more : (h : List Event) (e : Event) (s : Sums) → counts e (sums_of h) ≡ s → sums_of (h ++ e ∷ []) ≡ s
+one_more h e s counted = sums-push h e ∙ counted
+
+sums-outside : (h : List Event) (call : Call) → sums_of (h ++ outside_of h call) ≡ counting call (sums_of h)
+sums-outside h (Opening place kind) = one_more h (Open place kind) (sums_of h) (plain (Open place kind) (sums_of h) refl refl refl)
+sums-outside h (OpeningUsing place tag) =
+    let opened : sums_of (h ++ Open place Pass ∷ []) ≡ sums_of h = one_more h (Open place Pass) (sums_of h) (plain (Open place Pass) (sums_of h) refl refl refl) in
+    let accept = Accept (length h) tag in
+    let both : h ++ Open place Pass ∷ accept ∷ [] ≡ (h ++ Open place Pass ∷ []) ++ accept ∷ [] = sym (append_assoc h (Open place Pass ∷ []) (accept ∷ [])) in
+    ap sums_of both ∙ sums-push (h ++ Open place Pass ∷ []) accept ∙ ap (counts accept) opened
+    ∙ same_sums (counts accept (sums_of h)) (record (sums_of h) { accepted = accepted_count h + 1 }) (omega arith) refl (omega arith)
+sums-outside h (Holding node tag) = one_more h (Accept node tag) (record (sums_of h) { accepted = accepted_count h + 1 }) (same_sums (counts (Accept node tag) (sums_of h)) (record (sums_of h) { accepted = accepted_count h + 1 }) (omega arith) refl (omega arith))
+sums-outside h (Applying r) = one_more h (Use r) (sums_of h) (plain (Use r) (sums_of h) refl refl refl)
+sums-outside h (Removing r) = one_more h (Remove r) (sums_of h) (plain (Remove r) (sums_of h) refl refl refl)
+sums-outside h (Emitting leaf value) = one_more h (Item leaf value) (record (sums_of h) { items = item_count h + 1 }) (same_sums (counts (Item leaf value) (sums_of h)) (record (sums_of h) { items = item_count h + 1 }) refl (omega arith) (omega arith))
+sums-outside h (Ending leaf t) = one_more h (End leaf t) (sums_of h) (plain (End leaf t) (sums_of h) refl refl refl)
+sums-outside h (Aborting n code) = one_more h (End n (Error code)) (sums_of h) (plain (End n (Error code)) (sums_of h) refl refl refl)
+sums-outside h (Declining f) = one_more h (Decline f) (sums_of h) (plain (Decline f) (sums_of h) refl refl refl)
+sums-outside h (Failing f code) = one_more h (End f (Error code)) (sums_of h) (plain (End f (Error code)) (sums_of h) refl refl refl)
+sums-outside h (Disposing root) = one_more h (Close root) (sums_of h) (plain (Close root) (sums_of h) refl refl refl)
+sums-outside h (Publishing mode) = one_more h (Hub mode) (sums_of h) (plain (Hub mode) (sums_of h) refl refl refl)
+sums-outside h (Connecting g) = one_more h (Connect g) (sums_of h) (plain (Connect g) (sums_of h) refl refl refl)
+sums-outside h (Disconnecting c) = one_more h (Close c) (sums_of h) (plain (Close c) (sums_of h) refl refl refl)
+sums-outside h (Taking r) = one_more h (Take r) (record (sums_of h) { taken = taken_count h + 1 }) (same_sums (counts (Take r) (sums_of h)) (record (sums_of h) { taken = taken_count h + 1 }) (omega arith) (omega arith) refl)
+
+-- a step adds to the totals just what its call counts
+pub sums-step : (h k : List Event) (call : Call) → IsStepOf h call k → sums_of k ≡ counting call (sums_of h)
+sums-step h k call step = sums-forced step.forced ∙ sums-outside h call

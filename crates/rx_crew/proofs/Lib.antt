@@ -1,0 +1,5 @@
+mod Counted
+mod Ties
+mod Pulls
+mod Taken
+mod Agreed

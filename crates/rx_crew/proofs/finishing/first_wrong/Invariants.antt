@@ -1,0 +1,8 @@
+use Rattle.std.specs.Prelude.{◌≡◌, ℕ, ◌<◌, slice_get, Some}
+use Rattle.rx_ledger.specs.declared.receipt.Receipt.{Receipt}
+use Rattle.rx_crew.specs.Verdicts.{Stands}
+use Rattle.rx_crew.proofs.finishing.first_wrong.Given as goal
+
+-- the receipts so far stand
+abbrev pub invariant-loop-receipt : goal.invariant-loop-receipt
+invariant-loop-receipt g l = (k : ℕ) (r : Receipt) → k < l.receipt-index → slice_get l.receipts k ≡ Some r → Stands l.book.history r

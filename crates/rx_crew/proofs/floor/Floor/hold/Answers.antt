@@ -1,0 +1,5 @@
+use Rattle.rx_crew.proofs.Ties.{counted}
+use Rattle.rx_crew.proofs.floor.Floor.hold.Goals as goal
+
+pub invariant_of-self-2 : goal.invariant_of-self-2
+invariant_of-self-2 g c = record { tied = counted _ _ _ _ _ c.in_ok-key.ensures.accepted c.args.self.now.tied c.add_accepted.ensures.sums }

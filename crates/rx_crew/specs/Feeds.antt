@@ -1,0 +1,45 @@
+-- What a source gives, and how a feed of it ends. Observable Contract: items, and then one end.
+use Rattle.std.specs.Prelude.{◌≡◌, ℕ, ◌+◌, ◌<◌, ◌≤◌, Bool, true, false, List, [], ◌∷◌, length, map, take, drop, count_by}
+use Rattle.rx_event.specs.declared.event.Event.{Event}
+use Rattle.rx_event.specs.declared.event.Event.TheVariants.{Item, End}
+use Rattle.rx_event.specs.Events.{is_item}
+use Rattle.rx_ledger.specs.declared.receipt.Receipt.{Receipt}
+use Rattle.rx_crew.specs.declared.feeding.Pull.{Pull}
+use Rattle.rx_crew.specs.declared.feeding.Pull.TheVariants.{Item as PullItem, Done as PullDone}
+use Rattle.rx_crew.specs.declared.working.Stop.{Stop}
+use Rattle.rx_crew.specs.declared.working.Stop.TheVariants.{Done, Turns, Refused}
+
+-- there are pulls, of which just the last is the end
+abbrev pub ends_once : List Pull → Bool
+ends_once [] = false
+ends_once (PullItem value ∷ rest) = ends_once rest
+ends_once (PullDone terminal ∷ []) = true
+ends_once (PullDone terminal ∷ next ∷ rest) = false
+
+-- the event that a pull becomes at a leaf
+abbrev pub event_of : ℕ → Pull → Event
+event_of leaf (PullItem value) = Item leaf value
+event_of leaf (PullDone terminal) = End leaf terminal
+
+abbrev pub is_end : Pull → Bool
+is_end (PullItem value) = false
+is_end (PullDone terminal) = true
+
+-- how many items a pull is
+abbrev pub items_of : Pull → ℕ
+items_of (PullItem value) = 1
+items_of (PullDone terminal) = 0
+
+-- the receipts are of the first so many pulls, in order
+abbrev pub AreOfPulls : (leaf count : ℕ) → List Pull → List Receipt → Type 0
+AreOfPulls leaf count pulls receipts = map (λ r. r.event) receipts ≡ map (event_of leaf) (take count pulls)
+
+abbrev pub items_in : List Receipt → ℕ
+items_in receipts = count_by (λ r. is_item r.event) receipts
+
+-- after so many receipts: all pulls were given; or there were as many as turns; or one more was pulled, which was refused
+abbrev pub IsFed : Stop → (receipts turns : ℕ) → (before after : List Pull) → Type 0
+IsFed Done receipts turns before after = (receipts ≤ turns) × (receipts ≡ length before) × (after ≡ [])
+IsFed Turns receipts turns before after = (receipts ≡ turns) × (receipts < length before) × (after ≡ drop receipts before)
+IsFed (Refused why) receipts turns before after =
+    (receipts < turns) × (receipts < length before) × (after ≡ drop (receipts + 1) before)

@@ -1,0 +1,156 @@
+//! A thread that emits what a source gives.
+
+ghost use Rattle.std.specs.Prelude.{◌≡◌, ◌+◌, ◌∷◌, List, vec_len, IsTrue, OnOk, OnErr};
+ghost use Rattle.rx_crew.specs.declared.working.Stop.{Stop};
+ghost use Rattle.rx_crew.specs.declared.feeding.Pull.{Pull};
+ghost use Rattle.rx_crew.specs.Feeds.{ends_once, event_of, is_end, items_of, items_in, AreOfPulls, IsFed};
+
+use crate::desk::Desk;
+use crate::working::Stop;
+use rx_book::Key;
+use rx_event::{Event, Refusal, Terminal};
+use rx_ledger::{Receipt, Seat};
+use rx_resource::Resource;
+use std::alloc::Global;
+use std::sync::Wait;
+use std::sync::ledger::Ledger;
+
+/// What a source gives at a turn.
+#[derive(Clone, Copy, Debug, PartialEq, Eq)]
+pub enum Pull {
+    /// An item.
+    Item(i64),
+    /// Its end, after which it gives nothing.
+    Done(Terminal),
+}
+
+/// A source of items, which a feed pulls. It stands for the list of the pulls that it still gives, of
+/// which the last, and no other, is `Done`.
+pub trait Source {
+    /// The pulls that it still gives.
+    ghost pulls: { Self → List Pull };
+
+    /// The next pull. It is not called after `Done`. It runs without the desk's lock.
+    fn pull(&mut self) -> Pull
+        requires { IsTrue (ends_once (pulls self.old)) }
+        ensures { pulls self.old ≡ result ∷ pulls self.new };
+}
+
+/// What a feed did.
+#[derive(Drop)]
+pub struct Fed<I: Ledger, A: Ledger, K: Ledger> {
+    /// Its seat, whose share of items rose by those that it emitted.
+    pub seat: Seat<I, A, K>,
+    /// A receipt for each event that it wrote, in order.
+    pub receipts: Vec<Receipt>,
+    /// Why it stopped.
+    pub stop: Stop,
+}
+
+/// The event that a pull becomes at a leaf.
+fn event_at(leaf: Key, pull: Pull) -> Event
+    ensures { result ≡ event_of leaf.number pull }
+{
+    match pull {
+        Pull::Item(value) => Event::Item(leaf.number, value),
+        Pull::Done(terminal) => Event::End(leaf.number, terminal),
+    }
+}
+
+/// Whether a pull is the end.
+fn is_done(pull: Pull) -> bool
+    ensures { result ≡ is_end pull }
+{
+    match pull {
+        Pull::Item(_) => false,
+        Pull::Done(_) => true,
+    }
+}
+
+/// Emits one pull at a leaf, under the lock, and rings the bell where something waits then. Answers
+/// the place of its event.
+fn emit<R: Resource, I: Ledger, A: Ledger, K: Ledger>(
+    rt: &impl Wait,
+    desk: &Desk<R, I, A, K>,
+    seat: &mut Seat<I, A, K>,
+    leaf: Key,
+    pull: Pull,
+) -> Result<u64, Refusal>
+    ensures counted { OnOk result (seat.new ≡ record seat.old { items = seat.old.items + items_of pull }) }
+    ensures uncounted { OnErr result (seat.new ≡ seat.old) }
+{
+    let mut floor = desk.floor.lock(rt);
+    let place = match pull {
+        Pull::Item(value) => floor.next(seat, leaf, value)?,
+        Pull::Done(terminal) => floor.end(leaf, terminal)?,
+    };
+    let waits = floor.waiting() > 0;
+    drop(floor);
+    if waits {
+        desk.bell.notify_all();
+    }
+    Ok(place)
+}
+
+/// Emits what a source gives at a leaf: one pull a turn, an item by `next`, the end by `end`.
+///
+/// It stops `Done` after the source's end, `Turns` after so many turns before that, and `Refused`
+/// where a call was refused or there was no memory for one more receipt, which is asked for after the
+/// pull and before the call; that last pull has no receipt. It may wait for the lock.
+pub fn feed<R: Resource, I: Ledger, A: Ledger, K: Ledger, S: Source>(
+    rt: &impl Wait,
+    alloc: Global,
+    desk: &Desk<R, I, A, K>,
+    seat: Seat<I, A, K>,
+    leaf: Key,
+    source: &mut S,
+    turns: u64,
+) -> Fed<I, A, K>
+    requires { IsTrue (ends_once (S.pulls source.old)) }
+    ensures receipts { AreOfPulls leaf.number (vec_len result.receipts) (S.pulls source.old) result.receipts.items }
+    ensures stop { IsFed result.stop (vec_len result.receipts) turns (S.pulls source.old) (S.pulls source.new) }
+    ensures shares { result.seat ≡ record seat { items = seat.items + items_in result.receipts.items } }
+{
+    let mut seat = seat;
+    let mut receipts = Vec::new(alloc);
+    for _turn in 0..turns {
+        let pull = source.pull();
+        if receipts.reserve(1).is_err() {
+            return refused(seat, receipts, Refusal::NoMemory);
+        }
+        match emit(rt, desk, &mut seat, leaf, pull) {
+            Ok(place) => receipts.push_reserved(Receipt {
+                place,
+                event: event_at(leaf, pull),
+            }),
+            Err(why) => return refused(seat, receipts, why),
+        }
+        if is_done(pull) {
+            return Fed {
+                seat,
+                receipts,
+                stop: Stop::Done,
+            };
+        }
+    }
+    Fed {
+        seat,
+        receipts,
+        stop: Stop::Turns,
+    }
+}
+
+/// What a feed did that was refused.
+fn refused<I: Ledger, A: Ledger, K: Ledger>(
+    seat: Seat<I, A, K>,
+    receipts: Vec<Receipt>,
+    why: Refusal,
+) -> Fed<I, A, K>
+    ensures { result ≡ record { seat = seat; receipts = receipts; stop = Stop.Refused why } }
+{
+    Fed {
+        seat,
+        receipts,
+        stop: Stop::Refused(why),
+    }
+}

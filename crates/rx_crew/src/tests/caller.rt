@@ -1,0 +1,104 @@
+//! A caller of the desk that is proved: two threads at one book.
+
+ghost use Rattle.std.specs.Prelude.{◌≡◌, IfOk, IsOk};
+ghost use Rattle.rx_ledger.specs.Shares.{all_parts, Opens};
+
+use super::lamps::{Lamp, blanks, new_lamp};
+use crate::{Desk, Finished, Gate, finish, worker};
+use rx_book::{At, Book};
+use rx_ledger::Seat;
+use rx_resource::Resource;
+use std::alloc::{AllocError, Global};
+use std::marker::Brand;
+use std::sync::Wait;
+use std::sync::ledger::{Blank, Ledger};
+use std::test::Fail;
+use std::thread;
+use std::thread::Threads;
+
+// A gate that does nothing.
+struct Open;
+
+impl Gate for Open {
+    fn before(&self, _number: u64) {}
+
+    fn after(&self, _number: u64) {}
+}
+
+// Subscribes with a resource and unsubscribes; then shuts the desk, so that the worker ends.
+fn subscribe_once<R: Resource, I: Ledger, A: Ledger, K: Ledger>(
+    rt: &impl Wait,
+    desk: &Desk<R, I, A, K>,
+    mut seat: Seat<I, A, K>,
+    resource: R,
+) -> Seat<I, A, K>
+    ensures { result.parts ≡ seat.parts }
+{
+    let mut floor = desk.floor.lock(rt);
+    if let Ok(opened) = floor.open_using(&mut seat, At::Root, resource) {
+        let _ = floor.dispose(opened.key);
+    }
+    floor.shut();
+    drop(floor);
+    desk.bell.notify_all();
+    seat
+}
+
+// One thread subscribes, another releases. With both seats the verdict is Ok, whatever was refused.
+#[tactic(auto, using(crate::proofs::Agreed::agreed))]
+fn hand_over<
+    R: Resource,
+    I: Ledger + Send + Sync,
+    A: Ledger + Send + Sync,
+    K: Ledger + Send + Sync,
+    T: Threads + Wait + Sync,
+>(
+    rt: &T,
+    alloc: Global,
+    desk: Desk<R, I, A, K>,
+    seat: Seat<I, A, K>,
+    resource: R,
+) -> Result<Finished<R>, AllocError>
+    requires { seat.parts ≡ all_parts }
+    ensures { IfOk result (λ done. IsOk done.verdict) }
+{
+    let mut seats = Vec::new(alloc);
+    seats.reserve(2)?;
+    let mut mine = seat;
+    let Some(theirs) = mine.split() else {
+        unreachable!()
+    };
+    let at = &desk;
+    let (worked, mine) = thread::join(
+        rt,
+        || worker(rt, at, theirs, &Open, 10),
+        || subscribe_once(rt, at, mine, resource),
+    );
+    seats.push_reserved(worked.seat);
+    seats.push_reserved(mine);
+    Ok(finish(desk, seats, &[]))
+}
+
+// Makes the desk for it, and answers how many were taken.
+fn handed_over<
+    I: Ledger + Send + Sync,
+    A: Ledger + Send + Sync,
+    K: Ledger + Send + Sync,
+    T: Threads + Wait + Sync,
+>(rt: &T, alloc: Global, blanks: (Blank, Blank, Blank)) -> Result<u64, Fail>
+    requires items { Opens I.name I.parts blanks.0.name blanks.0.parts }
+    requires accepted { Opens A.name A.parts blanks.1.name blanks.1.parts }
+    requires taken { Opens K.name K.parts blanks.2.name blanks.2.parts }
+{
+    let book = Book::new(alloc, 1000);
+    let (desk, seat) = Desk::<Lamp, I, A, K>::new(book, blanks.0, blanks.1, blanks.2);
+    let done = hand_over(rt, alloc, desk, seat, new_lamp(7))?;
+    Ok(done.book.taken())
+}
+
+#[test]
+fn one_thread_subscribes_and_another_releases(rt: HostRuntime) -> Result<(), Fail> {
+    let taken = handed_over::<Brand, Brand, Brand, _>(&rt, rt.alloc(), blanks())?;
+    assert_eq!(rt; taken, 1);
+    Ok(())
+}
