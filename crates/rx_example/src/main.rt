@@ -1,0 +1,21 @@
+//! A program of its own that keeps its subscriptions in a book: one with a file, from its opening to the
+//! release of the file, and one that it forgets, which the end of the session closes.
+#![tactic(auto)]
+
+mod file;
+mod session;
+mod stopped;
+
+use rx_book::Book;
+use session::{Session, watch};
+use stopped::Stopped;
+
+fn main(rt: HostRuntime) -> Result<(), Stopped> {
+    let mut session = Session {
+        book: Book::new(rt.alloc(), 1_000_000),
+    };
+    let outcome = watch(&rt, &mut session.book);
+    let closed = session.end();
+    println!(rt; "the end of the session releases {} more", closed.released)?;
+    outcome
+}

@@ -1,0 +1,59 @@
+//! A session: a book that has to be finished, and what is done with it.
+
+ghost use Rattle.std.specs.Prelude.{◌≡◌, ◌+◌, []};
+ghost use Rattle.rx_event.specs.Totals.{accepted_count, taken_count, held_count, waiting_count};
+
+use crate::file::File;
+use crate::stopped::Stopped;
+use rx_book::{At, Book};
+use rx_event::{Kind, Terminal};
+use rx_script::{Closed, close};
+
+/// Subscribes with a file, passes one item and the end on, tells the observer and releases the file; then
+/// subscribes with another file and forgets it.
+pub fn watch(rt: &impl Print, book: &mut Book<File>) -> Result<(), Stopped> {
+    let prices = book.open_using(At::Root, File::open(7))?;
+    let ticks = book.open(At::Source(prices.key), Kind::Leaf)?;
+    book.next(ticks.key, 101)?;
+    book.end(ticks.key, Terminal::Completed)?;
+    while let Some(mail) = book.take_mail() {
+        println!(rt; "observer {} is told {:?}", mail.to, mail.note)?;
+    }
+    for _ in 0..book.waiting() {
+        let Some(handed) = book.take() else { break };
+        println!(rt; "file {} is released", handed.release().tag)?;
+    }
+    book.open_using(At::Root, File::open(8))?;
+    Ok(())
+}
+
+/// Empties the book: afterwards nothing is open, held or waiting, and each file that it ever accepted was
+/// handed out for its release. Answers how many files this call released, and with how many faults.
+pub fn finish(book: &mut Book<File>) -> Closed
+    ensures none_open { book.new.keys ≡ [] }
+    ensures none_held { book.new.held ≡ [] }
+    ensures none_waits { book.new.waiting ≡ [] }
+    ensures all_taken { taken_count book.new.history ≡ accepted_count book.old.history }
+    ensures released { result.released ≡ held_count book.old.history + waiting_count book.old.history }
+{
+    book.promise();
+    let closed = close(book);
+    book.promise();
+    closed
+}
+
+/// A book that has to be finished: it is not `Drop`, so a program that lets one go does not compile.
+pub struct Session {
+    /// The book.
+    pub book: Book<File>,
+}
+
+impl Session {
+    /// Finishes the book and gives it up.
+    pub fn end(self) -> Closed
+        ensures { result.released ≡ held_count self.book.history + waiting_count self.book.history }
+    {
+        let Session { mut book } = self;
+        finish(&mut book)
+    }
+}
