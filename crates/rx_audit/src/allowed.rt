@@ -1,15 +1,11 @@
 //! What callers may do.
 
-ghost use Rattle.std.specs.Prelude.{◌≡◌, ℕ, ◌+◌, ◌<◌, ◌≤◌, ◌&&◌, ◌||◌, ◌↔◌, IsTrue, IfOk, IsErr, [], ◌∷◌, ◌++◌, false, true, Some, None, nat_lt, length, slice_get};
-ghost use Rattle.std.specs.List.{list_any, list_all};
-ghost use Rattle.std.specs.Option.{option_map_or, option_and_then};
+ghost use Rattle.std.specs.Prelude.{◌≡◌, ◌<◌, ◌≤◌, ◌&&◌, ◌||◌, IfOk, false, true, Some, None, nat_lt, length, slice_get};
+ghost use Rattle.std.specs.Option.{option_and_then};
 ghost use Rattle.std.proofs.Math.Bool.{not};
 ghost use Rattle.rx_event.specs.Events.{is_leaf, makes_resource, node_of_accept};
-ghost use Rattle.rx_event.specs.Tree.{at, is_open, open_nodes, hubs, ancestors};
+ghost use Rattle.rx_event.specs.Tree.{at, is_open, open_nodes, hubs};
 ghost use Rattle.rx_event.specs.Resources.{is_held, is_waiting};
-ghost use Rattle.rx_event.specs.Climb.{visits};
-ghost use Rattle.rx_event.specs.Allowed.{may_abort, IsAllowed};
-ghost use Rattle.rx_event.specs.Forced.{IsConnectDue};
 ghost use Rattle.rx_audit.specs.Known.{IsFoundHere, IsSurveyed};
 ghost use Rattle.rx_audit.specs.Survey.{AreHubsNamed, IsSized};
 ghost use Rattle.rx_audit.specs.Rules.{was_removed, was_taken};
@@ -116,13 +112,17 @@ fn is_free(past: &[Event], found: &Found, place: Place) -> bool
     match place {
         Place::Root => true,
         Place::Source(p) => {
-            is_marked(live, p) && at(Event::has_source, past, p) && !found::was_sourced(past, found, p)
+            is_marked(live, p)
+                && at(Event::has_source, past, p)
+                && !found::was_sourced(past, found, p)
         }
         Place::Inner(p) => {
             is_marked(live, p) && at(Event::is_merging, past, p) && found::is_owing(past, found, p)
         }
         Place::Notifier(p) => {
-            is_marked(live, p) && at(Event::is_until, past, p) && !found::was_notified(past, found, p)
+            is_marked(live, p)
+                && at(Event::is_until, past, p)
+                && !found::was_notified(past, found, p)
         }
     }
 }
@@ -259,7 +259,9 @@ fn connect_allowed(past: &[Event], found: &Found, survey: &Survey, g: u64) -> bo
     requires survey { IsSurveyed past.now survey.now }
     ensures { result ≡ connect_allowed past.now g }
 {
-    at(Event::is_manual_hub, past, g) && !survey::is_connected(past, survey, g) && has_room(past, found)
+    at(Event::is_manual_hub, past, g)
+        && !survey::is_connected(past, survey, g)
+        && has_room(past, found)
 }
 
 /// Whether a caller may decline an item that was projected to `f`.

@@ -1,7 +1,7 @@
 //! Where an item goes.
 
-ghost use Rattle.std.specs.Prelude.{◌≡◌, ℕ, ◌+◌, ◌-◌, ◌<◌, ◌≤◌, ◌==◌, ◌&&◌, false, true, Some, None, [], ◌∷◌, ◌++◌, IfOk, length, filter, slice_index_or, is_some};
-ghost use Rattle.std.specs.Option.{option_and_then, option_map_or, option_to_list};
+ghost use Rattle.std.specs.Prelude.{◌≡◌, ◌-◌, ◌<◌, ◌==◌, ◌&&◌, false, true, Some, None, IfOk, filter, is_some};
+ghost use Rattle.std.specs.Option.{option_and_then, option_to_list};
 ghost use Rattle.rx_event.specs.Events.{is_subscriber_of};
 ghost use Rattle.rx_event.specs.Tree.{at, is_open, open_subscribers, parent};
 ghost use Rattle.rx_event.specs.Climb.{stop_at, onward_from, onward};

@@ -1,13 +1,12 @@
 //! What operators must do before a caller may go on.
 
-ghost use Rattle.std.specs.Prelude.{◌≡◌, ℕ, ◌+◌, ◌<◌, ◌≤◌, ◌&&◌, ◌||◌, ◌↔◌, IsTrue, false, true, Some, None, length, slice_get};
+ghost use Rattle.std.specs.Prelude.{◌≡◌, ◌+◌, ◌<◌, ◌&&◌, ◌||◌, ◌↔◌, IsTrue, false, true, Some, None, length};
 ghost use Rattle.std.specs.List.{list_any};
-ghost use Rattle.std.specs.Option.{option_map_or};
-ghost use Rattle.rx_event.specs.Tree.{at, is_open, parent};
+ghost use Rattle.rx_event.specs.Tree.{at};
 ghost use Rattle.rx_event.specs.Forced.{IsSettled};
 ghost use Rattle.rx_audit.specs.Known.{IsFoundHere, IsSurveyed};
 ghost use Rattle.rx_event.specs.Sames.{same_terminal};
-ghost use Rattle.rx_audit.specs.Rules.{connect_due, any_connect_due, passes_on, completes, is_left, must_go, source_named_at, makes_due, any_due, ends_child_so, fails_child, completes_source, ends_source_so, is_cut_so, completion_due, failure_due, end_due_by_kind, open_end_due, end_due, close_due, is_forced, hub_connected_at};
+ghost use Rattle.rx_audit.specs.Rules.{connect_due, any_connect_due, passes_on, completes, is_left, must_go, source_named_at, makes_due, any_due, ends_child_so, fails_child, completes_source, ends_source_so, is_cut_so, completion_due, end_due_by_kind, open_end_due, end_due, close_due, is_forced, hub_connected_at};
 
 use crate::event_tests::at;
 use crate::found::{self, Found};

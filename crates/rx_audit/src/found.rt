@@ -1,6 +1,6 @@
 //! What was found of the events so far.
 
-ghost use Rattle.std.specs.Prelude.{◌≡◌, ℕ, ◌+◌, ◌*◌, ◌^◌, ◌<◌, ◌≤◌, ◌||◌, false, true, [], ◌∷◌, ◌++◌, IfOk, OnOk, length, slice_index_or, sum_by, replicate};
+ghost use Rattle.std.specs.Prelude.{◌≡◌, ℕ, ◌+◌, ◌*◌, ◌^◌, ◌<◌, ◌≤◌, ◌||◌, false, [], ◌∷◌, ◌++◌, IfOk, OnOk, length, slice_index_or, sum_by, replicate};
 ghost use Rattle.std.specs.List.{list_any};
 ghost use Rattle.std.specs.Option.{option_and_then};
 ghost use Rattle.rx_event.specs.Events.{is_source_of, is_notifier_of};

@@ -1,7 +1,6 @@
 //! Lists of marks and of counts, by number.
 
-ghost use Rattle.std.specs.Prelude.{◌≡◌, ℕ, ◌+◌, ◌<◌, ◌≤◌, ◌^◌, false, true, Some, None, length, slice_index_or, slice_set, replicate};
-ghost use Rattle.std.specs.Option.{option_map_or};
+ghost use Rattle.std.specs.Prelude.{◌≡◌, ℕ, ◌+◌, ◌<◌, ◌^◌, false, true, Some, length, slice_index_or, replicate};
 ghost use Rattle.rx_audit.specs.Tables.{marks_with, counts_with, counts_plus};
 
 /// Whether the mark of number `n` is set.

@@ -1,10 +1,10 @@
 //! Which nodes are open.
 
-ghost use Rattle.std.specs.Prelude.{◌≡◌, ℕ, ◌+◌, ◌<◌, ◌≤◌, ◌==◌, ◌&&◌, false, [], ◌∷◌, ◌++◌, length, slice_index_or, slice_get, IsTrue};
-ghost use Rattle.std.specs.Option.{option_map_or, option_and_then};
+ghost use Rattle.std.specs.Prelude.{◌≡◌, ℕ, ◌+◌, ◌<◌, ◌≤◌, ◌==◌, ◌&&◌, false, [], ◌∷◌, ◌++◌, length};
+ghost use Rattle.std.specs.Option.{option_and_then};
 ghost use Rattle.std.proofs.Math.Bool.{not};
-ghost use Rattle.rx_event.specs.Events.{parent_named, is_switch, is_inner_of, makes_node, named_by};
-ghost use Rattle.rx_event.specs.Tree.{at, parent, shuts, is_open, ancestors, is_switched_inner, if_less};
+ghost use Rattle.rx_event.specs.Events.{parent_named, is_switch, is_inner_of, makes_node};
+ghost use Rattle.rx_event.specs.Tree.{at, parent, shuts, is_open, is_switched_inner, if_less};
 ghost use Rattle.rx_audit.specs.Tables.{IsMarked};
 ghost use Rattle.rx_audit.specs.Rules.{stays_open, opens};
 ghost use Rattle.rx_event.proofs.Laws.Openness.{shuts_none};

@@ -3,7 +3,7 @@
 //! Nodes are counted and not listed one by one, so that an item that takes many paths costs no
 //! more than the nodes on them.
 
-ghost use Rattle.std.specs.Prelude.{◌≡◌, ℕ, ◌+◌, ◌*◌, ◌^◌, ◌<◌, ◌≤◌, Some, None, IfOk, OnOk, MatchOption, length, take, drop, slice_get, sum_by};
+ghost use Rattle.std.specs.Prelude.{◌≡◌, ℕ, ◌+◌, ◌*◌, ◌^◌, ◌<◌, ◌≤◌, Some, None, IfOk, OnOk, MatchOption, length, take, drop, sum_by};
 ghost use Rattle.rx_event.specs.Tree.{is_open};
 ghost use Rattle.rx_event.specs.Climb.{onward, visits};
 ghost use Rattle.rx_audit.specs.Tables.{IsMarked};

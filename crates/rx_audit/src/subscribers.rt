@@ -1,8 +1,7 @@
 //! The open subscribers of each hub, one after another.
 
-ghost use Rattle.std.specs.Prelude.{◌≡◌, ℕ, ◌+◌, ◌<◌, ◌≤◌, ◌&&◌, true, IfOk, length, replicate, slice_index_or};
-ghost use Rattle.rx_event.specs.Events.{is_subscriber_of};
-ghost use Rattle.rx_event.specs.Tree.{at, is_open, open_subscribers};
+ghost use Rattle.std.specs.Prelude.{◌≡◌, ◌<◌, IfOk, length, replicate};
+ghost use Rattle.rx_event.specs.Tree.{is_open, open_subscribers};
 ghost use Rattle.rx_audit.specs.Tables.{IsMarked};
 ghost use Rattle.rx_audit.specs.Chain.{IsChained};
 

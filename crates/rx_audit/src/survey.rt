@@ -1,8 +1,7 @@
 //! What the open nodes stand for: each list is by the number of a node or a hub.
 
-ghost use Rattle.std.specs.Prelude.{◌≡◌, ℕ, ◌+◌, ◌<◌, ◌≤◌, ◌&&◌, false, true, Some, None, IfOk, length, slice_get, slice_index_or, if◌then◌else◌};
-ghost use Rattle.std.specs.List.{list_any};
-ghost use Rattle.rx_event.specs.Tree.{is_open, has_open_child, parent};
+ghost use Rattle.std.specs.Prelude.{◌≡◌, ◌<◌, ◌≤◌, false, Some, None, IfOk, length, slice_index_or};
+ghost use Rattle.rx_event.specs.Tree.{is_open, has_open_child};
 ghost use Rattle.rx_audit.specs.Tables.{IsMarked, IsTable, IsTableBelow};
 ghost use Rattle.rx_audit.specs.Survey.{AreHubsNamed, IsSized, IsSurvey};
 ghost use Rattle.rx_audit.specs.Rules.{open_parent, hub_subscribed_at, hub_connected_at, open_subscribed, open_connected, open_waiting, has_key, is_cut, hub_ended_at};

@@ -1,7 +1,7 @@
 //! The verdict on a list of events.
 
-ghost use Rattle.std.specs.Prelude.{◌≡◌, ℕ, ◌+◌, ◌<◌, ◌≤◌, ◌↔◌, true, false, IsTrue, IfOk, IsErr, [], ◌∷◌, ◌++◌, Some, None, MatchOption, length, slice_get, take};
-ghost use Rattle.rx_event.specs.Tree.{is_open, open_nodes};
+ghost use Rattle.std.specs.Prelude.{◌≡◌, ℕ, ◌+◌, ◌<◌, ◌≤◌, ◌↔◌, true, false, IsTrue, IfOk, [], ◌∷◌, ◌++◌, Some, None, MatchOption, length};
+ghost use Rattle.rx_event.specs.Tree.{open_nodes};
 ghost use Rattle.rx_event.specs.Resources.{held_resources, waiting_resources};
 ghost use Rattle.rx_event.specs.Allowed.{IsAllowed};
 ghost use Rattle.rx_event.specs.Forced.{IsConnectDue, IsSettled};

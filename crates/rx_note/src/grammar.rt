@@ -1,6 +1,6 @@
 //! The order of the notes of one observer.
 
-ghost use Rattle.std.specs.Prelude.{◌≡◌, ◌↔◌, Bool, true, false, ◌||◌, OnOk, OnErr, IsOk};
+ghost use Rattle.std.specs.Prelude.{◌≡◌, ◌↔◌, Bool, true, false, OnOk, OnErr, IsOk};
 ghost use Rattle.rx_note.specs.Notes.{is_end};
 
 use crate::note::Note;

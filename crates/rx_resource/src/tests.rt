@@ -1,6 +1,6 @@
 //! Resources that answer faults and words, boxes of them, threads, and refused memory.
 
-ghost use Rattle.std.specs.Prelude.{◌≡◌, ℕ, ◌+◌, ◌<◌, ◌^◌};
+ghost use Rattle.std.specs.Prelude.{◌≡◌, ◌+◌, ◌<◌, ◌^◌};
 ghost use Rattle.rx_resource.specs.declared.Life.{Life};
 
 use crate::{Handed, Life, Released, Resource, Sample};
