@@ -27,3 +27,4 @@ pub mod MarksTouched
 pub mod Waits
 pub mod Stands
 pub mod Released
+pub mod OneEnd

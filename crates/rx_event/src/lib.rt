@@ -3,11 +3,14 @@
 //! Vocabulary: an `Event` is one accepted change, a `History` a list of them with a limit. The
 //! definitions in `specs/` say which nodes a history leaves open and which resources it leaves
 //! held or waiting, what observers were told, what operators still have to do, and which
-//! histories are lawful. `Refusal` names each cause for which a call changes nothing.
+//! histories are lawful. `Marks` are what a node remembers of what happened below it, so that its
+//! operator's rule can be told without the history. `Mail` is a note as it is handed out.
+//! `Refusal` names each cause for which a call changes nothing.
 //!
-//! Promised: a history is the list of the events that were pushed. The laws over the definitions
-//! are contracts of public functions without a body. Not promised: that a history is lawful;
-//! that is for whoever keeps one.
+//! Promised: a history is the list of the events that were pushed, and has room for as many as
+//! were reserved. An event, a place and a kind answer what the definitions say of them; marks
+//! change as the definitions say. The laws over the definitions are contracts of public functions
+//! without a body. Not promised: that a history is lawful; that is for whoever keeps one.
 #![tactic(auto)]
 
 mod event;

@@ -65,7 +65,8 @@ ends_below h d subscribed (suc j) n l o late = whole (ends_each h (onward h n) (
   whole : Ends h (onward h n) → Ends h (n ∷ [])
   whole later = (n ∷ later.0 ++ [], visit later.1 nowhere)
 
-  by_parent : ((p : ℕ) → p < j → is_open h p ≡ true → IsLate h d p → Ends h (p ∷ [])) → (q : Option ℕ) → parent h n ≡ q → AllByRecursion (λ m. Ends h (m ∷ [])) (option_to_list q)
+  by_parent : ((p : ℕ) → p < j → is_open h p ≡ true → IsLate h d p → Ends h (p ∷ [])) → (q : Option ℕ) → parent h n ≡ q →
+      AllByRecursion (λ m. Ends h (m ∷ [])) (option_to_list q)
   by_parent up None below = tt
   by_parent up (Some p) below = let s : p < n = parent-lt h n p below in (up p (omega arith) (parent_open h n p o below) (λ a k within connects. late a k (within_parent h a n p below within) connects), tt)
 
@@ -74,12 +75,14 @@ ends_below h d subscribed (suc j) n l o late = whole (ends_each h (onward h n) (
       let parts : (at (is_subscriber_of g) h s ≡ true) × (is_open h s ≡ true) = and_parts _ _ both in
       subscribed g s parts.0 parts.1 (late n g (is_within_self h n) connects)
 
-  by_event : ((p : ℕ) → p < j → is_open h p ≡ true → IsLate h d p → Ends h (p ∷ [])) → (e : Option Event) → slice_get h n ≡ e → AllByRecursion (λ m. Ends h (m ∷ [])) (option_map_or (onward_from h n) e [])
+  by_event : ((p : ℕ) → p < j → is_open h p ≡ true → IsLate h d p → Ends h (p ∷ [])) → (e : Option Event) → slice_get h n ≡ e →
+      AllByRecursion (λ m. Ends h (m ∷ [])) (option_map_or (onward_from h n) e [])
   by_event up None at_n = tt
   by_event up (Some (Connect g)) at_n = filtered (λ s. at (is_subscriber_of g) h s && is_open h s) (λ s. Ends h (s ∷ [])) (by_subscriber g at_n) (places h)
   by_event up (Some _) at_n = by_parent up (parent h n) refl
 
-  by_stop : ((p : ℕ) → p < j → is_open h p ≡ true → IsLate h d p → Ends h (p ∷ [])) → (s : Option Stop) → AllByRecursion (λ m. Ends h (m ∷ [])) (onward_unless s (option_map_or (onward_from h n) (slice_get h n) []))
+  by_stop : ((p : ℕ) → p < j → is_open h p ≡ true → IsLate h d p → Ends h (p ∷ [])) → (s : Option Stop) →
+      AllByRecursion (λ m. Ends h (m ∷ [])) (onward_unless s (option_map_or (onward_from h n) (slice_get h n) []))
   by_stop up (Some s) = tt
   by_stop up None = by_event up (slice_get h n) refl
 
@@ -158,7 +161,8 @@ filter_map-flat_map f g [] = refl
 filter_map-flat_map f g (x ∷ xs) = filter_map-append f (g x) (flat_map g xs) ∙ ap (λ rest. filter_map f (g x) ++ rest) (filter_map-flat_map f g xs)
 
 -- else its stops are those of where it goes on
-pub stops_in_order : (h : List Event) → IsLawful h → (n : ℕ) → is_open h n ≡ true → visits h n ≤ most_visits → stop_at h n ≡ None → stops h n ≡ flat_map (stops h) (onward h n)
+pub stops_in_order : (h : List Event) → IsLawful h → (n : ℕ) → is_open h n ≡ true → visits h n ≤ most_visits → stop_at h n ≡ None →
+    stops h n ≡ flat_map (stops h) (onward h n)
 unfolding stops
 stops_in_order h law n o few passes = ap (filter_map (stop_at h)) (climb_in_order h law n o few) ∙ ap (λ t. cons_option t (filter_map (stop_at h) (flat_map (climb h) (onward h n)))) passes ∙ filter_map-flat_map (stop_at h) (climb h) (onward h n)
 
@@ -176,7 +180,9 @@ visits_each h k (visit {n = n} {others = others} {later = later} {rest = rest} p
     (sum_by-cons (λ v. times k (onward h v)) n (later ++ rest)) (sum_by-append (λ v. times k (onward h v)) later rest)
     (visits_each h k p) (visits_each h k r)
   where
-    balance : (here onward_here in_all in_both in_later in_rest in_ns in_others on_all on_both on_later on_rest : ℕ) → in_all ≡ here + in_both → in_both ≡ in_later + in_rest → in_ns ≡ here + in_others → on_all ≡ onward_here + on_both → on_both ≡ on_later + on_rest → in_later ≡ onward_here + on_later → in_rest ≡ in_others + on_rest → in_all ≡ in_ns + on_all
+    balance : (here onward_here in_all in_both in_later in_rest in_ns in_others on_all on_both on_later on_rest : ℕ) → in_all ≡ here + in_both →
+        in_both ≡ in_later + in_rest → in_ns ≡ here + in_others → on_all ≡ onward_here + on_both → on_both ≡ on_later + on_rest →
+        in_later ≡ onward_here + on_later → in_rest ≡ in_others + on_rest → in_all ≡ in_ns + on_all
     balance here onward_here in_all in_both in_later in_rest in_ns in_others on_all on_both on_later on_rest a b c d e f g = omega arith
 
 -- a sum over a list by how often each number is in it
@@ -203,7 +209,8 @@ visits_in : (h : List Event) (n : ℕ) (vs : List ℕ) → is_open h n ≡ true 
 visits_in h n vs o v = all_within h vs (visits_open h v (o, tt))
 
 -- a node is visited as often as the others go on to it, each as often as it is visited
-pub visits_by_node : (h : List Event) (n : ℕ) (vs : List ℕ) → is_open h n ≡ true → Visits h (n ∷ []) vs → (k : ℕ) → times k vs ≡ cond (n == k) 1 0 + sum_by (λ v. times v vs * times k (onward h v)) (places h)
+pub visits_by_node : (h : List Event) (n : ℕ) (vs : List ℕ) → is_open h n ≡ true → Visits h (n ∷ []) vs → (k : ℕ) →
+    times k vs ≡ cond (n == k) 1 0 + sum_by (λ v. times v vs * times k (onward h v)) (places h)
 visits_by_node h n vs o v k =
     let start : times k (n ∷ []) ≡ cond (n == k) 1 0 = sum_by-cons (λ m. cond (m == k) 1 0) n [] ∙ add-zero (cond (n == k) 1 0) in
     visits_each h k v ∙ (λ i. start i + sum_by-by_number (λ u. times k (onward h u)) (length h) vs (visits_in h n vs o v) i)

@@ -66,7 +66,8 @@ abbrev pub paid_count : List Event → Event → ℕ
 paid_count h e = count_by (λ n. (is_open h n && at is_merging h n) && pays n e) (places h)
 
 -- what is owed after an event that cuts nothing, and what it pays, was owed before, or is projected by it
-pub owed_count-push : (h : List Event) (e : Event) → IsLawful h → MayFollow h e → ((n : ℕ) → is_cut h e n ≡ false) → owed_count (h ++ e ∷ []) + paid_count h e ≡ owed_count h + sum_by (projected_open h (stops_of h e)) (places h)
+pub owed_count-push : (h : List Event) (e : Event) → IsLawful h → MayFollow h e → ((n : ℕ) → is_cut h e n ≡ false) →
+    owed_count (h ++ e ∷ []) + paid_count h e ≡ owed_count h + sum_by (projected_open h (stops_of h e)) (places h)
 owed_count-push h e law next whole =
     let older = owed_count_older h e in
     let balance = sums_balance (owed_open (h ++ e ∷ [])) (λ n. cond ((is_open h n && at is_merging h n) && pays n e) 1 0) (owed_open h) (projected_open h (stops_of h e)) (length h) (λ n l.
@@ -77,11 +78,13 @@ owed_count-push h e law next whole =
     inner true p x y z same = same
     inner false p x y z same = refl
 
-    shape : (o m p : Bool) (x y z : ℕ) → x + cond p 1 0 ≡ y + z → cond ((o && not false) && m) x 0 + cond ((o && m) && p) 1 0 ≡ cond (o && m) y 0 + cond (o && m) z 0
+    shape : (o m p : Bool) (x y z : ℕ) → x + cond p 1 0 ≡ y + z →
+        cond ((o && not false) && m) x 0 + cond ((o && m) && p) 1 0 ≡ cond (o && m) y 0 + cond (o && m) z 0
     shape true m p x y z same = inner m p x y z same
     shape false m p x y z same = refl
 
-owed_open_no_rise : (h : List Event) (e : Event) → IsLawful h → MayFollow h e → stops_of h e ≡ [] → (n : ℕ) → n < length h → owed_open (h ++ e ∷ []) n ≤ owed_open h n
+owed_open_no_rise : (h : List Event) (e : Event) → IsLawful h → MayFollow h e → stops_of h e ≡ [] → (n : ℕ) → n < length h →
+    owed_open (h ++ e ∷ []) n ≤ owed_open h n
 owed_open_no_rise h e law next no_stops n l =
     let b = owed-push h e law next n in
     let c : count_by (is_projection_to n) (stops_of h e) ≡ 0 = ap (λ ss. count_by (is_projection_to n) ss) no_stops in
@@ -101,7 +104,8 @@ owed_count_no_rise h e law next no_stops =
     omega arith
 
 -- the opening of an inner pays one
-pub owed_count_falls-inner : (h : List Event) (f : ℕ) (kind : Kind) → IsLawful h → MayFollow h (Open (Inner f) kind) → owed_count (h ++ Open (Inner f) kind ∷ []) + 1 ≤ owed_count h
+pub owed_count_falls-inner : (h : List Event) (f : ℕ) (kind : Kind) → IsLawful h → MayFollow h (Open (Inner f) kind) →
+    owed_count (h ++ Open (Inner f) kind ∷ []) + 1 ≤ owed_count h
 owed_count_falls-inner h f kind law next =
     let older = owed_count_older h (Open (Inner f) kind) in
     let falls = sum_by_falls (owed_open h) (owed_open (h ++ Open (Inner f) kind ∷ [])) (length h) f l (owed_open_no_rise h (Open (Inner f) kind) law next refl) at_f in
@@ -140,7 +144,8 @@ projects_nothing h = sum_by_none (projected_open h []) (length h) (λ n l. zero_
 -- the debt after one more event -------------------------------------------------------------------
 
 -- the debt with all that the event takes away, against the debt with all that it adds
-pub debt-push : (h : List Event) (e : Event) → IsLawful h → MayFollow h e → debt (h ++ e ∷ []) + cut_count h e + lost_count h e + cond (is_take e) 1 0 + owed_count h ≡ debt h + cond (makes_node e) 1 0 + 2 * cond (makes_resource e) 1 0 + owed_count (h ++ e ∷ [])
+pub debt-push : (h : List Event) (e : Event) → IsLawful h → MayFollow h e →
+    debt (h ++ e ∷ []) + cut_count h e + lost_count h e + cond (is_take e) 1 0 + owed_count h ≡ debt h + cond (makes_node e) 1 0 + 2 * cond (makes_resource e) 1 0 + owed_count (h ++ e ∷ [])
 debt-push h e law next =
     let before = debt-counts h in
     let after = debt-counts (h ++ e ∷ []) in
@@ -164,7 +169,8 @@ no_loss h e whole keeps = lost_none h e (λ r. by_node (node_of h r) (keeps r)) 
   by_node (Some n) none = rw (whole n) none
 
 -- an event that only makes a node, or nothing
-debt_made : (h : List Event) (e : Event) → IsLawful h → MayFollow h e → shuts_none e ≡ true → makes_resource e ≡ false → is_take e ≡ false → ((r : ℕ) → is_remove_of r e ≡ false) → ((n : ℕ) → pays n e ≡ false) → stops_of h e ≡ [] → debt (h ++ e ∷ []) ≡ debt h + cond (makes_node e) 1 0
+debt_made : (h : List Event) (e : Event) → IsLawful h → MayFollow h e → shuts_none e ≡ true → makes_resource e ≡ false → is_take e ≡ false →
+    ((r : ℕ) → is_remove_of r e ≡ false) → ((n : ℕ) → pays n e ≡ false) → stops_of h e ≡ [] → debt (h ++ e ∷ []) ≡ debt h + cond (makes_node e) 1 0
 debt_made h e law next s no_accept no_take no_remove no_pay no_stops =
     let whole : (n : ℕ) → is_cut h e n ≡ false = λ n. is_cut_none h e n s in
     let b = debt-push h e law next in
@@ -184,7 +190,8 @@ debt-root h kind law next = debt_made h (Open Root kind) law next refl refl refl
 pub debt-source : (h : List Event) (p : ℕ) (kind : Kind) → IsLawful h → MayFollow h (Open (Source p) kind) → debt (h ++ Open (Source p) kind ∷ []) ≡ debt h + 1
 debt-source h p kind law next = debt_made h (Open (Source p) kind) law next refl refl refl (λ r. refl) (λ n. refl) refl
 
-pub debt-notifier : (h : List Event) (p : ℕ) (kind : Kind) → IsLawful h → MayFollow h (Open (Notifier p) kind) → debt (h ++ Open (Notifier p) kind ∷ []) ≡ debt h + 1
+pub debt-notifier : (h : List Event) (p : ℕ) (kind : Kind) → IsLawful h → MayFollow h (Open (Notifier p) kind) →
+    debt (h ++ Open (Notifier p) kind ∷ []) ≡ debt h + 1
 debt-notifier h p kind law next = debt_made h (Open (Notifier p) kind) law next refl refl refl (λ r. refl) (λ n. refl) refl
 
 pub debt-connect : (h : List Event) (g : ℕ) → IsLawful h → MayFollow h (Connect g) → debt (h ++ Connect g ∷ []) ≡ debt h + 1
@@ -258,7 +265,8 @@ debt-decline h f law next =
     omega arith
 
 -- an inner of a FlatMap costs what the projection cost that it pays
-pub debt-inner_flat : (h : List Event) (f : ℕ) (kind : Kind) → IsLawful h → MayFollow h (Open (Inner f) kind) → at is_switch h f ≡ false → debt (h ++ Open (Inner f) kind ∷ []) ≡ debt h
+pub debt-inner_flat : (h : List Event) (f : ℕ) (kind : Kind) → IsLawful h → MayFollow h (Open (Inner f) kind) → at is_switch h f ≡ false →
+    debt (h ++ Open (Inner f) kind ∷ []) ≡ debt h
 debt-inner_flat h f kind law next flat =
     let whole : (m : ℕ) → is_cut h (Open (Inner f) kind) m ≡ false = is_cut_inner_flat h f kind flat in
     let b = debt-push h (Open (Inner f) kind) law next in

@@ -69,13 +69,15 @@ one_connection = by_events (λ h. (g a b : ℕ) → TwoConnections h g a b → a
   before_open : (h : List Event) (e : Event) (a : ℕ) → a < length h → is_open (h ++ e ∷ []) a ≡ true → is_open h a ≡ true
   before_open h e a l o = (and_parts _ _ (sym (is_open_cut h e a l) ∙ o)).0
 
-  clash : (h : List Event) (e : Event) → MayFollow h e → (g a b : ℕ) → a < length h → b ≡ length h → at (is_connect_of g) (h ++ e ∷ []) a ≡ true → is_open (h ++ e ∷ []) a ≡ true → at (is_connect_of g) (h ++ e ∷ []) b ≡ true → ⊥
+  clash : (h : List Event) (e : Event) → MayFollow h e → (g a b : ℕ) → a < length h → b ≡ length h → at (is_connect_of g) (h ++ e ∷ []) a ≡ true →
+      is_open (h ++ e ∷ []) a ≡ true → at (is_connect_of g) (h ++ e ∷ []) b ≡ true → ⊥
   clash h e next g a b l last one one_open other =
       let new : is_connect_of g e ≡ true = sym (ap (λ o. option_map_or (is_connect_of g) o false) (ap (slice_get (h ++ e ∷ [])) last ∙ slice_get_last h e)) ∙ other in
       let connects : at (is_connect_of g) h a ≡ true = sym (at-append (is_connect_of g) h (e ∷ []) a l) ∙ one in
       filter_nonempty (λ n. at (is_connect_of g) h n && is_open h n) 0 (length h) a (omega arith) (omega arith) (and_from _ _ connects (before_open h e a l one_open)) (connect_free h e g next new)
 
-  after : (h : List Event) (e : Event) → IsLawful h → MayFollow h e → ((g a b : ℕ) → TwoConnections h g a b → a ≡ b) → (g a b : ℕ) → TwoConnections (h ++ e ∷ []) g a b → a ≡ b
+  after : (h : List Event) (e : Event) → IsLawful h → MayFollow h e → ((g a b : ℕ) → TwoConnections h g a b → a ≡ b) → (g a b : ℕ) →
+      TwoConnections (h ++ e ∷ []) g a b → a ≡ b
   after h e law next before g a b two = by_place (cases_order a (length h)) (cases_order b (length h)) where
     within : (n : ℕ) → is_open (h ++ e ∷ []) n ≡ true → n < length h + 1
     within n o = let l = is_open_within (h ++ e ∷ []) n o in omega (arith, length-append h (e ∷ []))
@@ -136,7 +138,8 @@ unsubscribed_unconnected h g settled auto unsubscribed = by_list (open_connectio
       absurd (settled.none (Close c) (due none_due (left parts.1 (at_connect h g c parts.0) auto unsubscribed)))
 
 -- so it has one connection where it has a subscriber
-pub one_where_subscribed : (h : List Event) (g : ℕ) → IsLawful h → IsSettled h → at is_auto_hub h g ≡ true → open_subscribers h g ≢ [] → length (open_connections h g) ≡ 1
+pub one_where_subscribed : (h : List Event) (g : ℕ) → IsLawful h → IsSettled h → at is_auto_hub h g ≡ true → open_subscribers h g ≢ [] →
+    length (open_connections h g) ≡ 1
 one_where_subscribed h g law settled auto subscribed = by_list (open_connections h g) refl (one_open_connection h law g) where
   by_list : (cs : List ℕ) → open_connections h g ≡ cs → length cs ≤ 1 → length cs ≡ 1
   by_list [] e few = absurd (subscribed (subscribed_connected h g settled auto e))
@@ -167,7 +170,8 @@ subscriber_hub h law g s subscribes =
     omega (arith, length-take s h)
 
 -- the connections above an old node were there when it was a new one
-older_order : (h : List Event) (g s q a k : ℕ) → IsInOrderAt (take s h) g q → q < s → s < length h → is_within h a q ≡ true → slice_get h a ≡ Some (Connect k) → g < k
+older_order : (h : List Event) (g s q a k : ℕ) → IsInOrderAt (take s h) g q → q < s → s < length h → is_within h a q ≡ true → slice_get h a ≡ Some (Connect k) →
+    g < k
 older_order h g s q a k order l m within connects =
     let same : take s h ++ drop s h ≡ h = take-append-drop s h in
     let room : length (take s h) ≡ s = length-take-le s h (omega arith) in
@@ -177,7 +181,8 @@ older_order h g s q a k order l m within connects =
     order a k (ap (list_any (λ b. a == b)) above ∙ within) (here ∙ connects)
 
 -- every connection above a subscriber is of a later hub, so that no item goes round in a circle
-pub hubs_in_order : (h : List Event) → IsLawful h → (g s a k : ℕ) → at (is_subscriber_of g) h s ≡ true → is_within h a s ≡ true → slice_get h a ≡ Some (Connect k) → g < k
+pub hubs_in_order : (h : List Event) → IsLawful h → (g s a k : ℕ) → at (is_subscriber_of g) h s ≡ true → is_within h a s ≡ true →
+    slice_get h a ≡ Some (Connect k) → g < k
 hubs_in_order h law g s a k subscribes within connects = by_place found.0 found.1 (may_subscribe (lawful_at h law s (Open found.0 (Sub g)) found.1)).1 (within_cases h a s within) where
   found : (place : Place) × (slice_get h s ≡ Some (Open place (Sub g)))
   found = subscriber_found g (slice_get h s) subscribes
@@ -185,13 +190,15 @@ hubs_in_order h law g s a k subscribes within connects = by_place found.0 found.
   itself : (place : Place) → slice_get h s ≡ Some (Open place (Sub g)) → a ≡ s → ⊥
   itself place at_s same = false≢true (ap (is_connect_of k) (same_Some (Open place (Sub g)) (Connect k) (sym at_s ∙ ap (slice_get h) (sym same) ∙ connects)) ∙ eq-eqb k k refl)
 
-  named : (place : Place) (q p : ℕ) → slice_get h s ≡ Some (Open place (Sub g)) → IsInOrderAt (take s h) g q → Some q ≡ Some p → parent h s ≡ Some p → is_within h a p ≡ true → g < k
+  named : (place : Place) (q p : ℕ) → slice_get h s ≡ Some (Open place (Sub g)) → IsInOrderAt (take s h) g q → Some q ≡ Some p → parent h s ≡ Some p →
+      is_within h a p ≡ true → g < k
   named place q p at_s order name below above =
       let number : q ≡ p = same_Some q p name in
       let l : p < s = parent-lt h s p below in
       older_order h g s q a k order (omega arith) (slice_get_within h s (Open place (Sub g)) at_s) (ap (is_within h a) number ∙ above) connects
 
-  by_place : (place : Place) → slice_get h s ≡ Some (Open place (Sub g)) → IsInOrder (take s h) g place → (a ≡ s) ⊎ ((p : ℕ) × (parent h s ≡ Some p) × (is_within h a p ≡ true)) → g < k
+  by_place : (place : Place) → slice_get h s ≡ Some (Open place (Sub g)) → IsInOrder (take s h) g place →
+      (a ≡ s) ⊎ ((p : ℕ) × (parent h s ≡ Some p) × (is_within h a p ≡ true)) → g < k
   by_place place at_s order (inl same) = absurd (itself place at_s same)
   by_place Root at_s order (inr (p, below, above)) = absurd (none-some p (parent_name h s p (Open Root (Sub g)) below at_s))
   by_place (Source q) at_s order (inr (p, below, above)) = named (Source q) q p at_s order (parent_name h s p (Open (Source q) (Sub g)) below at_s) below above

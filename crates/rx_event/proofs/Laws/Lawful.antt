@@ -38,7 +38,8 @@ pub IsLawful_empty : IsLawful []
 unfolding moments
 IsLawful_empty = record { each = tt }
 
-lawful_after : (b h : List Event) → AllByRecursion (λ (m : Moment). MayFollow m.before m.event) (moments_after b h) → (i : ℕ) (e : Event) → slice_get h i ≡ Some e → MayFollow (b ++ take i h) e
+lawful_after : (b h : List Event) → AllByRecursion (λ (m : Moment). MayFollow m.before m.event) (moments_after b h) → (i : ℕ) (e : Event) →
+    slice_get h i ≡ Some e → MayFollow (b ++ take i h) e
 lawful_after b [] each i e at_i = absurd (none-some e at_i)
 lawful_after b (x ∷ h) each zero e at_i = rw (append-nil b, ← same_Some x e at_i) each.0
 lawful_after b (x ∷ h) each (suc i) e at_i = rw (← append_assoc b (x ∷ []) (take i h)) (lawful_after (b ++ x ∷ []) h each.1 i e at_i)
@@ -50,7 +51,7 @@ lawful_at h law i e at_i = lawful_after [] h law.each i e at_i
 
 -- ends --------------------------------------------------------------------------------------------
 
-due_open : {h : List Event} {c : ℕ} {t : Terminal} → IsDue h (End c t) → is_open h c ≡ true
+pub due_open : {h : List Event} {c : ℕ} {t : Terminal} → IsDue h (End c t) → is_open h c ≡ true
 due_open (mirrored o k e) = o
 due_open (fired o k e) = o
 due_open (failed o k e) = o

@@ -26,12 +26,14 @@ first_passes p xs x rest e =
 pub filter_nonempty : (p : ℕ → Bool) (s n k : ℕ) → s ≤ k → k < s + n → p k ≡ true → filter p (range_with_len s n) ≡ [] → ⊥
 filter_nonempty p s zero k above below passes empty = absurd (omega arith)
 filter_nonempty p s (suc n) k above below passes empty = by_test (p s) refl (filter_nonempty p (s + 1) n k) empty where
-  by_place : (p s ≡ false) → (s + 1 ≤ k → k < (s + 1) + n → p k ≡ true → filter p (range_with_len (s + 1) n) ≡ [] → ⊥) → filter p (range_with_len (s + 1) n) ≡ [] → (s ≡ k) ⊎ ((s < k) ⊎ (k < s)) → ⊥
+  by_place : (p s ≡ false) → (s + 1 ≤ k → k < (s + 1) + n → p k ≡ true → filter p (range_with_len (s + 1) n) ≡ [] → ⊥) →
+      filter p (range_with_len (s + 1) n) ≡ [] → (s ≡ k) ⊎ ((s < k) ⊎ (k < s)) → ⊥
   by_place out rest none (inl same) = both_ways (p s) out (ap p same ∙ passes)
   by_place out rest none (inr (inl l)) = rest (omega arith) (omega arith) passes none
   by_place out rest none (inr (inr l)) = absurd (omega arith)
 
-  by_test : (b : Bool) → p s ≡ b → (s + 1 ≤ k → k < (s + 1) + n → p k ≡ true → filter p (range_with_len (s + 1) n) ≡ [] → ⊥) → cond b (s ∷ filter p (range_with_len (s + 1) n)) (filter p (range_with_len (s + 1) n)) ≡ [] → ⊥
+  by_test : (b : Bool) → p s ≡ b → (s + 1 ≤ k → k < (s + 1) + n → p k ≡ true → filter p (range_with_len (s + 1) n) ≡ [] → ⊥) →
+      cond b (s ∷ filter p (range_with_len (s + 1) n)) (filter p (range_with_len (s + 1) n)) ≡ [] → ⊥
   by_test true at_s rest none = absurd (let long : suc (length (filter p (range_with_len (s + 1) n))) ≡ 0 = ap length none in omega arith)
   by_test false at_s rest none = by_place at_s rest none (cases_order s k)
 
@@ -47,6 +49,7 @@ filter_few p s (suc n) same = by_test (p s) refl (filter_few p (s + 1) n same) w
   other at_s k l (inl passes) = absurd (let e = same s k at_s passes in omega arith)
   other at_s k l (inr fails) = fails
 
-  by_test : (b : Bool) → p s ≡ b → length (filter p (range_with_len (s + 1) n)) ≤ 1 → length (cond b (s ∷ filter p (range_with_len (s + 1) n)) (filter p (range_with_len (s + 1) n))) ≤ 1
+  by_test : (b : Bool) → p s ≡ b → length (filter p (range_with_len (s + 1) n)) ≤ 1 →
+      length (cond b (s ∷ filter p (range_with_len (s + 1) n)) (filter p (range_with_len (s + 1) n))) ≤ 1
   by_test true at_s rest = rw (filter_none p (s + 1) n (λ k l. other at_s k l (cases_Bool (p k)))) (omega arith)
   by_test false at_s rest = rest

@@ -34,30 +34,38 @@ use Rattle.rx_event.proofs.Laws.Searches.{or_false, list_any_push, list_any_same
 ended_old : (h : List Event) (e : Event) → MayFollow h e → (c : ℕ) (u : Terminal) → e ≡ End c u → c < length h
 ended_old h e next c u same = let now : MayFollow h (End c u) = rw (← same) next in is_open_within h c (may_end now)
 
-ended_older : (h : List Event) → IsLawful h → (i : ℕ) (x : Event) → slice_get h i ≡ Some x → (c : ℕ) (u : Terminal) → x ≡ End c u → c < length h
+pub ended_older : (h : List Event) → IsLawful h → (i : ℕ) (x : Event) → slice_get h i ≡ Some x → (c : ℕ) (u : Terminal) → x ≡ End c u → c < length h
 ended_older h law i x at_i c u same =
     let a : c < i = ended_after h law i c u (at_i ∙ ap Some same) in
     let b : i < length h = slice_get_within h i x at_i in
     omega arith
 
-ends_by_kept : (h t : List Event) (n : ℕ) → n < length h → (x : Event) → ((c : ℕ) (u : Terminal) → x ≡ End c u → c < length h) → ends_by (h ++ t) n x ≡ ends_by h n x
+ends_by_kept : (h t : List Event) (n : ℕ) → n < length h → (x : Event) → ((c : ℕ) (u : Terminal) → x ≡ End c u → c < length h) →
+    ends_by (h ++ t) n x ≡ ends_by h n x
 ends_by_kept h t n l (End c u) old = rw (parent-append h t c (old c u refl), at-append is_merging h t n l) refl
 ends_by_kept h t n l _ old = refl
 
-completes_kept : (h t : List Event) (n : ℕ) (x : Event) → ((c : ℕ) (u : Terminal) → x ≡ End c u → c < length h) → completes_source (h ++ t) n x ≡ completes_source h n x
+completes_kept : (h t : List Event) (n : ℕ) (x : Event) → ((c : ℕ) (u : Terminal) → x ≡ End c u → c < length h) →
+    completes_source (h ++ t) n x ≡ completes_source h n x
 completes_kept h t n (End c Completed) old = at-append (is_source_of n) h t c (old c Completed refl)
 completes_kept h t n (End c (Error code)) old = refl
 completes_kept h t n _ old = refl
 
-pub child_terminal-push : (h : List Event) (e : Event) → IsLawful h → MayFollow h e → (n : ℕ) → n < length h → child_terminal (h ++ e ∷ []) n ≡ option_or (child_terminal h n) (ends_by h n e)
+pub child_terminal-push : (h : List Event) (e : Event) → IsLawful h → MayFollow h e → (n : ℕ) → n < length h →
+    child_terminal (h ++ e ∷ []) n ≡ option_or (child_terminal h n) (ends_by h n e)
 unfolding child_terminal
 child_terminal-push h e law next n l =
-    first_some_push (ends_by (h ++ e ∷ []) n) h e ∙ ap (λ o. option_or o (ends_by (h ++ e ∷ []) n e)) (first_some_same_at (ends_by (h ++ e ∷ []) n) (ends_by h n) h (λ i x at_i. ends_by_kept h (e ∷ []) n l x (ended_older h law i x at_i))) ∙ ap (option_or (first_some (ends_by h n) h)) (ends_by_kept h (e ∷ []) n l e (ended_old h e next))
+    first_some_push (ends_by (h ++ e ∷ []) n) h e ∙
+    ap (λ o. option_or o (ends_by (h ++ e ∷ []) n e)) (first_some_same_at (ends_by (h ++ e ∷ []) n) (ends_by h n) h (λ i x at_i. ends_by_kept h (e ∷ []) n l x (ended_older h law i x at_i))) ∙
+    ap (option_or (first_some (ends_by h n) h)) (ends_by_kept h (e ∷ []) n l e (ended_old h e next))
 
-pub source_completed-push : (h : List Event) (e : Event) → IsLawful h → MayFollow h e → (n : ℕ) → source_completed (h ++ e ∷ []) n ≡ (source_completed h n || completes_source h n e)
+pub source_completed-push : (h : List Event) (e : Event) → IsLawful h → MayFollow h e → (n : ℕ) →
+    source_completed (h ++ e ∷ []) n ≡ (source_completed h n || completes_source h n e)
 unfolding source_completed
 source_completed-push h e law next n =
-    list_any_push (completes_source (h ++ e ∷ []) n) h e ∙ ap (λ b. b || completes_source (h ++ e ∷ []) n e) (list_any_same_at (completes_source (h ++ e ∷ []) n) (completes_source h n) h (λ i x at_i. completes_kept h (e ∷ []) n x (ended_older h law i x at_i))) ∙ ap (λ b. list_any (completes_source h n) h || b) (completes_kept h (e ∷ []) n e (ended_old h e next))
+    list_any_push (completes_source (h ++ e ∷ []) n) h e ∙
+    ap (λ b. b || completes_source (h ++ e ∷ []) n e) (list_any_same_at (completes_source (h ++ e ∷ []) n) (completes_source h n) h (λ i x at_i. completes_kept h (e ∷ []) n x (ended_older h law i x at_i))) ∙
+    ap (λ b. list_any (completes_source h n) h || b) (completes_kept h (e ∷ []) n e (ended_old h e next))
 
 pub is_fired-push : (h : List Event) (e : Event) (u : ℕ) → is_fired (h ++ e ∷ []) u ≡ (is_fired h u || list_any (is_firing_of u) (stops_of h e))
 unfolding is_fired
@@ -81,13 +89,14 @@ parent_none : (h : List Event) (e : Event) → parent_named e ≡ None → paren
 unfolding parent
 parent_none h e named = rw (slice_get_last h e, named) refl
 
-child_new : (h : List Event) (e : Event) → IsLawful h → MayFollow h e → (n : ℕ) → is_open_child_of (h ++ e ∷ []) n (length h) ≡ adds_child n e
+pub child_new : (h : List Event) (e : Event) → IsLawful h → MayFollow h e → (n : ℕ) → is_open_child_of (h ++ e ∷ []) n (length h) ≡ adds_child n e
 child_new h e law next n = rw (is_open_new h e next, parent_last (parent_named e) refl) (adds_made n e) where
   parent_last : (o : Option ℕ) → parent_named e ≡ o → parent (h ++ e ∷ []) (length h) ≡ parent_named e
   parent_last (Some p) named = parent-named (h ++ e ∷ []) (IsLawful-push h e law next) (length h) p e (slice_get_last h e) named ∙ sym named
   parent_last None named = parent_none h e named ∙ sym named
 
-pub open_children-push : (h : List Event) (e : Event) → IsLawful h → MayFollow h e → (n : ℕ) → open_children (h ++ e ∷ []) n + cut_children h e n ≡ open_children h n + cond (adds_child n e) 1 0
+pub open_children-push : (h : List Event) (e : Event) → IsLawful h → MayFollow h e → (n : ℕ) →
+    open_children (h ++ e ∷ []) n + cut_children h e n ≡ open_children h n + cond (adds_child n e) 1 0
 unfolding open_children
 open_children-push h e law next n =
     let more = sum_by-places-push (λ k. cond (is_open_child_of (h ++ e ∷ []) n k) 1 0) h e in
@@ -121,7 +130,8 @@ marks_after h e n m =
 pub same_marks : {a b : Bool} {c d : Bool} {i j : Bool} {k l : Bool} {t u : Option Terminal} {o p : ℕ} {q r : ℕ} → a ≡ b → c ≡ d → i ≡ j → k ≡ l → t ≡ u → o ≡ p → q ≡ r → (let x : Marks = record { source_opened = a; notifier_opened = c; fired = i; source_completed = k; child_terminal = t; owed = o; open_children = q } in x) ≡ (let y : Marks = record { source_opened = b; notifier_opened = d; fired = j; source_completed = l; child_terminal = u; owed = p; open_children = r } in y)
 same_marks s n f c t o q = λ x. record { source_opened = s x; notifier_opened = n x; fired = f x; source_completed = c x; child_terminal = t x; owed = o x; open_children = q x }
 
-pub marks-push : (h : List Event) (e : Event) → IsLawful h → MayFollow h e → (n : ℕ) → n < length h → marks_of (h ++ e ∷ []) n ≡ marks_after h e n (marks_of h n)
+pub marks-push : (h : List Event) (e : Event) → IsLawful h → MayFollow h e → (n : ℕ) → n < length h →
+    marks_of (h ++ e ∷ []) n ≡ marks_after h e n (marks_of h n)
 marks-push h e law next n l =
     let o = owed-push h e law next n in
     let q = open_children-push h e law next n in
@@ -157,15 +167,19 @@ is_still (Remove r) = true
 is_still (Take r) = true
 is_still _ = false
 
-marks_still : (h : List Event) (e : Event) → IsLawful h → MayFollow h e → (n : ℕ) → n < length h → shuts_none e ≡ true → is_source_of n e ≡ false → is_notifier_of n e ≡ false → stops_of h e ≡ [] → completes_source h n e ≡ false → ends_by h n e ≡ None → pays n e ≡ false → adds_child n e ≡ false → marks_of (h ++ e ∷ []) n ≡ marks_of h n
+marks_still : (h : List Event) (e : Event) → IsLawful h → MayFollow h e → (n : ℕ) → n < length h → shuts_none e ≡ true → is_source_of n e ≡ false →
+    is_notifier_of n e ≡ false → stops_of h e ≡ [] → completes_source h n e ≡ false → ends_by h n e ≡ None → pays n e ≡ false → adds_child n e ≡ false →
+    marks_of (h ++ e ∷ []) n ≡ marks_of h n
 marks_still h e law next n l s source notifier no_stops no_end no_terminal no_pay no_child =
     let z = cut_children_none h e n (λ k. is_cut_none h e k s) in
     let p : count_by (is_projection_to n) (stops_of h e) ≡ 0 = ap (count_by (is_projection_to n)) no_stops in
     let w : cond {A = ℕ} (pays n e) 1 0 ≡ 0 = ap (λ b. cond {A = ℕ} b 1 0) no_pay in
     let y : cond {A = ℕ} (adds_child n e) 1 0 ≡ 0 = ap (λ b. cond {A = ℕ} b 1 0) no_child in
-    marks-push h e law next n l ∙ same_marks (ap (λ b. list_any (is_source_of n) h || b) source ∙ or_false (list_any (is_source_of n) h)) (ap (λ b. list_any (is_notifier_of n) h || b) notifier ∙ or_false (list_any (is_notifier_of n) h)) (ap (λ ss. is_fired h n || list_any (is_firing_of n) ss) no_stops ∙ or_false (is_fired h n)) (ap (λ b. source_completed h n || b) no_end ∙ or_false (source_completed h n)) (ap (option_or (child_terminal h n)) no_terminal ∙ or_nothing (child_terminal h n)) (omega arith) (omega arith)
+    marks-push h e law next n l ∙
+    same_marks (ap (λ b. list_any (is_source_of n) h || b) source ∙ or_false (list_any (is_source_of n) h)) (ap (λ b. list_any (is_notifier_of n) h || b) notifier ∙ or_false (list_any (is_notifier_of n) h)) (ap (λ ss. is_fired h n || list_any (is_firing_of n) ss) no_stops ∙ or_false (is_fired h n)) (ap (λ b. source_completed h n || b) no_end ∙ or_false (source_completed h n)) (ap (option_or (child_terminal h n)) no_terminal ∙ or_nothing (child_terminal h n)) (omega arith) (omega arith)
 
-pub marks_kept : (h : List Event) (e : Event) → IsLawful h → MayFollow h e → is_still e ≡ true → (n : ℕ) → n < length h → marks_of (h ++ e ∷ []) n ≡ marks_of h n
+pub marks_kept : (h : List Event) (e : Event) → IsLawful h → MayFollow h e → is_still e ≡ true → (n : ℕ) → n < length h →
+    marks_of (h ++ e ∷ []) n ≡ marks_of h n
 marks_kept h (Hub mode) law next still n l = marks_still h (Hub mode) law next n l refl refl refl refl refl refl refl refl
 marks_kept h (Connect g) law next still n l = marks_still h (Connect g) law next n l refl refl refl refl refl refl refl refl
 marks_kept h (Open Root kind) law next still n l = marks_still h (Open Root kind) law next n l refl refl refl refl refl refl refl refl

@@ -37,7 +37,8 @@ over_parts h n over =
     (b.0, eqb-true (open_children h n) 0 b.1, eqb-true (owed h n) 0 a.1)
 
 -- what a FlatMap's or a Switch's marks give is due
-merging_due : (h : List Event) (n : ℕ) (t : Terminal) → is_open h n ≡ true → at is_merging h n ≡ true → option_or (child_terminal h n) (completed_if (is_over (marks_of h n))) ≡ Some t → IsDue h (End n t)
+merging_due : (h : List Event) (n : ℕ) (t : Terminal) → is_open h n ≡ true → at is_merging h n ≡ true →
+    option_or (child_terminal h n) (completed_if (is_over (marks_of h n))) ≡ Some t → IsDue h (End n t)
 merging_due h n t o m found = by_child (child_terminal h n) refl found where
   as_failed : (u : Terminal) → child_terminal h n ≡ Some u → IsDue h (End n u)
   as_failed (Error c) ended = failed o m (child_terminal_some h n (Error c) ended).0
@@ -51,7 +52,8 @@ merging_due h n t o m found = by_child (child_terminal h n) refl found where
       let s = source_completed_true h n parts.0 in
       rw (← w.1) (completed o m (λ c. child_terminal_none h n (Error c) none refl) s.1 s.2 (open_children_none h n parts.1) parts.2)
 
-until_due : (h : List Event) (n : ℕ) (t : Terminal) → is_open h n ≡ true → at is_mirroring h n ≡ true → at is_until h n ≡ true → option_or (child_terminal h n) (completed_if (is_fired h n)) ≡ Some t → IsDue h (End n t)
+until_due : (h : List Event) (n : ℕ) (t : Terminal) → is_open h n ≡ true → at is_mirroring h n ≡ true → at is_until h n ≡ true →
+    option_or (child_terminal h n) (completed_if (is_fired h n)) ≡ Some t → IsDue h (End n t)
 until_due h n t o m u found = by_child (child_terminal h n) refl found where
   by_child : (c : Option Terminal) → child_terminal h n ≡ c → option_or c (completed_if (is_fired h n)) ≡ Some t → IsDue h (End n t)
   by_child (Some v) ended same = rw (← same_Some v t same) (mirrored o m (child_terminal_some h n v ended).0)
@@ -60,7 +62,8 @@ until_due h n t o m u found = by_child (child_terminal h n) refl found where
       rw (← w.1) (fired o u w.0)
 
 -- the terminal that the marks of an open node give is due
-pub terminal_due_due : (h : List Event) (n : ℕ) (made : Event) (t : Terminal) → is_open h n ≡ true → slice_get h n ≡ Some made → terminal_due made (marks_of h n) ≡ Some t → IsDue h (End n t)
+pub terminal_due_due : (h : List Event) (n : ℕ) (made : Event) (t : Terminal) → is_open h n ≡ true → slice_get h n ≡ Some made →
+    terminal_due made (marks_of h n) ≡ Some t → IsDue h (End n t)
 terminal_due_due h n (Open place Pass) t o at_n found = mirrored o (rw at_n refl) (child_terminal_some h n t found).0
 terminal_due_due h n (Connect g) t o at_n found = mirrored o (rw at_n refl) (child_terminal_some h n t found).0
 terminal_due_due h n (Open place Until) t o at_n found = until_due h n t o (rw at_n refl) (rw at_n refl) found
@@ -123,7 +126,8 @@ pub made_passes : (q : Event → Bool) (h : List Event) (n : ℕ) (made : Event)
 made_passes q h n made at_n passes = sym (ap (λ o. option_map_or q o false) at_n) ∙ passes
 
 -- Where the marks of a node give none, only the end of a connection ends it
-pub none_due : (h : List Event) (n : ℕ) (made : Event) (t : Terminal) → slice_get h n ≡ Some made → terminal_due made (marks_of h n) ≡ None → IsDue h (End n t) → SourceEnded h n t
+pub none_due : (h : List Event) (n : ℕ) (made : Event) (t : Terminal) → slice_get h n ≡ Some made → terminal_due made (marks_of h n) ≡ None →
+    IsDue h (End n t) → SourceEnded h n t
 none_due h n made t at_n none (mirrored o m c) =
     let w = mirroring_none made (marks_of h n) (made_passes is_mirroring h n made at_n m) none in
     absurd (child_terminal_none h n t w.0 (ap (λ b. passes_on b t) (ap (λ o. option_map_or is_merging o false) at_n ∙ w.1) ∙ any_passes t) c)
@@ -135,14 +139,16 @@ none_due h n made t at_n none (completed {s = s} o m unfailed source ended close
 none_due h n made t at_n none (cut o e) = e
 
 -- the same of the event
-pub due_at_none : (h : List Event) (n : ℕ) (made : Event) (t : Terminal) → slice_get h n ≡ Some made → due_at made (marks_of h n) n ≡ None → IsDue h (End n t) → SourceEnded h n t
+pub due_at_none : (h : List Event) (n : ℕ) (made : Event) (t : Terminal) → slice_get h n ≡ Some made → due_at made (marks_of h n) n ≡ None → IsDue h (End n t) →
+    SourceEnded h n t
 due_at_none h n made t at_n none d = by_terminal (terminal_due made (marks_of h n)) refl none where
   by_terminal : (u : Option Terminal) → terminal_due made (marks_of h n) ≡ u → option_map (λ v. End n v) u ≡ None → SourceEnded h n t
   by_terminal None ended same = none_due h n made t at_n ended d
   by_terminal (Some v) ended same = absurd (none-some (End n v) (sym same))
 
 -- what the marks of an open node give is forced, where no hub waits
-pub due_at_forced : (h : List Event) (n : ℕ) (made e : Event) → ((g : ℕ) → ¬ IsConnectDue h g) → is_open h n ≡ true → slice_get h n ≡ Some made → due_at made (marks_of h n) n ≡ Some e → IsForced h e
+pub due_at_forced : (h : List Event) (n : ℕ) (made e : Event) → ((g : ℕ) → ¬ IsConnectDue h g) → is_open h n ≡ true → slice_get h n ≡ Some made →
+    due_at made (marks_of h n) n ≡ Some e → IsForced h e
 due_at_forced h n made e none_waits o at_n found = due none_waits (due_at_due h n made e o at_n found)
 
 -- a settled history -------------------------------------------------------------------------------
@@ -161,7 +167,9 @@ due_is_open (completed o k n s e c w) = o
 due_is_open (cut o e) = o
 
 -- A history is settled where no marks of an open node give an event, and no hub's rule does
-pub settled_by_marks : (h : List Event) → ((g : ℕ) → ¬ IsConnectDue h g) → ((n : ℕ) (t : Terminal) → is_open h n ≡ true → ¬ SourceEnded h n t) → ((c : ℕ) → ¬ IsDue h (Close c)) → ((n : ℕ) (made : Event) → is_open h n ≡ true → slice_get h n ≡ Some made → due_at made (marks_of h n) n ≡ None) → IsSettled h
+pub settled_by_marks : (h : List Event) → ((g : ℕ) → ¬ IsConnectDue h g) → ((n : ℕ) (t : Terminal) → is_open h n ≡ true → ¬ SourceEnded h n t) →
+    ((c : ℕ) → ¬ IsDue h (Close c)) → ((n : ℕ) (made : Event) → is_open h n ≡ true → slice_get h n ≡ Some made → due_at made (marks_of h n) n ≡ None) →
+    IsSettled h
 settled_by_marks h none_waits whole kept quiet = record { none = none } where
   ended : (n : ℕ) (t : Terminal) → IsDue h (End n t) → ⊥
   ended n t d =
@@ -226,25 +234,29 @@ due_close_auto : {h : List Event} {c : ℕ} → IsDue h (Close c) → (g : ℕ) 
 due_close_auto (left {g = g} o at_c a n) = (g, a)
 
 -- a lawful history without hubs is settled where no marks give an event
-pub settled_hubless : (h : List Event) → IsLawful h → list_any makes_hub h ≡ false → ((n : ℕ) (made : Event) → is_open h n ≡ true → slice_get h n ≡ Some made → due_at made (marks_of h n) n ≡ None) → IsSettled h
+pub settled_hubless : (h : List Event) → IsLawful h → list_any makes_hub h ≡ false →
+    ((n : ℕ) (made : Event) → is_open h n ≡ true → slice_get h n ≡ Some made → due_at made (marks_of h n) n ≡ None) → IsSettled h
 settled_hubless h law hubless quiet =
     settled_by_marks h (λ g d. hub_at h is_auto_hub auto_makes_hub hubless g d.auto) (λ n t o s. unconnected h law hubless s.connection s.hub s.connects) (λ c d. let w = due_close_auto d in hub_at h is_auto_hub auto_makes_hub hubless w.0 w.1) quiet
 
 -- settled and due ---------------------------------------------------------------------------------
 
 -- in a settled history no marks of an open node give an event
-pub settled_quiet : (h : List Event) → IsSettled h → (n : ℕ) (made : Event) → is_open h n ≡ true → slice_get h n ≡ Some made → due_at made (marks_of h n) n ≡ None
+pub settled_quiet : (h : List Event) → IsSettled h → (n : ℕ) (made : Event) → is_open h n ≡ true → slice_get h n ≡ Some made →
+    due_at made (marks_of h n) n ≡ None
 settled_quiet h settled n made o at_n = by_event (due_at made (marks_of h n) n) refl where
   by_event : (x : Option Event) → due_at made (marks_of h n) n ≡ x → x ≡ None
   by_event None none = refl
   by_event (Some e) found = absurd (settled.none e (due_at_forced h n made e (λ g d. settled.none (Connect g) (connecting d)) o at_n found))
 
 -- without a hub what the marks give is forced
-pub forced_hubless : (h : List Event) → list_any makes_hub h ≡ false → (n : ℕ) (made e : Event) → is_open h n ≡ true → slice_get h n ≡ Some made → due_at made (marks_of h n) n ≡ Some e → IsForced h e
+pub forced_hubless : (h : List Event) → list_any makes_hub h ≡ false → (n : ℕ) (made e : Event) → is_open h n ≡ true → slice_get h n ≡ Some made →
+    due_at made (marks_of h n) n ≡ Some e → IsForced h e
 forced_hubless h hubless n made e o at_n found = due_at_forced h n made e (λ g d. hub_at h is_auto_hub auto_makes_hub hubless g d.auto) o at_n found
 
 -- what is due at a node, if not by the end of a connection, its marks give an end of it
-pub due_by_marks : (h : List Event) (n : ℕ) (made : Event) (t : Terminal) → slice_get h n ≡ Some made → ¬ SourceEnded h n t → IsDue h (End n t) → (u : Terminal) × (due_at made (marks_of h n) n ≡ Some (End n u))
+pub due_by_marks : (h : List Event) (n : ℕ) (made : Event) (t : Terminal) → slice_get h n ≡ Some made → ¬ SourceEnded h n t → IsDue h (End n t) →
+    (u : Terminal) × (due_at made (marks_of h n) n ≡ Some (End n u))
 due_by_marks h n made t at_n whole d = by_terminal (terminal_due made (marks_of h n)) refl where
   by_terminal : (o : Option Terminal) → terminal_due made (marks_of h n) ≡ o → (u : Terminal) × (option_map (λ v. End n v) o ≡ Some (End n u))
   by_terminal (Some u) found = (u, refl)

@@ -40,27 +40,29 @@ and_true_end true = refl
 and_true_end false = refl
 
 -- what takes away just what is within c takes of the children of a node outside c just c
-closing_cut : (h : List Event) (e : Event) (c n : ℕ) → ((k : ℕ) → is_cut h e k ≡ is_within h c k) → is_open h c ≡ true → is_within h c n ≡ false → cut_children h e n ≡ cond (is_child_of h n c) 1 0
-closing_cut h e c n cuts o outside = sum_by-same (λ k. cond (c == k) (cond (is_child_of h n k) 1 0) 0) (λ k. cond (is_open_child_of h n k && is_cut h e k) 1 0) (length h) (λ k l. each k (c == k) refl) ∙ sum_by_one (λ k. cond (is_child_of h n k) 1 0) c (length h) (is_open_within h c o) where
-  self : (k : ℕ) → (c == k) ≡ true → is_within h c k ≡ true
-  self k same = rw (ancestors_step h k, same) refl
+closing_cut : (h : List Event) (e : Event) (c n : ℕ) → ((k : ℕ) → is_cut h e k ≡ is_within h c k) → is_open h c ≡ true → is_within h c n ≡ false →
+    cut_children h e n ≡ cond (is_child_of h n c) 1 0
+closing_cut h e c n cuts o outside = sum_by-same (λ k. cond (c == k) (cond (is_child_of h n k) 1 0) 0) (λ k. cond (is_open_child_of h n k && is_cut h e k) 1 0) (length h) (λ k l. each k (c == k) refl) ∙
+    sum_by_one (λ k. cond (is_child_of h n k) 1 0) c (length h) (is_open_within h c o) where
+      self : (k : ℕ) → (c == k) ≡ true → is_within h c k ≡ true
+      self k same = rw (ancestors_step h k, same) refl
 
-  apart : (k : ℕ) → (c == k) ≡ false → (b : Bool) → is_child_of h n k ≡ b → (w : Bool) → is_within h c k ≡ w → (p : Bool) → cond {A = ℕ} ((p && b) && w) 1 0 ≡ 0
-  apart k other b below false out true = elim b as (λ v. cond {A = ℕ} ((true && v) && false) 1 0 ≡ 0) [ true ↦ refl | false ↦ refl ]
-  apart k other b below w out false = refl
-  apart k other false below true out true = refl
-  apart k other true below true within true = by_parent (within_cases h c k within) where
-    by_parent : (c ≡ k) ⊎ ((p : ℕ) × (parent h k ≡ Some p) × (is_within h c p ≡ true)) → cond {A = ℕ} ((true && true) && true) 1 0 ≡ 0
-    by_parent (inl same) = absurd (both_ways (c == k) other (eq-eqb c k same))
-    by_parent (inr above) =
-        let same : above.0 ≡ n = same_Some above.0 n (sym above.1 ∙ is_child_parent h n k below) in
-        absurd (both_ways (is_within h c n) outside (ap (is_within h c) (sym same) ∙ above.2))
+      apart : (k : ℕ) → (c == k) ≡ false → (b : Bool) → is_child_of h n k ≡ b → (w : Bool) → is_within h c k ≡ w → (p : Bool) → cond {A = ℕ} ((p && b) && w) 1 0 ≡ 0
+      apart k other b below false out true = elim b as (λ v. cond {A = ℕ} ((true && v) && false) 1 0 ≡ 0) [ true ↦ refl | false ↦ refl ]
+      apart k other b below w out false = refl
+      apart k other false below true out true = refl
+      apart k other true below true within true = by_parent (within_cases h c k within) where
+        by_parent : (c ≡ k) ⊎ ((p : ℕ) × (parent h k ≡ Some p) × (is_within h c p ≡ true)) → cond {A = ℕ} ((true && true) && true) 1 0 ≡ 0
+        by_parent (inl same) = absurd (both_ways (c == k) other (eq-eqb c k same))
+        by_parent (inr above) =
+            let same : above.0 ≡ n = same_Some above.0 n (sym above.1 ∙ is_child_parent h n k below) in
+            absurd (both_ways (is_within h c n) outside (ap (is_within h c) (sym same) ∙ above.2))
 
-  each : (k : ℕ) (b : Bool) → (c == k) ≡ b → cond {A = ℕ} (is_open_child_of h n k && is_cut h e k) 1 0 ≡ cond b (cond (is_child_of h n k) 1 0) 0
-  each k true same =
-      let p : is_open h k ≡ true = ap (is_open h) (sym (eqb-true c k same)) ∙ o in
-      rw (cuts k, p, self k same) (ap (λ b. cond {A = ℕ} b 1 0) (and_true_end (is_child_of h n k)))
-  each k false other = rw (cuts k) (apart k other (is_child_of h n k) refl (is_within h c k) refl (is_open h k))
+      each : (k : ℕ) (b : Bool) → (c == k) ≡ b → cond {A = ℕ} (is_open_child_of h n k && is_cut h e k) 1 0 ≡ cond b (cond (is_child_of h n k) 1 0) 0
+      each k true same =
+          let p : is_open h k ≡ true = ap (is_open h) (sym (eqb-true c k same)) ∙ o in
+          rw (cuts k, p, self k same) (ap (λ b. cond {A = ℕ} b 1 0) (and_true_end (is_child_of h n k)))
+      each k false other = rw (cuts k) (apart k other (is_child_of h n k) refl (is_within h c k) refl (is_open h k))
 
 -- the marks of a node that the end of c leaves open
 pub marks-end : (h : List Event) (c : ℕ) (t : Terminal) → IsLawful h → MayFollow h (End c t) → (n : ℕ) → is_open (h ++ End c t ∷ []) n ≡ true → marks_of (h ++ End c t ∷ []) n ≡ record (marks_of h n) { source_completed = source_completed h n || completes_source h n (End c t); child_terminal = option_or (child_terminal h n) (ends_by h n (End c t)); open_children = open_children h n - cond (is_child_of h n c) 1 0 }
@@ -76,13 +78,16 @@ marks-close h c law next n o =
     let parts = and_parts (is_open h n) (not (is_within h c n)) (sym (is_open_outside-close h c n) ∙ o) in
     let z = closing_cut h (Close c) c n (λ k. refl) (may_close next) (not_false (is_within h c n) parts.1) in
     let w : count_by (is_projection_to n) [] ≡ 0 = refl in
-    marks-push h (Close c) law next n (is_open_within h n parts.0) ∙ same_marks (or_false _) (or_false _) (or_false _) (or_false _) (or_nothing _) (omega arith) (omega arith)
+    marks-push h (Close c) law next n (is_open_within h n parts.0) ∙
+    same_marks (or_false _) (or_false _) (or_false _) (or_false _) (or_nothing _) (omega arith) (omega arith)
 
 -- the marks of a node that is not above what ended stay, and of its parent alone do they change
-pub marks-end_other : (h : List Event) (c : ℕ) (t : Terminal) → IsLawful h → MayFollow h (End c t) → (n : ℕ) → is_open (h ++ End c t ∷ []) n ≡ true → is_child_of h n c ≡ false → marks_of (h ++ End c t ∷ []) n ≡ marks_of h n
+pub marks-end_other : (h : List Event) (c : ℕ) (t : Terminal) → IsLawful h → MayFollow h (End c t) → (n : ℕ) → is_open (h ++ End c t ∷ []) n ≡ true →
+    is_child_of h n c ≡ false → marks_of (h ++ End c t ∷ []) n ≡ marks_of h n
 marks-end_other h c t law next n o other =
     let z : cond {A = ℕ} (is_child_of h n c) 1 0 ≡ 0 = ap (λ b. cond {A = ℕ} b 1 0) other in
-    marks-end h c t law next n o ∙ same_marks refl refl refl (ap (λ b. source_completed h n || b) (no_source t) ∙ or_false (source_completed h n)) (ap (option_or (child_terminal h n)) (rw other refl) ∙ or_nothing (child_terminal h n)) refl (omega arith)
+    marks-end h c t law next n o ∙
+    same_marks refl refl refl (ap (λ b. source_completed h n || b) (no_source t) ∙ or_false (source_completed h n)) (ap (option_or (child_terminal h n)) (rw other refl) ∙ or_nothing (child_terminal h n)) refl (omega arith)
   where
     source_named : (x : Option Event) → slice_get h c ≡ x → option_map_or (is_source_of n) x false ≡ true → parent h c ≡ Some n
     source_named None at_c source = absurd (false≢true source)
@@ -100,7 +105,8 @@ marks-end_other h c t law next n o other =
     no_source Completed = by_test (cases_Bool (at (is_source_of n) h c))
     no_source (Error code) = refl
 
-pub marks-close_other : (h : List Event) (c : ℕ) → IsLawful h → MayFollow h (Close c) → (n : ℕ) → is_open (h ++ Close c ∷ []) n ≡ true → is_child_of h n c ≡ false → marks_of (h ++ Close c ∷ []) n ≡ marks_of h n
+pub marks-close_other : (h : List Event) (c : ℕ) → IsLawful h → MayFollow h (Close c) → (n : ℕ) → is_open (h ++ Close c ∷ []) n ≡ true →
+    is_child_of h n c ≡ false → marks_of (h ++ Close c ∷ []) n ≡ marks_of h n
 marks-close_other h c law next n o other =
     let z : cond {A = ℕ} (is_child_of h n c) 1 0 ≡ 0 = ap (λ b. cond {A = ℕ} b 1 0) other in
     marks-close h c law next n o ∙ same_marks refl refl refl refl refl refl (omega arith)
@@ -135,12 +141,13 @@ due_names_none (left {g = g} o at_g a n) e at_c = rw (same_Some e (Connect g) (s
 forced_names_none : {h : List Event} {c : ℕ} → IsForced h (Close c) → (e : Event) → slice_get h c ≡ Some e → parent_named e ≡ None
 forced_names_none (due n d) = due_names_none d
 
-may_close_none : {h : List Event} {c : ℕ} → MayFollow h (Close c) → (e : Event) → slice_get h c ≡ Some e → parent_named e ≡ None
+pub may_close_none : {h : List Event} {c : ℕ} → MayFollow h (Close c) → (e : Event) → slice_get h c ≡ Some e → parent_named e ≡ None
 may_close_none (forced f) = forced_names_none f
 may_close_none (allowed s a) = closed_names_none a
 
 -- what is closed has no parent, so no marks of what stays open change
-pub marks_closed : (h : List Event) (c : ℕ) → IsLawful h → MayFollow h (Close c) → (n : ℕ) → is_open (h ++ Close c ∷ []) n ≡ true → marks_of (h ++ Close c ∷ []) n ≡ marks_of h n
+pub marks_closed : (h : List Event) (c : ℕ) → IsLawful h → MayFollow h (Close c) → (n : ℕ) → is_open (h ++ Close c ∷ []) n ≡ true →
+    marks_of (h ++ Close c ∷ []) n ≡ marks_of h n
 marks_closed h c law next n o = marks-close_other h c law next n o (never (is_child_of h n c) (λ child. by_event (slice_get h c) refl (is_child_parent h n c child))) where
   by_event : (x : Option Event) → slice_get h c ≡ x → parent h c ≡ Some n → ⊥
   by_event None at_c below = absurd (let l = parent_within h c n below in let k = open_made h c (may_close next) in none-some k.0 (sym at_c ∙ k.1))

@@ -29,7 +29,8 @@ is_child_parent h p n child = child_named (parent h n) p child
 pub parent_is_child : (h : List Event) (p n : ℕ) → parent h n ≡ Some p → is_child_of h p n ≡ true
 parent_is_child h p n below = rw below (eq-eqb p p refl)
 
-ends_by_end : (h : List Event) (p : ℕ) (e : Event) (t : Terminal) → ends_by h p e ≡ Some t → (c : ℕ) × (e ≡ End c t) × (parent h c ≡ Some p) × (passes_on (at is_merging h p) t ≡ true)
+ends_by_end : (h : List Event) (p : ℕ) (e : Event) (t : Terminal) → ends_by h p e ≡ Some t →
+    (c : ℕ) × (e ≡ End c t) × (parent h c ≡ Some p) × (passes_on (at is_merging h p) t ≡ true)
 ends_by_end h p (End c u) t found =
     let w : (is_child_of h p c && passes_on (at is_merging h p) u ≡ true) × (u ≡ t) = cond_some (is_child_of h p c && passes_on (at is_merging h p) u) u t found in
     let parts = and_parts (is_child_of h p c) (passes_on (at is_merging h p) u) w.0 in
@@ -73,7 +74,8 @@ unfolding open_children
 open_children_none h n none c below = by_test (cases_Bool (is_open h c)) where
   least : (k : ℕ) → (b : Bool) → (c == k) ≡ b → is_open h c ≡ true → cond {A = ℕ} b 1 0 ≤ cond (is_open_child_of h n k) 1 0
   least k true same o =
-      let child : is_open_child_of h n k ≡ true = ap (is_open_child_of h n) (sym (eqb-true c k same)) ∙ and_from (is_open h c) (is_child_of h n c) o (parent_is_child h n c below) in
+      let child : is_open_child_of h n k ≡ true = ap (is_open_child_of h n) (sym (eqb-true c k same)) ∙
+      and_from (is_open h c) (is_child_of h n c) o (parent_is_child h n c below) in
       rw child (omega arith)
   least k false apart o = omega arith
 

@@ -27,7 +27,8 @@ use Rattle.rx_event.proofs.Laws.MarksEnds.{not_false}
 -- an inner ------------------------------------------------------------------------------------------
 
 -- the opening of an inner closes children of its own Switch alone
-inner_cut_none : (h : List Event) (f : ℕ) (kind : Kind) → IsLawful h → (n : ℕ) → is_cut h (Open (Inner f) kind) n ≡ false → (f == n) ≡ false → cut_children h (Open (Inner f) kind) n ≡ 0
+inner_cut_none : (h : List Event) (f : ℕ) (kind : Kind) → IsLawful h → (n : ℕ) → is_cut h (Open (Inner f) kind) n ≡ false → (f == n) ≡ false →
+    cut_children h (Open (Inner f) kind) n ≡ 0
 inner_cut_none h f kind law n whole other = sum_by_none (λ k. cond (is_open_child_of h n k && is_cut h (Open (Inner f) kind) k) 1 0) (length h) (λ k l. by_test k (is_child_of h n k) refl (is_cut h (Open (Inner f) kind) k) refl (is_open h k)) where
   shut_named : (k : ℕ) → shuts h k (Open (Inner f) kind) ≡ true → at (is_inner_of f) h k ≡ true
   shut_named k shut = (and_parts (nat_lt f k && at is_switch h f) (at (is_inner_of f) h k) shut).1
@@ -61,7 +62,8 @@ marks_inner h f kind law next n l =
     marks-push h (Open (Inner f) kind) law next n l ∙ same_marks (or_false _) (or_false _) (or_false _) (or_false _) (or_nothing _) (omega arith) refl
 
 -- no other node that stays open changes
-pub marks-inner_other : (h : List Event) (f : ℕ) (kind : Kind) → IsLawful h → MayFollow h (Open (Inner f) kind) → (n : ℕ) → n < length h → is_open (h ++ Open (Inner f) kind ∷ []) n ≡ true → (f == n) ≡ false → marks_of (h ++ Open (Inner f) kind ∷ []) n ≡ marks_of h n
+pub marks-inner_other : (h : List Event) (f : ℕ) (kind : Kind) → IsLawful h → MayFollow h (Open (Inner f) kind) → (n : ℕ) → n < length h →
+    is_open (h ++ Open (Inner f) kind ∷ []) n ≡ true → (f == n) ≡ false → marks_of (h ++ Open (Inner f) kind ∷ []) n ≡ marks_of h n
 marks-inner_other h f kind law next n l o other =
     let parts = and_parts (is_open h n) (not (is_cut h (Open (Inner f) kind) n)) (sym (is_open_cut h (Open (Inner f) kind) n l) ∙ o) in
     let z = inner_cut_none h f kind law n (not_false (is_cut h (Open (Inner f) kind) n) parts.1) other in
@@ -79,7 +81,7 @@ marks-inner_flat h f kind law next flat =
 switch_cut : (h : List Event) (f : ℕ) (kind : Kind) (k : ℕ) → parent h k ≡ Some f → is_cut h (Open (Inner f) kind) k ≡ is_switched_inner h f k
 switch_cut h f kind k below = rw (ancestors_step h k, below, is_cut_inner h f kind f (omega arith)) (or_false (is_switched_inner h f k))
 
-switched_parent : (h : List Event) → IsLawful h → (f k : ℕ) → at (is_inner_of f) h k ≡ true → parent h k ≡ Some f
+pub switched_parent : (h : List Event) → IsLawful h → (f k : ℕ) → at (is_inner_of f) h k ≡ true → parent h k ≡ Some f
 switched_parent h law f k inner = by_event (slice_get h k) refl inner where
   by_event : (x : Option Event) → slice_get h k ≡ x → option_map_or (is_inner_of f) x false ≡ true → parent h k ≡ Some f
   by_event None at_k inner = absurd (false≢true inner)
@@ -89,7 +91,8 @@ switched_parent h law f k inner = by_event (slice_get h k) refl inner where
   by_event (Some (Open (Notifier q) kind)) at_k inner = absurd (false≢true inner)
   by_event (Some _) at_k inner = absurd (false≢true inner)
 
-cut_child_is_inner : (h : List Event) (f : ℕ) (kind : Kind) (k : ℕ) → (is_open_child_of h f k && is_cut h (Open (Inner f) kind) k) ≡ true → (is_open h k ≡ true) × (at (is_inner_of f) h k ≡ true)
+cut_child_is_inner : (h : List Event) (f : ℕ) (kind : Kind) (k : ℕ) → (is_open_child_of h f k && is_cut h (Open (Inner f) kind) k) ≡ true →
+    (is_open h k ≡ true) × (at (is_inner_of f) h k ≡ true)
 cut_child_is_inner h f kind k both =
     let a = and_parts (is_open_child_of h f k) (is_cut h (Open (Inner f) kind) k) both in
     let b = and_parts (is_open h k) (is_child_of h f k) a.0 in
@@ -110,7 +113,8 @@ marks-inner_first h f kind law next closed =
 -- of one that had an open inner another takes the place
 pub marks-inner_next : (h : List Event) (f old : ℕ) (kind : Kind) → IsLawful h → MayFollow h (Open (Inner f) kind) → at is_switch h f ≡ true → at (is_inner_of f) h old ≡ true → is_open h old ≡ true → marks_of (h ++ Open (Inner f) kind ∷ []) f ≡ record (marks_of h f) { owed = owed h f - 1 }
 marks-inner_next h f old kind law next switch inner o =
-    let z : cut_children h (Open (Inner f) kind) f ≡ 1 = sum_by-same (λ k. cond (old == k) 1 0) (λ k. cond (is_open_child_of h f k && is_cut h (Open (Inner f) kind) k) 1 0) (length h) (λ k l. each k (old == k) refl) ∙ count_by_one old (length h) (is_open_within h old o) in
+    let z : cut_children h (Open (Inner f) kind) f ≡ 1 = sum_by-same (λ k. cond (old == k) 1 0) (λ k. cond (is_open_child_of h f k && is_cut h (Open (Inner f) kind) k) 1 0) (length h) (λ k l. each k (old == k) refl) ∙
+    count_by_one old (length h) (is_open_within h old o) in
     let w : cond {A = ℕ} (f == f) 1 0 ≡ 1 = ap (λ b. cond {A = ℕ} b 1 0) (eq-eqb f f refl) in
     marks_inner h f kind law next f (is_open_within h f (may_open next).0) ∙ same_marks refl refl refl refl refl (omega arith) (omega arith)
   where
@@ -118,7 +122,8 @@ marks-inner_next h f old kind law next switch inner o =
     below = switched_parent h law f old inner
 
     cut_old : is_cut h (Open (Inner f) kind) old ≡ true
-    cut_old = switch_cut h f kind old below ∙ and_from (nat_lt f old && at is_switch h f) (at (is_inner_of f) h old) (and_from (nat_lt f old) (at is_switch h f) (lt-ltb f old (parent-lt h old f below)) switch) inner
+    cut_old = switch_cut h f kind old below ∙
+        and_from (nat_lt f old && at is_switch h f) (at (is_inner_of f) h old) (and_from (nat_lt f old) (at is_switch h f) (lt-ltb f old (parent-lt h old f below)) switch) inner
 
     gone : (is_open_child_of h f old && is_cut h (Open (Inner f) kind) old) ≡ true
     gone = and_from (is_open_child_of h f old) (is_cut h (Open (Inner f) kind) old) (and_from (is_open h old) (is_child_of h f old) o (parent_is_child h f old below)) cut_old

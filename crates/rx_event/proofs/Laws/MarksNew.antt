@@ -26,7 +26,8 @@ use Rattle.rx_event.proofs.Laws.MarksAfter.{is_fired-push, same_marks}
 
 -- a new node --------------------------------------------------------------------------------------
 
-names_new : (h : List Event) (e : Event) → IsLawful h → MayFollow h e → (i : ℕ) (x : Event) → slice_get (h ++ e ∷ []) i ≡ Some x → parent_named x ≡ Some (length h) → ⊥
+names_new : (h : List Event) (e : Event) → IsLawful h → MayFollow h e → (i : ℕ) (x : Event) → slice_get (h ++ e ∷ []) i ≡ Some x →
+    parent_named x ≡ Some (length h) → ⊥
 names_new h e law next i x at_i named =
     let a : length h < i = named_below (h ++ e ∷ []) (IsLawful-push h e law next) i (length h) x at_i named in
     let b : i < length (h ++ e ∷ []) = slice_get_within (h ++ e ∷ []) i x at_i in

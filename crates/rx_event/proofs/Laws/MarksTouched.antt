@@ -39,7 +39,8 @@ or_parts_false false false e = (refl, refl)
 or_parts_false false true e = absurd (false≢true (sym e))
 or_parts_false true b e = absurd (false≢true (sym e))
 
-stops_apart : (n : ℕ) (ss : List Stop) → list_any (λ s. is_firing_of n s || is_projection_to n s) ss ≡ false → (list_any (is_firing_of n) ss ≡ false) × (count_by (is_projection_to n) ss ≡ 0)
+stops_apart : (n : ℕ) (ss : List Stop) → list_any (λ s. is_firing_of n s || is_projection_to n s) ss ≡ false →
+    (list_any (is_firing_of n) ss ≡ false) × (count_by (is_projection_to n) ss ≡ 0)
 stops_apart n [] apart = (refl, refl)
 stops_apart n (s ∷ ss) apart =
     let a = or_parts_false (is_firing_of n s || is_projection_to n s) (list_any (λ x. is_firing_of n x || is_projection_to n x) ss) apart in
@@ -48,13 +49,16 @@ stops_apart n (s ∷ ss) apart =
     (rw (b.0, rest.0) refl, sum_by-cons (λ x. cond (is_projection_to n x) 1 0) s ss ∙ rw (b.1, rest.1) refl)
 
 -- All marks of a node that stays open, and that the event does not touch, stay
-pub marks_untouched : (h : List Event) (e : Event) → IsLawful h → MayFollow h e → (n : ℕ) → n < length h → is_open (h ++ e ∷ []) n ≡ true → touches h n e ≡ false → marks_of (h ++ e ∷ []) n ≡ marks_of h n
+pub marks_untouched : (h : List Event) (e : Event) → IsLawful h → MayFollow h e → (n : ℕ) → n < length h → is_open (h ++ e ∷ []) n ≡ true →
+    touches h n e ≡ false → marks_of (h ++ e ∷ []) n ≡ marks_of h n
 marks_untouched h (Open (Source p) kind) law next n l o apart =
     let w : cond {A = ℕ} (p == n) 1 0 ≡ 0 = ap (λ b. cond {A = ℕ} b 1 0) apart in
-    marks-source h p kind law next n l ∙ same_marks (ap (λ b. list_any (is_source_of n) h || b) apart ∙ or_false (list_any (is_source_of n) h)) refl refl refl refl refl (omega arith)
+    marks-source h p kind law next n l ∙
+    same_marks (ap (λ b. list_any (is_source_of n) h || b) apart ∙ or_false (list_any (is_source_of n) h)) refl refl refl refl refl (omega arith)
 marks_untouched h (Open (Notifier p) kind) law next n l o apart =
     let w : cond {A = ℕ} (p == n) 1 0 ≡ 0 = ap (λ b. cond {A = ℕ} b 1 0) apart in
-    marks-notifier h p kind law next n l ∙ same_marks refl (ap (λ b. list_any (is_notifier_of n) h || b) apart ∙ or_false (list_any (is_notifier_of n) h)) refl refl refl refl (omega arith)
+    marks-notifier h p kind law next n l ∙
+    same_marks refl (ap (λ b. list_any (is_notifier_of n) h || b) apart ∙ or_false (list_any (is_notifier_of n) h)) refl refl refl refl (omega arith)
 marks_untouched h (Open (Inner f) kind) law next n l o apart = marks-inner_other h f kind law next n l o apart
 marks_untouched h (Open Root kind) law next n l o apart = marks_kept h (Open Root kind) law next refl n l
 marks_untouched h (Item leaf v) law next n l o apart =
@@ -76,7 +80,8 @@ marks_untouched h (Take r) law next n l o apart = marks_kept h (Take r) law next
 -- of the parent of what ended, by the events of both
 pub marks-end_parent_at : (h : List Event) (c p : ℕ) (made above : Event) (t : Terminal) → IsLawful h → MayFollow h (End c t) → parent h c ≡ Some p → slice_get h c ≡ Some made → slice_get h p ≡ Some above → marks_of (h ++ End c t ∷ []) p ≡ record (marks_of h p) { source_completed = source_completed h p || (is_source_of p made && not (passes_on true t)); child_terminal = option_or (child_terminal h p) (if passes_on (is_merging above) t then Some t else None); open_children = open_children h p - 1 }
 marks-end_parent_at h c p made above t law next below at_c at_p =
-    marks-end_parent h c p t law next below ∙ same_marks refl refl refl (ap (λ b. source_completed h p || b) (source_is t)) (ap (λ o. option_or (child_terminal h p) (if passes_on (option_map_or is_merging o false) t then Some t else None)) at_p) refl refl
+    marks-end_parent h c p t law next below ∙
+    same_marks refl refl refl (ap (λ b. source_completed h p || b) (source_is t)) (ap (λ o. option_or (child_terminal h p) (if passes_on (option_map_or is_merging o false) t then Some t else None)) at_p) refl refl
   where
     and_yes : (b : Bool) → b ≡ (b && true)
     and_yes true = refl
@@ -96,24 +101,30 @@ or_true : (b : Bool) → (b || true) ≡ true
 or_true true = refl
 or_true false = refl
 
-pub marks-source_at : (h : List Event) (p : ℕ) (kind : Kind) → IsLawful h → MayFollow h (Open (Source p) kind) → marks_of (h ++ Open (Source p) kind ∷ []) p ≡ after_source (marks_of h p)
+pub marks-source_at : (h : List Event) (p : ℕ) (kind : Kind) → IsLawful h → MayFollow h (Open (Source p) kind) →
+    marks_of (h ++ Open (Source p) kind ∷ []) p ≡ after_source (marks_of h p)
 marks-source_at h p kind law next =
     let same : (p == p) ≡ true = eq-eqb p p refl in
     let w : cond {A = ℕ} (p == p) 1 0 ≡ 1 = ap (λ b. cond {A = ℕ} b 1 0) same in
-    marks-source h p kind law next p (is_open_within h p (may_open next).0) ∙ same_marks (ap (λ b. list_any (is_source_of p) h || b) same ∙ or_true (list_any (is_source_of p) h)) refl refl refl refl refl (omega arith)
+    marks-source h p kind law next p (is_open_within h p (may_open next).0) ∙
+    same_marks (ap (λ b. list_any (is_source_of p) h || b) same ∙ or_true (list_any (is_source_of p) h)) refl refl refl refl refl (omega arith)
 
-pub marks-notifier_at : (h : List Event) (p : ℕ) (kind : Kind) → IsLawful h → MayFollow h (Open (Notifier p) kind) → marks_of (h ++ Open (Notifier p) kind ∷ []) p ≡ after_notifier (marks_of h p)
+pub marks-notifier_at : (h : List Event) (p : ℕ) (kind : Kind) → IsLawful h → MayFollow h (Open (Notifier p) kind) →
+    marks_of (h ++ Open (Notifier p) kind ∷ []) p ≡ after_notifier (marks_of h p)
 marks-notifier_at h p kind law next =
     let same : (p == p) ≡ true = eq-eqb p p refl in
     let w : cond {A = ℕ} (p == p) 1 0 ≡ 1 = ap (λ b. cond {A = ℕ} b 1 0) same in
-    marks-notifier h p kind law next p (is_open_within h p (may_open next).0) ∙ same_marks refl (ap (λ b. list_any (is_notifier_of p) h || b) same ∙ or_true (list_any (is_notifier_of p) h)) refl refl refl refl (omega arith)
+    marks-notifier h p kind law next p (is_open_within h p (may_open next).0) ∙
+    same_marks refl (ap (λ b. list_any (is_notifier_of p) h || b) same ∙ or_true (list_any (is_notifier_of p) h)) refl refl refl refl (omega arith)
 
 pub marks-decline_at : (h : List Event) (f : ℕ) → IsLawful h → MayFollow h (Decline f) → marks_of (h ++ Decline f ∷ []) f ≡ after_decline (marks_of h f)
 marks-decline_at h f law next =
     let w : cond {A = ℕ} (f == f) 1 0 ≡ 1 = ap (λ b. cond {A = ℕ} b 1 0) (eq-eqb f f refl) in
     marks-decline h f law next f (is_open_within h f (may_decline next).0) ∙ same_marks refl refl refl refl refl (omega arith) refl
 
-pub marks-end_at : (h : List Event) (c p : ℕ) (made above : Event) (t : Terminal) → IsLawful h → MayFollow h (End c t) → parent h c ≡ Some p → slice_get h c ≡ Some made → slice_get h p ≡ Some above → marks_of (h ++ End c t ∷ []) p ≡ after_child (is_source_of p made) (is_merging above) t (marks_of h p)
+pub marks-end_at : (h : List Event) (c p : ℕ) (made above : Event) (t : Terminal) → IsLawful h → MayFollow h (End c t) → parent h c ≡ Some p →
+    slice_get h c ≡ Some made → slice_get h p ≡ Some above →
+    marks_of (h ++ End c t ∷ []) p ≡ after_child (is_source_of p made) (is_merging above) t (marks_of h p)
 marks-end_at h c p made above t law next below at_c at_p = marks-end_parent_at h c p made above t law next below at_c at_p
 
 -- stops one at a time say what all together do
@@ -131,7 +142,8 @@ stops_together n (Firing u ∷ ss) m = by_test (u == n) (sum_by-cons (λ s. cond
   by_test true k rest = rest (record m { fired = true }) ∙ same_marks refl refl (sym (or_true m.fired)) refl refl (omega arith) refl
   by_test false k rest = rest m ∙ same_marks refl refl refl refl refl (omega arith) refl
 
-pub marks-item_at : (h : List Event) (leaf : ℕ) (v : ℤ) → IsLawful h → MayFollow h (Item leaf v) → (n : ℕ) → n < length h → marks_of (h ++ Item leaf v ∷ []) n ≡ after_stops n (stops h leaf) (marks_of h n)
+pub marks-item_at : (h : List Event) (leaf : ℕ) (v : ℤ) → IsLawful h → MayFollow h (Item leaf v) → (n : ℕ) → n < length h →
+    marks_of (h ++ Item leaf v ∷ []) n ≡ after_stops n (stops h leaf) (marks_of h n)
 marks-item_at h leaf v law next n l = marks-item h leaf v law next n l ∙ sym (stops_together n (stops h leaf) (marks_of h n))
 
 -- an open child is counted, so the count does not fall below 0
@@ -142,13 +154,16 @@ child_counted h c p o below = by_count (cases_order (open_children h p) 0) where
   by_count (inr (inl less)) = absurd (omega arith)
   by_count (inr (inr some)) = some
 
-pub marks-inner_at_flat : (h : List Event) (f : ℕ) (kind : Kind) → IsLawful h → MayFollow h (Open (Inner f) kind) → at is_switch h f ≡ false → marks_of (h ++ Open (Inner f) kind ∷ []) f ≡ after_inner false (marks_of h f)
+pub marks-inner_at_flat : (h : List Event) (f : ℕ) (kind : Kind) → IsLawful h → MayFollow h (Open (Inner f) kind) → at is_switch h f ≡ false →
+    marks_of (h ++ Open (Inner f) kind ∷ []) f ≡ after_inner false (marks_of h f)
 marks-inner_at_flat h f kind law next flat = marks-inner_flat h f kind law next flat
 
-pub marks-inner_at_first : (h : List Event) (f : ℕ) (kind : Kind) → IsLawful h → MayFollow h (Open (Inner f) kind) → ((k : ℕ) → at (is_inner_of f) h k ≡ true → is_open h k ≡ false) → marks_of (h ++ Open (Inner f) kind ∷ []) f ≡ after_inner false (marks_of h f)
+pub marks-inner_at_first : (h : List Event) (f : ℕ) (kind : Kind) → IsLawful h → MayFollow h (Open (Inner f) kind) →
+    ((k : ℕ) → at (is_inner_of f) h k ≡ true → is_open h k ≡ false) → marks_of (h ++ Open (Inner f) kind ∷ []) f ≡ after_inner false (marks_of h f)
 marks-inner_at_first h f kind law next closed = marks-inner_first h f kind law next closed
 
-pub marks-inner_at_next : (h : List Event) (f old : ℕ) (kind : Kind) → IsLawful h → MayFollow h (Open (Inner f) kind) → at is_switch h f ≡ true → at (is_inner_of f) h old ≡ true → is_open h old ≡ true → marks_of (h ++ Open (Inner f) kind ∷ []) f ≡ after_inner true (marks_of h f)
+pub marks-inner_at_next : (h : List Event) (f old : ℕ) (kind : Kind) → IsLawful h → MayFollow h (Open (Inner f) kind) → at is_switch h f ≡ true →
+    at (is_inner_of f) h old ≡ true → is_open h old ≡ true → marks_of (h ++ Open (Inner f) kind ∷ []) f ≡ after_inner true (marks_of h f)
 marks-inner_at_next h f old kind law next switch inner o = marks-inner_next h f old kind law next switch inner o
 
 -- a new node has nothing to do
@@ -166,7 +181,8 @@ pub quiet_new : (h : List Event) (e : Event) → IsLawful h → MayFollow h e �
 quiet_new h e law next = ap (λ m. due_at e m (length h)) (marks-new h e law next) ∙ blank_quiet e (length h)
 
 -- what has nothing to do, and is not touched, has nothing to do
-pub quiet_untouched : (h : List Event) (e : Event) → IsLawful h → MayFollow h e → (n : ℕ) (made : Event) → n < length h → is_open (h ++ e ∷ []) n ≡ true → touches h n e ≡ false → due_at made (marks_of h n) n ≡ None → due_at made (marks_of (h ++ e ∷ []) n) n ≡ None
+pub quiet_untouched : (h : List Event) (e : Event) → IsLawful h → MayFollow h e → (n : ℕ) (made : Event) → n < length h → is_open (h ++ e ∷ []) n ≡ true →
+    touches h n e ≡ false → due_at made (marks_of h n) n ≡ None → due_at made (marks_of (h ++ e ∷ []) n) n ≡ None
 quiet_untouched h e law next n made l o apart quiet = ap (λ m. due_at made m n) (marks_untouched h e law next n l o apart) ∙ quiet
 
 -- each forced event but a Connect lowers the debt

@@ -64,7 +64,8 @@ noted_to n to place note rest = by_number (to == n) where
   by_number true = refl
   by_number false = refl
 
-noted_items : (b : Bool) (note : Note) (rest : List Note) → is_item_note note ≡ true → list_all is_item_note rest ≡ true → list_all is_item_note (noted b note rest) ≡ true
+noted_items : (b : Bool) (note : Note) (rest : List Note) → is_item_note note ≡ true → list_all is_item_note rest ≡ true →
+    list_all is_item_note (noted b note rest) ≡ true
 noted_items true note rest item items = and_from _ _ item items
 noted_items false note rest item items = items
 
@@ -82,19 +83,22 @@ differ p n m fails holds = by_number (cases_Bool (m == n)) where
   by_number (inr other) = other
 
 -- nothing that is not open is told the item
-item_notes_closed : (h : List Event) (n place : ℕ) (value : ℤ) → is_open h n ≡ false → (ss : List Stop) → AllByRecursion (StopsAtOpen h) ss → item_notes n place value ss ≡ []
+item_notes_closed : (h : List Event) (n place : ℕ) (value : ℤ) → is_open h n ≡ false → (ss : List Stop) → AllByRecursion (StopsAtOpen h) ss →
+    item_notes n place value ss ≡ []
 item_notes_closed h n place value closed [] open_all = refl
 item_notes_closed h n place value closed (Firing u ∷ ss) open_all = item_notes_closed h n place value closed ss open_all.1
 item_notes_closed h n place value closed (Delivery m ∷ ss) open_all = rw (noted_to n m place (Next value) (filter_map (told place value) ss), differ (is_open h) n m closed open_all.0.0) (item_notes_closed h n place value closed ss open_all.1)
 item_notes_closed h n place value closed (Projection f ∷ ss) open_all = rw (noted_to n f place (Project value) (filter_map (told place value) ss), differ (is_open h) n f closed open_all.0.0) (item_notes_closed h n place value closed ss open_all.1)
 
 -- and what is no root has it projected to it alone
-item_notes_projected : (h : List Event) (n place : ℕ) (value : ℤ) → at is_root h n ≡ false → (ss : List Stop) → AllByRecursion (StopsAtOpen h) ss → AllByRecursion IsProjected (item_notes n place value ss)
+item_notes_projected : (h : List Event) (n place : ℕ) (value : ℤ) → at is_root h n ≡ false → (ss : List Stop) → AllByRecursion (StopsAtOpen h) ss →
+    AllByRecursion IsProjected (item_notes n place value ss)
 item_notes_projected h n place value plain [] open_all = tt
 item_notes_projected h n place value plain (Firing u ∷ ss) open_all = item_notes_projected h n place value plain ss open_all.1
 item_notes_projected h n place value plain (Delivery m ∷ ss) open_all = rw (noted_to n m place (Next value) (filter_map (told place value) ss), differ (at is_root h) n m plain open_all.0.1) (item_notes_projected h n place value plain ss open_all.1)
 item_notes_projected h n place value plain (Projection f ∷ ss) open_all = rw (noted_to n f place (Project value) (filter_map (told place value) ss)) (by_number (f == n) (item_notes_projected h n place value plain ss open_all.1)) where
-  by_number : (b : Bool) → AllByRecursion IsProjected (item_notes n place value ss) → AllByRecursion IsProjected (noted b (Project value) (item_notes n place value ss))
+  by_number : (b : Bool) → AllByRecursion IsProjected (item_notes n place value ss) →
+      AllByRecursion IsProjected (noted b (Project value) (item_notes n place value ss))
   by_number true rest = ((value, refl), rest)
   by_number false rest = rest
 
@@ -110,7 +114,8 @@ mail_silent h (End m t) law next n closed = by_root (at is_root h m) where
 mail_silent h _ law next n closed = refl
 
 -- what is no root is told projected items alone
-mail_projected : (h : List Event) (e : Event) → IsLawful h → MayFollow h e → (n : ℕ) → at is_root h n ≡ false → AllByRecursion IsProjected (notes_in n (mail_of h e))
+mail_projected : (h : List Event) (e : Event) → IsLawful h → MayFollow h e → (n : ℕ) → at is_root h n ≡ false →
+    AllByRecursion IsProjected (notes_in n (mail_of h e))
 mail_projected h (Item l value) law next n plain = item_notes_projected h n (length h) value plain (stops h l) (stops_open h l law (may_emit next))
 mail_projected h (End m t) law next n plain = by_root (at is_root h m) refl where
   by_root : (b : Bool) → at is_root h m ≡ b → AllByRecursion IsProjected (notes_in n (cond b ((record { place = length h; to = m; note = EndNote t }) ∷ []) []))
@@ -129,7 +134,8 @@ data Told (h : List Event) (n : ℕ) : Type 0 where
   going : list_all is_item_note (notes_to h n) ≡ true → Told h n
   over : IsGrammatical (notes_to h n) → n < length h → is_open h n ≡ false → Told h n
 
-told_more : (h : List Event) (e : Event) (n : ℕ) → list_all is_item_note (notes_to h n) ≡ true → list_all is_item_note (notes_in n (mail_of h e)) ≡ true → Told (h ++ e ∷ []) n
+told_more : (h : List Event) (e : Event) (n : ℕ) → list_all is_item_note (notes_to h n) ≡ true → list_all is_item_note (notes_in n (mail_of h e)) ≡ true →
+    Told (h ++ e ∷ []) n
 told_more h e n items more = going (rw (notes_to-push h e n, list_all-append is_item_note (notes_to h n) (notes_in n (mail_of h e))) (and_from _ _ items more))
 
 -- the end of an open root

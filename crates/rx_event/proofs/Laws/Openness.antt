@@ -63,7 +63,8 @@ is_shut_last h e = ap (list_any (shuts (h ++ e ∷ []) (length h))) (drop_all h 
   drop_all [] e = refl
   drop_all (x ∷ h) e = drop_all h e
 
-list_all-same : {X : Type 0} (P : X → Type 0) (p q : X → Bool) → ((x : X) → P x → p x ≡ q x) → (xs : List X) → AllByRecursion P xs → list_all p xs ≡ list_all q xs
+list_all-same : {X : Type 0} (P : X → Type 0) (p q : X → Bool) → ((x : X) → P x → p x ≡ q x) → (xs : List X) → AllByRecursion P xs →
+    list_all p xs ≡ list_all q xs
 list_all-same P p q same [] a = refl
 list_all-same P p q same (x ∷ xs) a = rw (same x a.0, list_all-same P p q same xs a.1) refl
 
@@ -84,7 +85,8 @@ standing-push h e n l = rw (at-append makes_node h (e ∷ []) n l, is_shut-push 
   shape true false c = refl
 
 -- An older node is open if it was, and the new event shuts neither it nor a node above it.
-pub is_open-push : (h : List Event) (e : Event) (n : ℕ) → n < length h → is_open (h ++ e ∷ []) n ≡ (is_open h n && list_all (λ a. not (shuts h a e)) (ancestors h n))
+pub is_open-push : (h : List Event) (e : Event) (n : ℕ) → n < length h →
+    is_open (h ++ e ∷ []) n ≡ (is_open h n && list_all (λ a. not (shuts h a e)) (ancestors h n))
 unfolding is_open
 is_open-push h e n l =
     rw (ancestors-append h (e ∷ []) n l, list_all-same (λ a. a ≤ n) (is_standing (h ++ e ∷ [])) (λ a. is_standing h a && not (shuts h a e)) (λ a b. standing-push h e a (omega arith)) (ancestors h n) (ancestors-le h n))
@@ -160,10 +162,12 @@ is_cut_none h e n s = none (ancestors h n) where
   none (a ∷ xs) = rw (not_shut h a e s) (none xs)
 
 -- an end shuts just the nodes that it is above
-pub is_open-end : (h : List Event) (c : ℕ) (t : Terminal) (n : ℕ) → n < length h → is_open (h ++ End c t ∷ []) n ≡ (is_open h n && list_all (λ a. not (c == a)) (ancestors h n))
+pub is_open-end : (h : List Event) (c : ℕ) (t : Terminal) (n : ℕ) → n < length h →
+    is_open (h ++ End c t ∷ []) n ≡ (is_open h n && list_all (λ a. not (c == a)) (ancestors h n))
 is_open-end h c t n l = is_open-push h (End c t) n l
 
-pub is_open-close : (h : List Event) (c : ℕ) (n : ℕ) → n < length h → is_open (h ++ Close c ∷ []) n ≡ (is_open h n && list_all (λ a. not (c == a)) (ancestors h n))
+pub is_open-close : (h : List Event) (c : ℕ) (n : ℕ) → n < length h →
+    is_open (h ++ Close c ∷ []) n ≡ (is_open h n && list_all (λ a. not (c == a)) (ancestors h n))
 is_open-close h c n l = is_open-push h (Close c) n l
 
 -- beyond the end there is no node
@@ -171,7 +175,8 @@ pub is_open_past : (h : List Event) (n : ℕ) → length h ≤ n → is_open h n
 is_open_past h n l = is_open_step h n ∙ rw (slice_get_past h n l) refl
 
 -- a new root is open, and a new node below an open node too, where it shuts none
-pub is_open_last : (h : List Event) (e : Event) → shuts_none e ≡ true → is_open (h ++ e ∷ []) (length h) ≡ (makes_node e && option_map_or (is_open h) (option_and_then (if_less (length h)) (parent_named e)) true)
+pub is_open_last : (h : List Event) (e : Event) → shuts_none e ≡ true →
+    is_open (h ++ e ∷ []) (length h) ≡ (makes_node e && option_map_or (is_open h) (option_and_then (if_less (length h)) (parent_named e)) true)
 unfolding parent
 is_open_last h e s =
     rw (is_open_step (h ++ e ∷ []) (length h), is_shut_last h e, slice_get_last h e)
@@ -204,7 +209,8 @@ open_before h e p no_node o = by_place (cases_order p (length h)) where
   by_place (inr (inr g)) = let l = is_open_within (h ++ e ∷ []) p o in absurd (omega (arith, length-append {A = Event}))
 
 -- an open node of a history with an end more was open before, and is not what ended
-pub open_before_end : (h : List Event) (q : ℕ) (u : Terminal) (p : ℕ) → is_open (h ++ End q u ∷ []) p ≡ true → (p < length h) × (is_open h p ≡ true) × (q ≡ p → ⊥)
+pub open_before_end : (h : List Event) (q : ℕ) (u : Terminal) (p : ℕ) → is_open (h ++ End q u ∷ []) p ≡ true →
+    (p < length h) × (is_open h p ≡ true) × (q ≡ p → ⊥)
 open_before_end h q u p o = (within, parts.0, λ same. both_ways _ (ap not (eq-eqb q p same)) (self_tested h p (λ a. not (q == a)) parts.1)) where
   within : p < length h
   within = by_place (cases_order p (length h)) where
@@ -246,7 +252,8 @@ is_cut_inner_flat h f kind flat n = none (ancestors h n) where
   none (a ∷ xs) = rw (flat, no_switch (nat_lt f a) (at (is_inner_of f) h a)) (none xs)
 
 -- a new node below an open one is open, where it does not cut it
-pub is_open_made : (h : List Event) (e : Event) (p : ℕ) → makes_node e ≡ true → parent_named e ≡ Some p → is_open h p ≡ true → is_cut h e p ≡ false → is_open (h ++ e ∷ []) (length h) ≡ true
+pub is_open_made : (h : List Event) (e : Event) (p : ℕ) → makes_node e ≡ true → parent_named e ≡ Some p → is_open h p ≡ true → is_cut h e p ≡ false →
+    is_open (h ++ e ∷ []) (length h) ≡ true
 unfolding parent
 is_open_made h e p node named o kept = is_open_step (h ++ e ∷ []) (length h) ∙ rw (is_shut_last h e, slice_get_last h e, node, named, lt-ltb p (length h) l) (is_open_cut h e p l ∙ rw (o, kept) refl) where
   l : p < length h
@@ -279,7 +286,8 @@ stays_closed_after h (e ∷ t) n l closed = rw (← append_assoc h (e ∷ []) t)
 
 -- what an end and a closing close ------------------------------------------------------------------
 
-closed_outside : (h : List Event) (e : Event) (c : ℕ) → makes_node e ≡ false → ((n : ℕ) → is_cut h e n ≡ is_within h c n) → (n : ℕ) → is_open (h ++ e ∷ []) n ≡ (is_open h n && not (is_within h c n))
+closed_outside : (h : List Event) (e : Event) (c : ℕ) → makes_node e ≡ false → ((n : ℕ) → is_cut h e n ≡ is_within h c n) → (n : ℕ) →
+    is_open (h ++ e ∷ []) n ≡ (is_open h n && not (is_within h c n))
 closed_outside h e c no_node cuts n = by_place (cases_order n (length h)) where
   gone : length h ≤ n → (is_open h n && not (is_within h c n)) ≡ false
   gone l = rw (is_open_past h n l) refl
@@ -301,7 +309,8 @@ is_open_outside-close h c = closed_outside h (Close c) c refl (λ n. refl)
 open_above : (k : ℕ) (h : List Event) (n : ℕ) → n < k → is_open h n ≡ true → AllByRecursion (λ a. is_open h a ≡ true) (ancestors h n)
 open_above zero h n l o = absurd (omega arith)
 open_above (suc k) h n l o = rw (ancestors_step h n) (o, above (open_above k h) (parent h n) refl) where
-  above : ((p : ℕ) → p < k → is_open h p ≡ true → AllByRecursion (λ a. is_open h a ≡ true) (ancestors h p)) → (q : Option ℕ) → parent h n ≡ q → AllByRecursion (λ a. is_open h a ≡ true) (option_map_or (ancestors h) q [])
+  above : ((p : ℕ) → p < k → is_open h p ≡ true → AllByRecursion (λ a. is_open h a ≡ true) (ancestors h p)) → (q : Option ℕ) → parent h n ≡ q →
+      AllByRecursion (λ a. is_open h a ≡ true) (option_map_or (ancestors h) q [])
   above rest None below = tt
   above rest (Some p) below = let s : p < n = parent-lt h n p below in rest p (omega arith) (parent_open h n p o below)
 

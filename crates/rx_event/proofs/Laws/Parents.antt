@@ -62,7 +62,8 @@ ancestors-append h t n l = ancestors_within-append n h t n l
 ancestors_within-le : (k : ℕ) (h : List Event) (n m : ℕ) → n ≤ m → AllByRecursion (λ a. a ≤ m) (ancestors_within k h n)
 ancestors_within-le zero h n m l = (l, tt)
 ancestors_within-le (suc k) h n m l = (l, above (ancestors_within-le k h) (parent h n) refl) where
-  above : ((p m : ℕ) → p ≤ m → AllByRecursion (λ a. a ≤ m) (ancestors_within k h p)) → (o : Option ℕ) → parent h n ≡ o → AllByRecursion (λ a. a ≤ m) (option_map_or (ancestors_within k h) o [])
+  above : ((p m : ℕ) → p ≤ m → AllByRecursion (λ a. a ≤ m) (ancestors_within k h p)) → (o : Option ℕ) → parent h n ≡ o →
+      AllByRecursion (λ a. a ≤ m) (option_map_or (ancestors_within k h) o [])
   above ih None e = tt
   above ih (Some p) e = let s : p < n = parent-lt h n p e in ih p m (omega arith)
 
@@ -102,11 +103,13 @@ old_child h e no_node p c below = by_place (cases_order c (length h)) where
 -- n is within c where it is c, or its parent is within c
 pub within_cases : (h : List Event) (c n : ℕ) → is_within h c n ≡ true → (c ≡ n) ⊎ ((p : ℕ) × (parent h n ≡ Some p) × (is_within h c p ≡ true))
 within_cases h c n within = by_number (or_cases (c == n) (list_any (λ a. c == a) (option_map_or (ancestors h) (parent h n) [])) (ap (list_any (λ a. c == a)) (sym (ancestors_step h n)) ∙ within)) where
-  by_parent : (o : Option ℕ) → parent h n ≡ o → list_any (λ a. c == a) (option_map_or (ancestors h) o []) ≡ true → (c ≡ n) ⊎ ((p : ℕ) × (parent h n ≡ Some p) × (is_within h c p ≡ true))
+  by_parent : (o : Option ℕ) → parent h n ≡ o → list_any (λ a. c == a) (option_map_or (ancestors h) o []) ≡ true →
+      (c ≡ n) ⊎ ((p : ℕ) × (parent h n ≡ Some p) × (is_within h c p ≡ true))
   by_parent None below above = absurd (false≢true above)
   by_parent (Some p) below above = inr (p, below, above)
 
-  by_number : ((c == n) ≡ true) ⊎ (list_any (λ a. c == a) (option_map_or (ancestors h) (parent h n) []) ≡ true) → (c ≡ n) ⊎ ((p : ℕ) × (parent h n ≡ Some p) × (is_within h c p ≡ true))
+  by_number : ((c == n) ≡ true) ⊎ (list_any (λ a. c == a) (option_map_or (ancestors h) (parent h n) []) ≡ true) →
+      (c ≡ n) ⊎ ((p : ℕ) × (parent h n ≡ Some p) × (is_within h c p ≡ true))
   by_number (inl same) = inl (eqb-true c n same)
   by_number (inr above) = by_parent (parent h n) refl above
 

@@ -1,7 +1,7 @@
 -- Projected items: where they go, and what each FlatMap and Switch owes after one more event.
 use Rattle.std.proofs.Common.{◌≡◌, ℕ, zero, suc, ◌+◌, ◌-◌, ◌<◌, ◌≤◌, Bool, true, false, List, [], ◌∷◌, ◌++◌, length, Option, Some, None, cond, refl, sym, ap, ◌∙◌, arith, inl, inr, ◌⊎◌, ◌==◌, slice_get, length-append}
 use Rattle.std.proofs.Math.Bool.{◌&&◌}
-use Rattle.std.specs.List.{AllByRecursion, sum_by, count_by, range_with_len, filter_map}
+use Rattle.std.specs.List.{AllByRecursion, sum_by, count_by, filter_map}
 use Rattle.std.specs.Option.{option_and_then, option_map_or, option_to_list}
 use Rattle.std.proofs.lemmas.Bool.{cases_Bool, both_ways, false≢true, and_parts, eqb-true}
 use Rattle.std.proofs.lemmas.List.Sums.{sum_by_push, sum_by-cons}
@@ -44,10 +44,12 @@ stop_not_to h f plain n = by_event (slice_get h n) where
   by_event (Some (Open (Notifier u) kind)) = refl
   by_event (Some _) = refl
 
-count_by-filter_map_none : {X Y : Type 0} (p : Y → Bool) (s : X → Option Y) → ((x : X) → option_map_or p (s x) false ≡ false) → (xs : List X) → count_by p (filter_map s xs) ≡ 0
+count_by-filter_map_none : {X Y : Type 0} (p : Y → Bool) (s : X → Option Y) → ((x : X) → option_map_or p (s x) false ≡ false) → (xs : List X) →
+    count_by p (filter_map s xs) ≡ 0
 count_by-filter_map_none p s never [] = refl
 count_by-filter_map_none {Y = Y} p s never (x ∷ xs) = by_stop (s x) (never x) (count_by-filter_map_none p s never xs) where
-  by_stop : (o : Option Y) → option_map_or p o false ≡ false → count_by p (filter_map s xs) ≡ 0 → count_by p (Rattle.std.specs.List.cons_option o (filter_map s xs)) ≡ 0
+  by_stop : (o : Option Y) → option_map_or p o false ≡ false → count_by p (filter_map s xs) ≡ 0 →
+      count_by p (Rattle.std.specs.List.cons_option o (filter_map s xs)) ≡ 0
   by_stop None none rest = rest
   by_stop (Some y) none rest = sum_by-cons (λ z. cond (p z) 1 0) y (filter_map s xs) ∙ rw (none, rest) refl
 
@@ -92,15 +94,22 @@ pays_owed h _ next f same = absurd (false≢true same)
 pub paid-le : (h : List Event) → IsLawful h → (f : ℕ) → count_by (pays f) h ≤ projections h f
 unfolding owed
 paid-le = by_events (λ h. (f : ℕ) → count_by (pays f) h ≤ projections h f) (λ f. omega arith) (λ h e law next before f. by_payment h e f (pays f e) (before f) (projections-push h e f) (sum_by_push (λ (x : Event). cond (pays f x) 1 0) h e) (pays_owed h e next f)) where
-  by_payment : (h : List Event) (e : Event) (f : ℕ) (b : Bool) → count_by (pays f) h ≤ projections h f → projections (h ++ e ∷ []) f ≡ projections h f + count_by (is_projection_to f) (stops_of h e) → count_by (pays f) (h ++ e ∷ []) ≡ count_by (pays f) h + cond b 1 0 → (b ≡ true → 0 < projections h f - count_by (pays f) h) → count_by (pays f) (h ++ e ∷ []) ≤ projections (h ++ e ∷ []) f
+  by_payment : (h : List Event) (e : Event) (f : ℕ) (b : Bool) → count_by (pays f) h ≤ projections h f →
+      projections (h ++ e ∷ []) f ≡ projections h f + count_by (is_projection_to f) (stops_of h e) →
+      count_by (pays f) (h ++ e ∷ []) ≡ count_by (pays f) h + cond b 1 0 → (b ≡ true → 0 < projections h f - count_by (pays f) h) →
+      count_by (pays f) (h ++ e ∷ []) ≤ projections (h ++ e ∷ []) f
   by_payment h e f true before more one some = let k = some refl in omega arith
   by_payment h e f false before more one some = omega arith
 
 -- what f owes after the event, and what it pays by it, it owed before, or was projected to it
-pub owed-push : (h : List Event) (e : Event) → IsLawful h → MayFollow h e → (f : ℕ) → owed (h ++ e ∷ []) f + cond (pays f e) 1 0 ≡ owed h f + count_by (is_projection_to f) (stops_of h e)
+pub owed-push : (h : List Event) (e : Event) → IsLawful h → MayFollow h e → (f : ℕ) →
+    owed (h ++ e ∷ []) f + cond (pays f e) 1 0 ≡ owed h f + count_by (is_projection_to f) (stops_of h e)
 unfolding owed
 owed-push h e law next f = by_payment (pays f e) (paid-le h law f) (projections-push h e f) (sum_by_push (λ (x : Event). cond (pays f x) 1 0) h e) (pays_owed h e next f) where
-  by_payment : (b : Bool) → count_by (pays f) h ≤ projections h f → projections (h ++ e ∷ []) f ≡ projections h f + count_by (is_projection_to f) (stops_of h e) → count_by (pays f) (h ++ e ∷ []) ≡ count_by (pays f) h + cond b 1 0 → (b ≡ true → 0 < projections h f - count_by (pays f) h) → projections (h ++ e ∷ []) f - count_by (pays f) (h ++ e ∷ []) + cond b 1 0 ≡ (projections h f - count_by (pays f) h) + count_by (is_projection_to f) (stops_of h e)
+  by_payment : (b : Bool) → count_by (pays f) h ≤ projections h f →
+      projections (h ++ e ∷ []) f ≡ projections h f + count_by (is_projection_to f) (stops_of h e) →
+      count_by (pays f) (h ++ e ∷ []) ≡ count_by (pays f) h + cond b 1 0 → (b ≡ true → 0 < projections h f - count_by (pays f) h) →
+      projections (h ++ e ∷ []) f - count_by (pays f) (h ++ e ∷ []) + cond b 1 0 ≡ (projections h f - count_by (pays f) h) + count_by (is_projection_to f) (stops_of h e)
   by_payment true before more one some = let k = some refl in omega arith
   by_payment false before more one some = omega arith
 
@@ -130,7 +139,8 @@ onward_open h n o = by_stop (stop_at h n) where
   by_stop (Some s) = tt
   by_stop None = by_event (slice_get h n)
 
-visited_open : (k : ℕ) (h : List Event) (todo : List ℕ) → AllByRecursion (λ m. is_open h m ≡ true) todo → AllByRecursion (λ m. is_open h m ≡ true) (visited k h todo)
+visited_open : (k : ℕ) (h : List Event) (todo : List ℕ) → AllByRecursion (λ m. is_open h m ≡ true) todo →
+    AllByRecursion (λ m. is_open h m ≡ true) (visited k h todo)
 visited_open zero h todo open_all = tt
 visited_open (suc k) h [] open_all = tt
 visited_open (suc k) h (n ∷ todo) open_all = (open_all.0, visited_open k h (onward h n ++ todo) (AllByRecursion-both (λ m. is_open h m ≡ true) (onward h n) todo (onward_open h n open_all.0) open_all.1))
@@ -147,7 +157,8 @@ StopsWell h (Some s) = StopsAtOpen h s
 -- the climb stops at an open root, FlatMap, Switch or TakeUntil
 stop_open : (h : List Event) → IsLawful h → (n : ℕ) → is_open h n ≡ true → StopsWell h (stop_at h n)
 stop_open h law n o = by_event (slice_get h n) refl where
-  if_merging : (f : ℕ) (kind : Kind) → slice_get h n ≡ Some (Open (Source f) kind) → (b : Bool) → at is_merging h f ≡ b → StopsWell h (cond b (Some (Projection f)) None)
+  if_merging : (f : ℕ) (kind : Kind) → slice_get h n ≡ Some (Open (Source f) kind) → (b : Bool) → at is_merging h f ≡ b →
+      StopsWell h (cond b (Some (Projection f)) None)
   if_merging f kind at_n false m = tt
   if_merging f kind at_n true m = (parent_open h n f o (parent-named h law n f (Open (Source f) kind) at_n refl), m)
 
@@ -164,10 +175,12 @@ stop_open h law n o = by_event (slice_get h n) refl where
   by_event (Some (Open (Notifier u) kind)) at_n = (parent_open h n u o (parent-named h law n u (Open (Notifier u) kind) at_n refl), until u kind at_n)
   by_event (Some _) at_n = tt
 
-stops_well : (h : List Event) → IsLawful h → (ns : List ℕ) → AllByRecursion (λ m. is_open h m ≡ true) ns → AllByRecursion (StopsAtOpen h) (filter_map (stop_at h) ns)
+stops_well : (h : List Event) → IsLawful h → (ns : List ℕ) → AllByRecursion (λ m. is_open h m ≡ true) ns →
+    AllByRecursion (StopsAtOpen h) (filter_map (stop_at h) ns)
 stops_well h law [] open_all = tt
 stops_well h law (n ∷ ns) open_all = by_stop (stop_at h n) (stop_open h law n open_all.0) (stops_well h law ns open_all.1) where
-  by_stop : (s : Option Stop) → StopsWell h s → AllByRecursion (StopsAtOpen h) (filter_map (stop_at h) ns) → AllByRecursion (StopsAtOpen h) (Rattle.std.specs.List.cons_option s (filter_map (stop_at h) ns))
+  by_stop : (s : Option Stop) → StopsWell h s → AllByRecursion (StopsAtOpen h) (filter_map (stop_at h) ns) →
+      AllByRecursion (StopsAtOpen h) (Rattle.std.specs.List.cons_option s (filter_map (stop_at h) ns))
   by_stop None well rest = rest
   by_stop (Some s) well rest = (well, rest)
 
@@ -185,7 +198,8 @@ abbrev pub projected_open : List Event → List Stop → ℕ → ℕ
 projected_open h ss n = cond (is_open h n && at is_merging h n) (count_by (is_projection_to n) ss) 0
 
 -- so all projections are to open FlatMaps and Switches
-pub projected_count : (h : List Event) (ss : List Stop) → AllByRecursion (StopsAtOpen h) ss → sum_by (projected_open h ss) (places h) ≡ count_by is_projection ss
+pub projected_count : (h : List Event) (ss : List Stop) → AllByRecursion (StopsAtOpen h) ss →
+    sum_by (projected_open h ss) (places h) ≡ count_by is_projection ss
 projected_count h [] well = sum_by_none (projected_open h []) (length h) (λ n l. zero_or_zero (is_open h n && at is_merging h n))
 projected_count h (s ∷ ss) well =
     let each : sum_by (projected_open h (s ∷ ss)) (places h) ≡ sum_by (λ n. cond (is_open h n && at is_merging h n) (cond (is_projection_to n s) 1 0) 0 + projected_open h ss n) (places h) = sum_by-same (λ n. cond (is_open h n && at is_merging h n) (cond (is_projection_to n s) 1 0) 0 + projected_open h ss n) (projected_open h (s ∷ ss)) (length h) (λ n l. shape (is_open h n && at is_merging h n) _ _ _ (sum_by-cons (λ t. cond (is_projection_to n t) 1 0) s ss)) in

@@ -58,7 +58,8 @@ is_held-push h e law r l =
     shape true false false true = refl
     shape true false false false = refl
 
-    by_node : (o : Option ℕ) → node_of h r ≡ o → (option_map_or (is_open (h ++ e ∷ [])) o false && not (list_any (is_remove_of r) h || (is_remove_of r e || false))) ≡ ((option_map_or (is_open h) o false && not (list_any (is_remove_of r) h)) && not (option_map_or (is_cut h e) o false || is_remove_of r e))
+    by_node : (o : Option ℕ) → node_of h r ≡ o →
+        (option_map_or (is_open (h ++ e ∷ [])) o false && not (list_any (is_remove_of r) h || (is_remove_of r e || false))) ≡ ((option_map_or (is_open h) o false && not (list_any (is_remove_of r) h)) && not (option_map_or (is_cut h e) o false || is_remove_of r e))
     by_node None at_r = refl
     by_node (Some n) at_r =
         let s : n < r = node_of-lt h law r n at_r in
@@ -95,7 +96,8 @@ is_held_last h e law = rw (slice_get_last h e) (by_event e) where
   and_yes true c gone = ap not gone
   and_yes false c gone = refl
 
-  by_event : (e : Event) → (option_map_or (is_open (h ++ e ∷ [])) (node_of_accept e) false && not (list_any (is_remove_of (length h)) (h ++ e ∷ []))) ≡ option_map_or (is_open h) (node_of_accept e) false
+  by_event : (e : Event) →
+      (option_map_or (is_open (h ++ e ∷ [])) (node_of_accept e) false && not (list_any (is_remove_of (length h)) (h ++ e ∷ []))) ≡ option_map_or (is_open h) (node_of_accept e) false
   by_event (Accept n tag) = rw (is_open_unchanged h (Accept n tag) refl refl n) (and_yes (is_open h n) _ (list_any-append (is_remove_of (length h)) h (Accept n tag ∷ []) ∙ or_from _ _ (no_remove h law (length h) (omega arith)) refl))
   by_event _ = refl
 
@@ -110,7 +112,8 @@ and_true true = refl
 and_true false = refl
 
 -- an event that shuts no node leaves what it does not remove
-pub is_held_kept : (h : List Event) (e : Event) → IsLawful h → (r : ℕ) → r < length h → shuts_none e ≡ true → is_remove_of r e ≡ false → is_held (h ++ e ∷ []) r ≡ is_held h r
+pub is_held_kept : (h : List Event) (e : Event) → IsLawful h → (r : ℕ) → r < length h → shuts_none e ≡ true → is_remove_of r e ≡ false →
+    is_held (h ++ e ∷ []) r ≡ is_held h r
 is_held_kept h e law r l s keeps = rw (is_held-push h e law r l, keeps_none h e r s keeps) (and_true (is_held h r))
 
 -- a resource is in the history
@@ -122,10 +125,12 @@ or_false true = refl
 or_false false = refl
 
 -- after the end or the closing of c, what was held within c no longer is
-pub is_held-end : (h : List Event) (c : ℕ) (t : Terminal) → IsLawful h → (r n : ℕ) → node_of h r ≡ Some n → is_held (h ++ End c t ∷ []) r ≡ (is_held h r && not (is_within h c n))
+pub is_held-end : (h : List Event) (c : ℕ) (t : Terminal) → IsLawful h → (r n : ℕ) → node_of h r ≡ Some n →
+    is_held (h ++ End c t ∷ []) r ≡ (is_held h r && not (is_within h c n))
 is_held-end h c t law r n at_r = rw (is_held-push h (End c t) law r (node_of_within h r n at_r), at_r) (ap (λ b. is_held h r && not b) (or_false (is_within h c n)))
 
-pub is_held-close : (h : List Event) (c : ℕ) → IsLawful h → (r n : ℕ) → node_of h r ≡ Some n → is_held (h ++ Close c ∷ []) r ≡ (is_held h r && not (is_within h c n))
+pub is_held-close : (h : List Event) (c : ℕ) → IsLawful h → (r n : ℕ) → node_of h r ≡ Some n →
+    is_held (h ++ Close c ∷ []) r ≡ (is_held h r && not (is_within h c n))
 is_held-close h c law r n at_r = rw (is_held-push h (Close c) law r (node_of_within h r n at_r), at_r) (ap (λ b. is_held h r && not b) (or_false (is_within h c n)))
 
 -- after a removal all that was held still is, but that
@@ -150,7 +155,8 @@ unfolding is_held
 held_open h r n at_r held = sym (ap (λ o. option_map_or (is_open h) o false) at_r) ∙ (and_parts _ _ held).0
 
 -- a resource stays held as long as its node is open and it is not removed
-pub is_held-open : (h : List Event) (e : Event) → IsLawful h → (r n : ℕ) → node_of h r ≡ Some n → is_held (h ++ e ∷ []) r ≡ (is_held h r && is_open (h ++ e ∷ []) n && not (is_remove_of r e))
+pub is_held-open : (h : List Event) (e : Event) → IsLawful h → (r n : ℕ) → node_of h r ≡ Some n →
+    is_held (h ++ e ∷ []) r ≡ (is_held h r && is_open (h ++ e ∷ []) n && not (is_remove_of r e))
 is_held-open h e law r n at_r =
     let s : n < r = node_of-lt h law r n at_r in
     let l : r < length h = node_of_within h r n at_r in
@@ -238,7 +244,8 @@ held_untaken h _ next r held = refl
 -- what is held was not taken
 pub held_not_taken : (h : List Event) → IsLawful h → (r : ℕ) → is_held h r ≡ true → is_taken h r ≡ false
 held_not_taken = by_events (λ h. (r : ℕ) → is_held h r ≡ true → is_taken h r ≡ false) (λ r held. is_taken_past [] r (omega arith)) after where
-  after : (h : List Event) (e : Event) → IsLawful h → MayFollow h e → ((r : ℕ) → is_held h r ≡ true → is_taken h r ≡ false) → (r : ℕ) → is_held (h ++ e ∷ []) r ≡ true → is_taken (h ++ e ∷ []) r ≡ false
+  after : (h : List Event) (e : Event) → IsLawful h → MayFollow h e → ((r : ℕ) → is_held h r ≡ true → is_taken h r ≡ false) → (r : ℕ) →
+      is_held (h ++ e ∷ []) r ≡ true → is_taken (h ++ e ∷ []) r ≡ false
   after h e law next before r held = by_place (cases_order r (length h)) where
     by_place : (r ≡ length h) ⊎ ((r < length h) ⊎ (length h < r)) → is_taken (h ++ e ∷ []) r ≡ false
     by_place (inr (inl l)) =
@@ -248,10 +255,12 @@ held_not_taken = by_events (λ h. (r : ℕ) → is_held h r ≡ true → is_take
     by_place (inr (inr g)) = is_taken_past (h ++ e ∷ []) r (omega (arith, length-append {A = Event}))
 
 -- an older resource waits if it did, or was held and its node loses it, and the event does not take it
-pub is_waiting-push : (h : List Event) (e : Event) → IsLawful h → (r : ℕ) → r < length h → is_waiting (h ++ e ∷ []) r ≡ ((is_waiting h r || (is_held h r && loses h e r)) && not (is_take_of r e))
+pub is_waiting-push : (h : List Event) (e : Event) → IsLawful h → (r : ℕ) → r < length h →
+    is_waiting (h ++ e ∷ []) r ≡ ((is_waiting h r || (is_held h r && loses h e r)) && not (is_take_of r e))
 unfolding is_waiting
 is_waiting-push h e law r l = rw (at-append makes_resource h (e ∷ []) r l, is_held-push h e law r l, is_taken-push h e r l) (shape (at makes_resource h r) (is_held h r) (is_taken h r) (loses h e r) (is_take_of r e) (held_resource h r) (held_not_taken h law r)) where
-  shape : (a held taken k t : Bool) → (held ≡ true → a ≡ true) → (held ≡ true → taken ≡ false) → ((a && not (held && not k)) && not (taken || (a && t))) ≡ ((((a && not held) && not taken) || (held && k)) && not t)
+  shape : (a held taken k t : Bool) → (held ≡ true → a ≡ true) → (held ≡ true → taken ≡ false) →
+      ((a && not (held && not k)) && not (taken || (a && t))) ≡ ((((a && not held) && not taken) || (held && k)) && not t)
   shape true true true k t made untaken = absurd (both_ways _ (untaken refl) refl)
   shape true true false true t made untaken = refl
   shape true true false false t made untaken = refl
@@ -261,7 +270,8 @@ is_waiting-push h e law r l = rw (at-append makes_resource h (e ∷ []) r l, is_
   shape false false taken k t made untaken = refl
 
 -- an event that shuts no node leaves what it neither removes nor takes
-pub is_waiting_kept : (h : List Event) (e : Event) → IsLawful h → (r : ℕ) → r < length h → shuts_none e ≡ true → is_remove_of r e ≡ false → is_take_of r e ≡ false → is_waiting (h ++ e ∷ []) r ≡ is_waiting h r
+pub is_waiting_kept : (h : List Event) (e : Event) → IsLawful h → (r : ℕ) → r < length h → shuts_none e ≡ true → is_remove_of r e ≡ false →
+    is_take_of r e ≡ false → is_waiting (h ++ e ∷ []) r ≡ is_waiting h r
 is_waiting_kept h e law r l s keeps leaves = rw (is_waiting-push h e law r l, keeps_none h e r s keeps, leaves) (shape (is_waiting h r) (is_held h r)) where
   shape : (w b : Bool) → ((w || (b && false)) && true) ≡ w
   shape true b = refl
@@ -275,14 +285,17 @@ waiting_shape false true true = refl
 waiting_shape false true false = refl
 
 -- after the end or the closing of c, what was held within c waits
-pub is_waiting-end : (h : List Event) (c : ℕ) (t : Terminal) → IsLawful h → (r n : ℕ) → node_of h r ≡ Some n → is_waiting (h ++ End c t ∷ []) r ≡ (is_waiting h r || (is_held h r && is_within h c n))
+pub is_waiting-end : (h : List Event) (c : ℕ) (t : Terminal) → IsLawful h → (r n : ℕ) → node_of h r ≡ Some n →
+    is_waiting (h ++ End c t ∷ []) r ≡ (is_waiting h r || (is_held h r && is_within h c n))
 is_waiting-end h c t law r n at_r = rw (is_waiting-push h (End c t) law r (node_of_within h r n at_r), at_r) (waiting_shape (is_waiting h r) (is_held h r) (is_within h c n))
 
-pub is_waiting-close : (h : List Event) (c : ℕ) → IsLawful h → (r n : ℕ) → node_of h r ≡ Some n → is_waiting (h ++ Close c ∷ []) r ≡ (is_waiting h r || (is_held h r && is_within h c n))
+pub is_waiting-close : (h : List Event) (c : ℕ) → IsLawful h → (r n : ℕ) → node_of h r ≡ Some n →
+    is_waiting (h ++ Close c ∷ []) r ≡ (is_waiting h r || (is_held h r && is_within h c n))
 is_waiting-close h c law r n at_r = rw (is_waiting-push h (Close c) law r (node_of_within h r n at_r), at_r) (waiting_shape (is_waiting h r) (is_held h r) (is_within h c n))
 
 -- a new resource does not wait where its node is open
-pub is_waiting_last : (h : List Event) (e : Event) → IsLawful h → is_waiting (h ++ e ∷ []) (length h) ≡ (makes_resource e && not (option_map_or (is_open h) (node_of_accept e) false))
+pub is_waiting_last : (h : List Event) (e : Event) → IsLawful h →
+    is_waiting (h ++ e ∷ []) (length h) ≡ (makes_resource e && not (option_map_or (is_open h) (node_of_accept e) false))
 unfolding is_waiting
 is_waiting_last h e law = rw (is_held_last h e law, is_taken_last h e law, slice_get_last h e) (and_true _)
 
@@ -313,7 +326,8 @@ is_waiting-take h q law r = by_place (cases_order r (length h)) where
   by_place (inr (inr g)) = is_waiting_past (h ++ Take q ∷ []) r (omega (arith, length-append {A = Event})) ∙ sym (gone (omega arith))
 
 -- after a removal what was removed waits too
-pub is_waiting-remove : (h : List Event) (q : ℕ) → IsLawful h → (r : ℕ) → r < length h → is_waiting (h ++ Remove q ∷ []) r ≡ (is_waiting h r || (is_held h r && q == r))
+pub is_waiting-remove : (h : List Event) (q : ℕ) → IsLawful h → (r : ℕ) → r < length h →
+    is_waiting (h ++ Remove q ∷ []) r ≡ (is_waiting h r || (is_held h r && q == r))
 is_waiting-remove h q law r l = rw (is_waiting-push h (Remove q) law r l) (shape (is_waiting h r) (is_held h r) _ (q == r) (cut_none (node_of h r))) where
   cut_none : (o : Option ℕ) → option_map_or (is_cut h (Remove q)) o false ≡ false
   cut_none None = refl
@@ -323,10 +337,12 @@ is_waiting-remove h q law r l = rw (is_waiting-push h (Remove q) law r l) (shape
   shape w b k s none = rw none (and_true (w || (b && s)))
 
 -- each resource is in exactly one place: held, waiting or taken
-pub in_one_place : (h : List Event) → IsLawful h → (r : ℕ) → cond (is_held h r) 1 0 + cond (is_waiting h r) 1 0 + cond (is_taken h r) 1 0 ≡ cond (at makes_resource h r) 1 0
+pub in_one_place : (h : List Event) → IsLawful h → (r : ℕ) →
+    cond (is_held h r) 1 0 + cond (is_waiting h r) 1 0 + cond (is_taken h r) 1 0 ≡ cond (at makes_resource h r) 1 0
 unfolding is_waiting
 in_one_place h law r = shape (at makes_resource h r) (is_held h r) (is_taken h r) (held_resource h r) (held_not_taken h law r) (taken_resource h r) where
-  shape : (a held taken : Bool) → (held ≡ true → a ≡ true) → (held ≡ true → taken ≡ false) → (taken ≡ true → a ≡ true) → cond held 1 0 + cond ((a && not held) && not taken) 1 0 + cond taken 1 0 ≡ cond a 1 0
+  shape : (a held taken : Bool) → (held ≡ true → a ≡ true) → (held ≡ true → taken ≡ false) → (taken ≡ true → a ≡ true) →
+      cond held 1 0 + cond ((a && not held) && not taken) 1 0 + cond taken 1 0 ≡ cond a 1 0
   shape true true true made untaken given = absurd (both_ways _ (untaken refl) refl)
   shape true true false made untaken given = refl
   shape true false true made untaken given = refl
@@ -394,7 +410,8 @@ is_waiting_unchanged h e law m r = by_place (cases_order r (length h)) where
   by_place (inr (inr g)) = is_waiting_past (h ++ e ∷ []) r (omega (arith, length-append {A = Event})) ∙ sym (is_waiting_past h r (omega arith))
 
 -- an older resource waits if it did, or is held no more, and the event does not take it
-pub is_waiting-unheld : (h : List Event) (e : Event) → IsLawful h → (r : ℕ) → r < length h → is_waiting (h ++ e ∷ []) r ≡ ((is_waiting h r || (is_held h r && not (is_held (h ++ e ∷ []) r))) && not (is_take_of r e))
+pub is_waiting-unheld : (h : List Event) (e : Event) → IsLawful h → (r : ℕ) → r < length h →
+    is_waiting (h ++ e ∷ []) r ≡ ((is_waiting h r || (is_held h r && not (is_held (h ++ e ∷ []) r))) && not (is_take_of r e))
 is_waiting-unheld h e law r l = rw (is_waiting-push h e law r l, is_held-push h e law r l) (shape (is_waiting h r) (is_held h r) (loses h e r) (is_take_of r e)) where
   shape : (w held k t : Bool) → ((w || (held && k)) && not t) ≡ ((w || (held && not (held && not k))) && not t)
   shape true held k t = refl

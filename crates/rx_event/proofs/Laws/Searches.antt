@@ -13,7 +13,8 @@ use Rattle.rx_event.specs.Marks.{first_some}
 pub list_any_found : {X : Type 0} (p : X → Bool) (xs : List X) → list_any p xs ≡ true → (i : ℕ) × (x : X) × (slice_get xs i ≡ Some x) × (p x ≡ true)
 list_any_found p [] found = absurd (false≢true found)
 list_any_found {X = X} p (x ∷ xs) found = by_first (or_cases (p x) (list_any p xs) found) (list_any_found p xs) where
-  by_first : (p x ≡ true) ⊎ (list_any p xs ≡ true) → (list_any p xs ≡ true → (i : ℕ) × (y : X) × (slice_get xs i ≡ Some y) × (p y ≡ true)) → (i : ℕ) × (y : X) × (slice_get (x ∷ xs) i ≡ Some y) × (p y ≡ true)
+  by_first : (p x ≡ true) ⊎ (list_any p xs ≡ true) → (list_any p xs ≡ true → (i : ℕ) × (y : X) × (slice_get xs i ≡ Some y) × (p y ≡ true)) →
+      (i : ℕ) × (y : X) × (slice_get (x ∷ xs) i ≡ Some y) × (p y ≡ true)
   by_first (inl here) rest = (0, x, refl, here)
   by_first (inr later) rest = let r = rest later in (suc r.0, r.1, r.2, r.3)
 
@@ -22,17 +23,21 @@ list_any_holds p [] i x at_i holds = absurd (none-some x at_i)
 list_any_holds p (y ∷ xs) zero x at_i holds = rw (same_Some y x at_i, holds) refl
 list_any_holds p (y ∷ xs) (suc i) x at_i holds = or_right (p y) (list_any p xs) (list_any_holds p xs i x at_i holds)
 
-pub first_found : {X Y : Type 0} (f : X → Option Y) (xs : List X) (y : Y) → first_some f xs ≡ Some y → (i : ℕ) × (x : X) × (slice_get xs i ≡ Some x) × (f x ≡ Some y)
+pub first_found : {X Y : Type 0} (f : X → Option Y) (xs : List X) (y : Y) → first_some f xs ≡ Some y →
+    (i : ℕ) × (x : X) × (slice_get xs i ≡ Some x) × (f x ≡ Some y)
 first_found f [] y found = absurd (none-some y found)
 first_found {X = X} {Y = Y} f (x ∷ xs) y found = by_first (f x) refl found (first_found f xs y) where
-  by_first : (o : Option Y) → f x ≡ o → option_or o (first_some f xs) ≡ Some y → (first_some f xs ≡ Some y → (i : ℕ) × (z : X) × (slice_get xs i ≡ Some z) × (f z ≡ Some y)) → (i : ℕ) × (z : X) × (slice_get (x ∷ xs) i ≡ Some z) × (f z ≡ Some y)
+  by_first : (o : Option Y) → f x ≡ o → option_or o (first_some f xs) ≡ Some y →
+      (first_some f xs ≡ Some y → (i : ℕ) × (z : X) × (slice_get xs i ≡ Some z) × (f z ≡ Some y)) →
+      (i : ℕ) × (z : X) × (slice_get (x ∷ xs) i ≡ Some z) × (f z ≡ Some y)
   by_first (Some u) here same rest = (0, x, refl, here ∙ same)
   by_first None here later rest = let r = rest later in (suc r.0, r.1, r.2, r.3)
 
 pub first_none : {X Y : Type 0} (f : X → Option Y) (xs : List X) → first_some f xs ≡ None → (i : ℕ) (x : X) → slice_get xs i ≡ Some x → f x ≡ None
 first_none f [] none i x at_i = absurd (none-some x at_i)
 first_none {X = X} {Y = Y} f (y ∷ xs) none i x at_i = by_first (f y) refl none (first_none f xs) i at_i where
-  by_first : (o : Option Y) → f y ≡ o → option_or o (first_some f xs) ≡ None → (first_some f xs ≡ None → (j : ℕ) (z : X) → slice_get xs j ≡ Some z → f z ≡ None) → (j : ℕ) → slice_get (y ∷ xs) j ≡ Some x → f x ≡ None
+  by_first : (o : Option Y) → f y ≡ o → option_or o (first_some f xs) ≡ None →
+      (first_some f xs ≡ None → (j : ℕ) (z : X) → slice_get xs j ≡ Some z → f z ≡ None) → (j : ℕ) → slice_get (y ∷ xs) j ≡ Some x → f x ≡ None
   by_first (Some u) here same rest j at_j = absurd (none-some u (sym same))
   by_first None here later rest zero at_j = ap f (sym (same_Some y x at_j)) ∙ here
   by_first None here later rest (suc j) at_j = rest later j x at_j
@@ -61,6 +66,7 @@ first_some_push {Y = Y} f (y ∷ xs) x = ap (option_or (f y)) (first_some_push f
   by_first None = refl
   by_first (Some u) = refl
 
-pub first_some_same_at : {X Y : Type 0} (f g : X → Option Y) (xs : List X) → ((i : ℕ) (x : X) → slice_get xs i ≡ Some x → f x ≡ g x) → first_some f xs ≡ first_some g xs
+pub first_some_same_at : {X Y : Type 0} (f g : X → Option Y) (xs : List X) → ((i : ℕ) (x : X) → slice_get xs i ≡ Some x → f x ≡ g x) →
+    first_some f xs ≡ first_some g xs
 first_some_same_at f g [] same = refl
 first_some_same_at f g (x ∷ xs) same = rw (same 0 x refl, first_some_same_at f g xs (λ i y at_i. same (suc i) y at_i)) refl

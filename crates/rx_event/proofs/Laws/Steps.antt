@@ -27,12 +27,14 @@ by_pushes_after P step b (x ∷ h) p = rw (← append_assoc b (x ∷ []) h) (by_
 pub by_pushes : (P : List Event → Type 0) → P [] → ((h : List Event) (e : Event) → P h → P (h ++ e ∷ [])) → (h : List Event) → P h
 by_pushes P start step h = by_pushes_after P step [] h start
 
-by_events_after : (P : List Event → Type 0) → ((h : List Event) (e : Event) → IsLawful h → MayFollow h e → P h → P (h ++ e ∷ [])) → (b h : List Event) → IsLawful b → P b → AllByRecursion (λ (m : Moment). MayFollow m.before m.event) (moments_after b h) → P (b ++ h)
+by_events_after : (P : List Event → Type 0) → ((h : List Event) (e : Event) → IsLawful h → MayFollow h e → P h → P (h ++ e ∷ [])) → (b h : List Event) →
+    IsLawful b → P b → AllByRecursion (λ (m : Moment). MayFollow m.before m.event) (moments_after b h) → P (b ++ h)
 by_events_after P step b [] law p each = rw (append-nil b) p
 by_events_after P step b (x ∷ h) law p each = rw (← append_assoc b (x ∷ []) h) (by_events_after P step (b ++ x ∷ []) h (IsLawful-push b x law each.0) (step b x law each.0 p) each.1)
 
 -- what holds of the empty history, and after each event that may follow, holds of each lawful history
-pub by_events : (P : List Event → Type 0) → P [] → ((h : List Event) (e : Event) → IsLawful h → MayFollow h e → P h → P (h ++ e ∷ [])) → (h : List Event) → IsLawful h → P h
+pub by_events : (P : List Event → Type 0) → P [] → ((h : List Event) (e : Event) → IsLawful h → MayFollow h e → P h → P (h ++ e ∷ [])) → (h : List Event) →
+    IsLawful h → P h
 unfolding moments
 by_events P start step h law = by_events_after P step [] h IsLawful_empty start law.each
 

@@ -30,7 +30,8 @@ sum_below-suc f n = ap (sum_by f) (below_push n) ∙ sum_by_push f (range_with_l
 -- sums term by term -------------------------------------------------------------------------------
 
 -- sums whose terms balance
-pub sums_balance : (a b c d : ℕ → ℕ) (n : ℕ) → ((k : ℕ) → k < n → a k + b k ≡ c k + d k) → sum_by a (range_with_len 0 n) + sum_by b (range_with_len 0 n) ≡ sum_by c (range_with_len 0 n) + sum_by d (range_with_len 0 n)
+pub sums_balance : (a b c d : ℕ → ℕ) (n : ℕ) → ((k : ℕ) → k < n → a k + b k ≡ c k + d k) →
+    sum_by a (range_with_len 0 n) + sum_by b (range_with_len 0 n) ≡ sum_by c (range_with_len 0 n) + sum_by d (range_with_len 0 n)
 sums_balance a b c d zero each = refl
 sums_balance a b c d (suc n) each =
     let rest = sums_balance a b c d n (λ k l. each k (omega arith)) in
@@ -59,13 +60,15 @@ sum_by_no_rise f g (suc n) each =
     omega (arith, sum_below-suc f n, sum_below-suc g n)
 
 -- no term rises, and one falls
-pub sum_by_falls : (f g : ℕ → ℕ) (n c : ℕ) → c < n → ((k : ℕ) → k < n → g k ≤ f k) → g c + 1 ≤ f c → sum_by g (range_with_len 0 n) + 1 ≤ sum_by f (range_with_len 0 n)
+pub sum_by_falls : (f g : ℕ → ℕ) (n c : ℕ) → c < n → ((k : ℕ) → k < n → g k ≤ f k) → g c + 1 ≤ f c →
+    sum_by g (range_with_len 0 n) + 1 ≤ sum_by f (range_with_len 0 n)
 sum_by_falls f g zero c l each less = absurd (omega arith)
 sum_by_falls f g (suc n) c l each less = by_place (λ (m : c < n). sum_by_falls f g n c m (λ k b. each k (omega arith)) less) (cases_order c n) where
   rest : sum_by g (range_with_len 0 n) ≤ sum_by f (range_with_len 0 n)
   rest = sum_by_no_rise f g n (λ k m. each k (omega arith))
 
-  by_place : (c < n → sum_by g (range_with_len 0 n) + 1 ≤ sum_by f (range_with_len 0 n)) → (c ≡ n) ⊎ ((c < n) ⊎ (n < c)) → sum_by g (range_with_len 0 (suc n)) + 1 ≤ sum_by f (range_with_len 0 (suc n))
+  by_place : (c < n → sum_by g (range_with_len 0 n) + 1 ≤ sum_by f (range_with_len 0 n)) → (c ≡ n) ⊎ ((c < n) ⊎ (n < c)) →
+      sum_by g (range_with_len 0 (suc n)) + 1 ≤ sum_by f (range_with_len 0 (suc n))
   by_place before (inl same) = let r = rest in let last : g n + 1 ≤ f n = rw (← same) less in omega (arith, sum_below-suc f n, sum_below-suc g n)
   by_place before (inr (inl m)) = let r = before m in let last = each n (omega arith) in omega (arith, sum_below-suc f n, sum_below-suc g n)
   by_place before (inr (inr m)) = absurd (omega arith)
@@ -82,7 +85,8 @@ sum_by_none f (suc n) each =
 pub sum_by_one : (f : ℕ → ℕ) (c n : ℕ) → c < n → sum_by (λ k. cond (c == k) (f k) 0) (range_with_len 0 n) ≡ f c
 sum_by_one f c zero l = absurd (omega arith)
 sum_by_one f c (suc n) l = sum_below-suc (λ k. cond (c == k) (f k) 0) n ∙ by_place (sum_by_one f c n) (cases_order c n) where
-  by_place : (c < n → sum_by (λ k. cond (c == k) (f k) 0) (range_with_len 0 n) ≡ f c) → (c ≡ n) ⊎ ((c < n) ⊎ (n < c)) → sum_by (λ k. cond (c == k) (f k) 0) (range_with_len 0 n) + cond (c == n) (f n) 0 ≡ f c
+  by_place : (c < n → sum_by (λ k. cond (c == k) (f k) 0) (range_with_len 0 n) ≡ f c) → (c ≡ n) ⊎ ((c < n) ⊎ (n < c)) →
+      sum_by (λ k. cond (c == k) (f k) 0) (range_with_len 0 n) + cond (c == n) (f n) 0 ≡ f c
   by_place before (inl same) = rw (eq-eqb c n same) (let r = sum_by_none (λ k. cond (c == k) (f k) 0) n (λ k m. rw (ne_eqb c k (omega arith)) refl) in let e : f c ≡ f n = ap f same in omega arith)
   by_place before (inr (inl m)) = rw (ne_eqb c n (omega arith)) (let r = before m in omega arith)
   by_place before (inr (inr m)) = absurd (omega arith)

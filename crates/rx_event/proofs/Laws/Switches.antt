@@ -17,7 +17,8 @@ use Rattle.rx_event.proofs.Laws.Steps.{by_events, named_below}
 
 -- one inner ---------------------------------------------------------------------------------------
 
-inner_named : (f : ℕ) (o : Option Event) → option_map_or (is_inner_of f) o false ≡ true → (P : Type 0) → ((e : Event) → o ≡ Some e → parent_named e ≡ Some f → P) → P
+inner_named : (f : ℕ) (o : Option Event) → option_map_or (is_inner_of f) o false ≡ true → (P : Type 0) →
+    ((e : Event) → o ≡ Some e → parent_named e ≡ Some f → P) → P
 inner_named f None inner P then = absurd (false≢true inner)
 inner_named f (Some (Open (Inner g) kind)) inner P then = then (Open (Inner g) kind) refl (ap Some (eqb-true g f inner))
 inner_named f (Some (Open Root kind)) inner P then = absurd (false≢true inner)
@@ -33,7 +34,8 @@ switched : (h : List Event) → IsLawful h → (f n : ℕ) → at is_switch h f 
 switched h law f n switch inner = and_from _ _ (and_from _ _ (lt-ltb f n (inner_above h law f n inner)) switch) inner
 
 -- the new inner cuts the older ones
-older_cut : (h : List Event) (e : Event) → IsLawful h → (f a : ℕ) → at is_switch h f ≡ true → at (is_inner_of f) h a ≡ true → is_inner_of f e ≡ true → is_cut h e a ≡ true
+older_cut : (h : List Event) (e : Event) → IsLawful h → (f a : ℕ) → at is_switch h f ≡ true → at (is_inner_of f) h a ≡ true → is_inner_of f e ≡ true →
+    is_cut h e a ≡ true
 older_cut h (Open (Inner g) kind) law f a switch inner new = self_cut h (Open (Inner g) kind) a (ap (λ q. is_switched_inner h q a) (eqb-true g f new) ∙ switched h law f a switch inner)
 older_cut h (Open Root kind) law f a switch inner new = absurd (false≢true new)
 older_cut h (Open (Source g) kind) law f a switch inner new = absurd (false≢true new)
@@ -51,7 +53,8 @@ pub record TwoInners (h : List Event) (f a b : ℕ) : Type 0 where
 -- are the same
 pub one_inner : (h : List Event) → IsLawful h → (f a b : ℕ) → TwoInners h f a b → a ≡ b
 one_inner = by_events (λ h. (f a b : ℕ) → TwoInners h f a b → a ≡ b) (λ f a b two. absurd (both_ways _ (is_open_past [] a (omega arith)) two.one_open)) after where
-  clash : (h : List Event) (e : Event) → IsLawful h → (f a b : ℕ) → a < length h → b ≡ length h → at is_switch (h ++ e ∷ []) f ≡ true → at (is_inner_of f) (h ++ e ∷ []) a ≡ true → is_open (h ++ e ∷ []) a ≡ true → at (is_inner_of f) (h ++ e ∷ []) b ≡ true → ⊥
+  clash : (h : List Event) (e : Event) → IsLawful h → (f a b : ℕ) → a < length h → b ≡ length h → at is_switch (h ++ e ∷ []) f ≡ true →
+      at (is_inner_of f) (h ++ e ∷ []) a ≡ true → is_open (h ++ e ∷ []) a ≡ true → at (is_inner_of f) (h ++ e ∷ []) b ≡ true → ⊥
   clash h e law f a b l last switch one one_open other =
       let inner : at (is_inner_of f) h a ≡ true = sym (at-append (is_inner_of f) h (e ∷ []) a l) ∙ one in
       let below : f < a = inner_above h law f a inner in
@@ -60,7 +63,8 @@ one_inner = by_events (λ h. (f a b : ℕ) → TwoInners h f a b → a ≡ b) (�
       let cut = older_cut h e law f a switch_before inner new in
       both_ways (not (is_cut h e a)) (ap not cut) (and_parts (is_open h a) (not (is_cut h e a)) (sym (is_open_cut h e a l) ∙ one_open)).1
 
-  after : (h : List Event) (e : Event) → IsLawful h → MayFollow h e → ((f a b : ℕ) → TwoInners h f a b → a ≡ b) → (f a b : ℕ) → TwoInners (h ++ e ∷ []) f a b → a ≡ b
+  after : (h : List Event) (e : Event) → IsLawful h → MayFollow h e → ((f a b : ℕ) → TwoInners h f a b → a ≡ b) → (f a b : ℕ) → TwoInners (h ++ e ∷ []) f a b →
+      a ≡ b
   after h e law next before f a b two = by_place (cases_order a (length h)) (cases_order b (length h)) where
     within : (n : ℕ) → is_open (h ++ e ∷ []) n ≡ true → n < length h + 1
     within n o = let l = is_open_within (h ++ e ∷ []) n o in omega (arith, length-append h (e ∷ []))
@@ -85,7 +89,8 @@ one_inner = by_events (λ h. (f a b : ℕ) → TwoInners h f a b → a ≡ b) (�
 
 -- the exchange ------------------------------------------------------------------------------------
 
-list_any-agree : {X : Type 0} (P : X → Type 0) (p q : X → Bool) → ((x : X) → P x → p x ≡ q x) → (xs : List X) → AllByRecursion P xs → list_any p xs ≡ list_any q xs
+list_any-agree : {X : Type 0} (P : X → Type 0) (p q : X → Bool) → ((x : X) → P x → p x ≡ q x) → (xs : List X) → AllByRecursion P xs →
+    list_any p xs ≡ list_any q xs
 list_any-agree P p q same [] a = refl
 list_any-agree P p q same (x ∷ xs) a = rw (same x a.0, list_any-agree P p q same xs a.1) refl
 
@@ -98,7 +103,8 @@ and_yes true b none = ap not (none refl)
 and_yes false b none = refl
 
 -- the open inner of a Switch is the only one
-same_inner : (h : List Event) (f c : ℕ) → IsLawful h → at is_switch h f ≡ true → at (is_inner_of f) h c ≡ true → is_open h c ≡ true → (a : ℕ) → is_open h a ≡ true → is_switched_inner h f a ≡ (c == a)
+same_inner : (h : List Event) (f c : ℕ) → IsLawful h → at is_switch h f ≡ true → at (is_inner_of f) h c ≡ true → is_open h c ≡ true → (a : ℕ) →
+    is_open h a ≡ true → is_switched_inner h f a ≡ (c == a)
 same_inner h f c law switch inner o a there = by_test (is_switched_inner h f a) refl (cases_Bool (c == a)) where
   by_test : (b : Bool) → is_switched_inner h f a ≡ b → ((c == a) ≡ true) ⊎ ((c == a) ≡ false) → b ≡ (c == a)
   by_test true s e = sym (eq-eqb c a (one_inner h law f c a (record { switch = switch; one = inner; one_open = o; other = (and_parts _ _ s).1; other_open = there })))
@@ -106,11 +112,13 @@ same_inner h f c law switch inner o a there = by_test (is_switched_inner h f a) 
   by_test false s (inr e) = sym e
 
 -- the opening of another inner of a Switch closes the open inner c, and what is below it
-pub is_open-inner_switch : (h : List Event) (f c : ℕ) (kind : Kind) → IsLawful h → at is_switch h f ≡ true → at (is_inner_of f) h c ≡ true → is_open h c ≡ true → (n : ℕ) → n < length h → is_open (h ++ Open (Inner f) kind ∷ []) n ≡ (is_open h n && not (is_within h c n))
+pub is_open-inner_switch : (h : List Event) (f c : ℕ) (kind : Kind) → IsLawful h → at is_switch h f ≡ true → at (is_inner_of f) h c ≡ true →
+    is_open h c ≡ true → (n : ℕ) → n < length h → is_open (h ++ Open (Inner f) kind ∷ []) n ≡ (is_open h n && not (is_within h c n))
 is_open-inner_switch h f c kind law switch inner o n l = is_open_cut h (Open (Inner f) kind) n l ∙ and_same (is_open h n) _ _ (λ here. list_any-agree (λ a. is_open h a ≡ true) (λ a. is_switched_inner h f a) (λ a. c == a) (same_inner h f c law switch inner o) (ancestors h n) (ancestors_open h n here))
 
 -- where no inner is open, it closes nothing
-pub is_open-inner_first : (h : List Event) (f : ℕ) (kind : Kind) → ((c : ℕ) → at (is_inner_of f) h c ≡ true → is_open h c ≡ false) → (n : ℕ) → n < length h → is_open (h ++ Open (Inner f) kind ∷ []) n ≡ is_open h n
+pub is_open-inner_first : (h : List Event) (f : ℕ) (kind : Kind) → ((c : ℕ) → at (is_inner_of f) h c ≡ true → is_open h c ≡ false) → (n : ℕ) → n < length h →
+    is_open (h ++ Open (Inner f) kind ∷ []) n ≡ is_open h n
 is_open-inner_first h f kind none n l = is_open_cut h (Open (Inner f) kind) n l ∙ and_yes (is_open h n) _ (λ here. list_any-agree (λ a. is_open h a ≡ true) (λ a. is_switched_inner h f a) (λ a. false) same (ancestors h n) (ancestors_open h n here) ∙ never (ancestors h n)) where
   never : (xs : List ℕ) → list_any (λ (a : ℕ). false) xs ≡ false
   never [] = refl
@@ -123,11 +131,13 @@ is_open-inner_first h f kind none n l = is_open_cut h (Open (Inner f) kind) n l 
     by_test (inr s) = s
 
 -- the opening of an inner of a FlatMap closes nothing
-pub is_open-inner_flat : (h : List Event) (f : ℕ) (kind : Kind) → at is_switch h f ≡ false → (n : ℕ) → n < length h → is_open (h ++ Open (Inner f) kind ∷ []) n ≡ is_open h n
+pub is_open-inner_flat : (h : List Event) (f : ℕ) (kind : Kind) → at is_switch h f ≡ false → (n : ℕ) → n < length h →
+    is_open (h ++ Open (Inner f) kind ∷ []) n ≡ is_open h n
 is_open-inner_flat h f kind flat n l = is_open_cut h (Open (Inner f) kind) n l ∙ and_yes (is_open h n) _ (λ here. is_cut_inner_flat h f kind flat n)
 
 -- of the open nodes, it cuts those within c
-pub is_cut-inner_switch : (h : List Event) (f c : ℕ) (kind : Kind) → IsLawful h → at is_switch h f ≡ true → at (is_inner_of f) h c ≡ true → is_open h c ≡ true → (n : ℕ) → (is_open h n && is_cut h (Open (Inner f) kind) n) ≡ (is_open h n && is_within h c n)
+pub is_cut-inner_switch : (h : List Event) (f c : ℕ) (kind : Kind) → IsLawful h → at is_switch h f ≡ true → at (is_inner_of f) h c ≡ true → is_open h c ≡ true →
+    (n : ℕ) → (is_open h n && is_cut h (Open (Inner f) kind) n) ≡ (is_open h n && is_within h c n)
 is_cut-inner_switch h f c kind law switch inner o n = cut_same (is_open h n) _ _ (λ here. list_any-agree (λ a. is_open h a ≡ true) (λ a. is_switched_inner h f a) (λ a. c == a) (same_inner h f c law switch inner o) (ancestors h n) (ancestors_open h n here)) where
   cut_same : (a b c : Bool) → (a ≡ true → b ≡ c) → (a && b) ≡ (a && c)
   cut_same true b c same = same refl

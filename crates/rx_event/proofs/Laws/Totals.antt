@@ -65,7 +65,8 @@ abbrev pub lost_count : List Event → Event → ℕ
 lost_count h e = count_by (λ r. is_held h r && loses h e r) (places h)
 
 -- what is held after the event, and what it lost, was held before, or is new
-pub held_count-push : (h : List Event) (e : Event) → IsLawful h → held_count (h ++ e ∷ []) + lost_count h e ≡ held_count h + cond (option_map_or (is_open h) (node_of_accept e) false) 1 0
+pub held_count-push : (h : List Event) (e : Event) → IsLawful h →
+    held_count (h ++ e ∷ []) + lost_count h e ≡ held_count h + cond (option_map_or (is_open h) (node_of_accept e) false) 1 0
 held_count-push h e law =
     let older : count_by (is_held (h ++ e ∷ [])) (places h) + lost_count h e ≡ held_count h + sum_by (λ (r : ℕ). 0) (places h) =
     sums_balance (λ r. cond (is_held (h ++ e ∷ []) r) 1 0) (λ r. cond (is_held h r && loses h e r) 1 0) (λ r. cond (is_held h r) 1 0) (λ r. 0) (length h) (λ r l. rw (is_held-push h e law r l) (shape (is_held h r) (loses h e r))) in
@@ -88,7 +89,8 @@ taken_waited h (Take q) next r same = rw (← eqb-true q r same) (may_take next)
 taken_waited h _ next r same = absurd (false≢true same)
 
 -- what waits after the event, and what it takes, waited before, or was lost by it
-pub waiting_count-push : (h : List Event) (e : Event) → IsLawful h → MayFollow h e → waiting_count (h ++ e ∷ []) + cond (is_take e) 1 0 ≡ waiting_count h + lost_count h e
+pub waiting_count-push : (h : List Event) (e : Event) → IsLawful h → MayFollow h e →
+    waiting_count (h ++ e ∷ []) + cond (is_take e) 1 0 ≡ waiting_count h + lost_count h e
 waiting_count-push h e law next =
     let older : count_by (is_waiting (h ++ e ∷ [])) (places h) + count_by (λ r. is_take_of r e) (places h) ≡ waiting_count h + lost_count h e =
     sums_balance (λ r. cond (is_waiting (h ++ e ∷ []) r) 1 0) (λ r. cond (is_take_of r e) 1 0) (λ r. cond (is_waiting h r) 1 0) (λ r. cond (is_held h r && loses h e r) 1 0) (length h) (λ r l. rw (is_waiting-push h e law r l) (shape (is_waiting h r) (is_held h r) (loses h e r) (is_take_of r e) (λ w. (waiting_parts h r w).1) (taken_waited h e next r))) in
@@ -97,7 +99,8 @@ waiting_count-push h e law next =
     let new = one_if (is_waiting_new h e law next) in
     omega arith
   where
-    shape : (w b k t : Bool) → (w ≡ true → b ≡ false) → (t ≡ true → w ≡ true) → cond ((w || (b && k)) && not t) 1 0 + cond t 1 0 ≡ cond w 1 0 + cond (b && k) 1 0
+    shape : (w b k t : Bool) → (w ≡ true → b ≡ false) → (t ≡ true → w ≡ true) →
+        cond ((w || (b && k)) && not t) 1 0 + cond t 1 0 ≡ cond w 1 0 + cond (b && k) 1 0
     shape true true k t apart waited = absurd (both_ways _ (apart refl) refl)
     shape true false k true apart waited = refl
     shape true false k false apart waited = refl
@@ -134,7 +137,8 @@ held_count_no_rise h e law none = let b = held_count-push h e law in let n = one
   no_accept _ none = refl
 
 -- what is held and what waits go over into each other, but for an acceptance and a taking
-pub held_waiting_count-push : (h : List Event) (e : Event) → IsLawful h → MayFollow h e → held_count (h ++ e ∷ []) + waiting_count (h ++ e ∷ []) + cond (is_take e) 1 0 ≡ held_count h + waiting_count h + cond (makes_resource e) 1 0
+pub held_waiting_count-push : (h : List Event) (e : Event) → IsLawful h → MayFollow h e →
+    held_count (h ++ e ∷ []) + waiting_count (h ++ e ∷ []) + cond (is_take e) 1 0 ≡ held_count h + waiting_count h + cond (makes_resource e) 1 0
 held_waiting_count-push h e law next =
     let b = held_count-push h e law in
     let c = waiting_count-push h e law next in
@@ -206,7 +210,8 @@ lost_one h q held = sum_by-same (λ r. cond (q == r) 1 0) (λ r. cond (is_held h
   and_false true = refl
   and_false false = refl
 
-  just_that : (r : ℕ) (o : Option ℕ) → ((q == r) ≡ true) ⊎ ((q == r) ≡ false) → (is_held h r && (option_map_or (is_cut h (Remove q)) o false || q == r)) ≡ (q == r)
+  just_that : (r : ℕ) (o : Option ℕ) → ((q == r) ≡ true) ⊎ ((q == r) ≡ false) →
+      (is_held h r && (option_map_or (is_cut h (Remove q)) o false || q == r)) ≡ (q == r)
   just_that r o (inl same) = let there : is_held h r ≡ true = rw (← eqb-true q r same) held in rw (no_cut o (q == r), there) refl
   just_that r o (inr apart) = rw (no_cut o (q == r), apart) (and_false (is_held h r))
 
@@ -260,7 +265,8 @@ is_open_new h (End n t) next = is_open_last_none h (End n t) refl
 is_open_new h (Close n) next = is_open_last_none h (Close n) refl
 
 -- an event that cuts no node
-pub open_count_uncut : (h : List Event) (e : Event) → MayFollow h e → ((n : ℕ) → is_cut h e n ≡ false) → open_count (h ++ e ∷ []) ≡ open_count h + cond (makes_node e) 1 0
+pub open_count_uncut : (h : List Event) (e : Event) → MayFollow h e → ((n : ℕ) → is_cut h e n ≡ false) →
+    open_count (h ++ e ∷ []) ≡ open_count h + cond (makes_node e) 1 0
 open_count_uncut h e next whole =
     let b = open_count-push h e in
     let n = one_if (is_open_new h e next) in
@@ -286,7 +292,8 @@ within_some h c o =
     omega arith
 
 -- the end or the closing of c closes c and what is open below it
-pub open_count-end : (h : List Event) (c : ℕ) (t : Terminal) → open_count (h ++ End c t ∷ []) + count_by (λ n. is_open h n && is_within h c n) (places h) ≡ open_count h
+pub open_count-end : (h : List Event) (c : ℕ) (t : Terminal) →
+    open_count (h ++ End c t ∷ []) + count_by (λ n. is_open h n && is_within h c n) (places h) ≡ open_count h
 open_count-end h c t =
     let b = open_count-push h (End c t) in
     let n = one_if (is_open_last_none h (End c t) refl) in
@@ -306,11 +313,14 @@ pub open_count_falls-close : (h : List Event) (c : ℕ) → is_open h c ≡ true
 open_count_falls-close h c o = let b = open_count-close h c in let s = within_some h c o in omega arith
 
 -- an inner of a FlatMap is one open node more
-pub open_count-inner_flat : (h : List Event) (f : ℕ) (kind : Kind) → MayFollow h (Open (Inner f) kind) → at is_switch h f ≡ false → open_count (h ++ Open (Inner f) kind ∷ []) ≡ open_count h + 1
+pub open_count-inner_flat : (h : List Event) (f : ℕ) (kind : Kind) → MayFollow h (Open (Inner f) kind) → at is_switch h f ≡ false →
+    open_count (h ++ Open (Inner f) kind ∷ []) ≡ open_count h + 1
 open_count-inner_flat h f kind next flat = open_count_uncut h (Open (Inner f) kind) next (is_cut_inner_flat h f kind flat)
 
 -- an inner of a Switch comes in place of the open inner c, and of what is open below it
-pub open_count-inner_switch : (h : List Event) (f c : ℕ) (kind : Kind) → IsLawful h → MayFollow h (Open (Inner f) kind) → at is_switch h f ≡ true → at (is_inner_of f) h c ≡ true → is_open h c ≡ true → open_count (h ++ Open (Inner f) kind ∷ []) + count_by (λ n. is_open h n && is_within h c n) (places h) ≡ open_count h + 1
+pub open_count-inner_switch : (h : List Event) (f c : ℕ) (kind : Kind) → IsLawful h → MayFollow h (Open (Inner f) kind) → at is_switch h f ≡ true →
+    at (is_inner_of f) h c ≡ true → is_open h c ≡ true →
+    open_count (h ++ Open (Inner f) kind ∷ []) + count_by (λ n. is_open h n && is_within h c n) (places h) ≡ open_count h + 1
 open_count-inner_switch h f c kind law next switch inner o =
     let b = open_count-push h (Open (Inner f) kind) in
     let n = one_if (is_open_new h (Open (Inner f) kind) next) in

@@ -74,7 +74,8 @@ not_false : (b : Bool) → not b ≡ false → b ≡ true
 not_false true n = refl
 not_false false n = absurd (false≢true (sym n))
 
-subscribed_before : (h : List Event) (e : Event) (g : ℕ) → is_subscriber_of g e ≡ false → (d : IsConnectDue (h ++ e ∷ []) g) → (at (is_subscriber_of g) h d.subscriber ≡ true) × (is_open h d.subscriber ≡ true)
+subscribed_before : (h : List Event) (e : Event) (g : ℕ) → is_subscriber_of g e ≡ false → (d : IsConnectDue (h ++ e ∷ []) g) →
+    (at (is_subscriber_of g) h d.subscriber ≡ true) × (is_open h d.subscriber ≡ true)
 subscribed_before h e g out d =
     let old : at (is_subscriber_of g) h d.subscriber ≡ true = at_before (is_subscriber_of g) h e d.subscriber out d.subscribes in
     let now = sym (is_open_cut h e d.subscriber (at_within (is_subscriber_of g) h d.subscriber old)) ∙ d.subscribed in
@@ -195,7 +196,8 @@ spares h (Close n) c g none connects shut = false≢true none
 spares h _ c g none connects shut = false≢true shut
 
 -- so a hub that waits after it is that of the new subscriber, or waited before
-waited_before : (h : List Event) (e : Event) (g : ℕ) → closes_none e ≡ true → is_subscriber_of g e ≡ false → at is_auto_hub h g ≡ true → IsConnectDue (h ++ e ∷ []) g → IsConnectDue h g
+waited_before : (h : List Event) (e : Event) (g : ℕ) → closes_none e ≡ true → is_subscriber_of g e ≡ false → at is_auto_hub h g ≡ true →
+    IsConnectDue (h ++ e ∷ []) g → IsConnectDue h g
 waited_before h e g none out auto d = by_way (how_waits h e g out auto d) where
   by_way : HowWaits h e g → IsConnectDue h g
   by_way (waited w) = w
@@ -227,7 +229,8 @@ kept_subscribed h place g law none k d = by_hub (cases_Bool (g == k)) where
   by_hub (inr apart) = absurd (none k (waited_before h (Open place (Sub g)) k refl apart (auto_before h (Open place (Sub g)) k law apart d) d))
 
 -- how many hubs may wait after a caller's event: one after a subscriber, else none
-pub waits_after : (h : List Event) (e : Event) → IsLawful h → IsConnected h → IsAllowed h e → MayWait (h ++ e ∷ []) (option_map_or (λ g. 1) (hub_subscribed e) 0)
+pub waits_after : (h : List Event) (e : Event) → IsLawful h → IsConnected h → IsAllowed h e →
+    MayWait (h ++ e ∷ []) (option_map_or (λ g. 1) (hub_subscribed e) 0)
 waits_after h (Open place (Sub g)) law none a = one_waits {g = g} (kept_subscribed h place g law none)
 waits_after h (Open place Leaf) law none a = none_waits (kept_unsubscribed h (Open place Leaf) law none refl refl)
 waits_after h (Open place Pass) law none a = none_waits (kept_unsubscribed h (Open place Pass) law none refl refl)

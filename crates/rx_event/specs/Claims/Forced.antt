@@ -13,11 +13,14 @@ use Rattle.rx_event.specs.Lawful.{IsForcedOn, IsLawful}
 pub record StepsConnectOnce : Type 0 where
   -- in a settled history no hub waits; after a caller's event that of the new subscriber at most
   pub settled : (h : List Event) → IsSettled h → IsConnected h
-  pub allowed : (h : List Event) (e : Event) → IsLawful h → IsConnected h → IsAllowed h e → MayWait (h ++ e ∷ []) (option_map_or (λ g. 1) (hub_subscribed e) 0)
+  pub allowed : (h : List Event) (e : Event) → IsLawful h → IsConnected h → IsAllowed h e →
+      MayWait (h ++ e ∷ []) (option_map_or (λ g. 1) (hub_subscribed e) 0)
   -- the acceptance of the resource that a node was opened with (Using) makes none wait
   pub accepted : (h : List Event) (n tag : ℕ) → IsLawful h → IsConnected h → IsConnected (h ++ Accept n tag ∷ [])
   -- where one may wait, none waits after the first forced event
   pub forced : (h : List Event) (e : Event) (most : ℕ) → MayWait h most → IsForced h e → IsConnected (h ++ e ∷ [])
   -- so all that is forced connects as many as may wait at most
-  pub connects : (h k : List Event) (most : ℕ) → MayWait h most → IsForcedOn h k → connect_count k ≤ connect_count h + most
-  pub closes : (h : List Event) (e : Event) → IsForced h e → is_connect e ≡ false → open_count (h ++ e ∷ []) + 1 ≤ open_count h
+  pub connects : (h k : List Event) (most : ℕ) → MayWait h most → IsForcedOn h k →
+      connect_count k ≤ connect_count h + most
+  pub closes : (h : List Event) (e : Event) → IsForced h e → is_connect e ≡ false →
+      open_count (h ++ e ∷ []) + 1 ≤ open_count h

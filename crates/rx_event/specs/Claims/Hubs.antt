@@ -10,5 +10,7 @@ use Rattle.rx_event.specs.Lawful.{IsLawful}
 pub record ConnectsOnce : Type 0 where
   pub at_most : (h : List Event) → IsLawful h → (g : ℕ) → length (open_connections h g) ≤ 1
   -- RefCount, once nothing is forced: one where it has an open subscriber, and none otherwise
-  pub subscribed : (h : List Event) → IsLawful h → IsSettled h → (g : ℕ) → IsTrue (at is_auto_hub h g) → open_subscribers h g ≢ [] → length (open_connections h g) ≡ 1
-  pub unsubscribed : (h : List Event) → IsLawful h → IsSettled h → (g : ℕ) → IsTrue (at is_auto_hub h g) → open_subscribers h g ≡ [] → open_connections h g ≡ []
+  pub subscribed : (h : List Event) → IsLawful h → IsSettled h → (g : ℕ) → IsTrue (at is_auto_hub h g) →
+      open_subscribers h g ≢ [] → length (open_connections h g) ≡ 1
+  pub unsubscribed : (h : List Event) → IsLawful h → IsSettled h → (g : ℕ) → IsTrue (at is_auto_hub h g) →
+      open_subscribers h g ≡ [] → open_connections h g ≡ []

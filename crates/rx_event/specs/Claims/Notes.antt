@@ -13,6 +13,8 @@ use Rattle.rx_event.specs.Lawful.{MayFollow, IsLawful}
 pub record NotesInOrder : Type 0 where
   pub grammatical : (h : List Event) → IsLawful h → (n : ℕ) → IsGrammatical (notes_to h n)
   -- what is no root is told projected items alone
-  pub projected : (h : List Event) → IsLawful h → (n : ℕ) → at is_root h n ≡ false → AllByRecursion (λ note. (value : ℤ) × (note ≡ Project value)) (notes_to h n)
+  pub projected : (h : List Event) → IsLawful h → (n : ℕ) → at is_root h n ≡ false →
+      AllByRecursion (λ note. (value : ℤ) × (note ≡ Project value)) (notes_to h n)
   -- and what is not open is told nothing more
-  pub silent : (h : List Event) (e : Event) → IsLawful h → MayFollow h e → (n : ℕ) → is_open h n ≡ false → notes_to (h ++ e ∷ []) n ≡ notes_to h n
+  pub silent : (h : List Event) (e : Event) → IsLawful h → MayFollow h e → (n : ℕ) → is_open h n ≡ false →
+      notes_to (h ++ e ∷ []) n ≡ notes_to h n

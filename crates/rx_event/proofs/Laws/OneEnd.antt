@@ -1,0 +1,263 @@
+-- All that is due in a lawful history ends in one way: as what was ended in this step did, or by a completion.
+use Rattle.std.proofs.Common.{◌≡◌, ℕ, ◌<◌, ◌≤◌, Bool, true, false, List, [], ◌∷◌, ◌++◌, length, Option, Some, None, cond, refl, sym, ap, ◌∙◌, arith, inl, inr, ◌⊎◌, ◌==◌, slice_get}
+use Rattle.std.proofs.Math.Bool.{not, ◌&&◌}
+use Rattle.std.specs.List.{list_any, count_by}
+use Rattle.std.specs.Option.{option_map_or}
+use Rattle.std.proofs.lemmas.Bool.{cases_lt, both_ways, false≢true, and_parts, or_cases, eq-eqb, eqb-true}
+use Rattle.std.proofs.lemmas.Option.{slice_get_within, same_Some, none-some}
+use Rattle.rx_note.specs.declared.note.Terminal.{Terminal}
+use Rattle.rx_note.specs.declared.note.Terminal.TheVariants.{Completed, Error}
+use Rattle.rx_event.specs.declared.event.Place.TheVariants.{Root, Source, Inner, Notifier}
+use Rattle.rx_event.specs.declared.event.Event.{Event}
+use Rattle.rx_event.specs.declared.event.Event.TheVariants.{Open, Item, Decline, End, Close}
+use Rattle.rx_event.specs.Events.{is_mirroring, is_merging, is_until, is_source_of, is_inner_of, is_subscriber_of, pays}
+use Rattle.rx_event.specs.Tree.{at, parent, is_open, shuts}
+use Rattle.rx_event.specs.Moments.{owed, is_fired, is_firing_of, is_projection_to, stops_of}
+use Rattle.rx_event.specs.Forced.{mirrored, fired, failed, completed, cut, due, Has, ChildEnded, SourceEnded, IsDue, IsForced, IsSettled}
+use Rattle.rx_event.specs.Marks.{due_at, marks_of, is_child_of}
+use Rattle.rx_event.specs.Lawful.{forced, allowed, opened_with, MayFollow, IsLawful}
+use Rattle.rx_event.proofs.Laws.Places.{slice_get-append, slice_get_last, at-append, cases_push}
+use Rattle.rx_event.proofs.Laws.Parents.{parent-append, parent-lt, parent_within, parent_name, ancestors_step}
+use Rattle.rx_event.proofs.Laws.Openness.{is_open_within, is_open_cut, is_cut}
+use Rattle.rx_event.proofs.Laws.Lawful.{ended_after, due_open}
+use Rattle.rx_event.proofs.Laws.Steps.{by_events, parent-named, forced_kind}
+use Rattle.rx_event.proofs.Laws.Stands.{event_at}
+use Rattle.rx_event.proofs.Laws.Waits.{settled_connected}
+use Rattle.rx_event.proofs.Laws.Projections.{owed-push}
+use Rattle.rx_event.proofs.Laws.MarksFound.{is_child_parent}
+use Rattle.rx_event.proofs.Laws.MarksDue.{due_by_marks, due_at_due}
+use Rattle.rx_event.proofs.Laws.MarksAfter.{ended_older, child_new, adds_child, is_fired-push}
+use Rattle.rx_event.proofs.Laws.MarksEnds.{may_close_none}
+use Rattle.rx_event.proofs.Laws.MarksInner.{switched_parent}
+use Rattle.rx_event.proofs.Laws.MarksNew.{fired_past}
+
+-- how what the event makes due ends, if it makes anything due
+abbrev pub end_by : Event → Option Terminal
+end_by (End c t) = Some t
+end_by (Item leaf v) = Some Completed
+end_by (Decline f) = Some Completed
+end_by _ = None
+
+open_old : (h : List Event) (e : Event) (n : ℕ) → n < length h → is_open (h ++ e ∷ []) n ≡ true → is_open h n ≡ true
+open_old h e n l o = (and_parts (is_open h n) (not (is_cut h e n)) (sym (is_open_cut h e n l) ∙ o)).0
+
+-- a child that ended had ended, or ends by this event
+child_ended_before : (h : List Event) (e : Event) → IsLawful h → (n : ℕ) (u : Terminal) → ChildEnded (h ++ e ∷ []) n u →
+    (ChildEnded h n u × (n < length h)) ⊎ (end_by e ≡ Some u)
+child_ended_before h e law n u c = by_place (cases_push h e (End c.child u) c.ended.place c.ended.found) where
+  by_place : (slice_get h c.ended.place ≡ Some (End c.child u)) ⊎ (e ≡ End c.child u) → (ChildEnded h n u × (n < length h)) ⊎ (end_by e ≡ Some u)
+  by_place (inr same) = inr (ap end_by same)
+  by_place (inl found) =
+      let l : c.child < length h = ended_older h law c.ended.place (End c.child u) found c.child u refl in
+      let below : parent h c.child ≡ Some n = sym (parent-append h (e ∷ []) c.child l) ∙ c.below in
+      inl (record { child = c.child; below = below; ended = record { place = c.ended.place; found = found } }, (let p = parent-lt h c.child n below in omega arith))
+
+source_ended_before : (h : List Event) (e : Event) → IsLawful h → (n : ℕ) (u : Terminal) → SourceEnded (h ++ e ∷ []) n u →
+    (SourceEnded h n u × (n < length h)) ⊎ (end_by e ≡ Some u)
+source_ended_before h e law n u s = by_place (cases_push h e (End s.connection u) s.place s.ended) where
+  by_place : (slice_get h s.place ≡ Some (End s.connection u)) ⊎ (e ≡ End s.connection u) → (SourceEnded h n u × (n < length h)) ⊎ (end_by e ≡ Some u)
+  by_place (inr same) = inr (ap end_by same)
+  by_place (inl found) =
+      let l : s.place < length h = slice_get_within h s.place _ found in
+      let before : s.connection < s.place = ended_after h law s.place s.connection u found in
+      let after = s.later in
+      let old : n < length h = omega arith in
+      inl (
+        record {
+          hub = s.hub;
+          connection = s.connection;
+          place = s.place;
+          subscribes = sym (at-append (is_subscriber_of s.hub) h (e ∷ []) n old) ∙ s.subscribes;
+          connects = sym (slice_get-append h (e ∷ []) s.connection (omega arith)) ∙ s.connects;
+          later = s.later;
+          ended = found;
+        },
+        old,
+      )
+
+-- a completion of a FlatMap or Switch -----------------------------------------------------------------
+
+stops_end : (h : List Event) (e : Event) (n : ℕ) → list_any (is_firing_of n) (stops_of h e) ≡ true → end_by e ≡ Some Completed
+stops_end h (Item leaf v) n fires = refl
+stops_end h _ n fires = absurd (false≢true fires)
+
+projects_none : (h : List Event) (e : Event) (n : ℕ) → (end_by e ≡ Some Completed → ⊥) → count_by (is_projection_to n) (stops_of h e) ≡ 0
+projects_none h (Item leaf v) n silent = absurd (silent refl)
+projects_none h _ n silent = refl
+
+-- where no child of n is open, the event opens none
+opens_none : (h : List Event) (e : Event) → IsLawful h → MayFollow h e → (n : ℕ) →
+    ((c : ℕ) → parent (h ++ e ∷ []) c ≡ Some n → is_open (h ++ e ∷ []) c ≡ false) → adds_child n e ≡ true → ⊥
+opens_none h e law next n closed adds =
+    let new = and_parts (is_open (h ++ e ∷ []) (length h)) (is_child_of (h ++ e ∷ []) n (length h)) (child_new h e law next n ∙ adds) in
+    both_ways (is_open (h ++ e ∷ []) (length h)) (closed (length h) (is_child_parent (h ++ e ∷ []) n (length h) new.1)) new.0
+
+pays_none : (h : List Event) (e : Event) (n : ℕ) → (end_by e ≡ Some Completed → ⊥) → (adds_child n e ≡ true → ⊥) → pays n e ≡ false
+pays_none h (Decline f) n silent opens = absurd (silent refl)
+pays_none h (Open (Inner f) kind) n silent opens = by_test (f == n) refl where
+  by_test : (b : Bool) → (f == n) ≡ b → b ≡ false
+  by_test false other = refl
+  by_test true same = absurd (opens same)
+pays_none h (Open Root kind) n silent opens = refl
+pays_none h (Open (Source f) kind) n silent opens = refl
+pays_none h (Open (Notifier f) kind) n silent opens = refl
+pays_none h _ n silent opens = refl
+
+-- what takes a child of n away, but not n
+child_shut : (h : List Event) (e : Event) → IsLawful h → MayFollow h e → (n k : ℕ) → parent h k ≡ Some n → shuts h k e ≡ true →
+    (end_by e ≡ Some Completed → ⊥) → (adds_child n e ≡ true → ⊥) → (code : ℕ) × (e ≡ End k (Error code))
+child_shut h (End c Completed) law next n k below shut silent opens = absurd (silent refl)
+child_shut h (End c (Error code)) law next n k below shut silent opens = (code, ap (λ q. End q (Error code)) (eqb-true c k shut))
+child_shut h (Close c) law next n k below shut silent opens =
+    let made = event_at h k (parent_within h k n below) in
+    absurd (none-some n (sym (may_close_none next made.0 (ap (slice_get h) (eqb-true c k shut) ∙ made.1)) ∙ parent_name h k n made.0 below made.1))
+child_shut h (Open (Inner f) kind) law next n k below shut silent opens =
+    let inner : at (is_inner_of f) h k ≡ true = (and_parts _ _ shut).1 in
+    let same : f ≡ n = same_Some f n (sym (switched_parent h law f k inner) ∙ below) in
+    absurd (opens (eq-eqb f n same))
+child_shut h (Open Root kind) law next n k below shut silent opens = absurd (false≢true shut)
+child_shut h (Open (Source f) kind) law next n k below shut silent opens = absurd (false≢true shut)
+child_shut h (Open (Notifier f) kind) law next n k below shut silent opens = absurd (false≢true shut)
+child_shut h _ law next n k below shut silent opens = absurd (false≢true shut)
+
+not_false : (b : Bool) → not b ≡ true → b ≡ false
+not_false false n = refl
+not_false true n = absurd (false≢true n)
+
+now_closed : (o c : Bool) → (o && not c) ≡ false → c ≡ false → o ≡ false
+now_closed false c gone whole = refl
+now_closed true false gone whole = gone
+now_closed true true gone whole = absurd (false≢true (sym whole))
+
+source_parent : (h : List Event) → IsLawful h → (n s : ℕ) → at (is_source_of n) h s ≡ true → parent h s ≡ Some n
+source_parent h law n s source = by_event (slice_get h s) refl source where
+  by_event : (x : Option Event) → slice_get h s ≡ x → option_map_or (is_source_of n) x false ≡ true → parent h s ≡ Some n
+  by_event None at_s source = absurd (false≢true source)
+  by_event (Some (Open (Source q) kind)) at_s source = parent-named h law s n (Open (Source q) kind) at_s (ap Some (eqb-true q n source))
+  by_event (Some (Open Root kind)) at_s source = absurd (false≢true source)
+  by_event (Some (Open (Inner q) kind)) at_s source = absurd (false≢true source)
+  by_event (Some (Open (Notifier q) kind)) at_s source = absurd (false≢true source)
+  by_event (Some _) at_s source = absurd (false≢true source)
+
+-- a completion that is due without such an event was due before
+completed_before : (h : List Event) (e : Event) → IsLawful h → MayFollow h e → (n s : ℕ) → (end_by e ≡ Some Completed → ⊥) → is_open (h ++ e ∷ []) n ≡ true →
+    at is_merging (h ++ e ∷ []) n ≡ true → ((code : ℕ) → ¬ ChildEnded (h ++ e ∷ []) n (Error code)) → at (is_source_of n) (h ++ e ∷ []) s ≡ true →
+    Has (h ++ e ∷ []) (End s Completed) → ((c : ℕ) → parent (h ++ e ∷ []) c ≡ Some n → is_open (h ++ e ∷ []) c ≡ false) → owed (h ++ e ∷ []) n ≡ 0 →
+    IsDue h (End n Completed)
+completed_before h e law next n s silent o merging unfailed source ended closed paid = by_place (cases_push h e (End s Completed) ended.place ended.found) where
+  opens : adds_child n e ≡ true → ⊥
+  opens = opens_none h e law next n closed
+
+  from_child : (k : ℕ) → k < length h → parent h k ≡ Some n → parent (h ++ e ∷ []) k ≡ Some n
+  from_child k l below = parent-append h (e ∷ []) k l ∙ below
+
+  failed_after : (code : ℕ) → ChildEnded h n (Error code) → ⊥
+  failed_after code c = unfailed code (record {
+    child = c.child;
+    below = from_child c.child (parent_within h c.child n c.below) c.below;
+    ended = record { place = c.ended.place; found = slice_get-append h (e ∷ []) c.ended.place (slice_get_within h c.ended.place _ c.ended.found) ∙ c.ended.found };
+  })
+
+  shut_apart : (k : ℕ) → parent h k ≡ Some n → shuts h k e ≡ true → ⊥
+  shut_apart k below shut =
+      let w = child_shut h e law next n k below shut silent opens in
+      unfailed w.0 (record {
+        child = k;
+        below = from_child k (parent_within h k n below) below;
+        ended = record { place = length h; found = slice_get_last h e ∙ ap (λ x. Some x) w.1 };
+      })
+
+  cut_apart : (k : ℕ) → parent h k ≡ Some n → is_cut h e n ≡ false → (b : Bool) → shuts h k e ≡ b → is_cut h e k ≡ false
+  cut_apart k below whole true shut = absurd (shut_apart k below shut)
+  cut_apart k below whole false unshut = rw (ancestors_step h k, below, unshut) whole
+
+  by_place : (slice_get h ended.place ≡ Some (End s Completed)) ⊎ (e ≡ End s Completed) → IsDue h (End n Completed)
+  by_place (inr same) = absurd (silent (ap end_by same))
+  by_place (inl found) =
+      let s_old : s < length h = ended_older h law ended.place (End s Completed) found s Completed refl in
+      let source_old : at (is_source_of n) h s ≡ true = sym (at-append (is_source_of n) h (e ∷ []) s s_old) ∙ source in
+      let n_old : n < length h = (let b = parent-lt h s n (source_parent h law n s source_old) in omega arith) in
+      let stays = and_parts (is_open h n) (not (is_cut h e n)) (sym (is_open_cut h e n n_old) ∙ o) in
+      let whole : is_cut h e n ≡ false = not_false (is_cut h e n) stays.1 in
+      let push = owed-push h e law next n in
+      let unpaid : cond {A = ℕ} (pays n e) 1 0 ≡ 0 = ap (λ b. cond {A = ℕ} b 1 0) (pays_none h e n silent opens) in
+      let unprojected = projects_none h e n silent in
+      completed stays.0 (sym (at-append is_merging h (e ∷ []) n n_old) ∙ merging) failed_after source_old (record { place = ended.place; found = found }) (λ k below.
+      let k_old = parent_within h k n below in
+      let gone = closed k (from_child k k_old below) in
+      now_closed (is_open h k) (is_cut h e k) (sym (is_open_cut h e k k_old) ∙ gone) (cut_apart k below whole (shuts h k e) refl)) (omega arith)
+
+completed_is_no_error : (code : ℕ) → Completed ≡ Error code → ⊥
+completed_is_no_error code same = false≢true (ap is_error same) where
+  is_error : Terminal → Bool
+  is_error Completed = false
+  is_error (Error c) = true
+
+-- what is due after the event was due before, or ends as the event says
+due_before : (h : List Event) (e : Event) → IsLawful h → MayFollow h e → (n : ℕ) (u : Terminal) → IsDue (h ++ e ∷ []) (End n u) →
+    IsDue h (End n u) ⊎ (end_by e ≡ Some u)
+due_before h e law next n u (mirrored o m c) = by_case (child_ended_before h e law n u c) where
+  by_case : (ChildEnded h n u × (n < length h)) ⊎ (end_by e ≡ Some u) → IsDue h (End n u) ⊎ (end_by e ≡ Some u)
+  by_case (inr now) = inr now
+  by_case (inl old) = inl (mirrored (open_old h e n old.1 o) (sym (at-append is_mirroring h (e ∷ []) n old.1) ∙ m) old.0)
+due_before h e law next n u (failed {c = code} o m c) = by_case (child_ended_before h e law n (Error code) c) where
+  by_case : (ChildEnded h n (Error code) × (n < length h)) ⊎ (end_by e ≡ Some (Error code)) → IsDue h (End n (Error code)) ⊎ (end_by e ≡ Some (Error code))
+  by_case (inr now) = inr now
+  by_case (inl old) = inl (failed (open_old h e n old.1 o) (sym (at-append is_merging h (e ∷ []) n old.1) ∙ m) old.0)
+due_before h e law next n u (fired o m f) = by_fired (or_cases (is_fired h n) (list_any (is_firing_of n) (stops_of h e)) (sym (is_fired-push h e n) ∙ f)) where
+  by_old : is_fired h n ≡ true → (n < length h) ⊎ (length h ≤ n) → IsDue h (End n Completed) ⊎ (end_by e ≡ Some Completed)
+  by_old before (inl l) = inl (fired (open_old h e n l o) (sym (at-append is_until h (e ∷ []) n l) ∙ m) before)
+  by_old before (inr past) = absurd (both_ways (is_fired h n) (fired_past h law n past) before)
+
+  by_fired : (is_fired h n ≡ true) ⊎ (list_any (is_firing_of n) (stops_of h e) ≡ true) → IsDue h (End n Completed) ⊎ (end_by e ≡ Some Completed)
+  by_fired (inr now) = inr (stops_end h e n now)
+  by_fired (inl before) = by_old before (cases_lt n (length h))
+due_before h e law next n u (completed {s = s} o m unfailed source ended closed paid) = by_end (end_by e) refl where
+  before : (end_by e ≡ Some Completed → ⊥) → IsDue h (End n Completed)
+  before silent = completed_before h e law next n s silent o m unfailed source ended closed paid
+
+  by_end : (t : Option Terminal) → end_by e ≡ t → IsDue h (End n Completed) ⊎ (end_by e ≡ Some Completed)
+  by_end (Some Completed) now = inr now
+  by_end (Some (Error code)) now = inl (before (λ same. completed_is_no_error code (same_Some Completed (Error code) (sym same ∙ now))))
+  by_end None now = inl (before (λ same. none-some Completed (sym now ∙ same)))
+due_before h e law next n u (cut o s) = by_case (source_ended_before h e law n u s) where
+  by_case : (SourceEnded h n u × (n < length h)) ⊎ (end_by e ≡ Some u) → IsDue h (End n u) ⊎ (end_by e ≡ Some u)
+  by_case (inr now) = inr now
+  by_case (inl old) = inl (cut (open_old h e n old.1 o) old.0)
+
+none_due : (h : List Event) (e : Event) → IsSettled h → IsDue h e → ⊥
+none_due h e settled d = settled.none e (due (settled_connected h settled) d)
+
+-- what an event makes due ends as what was due before it
+end_alike : (h : List Event) (e : Event) → MayFollow h e → ((n m : ℕ) (t u : Terminal) → IsDue h (End n t) → IsDue h (End m u) → t ≡ u) →
+    (n : ℕ) (t u : Terminal) → IsDue h (End n t) → end_by e ≡ Some u → u ≡ t
+end_alike h e (allowed settled a) before n t u d now = absurd (none_due h (End n t) settled d)
+end_alike h e (opened_with at_n l o) before n t u d now = absurd (none-some u now)
+end_alike h e (forced f) before n t u d now = by_forced e f now where
+  by_forced : (x : Event) → IsForced h x → end_by x ≡ Some u → u ≡ t
+  by_forced (End c v) (due none x) same = same_Some u v (sym same) ∙ before c n v t x d
+  by_forced (Item leaf v) f same = absurd (false≢true (forced_kind f))
+  by_forced (Decline g) f same = absurd (false≢true (forced_kind f))
+  by_forced _ f same = absurd (none-some u same)
+
+nothing_due : (n : ℕ) (t : Terminal) → IsDue [] (End n t) → ⊥
+nothing_due n t d = let l = is_open_within [] n (due_open d) in omega arith
+
+-- the ways in which two that are due now came to be so
+same_end : (h : List Event) (e : Event) → MayFollow h e → ((n m : ℕ) (t u : Terminal) → IsDue h (End n t) → IsDue h (End m u) → t ≡ u) →
+    (n m : ℕ) (t u : Terminal) → IsDue h (End n t) ⊎ (end_by e ≡ Some t) → IsDue h (End m u) ⊎ (end_by e ≡ Some u) → t ≡ u
+same_end h e next before n m t u (inl a) (inl b) = before n m t u a b
+same_end h e next before n m t u (inr a) (inr b) = same_Some t u (sym a ∙ b)
+same_end h e next before n m t u (inl a) (inr b) = sym (end_alike h e next before n t u a b)
+same_end h e next before n m t u (inr a) (inl b) = end_alike h e next before m u t b a
+
+-- two ends that are due in a lawful history are alike
+pub one_end : (h : List Event) → IsLawful h → (n m : ℕ) (t u : Terminal) → IsDue h (End n t) → IsDue h (End m u) → t ≡ u
+one_end = by_events (λ h. (n m : ℕ) (t u : Terminal) → IsDue h (End n t) → IsDue h (End m u) → t ≡ u) (λ n m t u a b. absurd (nothing_due n t a)) (λ h e law next before n m t u a b. same_end h e next before n m t u (due_before h e law next n t a) (due_before h e law next m u b))
+
+-- what is due to end a node in a lawful history, but for the end of a connection, is what its marks say
+pub due_by_marks_alone : (h : List Event) → IsLawful h → (n : ℕ) (made : Event) (t : Terminal) → is_open h n ≡ true → slice_get h n ≡ Some made →
+    ¬ SourceEnded h n t → IsDue h (End n t) → due_at made (marks_of h n) n ≡ Some (End n t)
+due_by_marks_alone h law n made t o at_n whole d =
+    let w = due_by_marks h n made t at_n whole d in
+    w.1 ∙ ap (λ v. Some (End n v)) (one_end h law n n w.0 t (due_at_due h n made (End n w.0) o at_n w.1) d)
