@@ -1,6 +1,6 @@
 -- What a call has, against which no cause stands: a plain place, a fresh resource.
-use Rattle.std.proofs.Common.{◌≡◌, ℕ, ◌+◌, ◌≤◌, Bool, true, false, List, [], ◌∷◌, ◌++◌, length, cond, Option, Some, None, refl, sym, ap, subst, ◌∙◌, arith, length-append, append_assoc, true≢false, eqb-true}
-use Rattle.std.proofs.Math.Bool.{◌||◌, not}
+use Rattle.std.proofs.Common.{◌≡◌, ℕ, ◌+◌, ◌≤◌, Bool, true, false, List, [], ◌∷◌, ◌++◌, length, cond, Option, Some, None, ◌==◌, refl, sym, ap, subst, ◌∙◌, arith, length-append, append_assoc, true≢false, eqb-true}
+use Rattle.std.proofs.Math.Bool.{◌||◌, ◌&&◌, not}
 use Rattle.std.proofs.lemmas.Bool.{false≢true, not-false, or_parts}
 use Rattle.std.proofs.lemmas.Option.{none-some, slice_get_past}
 use Rattle.rx_resource.specs.declared.Resource.{Ghosts}
@@ -27,8 +27,9 @@ use Rattle.rx_slots.specs.Slots.{find}
 use Rattle.rx_tree.specs.Boxes.{with_box}
 use Rattle.rx_tree.specs.Tree.{Tree, IsPlaced, blank_node, on_boxes}
 use Rattle.rx_stock.specs.Stock.{Stock, Opens}
-use Rattle.rx_book.specs.Answers.{place_of, is_known, connection_made}
-use Rattle.rx_book.specs.Shown.{is_fresh_box, keys_of, tree_key_of}
+use Rattle.rx_book.specs.Answers.{connection_made}
+use Rattle.rx_book.specs.Requests.{is_live, place_of, is_known_place}
+use Rattle.rx_book.specs.Shown.{keys_of, tree_key_of}
 use Rattle.rx_book.specs.Shelved.{key_above, is_there, IsSpot, IsShelved, IsStanding}
 use Rattle.rx_book.specs.declared.answer.At.{At}
 use Rattle.rx_book.specs.declared.answer.At.TheVariants.{Root as AtRoot, Source as AtSource, Inner as AtInner, Notifier as AtNotifier}
@@ -67,7 +68,7 @@ pub used_fresh : (h : List Event) (limit : ℕ) (fresh : Bool) (place : Place) (
 used_fresh h limit fresh place tag none =
     not-false fresh (unpassed (not fresh) NotFresh _ (past_test (is_taken_place h place) PlaceTaken _ (past_test (is_wrong_place h place) WrongKind _ (past_test (is_gone h place) Gone _ none))))
 
-pub fresh_parts : (life : Life) (used : ℕ) → is_fresh_box life used ≡ true → (life ≡ Live) × (used ≡ 0)
+pub fresh_parts : (life : Life) (used : ℕ) → (is_live life && used == 0) ≡ true → (life ≡ Live) × (used ≡ 0)
 fresh_parts Live used fresh = (refl, eqb-true used 0 fresh)
 fresh_parts Released used fresh = absurd (false≢true fresh)
 

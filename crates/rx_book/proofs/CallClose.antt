@@ -21,10 +21,11 @@ use Rattle.rx_tree.specs.Tree.{Tree, IsSound}
 use Rattle.rx_tree.specs.Below.{is_below}
 use Rattle.rx_tree.specs.Closing.{IsSubtree}
 use Rattle.rx_stock.specs.Stock.{Stock, HasChild, Spills, resources_of}
+use Rattle.rx_register.specs.Causes.{causes}
 use Rattle.rx_register.specs.Kept.{Kept, IsUpheld, Closes, Follows, shuts_a_node}
 use Rattle.rx_book.specs.declared.key.Key.{Key}
 use Rattle.rx_book.specs.State.{has_key}
-use Rattle.rx_book.specs.Causes.{by_key}
+use Rattle.rx_book.specs.Requests.{Request, by_key, by_key_of}
 use Rattle.rx_book.specs.Answers.{Accepts}
 use Rattle.rx_book.specs.Shown.{tree_key_of, keys_of, state_of}
 use Rattle.rx_book.specs.Shelved.{IsShelved, IsStanding}
@@ -106,6 +107,6 @@ module _ {T : Type 0} (g : Ghosts T) (old : Kept) (before : Stock T) (standing :
           omega arith
 
     -- a call that was accepted by the register is one of the book, where its key finds a record
-    pub accepts_close : (known : Bool) (stands : Refusal → Bool) (call : Call) → known ≡ true → Follows old stands call new → Accepts (state_of g old before) (by_key known stands) call (state_of g new after)
-    accepts_close known stands call is_known follows =
-        accepts_shown g old new before after stands (by_key known stands) call follows (ap (λ b. first_cause (by_key b stands)) is_known ∙ follows.no_cause) (frame_cut before.tree after.tree (λ key. is_below before.tree top key.number) (length old.history) cuts)
+    pub accepts_close : (asked : Request) → by_key_of asked.call ≡ by_key → asked.is_known ≡ true → Follows old (causes old.history old.limit asked.is_fresh asked.call) asked.call new → Accepts (state_of g old before) asked (state_of g new after)
+    accepts_close asked kind is_known follows =
+        accepts_shown g old new before after (causes old.history old.limit asked.is_fresh asked.call) asked follows (ap (λ by. first_cause (by asked.is_known (causes old.history old.limit asked.is_fresh asked.call))) kind ∙ ap (λ b. first_cause (by_key b (causes old.history old.limit asked.is_fresh asked.call))) is_known ∙ follows.no_cause) (frame_cut before.tree after.tree (λ key. is_below before.tree top key.number) (length old.history) cuts)

@@ -27,8 +27,9 @@ use Rattle.rx_slots.specs.Slots.{find}
 use Rattle.rx_tree.specs.Boxes.{with_box}
 use Rattle.rx_tree.specs.Tree.{Tree, IsPlaced, blank_node, on_boxes}
 use Rattle.rx_stock.specs.Stock.{Stock, Opens}
-use Rattle.rx_book.specs.Answers.{place_of, is_known, connection_made}
-use Rattle.rx_book.specs.Shown.{is_fresh_box, keys_of, tree_key_of}
+use Rattle.rx_book.specs.Answers.{connection_made}
+use Rattle.rx_book.specs.Requests.{place_of, is_known_place}
+use Rattle.rx_book.specs.Shown.{keys_of, tree_key_of}
 use Rattle.rx_book.specs.Shelved.{key_above, is_there, IsSpot, IsShelved, IsStanding}
 use Rattle.rx_book.specs.declared.answer.At.{At}
 use Rattle.rx_book.specs.declared.answer.At.TheVariants.{Root as AtRoot, Source as AtSource, Inner as AtInner, Notifier as AtNotifier}
@@ -61,7 +62,7 @@ held_after h place tag law plain =
 
 module _ {T : Type 0} where
   -- the key of a place is listed just where it finds a record
-  pub known_there : (tree : Tree T) (at : At) → is_known (keys_of tree) at ≡ is_there tree at
+  pub known_there : (tree : Tree T) (at : At) → is_known_place (keys_of tree) at ≡ is_there tree at
   known_there tree AtRoot = refl
   known_there tree (AtSource k) = has_key_is tree k
   known_there tree (AtInner k) = has_key_is tree k

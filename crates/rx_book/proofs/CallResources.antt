@@ -33,9 +33,9 @@ use Rattle.rx_register.specs.Kept.{Kept, Follows, IsUpheld}
 use Rattle.rx_register.specs.Causes.{causes}
 use Rattle.rx_book.specs.declared.key.Key.{Key}
 use Rattle.rx_book.specs.declared.key.ResKey.{ResKey}
-use Rattle.rx_book.specs.State.{Box, has_key, has_res_key}
-use Rattle.rx_book.specs.Causes.{by_key, by_res_key}
-use Rattle.rx_book.specs.Shown.{is_live, is_fresh_box, keys_of, res_keys_of, box_in, state_of, tree_key_of, tree_res_key_of}
+use Rattle.rx_book.specs.State.{Label, has_key, has_res_key}
+use Rattle.rx_book.specs.Requests.{is_live, by_key, by_res_key, by_key_of}
+use Rattle.rx_book.specs.Shown.{keys_of, res_keys_of, label_in, state_of, tree_key_of, tree_res_key_of}
 use Rattle.rx_book.specs.Answers.{Accepts}
 use Rattle.rx_book.specs.Shelved.{IsShelved, IsStanding}
 use Rattle.rx_tree.proofs.Laws.Keys.{some_of}
@@ -86,13 +86,17 @@ module _ {T : Type 0} where
     by_test false e = refl
 
   -- an accepted call by the key of an open node, and by that of a held resource
-  pub accepted_by_key : (g : Ghosts T) (old new : Kept) (before after : Stock T) (k : Key) (is_fresh : Bool) (call : Call) → IsSome (find before.tree (tree_key_of k)) → Follows old (causes old.history old.limit is_fresh call) call new → KeepsKeys before.tree after.tree (length old.history) → Accepts (state_of g old before) (by_key (has_key (keys_of before.tree) k) (causes old.history old.limit is_fresh call)) call (state_of g new after)
-  accepted_by_key g old new before after k is_fresh call found f kept =
-      accepts_shown g old new before after (causes old.history old.limit is_fresh call) (by_key (has_key (keys_of before.tree) k) (causes old.history old.limit is_fresh call)) call f (no_cause_by_key before.tree k (causes old.history old.limit is_fresh call) found f.no_cause) kept
+  pub accepted_by_key : (g : Ghosts T) (old new : Kept) (before after : Stock T) (k : Key) (is_fresh : Bool) (call : Call) → by_key_of call ≡ by_key → IsSome (find before.tree (tree_key_of k)) → Follows old (causes old.history old.limit is_fresh call) call new → KeepsKeys before.tree after.tree (length old.history) → Accepts (state_of g old before) (record { call = call; is_known = has_key (keys_of before.tree) k; is_fresh = is_fresh }) (state_of g new after)
+  accepted_by_key g old new before after k is_fresh call kind found f kept =
+      accepts_shown g old new before after (causes old.history old.limit is_fresh call) _ f (ap (λ by. first_cause (by (has_key (keys_of before.tree) k) (causes old.history old.limit is_fresh call))) kind ∙ no_cause_by_key before.tree k (causes old.history old.limit is_fresh call) found f.no_cause) kept
 
-  pub accepted_by_res_key : (g : Ghosts T) (old new : Kept) (before after : Stock T) (k : ResKey) (is_fresh : Bool) (call : Call) → IsSome (resource_at before.tree (tree_res_key_of k)) → Follows old (causes old.history old.limit is_fresh call) call new → KeepsKeys before.tree after.tree (length old.history) → Accepts (state_of g old before) (by_res_key (has_res_key (res_keys_of before.tree) k) (causes old.history old.limit is_fresh call)) call (state_of g new after)
-  accepted_by_res_key g old new before after k is_fresh call held f kept =
-      accepts_shown g old new before after (causes old.history old.limit is_fresh call) (by_res_key (has_res_key (res_keys_of before.tree) k) (causes old.history old.limit is_fresh call)) call f (ap (λ b. first_cause (by_res_key b (causes old.history old.limit is_fresh call))) (has_res_key_is before.tree k ∙ held) ∙ f.no_cause) kept
+  pub accepted_by_res_key : (g : Ghosts T) (old new : Kept) (before after : Stock T) (k : ResKey) (is_fresh : Bool) (call : Call) → by_key_of call ≡ by_res_key → IsSome (resource_at before.tree (tree_res_key_of k)) → Follows old (causes old.history old.limit is_fresh call) call new → KeepsKeys before.tree after.tree (length old.history) → Accepts (state_of g old before) (record { call = call; is_known = has_res_key (res_keys_of before.tree) k; is_fresh = is_fresh }) (state_of g new after)
+  accepted_by_res_key g old new before after k is_fresh call kind held f kept =
+      accepts_shown g old new before after (causes old.history old.limit is_fresh call) _ f (ap (λ by. first_cause (by (has_res_key (res_keys_of before.tree) k) (causes old.history old.limit is_fresh call))) kind ∙ ap (λ b. first_cause (by_res_key b (causes old.history old.limit is_fresh call))) (has_res_key_is before.tree k ∙ held) ∙ f.no_cause) kept
+
+  -- more room, or another order of free slots, is nothing that callers see
+  pub same_state : (g : Ghosts T) (old mid : Kept) (before after : Stock T) → mid ≡ record old { room = mid.room } → after.tree.entries ≡ before.tree.entries → after.waiting ≡ before.waiting → state_of g mid after ≡ state_of g old before
+  same_state g old mid before after kept entries waits = rw (entries, waits) (ap (λ (s : Kept). state_of g s before) kept)
 
   -- stocks with more room -------------------------------------------------------------------------
 
@@ -178,8 +182,8 @@ module _ {T : Type 0} where
   -- resources that are held or wait ---------------------------------------------------------------
 
   -- what was last is among those that wait
-  pub last_listed : (g : Ghosts T) (all before : List (ℕ × T)) (r : ℕ) (x : T) → all ≡ before ++ (r, x) ∷ [] → Contains (map (box_in g) all) (box_in g (r, x))
-  last_listed g all before r x same = subst (λ (bs : List Box). Contains bs (box_in g (r, x))) (sym (ap (map (box_in g)) same ∙ map-append (box_in g) before ((r, x) ∷ []))) (Contains-push (map (box_in g) before) (box_in g (r, x)))
+  pub last_listed : (g : Ghosts T) (all before : List (ℕ × T)) (r : ℕ) (x : T) → all ≡ before ++ (r, x) ∷ [] → Contains (map (label_in g) all) (label_in g (r, x))
+  last_listed g all before r x same = subst (λ (bs : List Label). Contains bs (label_in g (r, x))) (sym (ap (map (label_in g)) same ∙ map-append (label_in g) before ((r, x) ∷ []))) (Contains-push (map (label_in g) before) (label_in g (r, x)))
 
   -- a held resource is live, and was used less often than there are events
   pub held_live : (g : Ghosts T) (old : Kept) (stock : Stock T) (res : TreeResKey) → IsStanding g old stock → IfSome (resource_at stock.tree res) (λ x. g.life_of x ≡ Live)

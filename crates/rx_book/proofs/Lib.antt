@@ -29,6 +29,7 @@ pub mod ShelvedClose
 pub mod ShownKeys
 pub mod ShownKeysKept
 pub mod ShownPromise
+pub mod Answered
 pub mod CallAdmitted
 pub mod CallOpen
 pub mod CallResources

@@ -19,8 +19,8 @@ use Rattle.rx_slots.specs.declared.Entry.{Entry}
 use Rattle.rx_tree.specs.declared.node.Node.{Node}
 use Rattle.rx_tree.specs.Tree.{Tree, IsSound}
 use Rattle.rx_book.specs.declared.key.Key.{Key}
-use Rattle.rx_book.specs.State.{Box, AreJust}
-use Rattle.rx_book.specs.Shown.{keys_from, keys_of, held_in, box_in}
+use Rattle.rx_book.specs.State.{Label, AreJust}
+use Rattle.rx_book.specs.Shown.{keys_from, keys_of, held_in, label_in}
 use Rattle.rx_book.specs.Shelved.{IsShelved}
 use Rattle.rx_book.proofs.ListMembers.{AllPairs-head, AllPairs-tail}
 use Rattle.rx_book.proofs.ShelvedNumbers.{keys_just, held_just, waiting_just}
@@ -38,9 +38,9 @@ module _ {T : Type 0} where
   module _ (g : Ghosts T) (h : List Event) (tree : Tree T) (ws : List (ℕ × T)) (shelved : IsShelved g h tree ws) where
     pub waiting_counted : length ws ≡ waiting_count h
     waiting_counted =
-        let as_boxes = length-map ws (box_in g) in
-        let as_numbers = length-map (map (box_in g) ws) (λ (b : Box). b.number) in
-        let just = just_counted (is_waiting h) (map (λ (b : Box). b.number) (map (box_in g) ws)) (length h) (waiting_just g h tree ws shelved) (is_waiting_within h) in
+        let as_boxes = length-map ws (label_in g) in
+        let as_numbers = length-map (map (label_in g) ws) (λ (b : Label). b.number) in
+        let just = just_counted (is_waiting h) (map (λ (b : Label). b.number) (map (label_in g) ws)) (length h) (waiting_just g h tree ws shelved) (is_waiting_within h) in
         omega arith
 
     module _ (sound : IsSound tree) where
@@ -53,7 +53,7 @@ module _ {T : Type 0} where
 
       pub held_counted : length (held_in tree) ≡ held_count h
       held_counted =
-          let as_boxes = length-map (held_in tree) (box_in g) in
-          let as_numbers = length-map (map (box_in g) (held_in tree)) (λ (b : Box). b.number) in
-          let just = just_counted (is_held h) (map (λ (b : Box). b.number) (map (box_in g) (held_in tree))) (length h) (held_just g h tree ws shelved sound) (is_held_within h) in
+          let as_boxes = length-map (held_in tree) (label_in g) in
+          let as_numbers = length-map (map (label_in g) (held_in tree)) (λ (b : Label). b.number) in
+          let just = just_counted (is_held h) (map (λ (b : Label). b.number) (map (label_in g) (held_in tree))) (length h) (held_just g h tree ws shelved sound) (is_held_within h) in
           omega arith

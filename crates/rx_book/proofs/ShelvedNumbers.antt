@@ -19,8 +19,8 @@ use Rattle.rx_slots.specs.Slots.{entry_of}
 use Rattle.rx_tree.specs.declared.node.Node.{Node}
 use Rattle.rx_tree.specs.Tree.{Tree, IsSound}
 use Rattle.rx_book.specs.declared.key.ResKey.{ResKey}
-use Rattle.rx_book.specs.State.{Box, AreJust, IsBoxOf}
-use Rattle.rx_book.specs.Shown.{keys_of, res_keys_of, held_in, box_in}
+use Rattle.rx_book.specs.State.{Label, AreJust, IsLabelOf}
+use Rattle.rx_book.specs.Shown.{keys_of, res_keys_of, held_in, label_in}
 use Rattle.rx_book.specs.Shelved.{numbers, is_held_at, IsAsWritten, IsRecordOf, IsShelved}
 use Rattle.rx_book.proofs.ListMembers.{Contains-one, Contains-head, AllPairs-nil, AllPairs-append, All-members, map-map}
 use Rattle.rx_book.proofs.ListWalks.{walk, walk_at, walk_has, map-walk, same_walk, GivesJust, just_walk}
@@ -43,8 +43,8 @@ module _ {T : Type 0} where
   pub held_numbers : (tree : Tree T) → numbers (held_in tree) ≡ walk (λ slot. numbers_in) 0 tree.entries
   held_numbers tree = ap (λ (items : List (ℕ × T)). numbers items) (items-walk 0 tree.entries) ∙ map-walk (λ (item : ℕ × T). item.0) boxes_in 0 tree.entries
 
-  pub box_numbers : (g : Ghosts T) (items : List (ℕ × T)) → map (λ b. b.number) (map (box_in g) items) ≡ numbers items
-  box_numbers g items = map-map (box_in g) (λ (b : Box). b.number) (λ (item : ℕ × T). item.0) (λ item. refl) items
+  pub box_numbers : (g : Ghosts T) (items : List (ℕ × T)) → map (λ b. b.number) (map (label_in g) items) ≡ numbers items
+  box_numbers g items = map-map (label_in g) (λ (b : Label). b.number) (λ (item : ℕ × T). item.0) (λ item. refl) items
 
   pub res_key_numbers : (tree : Tree T) → map (λ k. k.number) (res_keys_of tree) ≡ walk (λ slot. numbers_in) 0 tree.entries
   res_key_numbers tree =
@@ -61,18 +61,18 @@ module _ {T : Type 0} where
         let has = shelved.every n alive in
         (has.slot, has.node, entry_found tree (record { slot = has.slot; number = n }) has.node has.found, shelved.records (record { slot = has.slot; number = n }) has.node has.found)
 
-    pub held_boxes : All (IsBoxOf h) (map (box_in g) (held_in tree))
-    held_boxes = All-map (IsBoxOf h) (box_in g) (held_in tree) (All-members (λ item. IsBoxOf h (box_in g item)) (held_in tree) written) where
-      written : (item : ℕ × T) → Contains (held_in tree) item → IsBoxOf h (box_in g item)
+    pub held_labels : All (IsLabelOf h) (map (label_in g) (held_in tree))
+    held_labels = All-map (IsLabelOf h) (label_in g) (held_in tree) (All-members (λ item. IsLabelOf h (label_in g item)) (held_in tree) written) where
+      written : (item : ℕ × T) → Contains (held_in tree) item → IsLabelOf h (label_in g item)
       written item c =
           let s = walk_at boxes_in 0 tree.entries item (subst (λ (items : List (ℕ × T)). Contains items item) (items-walk 0 tree.entries) c) in
           let w = All-contains (IsAsWritten g h) s.entry.value.boxes item (record_at s.place s.entry s.at).written s.there in
-          w.box
+          record { live = w.live; tag = w.box.tag; uses = w.box.uses }
 
-    pub waiting_boxes : All (IsBoxOf h) (map (box_in g) ws)
-    waiting_boxes = All-map (IsBoxOf h) (box_in g) ws (All-weaker (IsAsWritten g h) (λ item. IsBoxOf h (box_in g item)) (λ item w. w.box) ws shelved.written)
+    pub waiting_labels : All (IsLabelOf h) (map (label_in g) ws)
+    waiting_labels = All-map (IsLabelOf h) (label_in g) ws (All-weaker (IsAsWritten g h) (λ item. IsLabelOf h (label_in g item)) (λ item w. record { live = w.live; tag = w.box.tag; uses = w.box.uses }) ws shelved.written)
 
-    pub waiting_just : AreJust (is_waiting h) (map (λ b. b.number) (map (box_in g) ws))
+    pub waiting_just : AreJust (is_waiting h) (map (λ b. b.number) (map (label_in g) ws))
     waiting_just = subst (λ ns. AreJust (is_waiting h) ns) (sym (box_numbers g ws)) shelved.waits
 
     module _ (sound : IsSound tree) where
@@ -109,5 +109,5 @@ module _ {T : Type 0} where
       pub res_keys_just : AreJust (is_held h) (map (λ k. k.number) (res_keys_of tree))
       res_keys_just = subst (λ ns. AreJust (is_held h) ns) (sym (res_key_numbers tree)) (just_walk (is_held h) numbers_in tree.entries resources_given)
 
-      pub held_just : AreJust (is_held h) (map (λ b. b.number) (map (box_in g) (held_in tree)))
+      pub held_just : AreJust (is_held h) (map (λ b. b.number) (map (label_in g) (held_in tree)))
       held_just = subst (λ ns. AreJust (is_held h) ns) (sym (box_numbers g (held_in tree) ∙ held_numbers tree)) (just_walk (is_held h) numbers_in tree.entries resources_given)

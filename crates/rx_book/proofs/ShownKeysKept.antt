@@ -22,6 +22,7 @@ use Rattle.rx_register.specs.Kept.{Kept, Follows}
 use Rattle.rx_book.specs.State.{has_key, has_res_key}
 use Rattle.rx_book.specs.Shown.{keys_of, res_keys_of, state_of}
 use Rattle.rx_book.specs.Answers.{Accepts}
+use Rattle.rx_book.specs.Requests.{Request, stands}
 use Rattle.rx_book.proofs.ListMembers.{Contains-later, Contains-map, Contains-from_map}
 use Rattle.rx_tree.proofs.Laws.Keys.{some_of, cases_key}
 use Rattle.rx_tree.proofs.Laws.Written.{entry_found, one_key}
@@ -185,9 +186,9 @@ module _ {T : Type 0} where
 
   -- accepted calls --------------------------------------------------------------------------------
 
-  -- an accepted call of a register is one of the book, also where the book's causes are told by keys
-  pub accepts_shown : (g : Ghosts T) (old new : Kept) (before after : Stock T) (stands shown : Refusal → Bool) (call : Call) → Follows old stands call new → first_cause shown ≡ None → KeepsKeys before.tree after.tree (length old.history) → Accepts (state_of g old before) shown call (state_of g new after)
-  accepts_shown g old new before after stands shown call f none kept = record {
+  -- an accepted call of a register is one of the book, where no cause stands against what is asked of the book
+  pub accepts_shown : (g : Ghosts T) (old new : Kept) (before after : Stock T) (stand : Refusal → Bool) (asked : Request) → Follows old stand asked.call new → first_cause (stands (state_of g old before) asked) ≡ None → KeepsKeys before.tree after.tree (length old.history) → Accepts (state_of g old before) asked (state_of g new after)
+  accepts_shown g old new before after stand asked f none kept = record {
     no_cause = none;
     step = f.step;
     limit = f.limit;
@@ -195,6 +196,3 @@ module _ {T : Type 0} where
     keys = λ k c l. finding_key before.tree k (kept.keys (record { slot = k.slot; number = k.number }) l (key_finds after.tree k c));
     res_keys = λ k c l. finding_res_key before.tree k (kept.res_keys (record { slot = k.slot; number = k.number }) l (res_key_finds after.tree k c));
   }
-
-  pub accepts : (g : Ghosts T) (old new : Kept) (before after : Stock T) (stands : Refusal → Bool) (call : Call) → Follows old stands call new → KeepsKeys before.tree after.tree (length old.history) → Accepts (state_of g old before) stands call (state_of g new after)
-  accepts g old new before after stands call f kept = accepts_shown g old new before after stands stands call f f.no_cause kept

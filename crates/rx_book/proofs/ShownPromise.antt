@@ -24,10 +24,10 @@ use Rattle.rx_tree.specs.Tree.{IsSound}
 use Rattle.rx_stock.specs.Stock.{Stock}
 use Rattle.rx_register.specs.Plain.{is_plain}
 use Rattle.rx_register.specs.Kept.{Kept, IsUpheld}
-use Rattle.rx_book.specs.State.{IsKept}
-use Rattle.rx_book.specs.Shown.{held_in, box_in, state_of}
+use Rattle.rx_book.specs.State.{IsPromised}
+use Rattle.rx_book.specs.Shown.{held_in, label_in, state_of}
 use Rattle.rx_book.specs.Shelved.{IsShelved}
-use Rattle.rx_book.proofs.ShelvedNumbers.{keys_just, res_keys_just, held_just, waiting_just, held_boxes, waiting_boxes}
+use Rattle.rx_book.proofs.ShelvedNumbers.{keys_just, res_keys_just, held_just, waiting_just, held_labels, waiting_labels}
 use Rattle.rx_book.proofs.ShelvedCounts.{held_counted, waiting_counted}
 
 -- plain histories ---------------------------------------------------------------------------------
@@ -100,7 +100,7 @@ module _ (h : List Event) (law : IsLawful h) (waiting accepted taken : ℕ) (wai
 -- states ------------------------------------------------------------------------------------------
 
 module _ {T : Type 0} where
-  pub kept_state : (g : Ghosts T) (s : Kept) (stock : Stock T) → IsUpheld s → IsSound stock.tree → IsShelved g s.history stock.tree stock.waiting → IsKept (state_of g s stock)
+  pub kept_state : (g : Ghosts T) (s : Kept) (stock : Stock T) → IsUpheld s → IsSound stock.tree → IsShelved g s.history stock.tree stock.waiting → IsPromised (state_of g s stock)
   kept_state g s stock up sound shelved = record {
     lawful = up.lawful;
     settled = up.settled;
@@ -109,9 +109,9 @@ module _ {T : Type 0} where
     res_keys = res_keys_just g s.history stock.tree stock.waiting shelved sound;
     held = held_just g s.history stock.tree stock.waiting shelved sound;
     waiting = waiting_just g s.history stock.tree stock.waiting shelved;
-    held_boxes = held_boxes g s.history stock.tree stock.waiting shelved;
-    waiting_boxes = waiting_boxes g s.history stock.tree stock.waiting shelved;
-    in_one_place = let held = held_counted g s.history stock.tree stock.waiting shelved sound in let waits = waiting_counted g s.history stock.tree stock.waiting shelved in omega (arith, accepted_count-parts s.history up.lawful, length-map (held_in stock.tree) (box_in g), length-map stock.waiting (box_in g));
+    held_labels = held_labels g s.history stock.tree stock.waiting shelved;
+    waiting_labels = waiting_labels g s.history stock.tree stock.waiting shelved;
+    in_one_place = let held = held_counted g s.history stock.tree stock.waiting shelved sound in let waits = waiting_counted g s.history stock.tree stock.waiting shelved in omega (arith, accepted_count-parts s.history up.lawful, length-map (held_in stock.tree) (label_in g), length-map stock.waiting (label_in g));
     room = up.within;
     given = up.given;
     in_order = notes_grammatical s.history up.lawful;

@@ -1,45 +1,23 @@
--- What the answers of calls say.
-use Rattle.std.specs.Prelude.{◌≡◌, ℕ, ◌+◌, ◌<◌, Bool, true, false, ◌&&◌, Option, Some, None, List, length, if◌then◌else◌}
+-- What the answers of calls say: one relation for each kind of answer, of the state before, what was asked, the state after, and
+-- the answer.
+use Rattle.std.specs.Prelude.{◌≡◌, ℕ, ◌+◌, ◌<◌, Bool, true, false, ◌&&◌, Option, Some, None, List, [], length, option_map, IsTrue, if◌then◌else◌}
+use Rattle.std.specs.Prelude.{Result, IfOk, IfErr, OnOk, OnErr, IfSome, IfNone, MatchOption, ⊤}
 use Rattle.std.specs.List.{Contains}
-use Rattle.rx_event.specs.declared.event.Place.{Place}
-use Rattle.rx_event.specs.declared.event.Place.TheVariants.{Root, Source, Inner, Notifier}
+use Rattle.rx_resource.specs.declared.Resource.{Ghosts}
 use Rattle.rx_event.specs.declared.refusal.Refusal.{Refusal}
 use Rattle.rx_event.specs.declared.event.Event.{Event}
 use Rattle.rx_event.specs.declared.event.Event.TheVariants.{Connect}
 use Rattle.rx_event.specs.Events.{is_root}
 use Rattle.rx_event.specs.Tree.{at, is_open}
-use Rattle.rx_event.specs.Calls.{Call, IsStepOf}
-use Rattle.rx_event.specs.Refusals.{first_cause}
+use Rattle.rx_event.specs.Calls.{IsStepOf}
+use Rattle.rx_event.specs.Refusals.{first_cause, IsRefusal}
 use Rattle.rx_book.specs.declared.key.Key.{Key}
 use Rattle.rx_book.specs.declared.key.ResKey.{ResKey}
-use Rattle.rx_book.specs.declared.answer.At.{At}
-use Rattle.rx_book.specs.declared.answer.At.TheVariants.{Root as AtRoot, Source as AtSource, Inner as AtInner, Notifier as AtNotifier}
-use Rattle.rx_book.specs.State.{State, has_key}
-use Rattle.rx_register.specs.Causes.{causes}
-use Rattle.rx_book.specs.Causes.{by_key, by_res_key}
-
--- the place that a caller names by keys
-abbrev pub place_of : At → Place
-place_of AtRoot = Root
-place_of (AtSource k) = Source k.number
-place_of (AtInner k) = Inner k.number
-place_of (AtNotifier k) = Notifier k.number
-
--- its key, if it has one, is an open node's
-abbrev pub is_known : List Key → At → Bool
-is_known keys AtRoot = true
-is_known keys (AtSource k) = has_key keys k
-is_known keys (AtInner k) = has_key keys k
-is_known keys (AtNotifier k) = has_key keys k
-
--- the causes that stand against a call in this state: whether its key is an open node's, and whether a resource that is handed
--- in is fresh
-abbrev pub against : State → Bool → Bool → Call → Refusal → Bool
-against s known is_fresh call = by_key known (causes s.history s.limit is_fresh call)
-
--- and against a call by a resource's key: whether it is a held resource's
-abbrev pub against_use : State → Bool → Call → Refusal → Bool
-against_use s known call = by_res_key known (causes s.history s.limit true call)
+use Rattle.rx_book.specs.declared.answer.Opened.{Opened}
+use Rattle.rx_book.specs.declared.answer.OpenedUsing.{OpenedUsing}
+use Rattle.rx_book.specs.declared.answer.Refused.{Refused}
+use Rattle.rx_book.specs.State.{State, has_key, has_res_key, label_of}
+use Rattle.rx_book.specs.Requests.{Request, stands, take_request}
 
 -- the node is a root, and open
 abbrev pub is_open_root : List Event → ℕ → Bool
@@ -55,10 +33,88 @@ connection_made old new = if at makes_connection new (length old + 1) then Some 
 
 -- an accepted call: no cause stood against it, the history goes on by a step of that call, and the limit, the notes handed out
 -- and the keys of all that is still there are as before
-pub record Accepts (old : State) (stands : Refusal → Bool) (call : Call) (new : State) : Type 0 where
-  pub no_cause : first_cause stands ≡ None
-  pub step : IsStepOf old.history call new.history
+pub record Accepts (old : State) (asked : Request) (new : State) : Type 0 where
+  pub no_cause : first_cause (stands old asked) ≡ None
+  pub step : IsStepOf old.history asked.call new.history
   pub limit : new.limit ≡ old.limit
   pub given : new.given ≡ old.given
   pub keys : (k : Key) → Contains new.keys k → k.number < length old.history → Contains old.keys k
   pub res_keys : (k : ResKey) → Contains new.res_keys k → k.number < length old.history → Contains old.res_keys k
+
+-- refusals ----------------------------------------------------------------------------------------
+
+-- of a call that takes no memory: the first cause
+abbrev pub IsCause : State → Request → Refusal → Type 0
+IsCause old asked why = first_cause (stands old asked) ≡ Some why
+
+-- of a call that may take memory: the first cause, or where none stands want of memory
+abbrev pub IsCauseOrWant : State → Request → Refusal → Type 0
+IsCauseOrWant old asked why = IsRefusal (stands old asked) why
+
+-- and with it the resource that was handed in comes back as it was
+pub record IsGivenBack {T : Type 0} (old : State) (asked : Request) (resource : T) (refused : Refused T) : Type 0 where
+  pub why : IsCauseOrWant old asked refused.why
+  pub back : refused.back ≡ resource
+
+-- what is answered --------------------------------------------------------------------------------
+
+-- the place of the call's own event
+abbrev pub IsPlace : State → ℕ → Type 0
+IsPlace old place = place ≡ length old.history
+
+-- the key of an open node that was made at this place
+pub record IsNewKey (new : State) (place : ℕ) (k : Key) : Type 0 where
+  pub number : k.number ≡ place
+  pub listed : IsTrue (has_key new.keys k)
+
+-- the key of a held resource that was accepted at this place
+pub record IsNewResKey (new : State) (place : ℕ) (k : ResKey) : Type 0 where
+  pub number : k.number ≡ place
+  pub listed : IsTrue (has_res_key new.res_keys k)
+
+-- a new node's key, and the key of the connection that its opening forced, if it did
+pub record IsOpened (old new : State) (o : Opened) : Type 0 where
+  pub key : IsNewKey new (length old.history) o.key
+  pub connection : option_map (λ k. k.number) o.connected ≡ connection_made old.history new.history
+  pub connected : IfSome o.connected (λ k. IsTrue (has_key new.keys k))
+
+pub record IsOpenedUsing (old new : State) (o : OpenedUsing) : Type 0 where
+  pub key : IsNewKey new (length old.history) o.key
+  pub res : IsNewResKey new (length old.history + 1) o.res
+
+-- answers -----------------------------------------------------------------------------------------
+
+-- accepted, with what it gives; or refused, with nothing changed
+pub record Answers {A E : Type 0} (gives : A → Type 0) (refuses : E → Type 0) (old : State) (asked : Request) (new : State) (answer : Result A E) : Type 0 where
+  pub ok : IfOk answer gives
+  pub accepted : OnOk answer (Accepts old asked new)
+  pub refused : IfErr answer refuses
+  pub kept : OnErr answer (new ≡ old)
+
+-- a place, from a call that takes no memory
+abbrev pub AnswersPlace : State → Request → State → Result ℕ Refusal → Type 0
+AnswersPlace old asked = Answers (IsPlace old) (IsCause old asked) old asked
+
+-- and from one that may take memory
+abbrev pub AnswersPlaceOrWant : State → Request → State → Result ℕ Refusal → Type 0
+AnswersPlaceOrWant old asked = Answers (IsPlace old) (IsCauseOrWant old asked) old asked
+
+-- a resource's own word, of which nothing is said
+abbrev pub AnswersWord : State → Request → State → Result ℕ Refusal → Type 0
+AnswersWord old asked = Answers (λ word. ⊤) (IsCauseOrWant old asked) old asked
+
+abbrev pub AnswersOpened : State → Request → State → Result Opened Refusal → Type 0
+AnswersOpened old asked new = Answers (IsOpened old new) (IsCauseOrWant old asked) old asked new
+
+module _ {T : Type 0} where
+  abbrev pub AnswersOpenedUsing : State → Request → T → State → Result OpenedUsing (Refused T) → Type 0
+  AnswersOpenedUsing old asked resource new = Answers (IsOpenedUsing old new) (IsGivenBack old asked resource) old asked new
+
+  abbrev pub AnswersResKey : State → Request → T → State → Result ResKey (Refused T) → Type 0
+  AnswersResKey old asked resource new = Answers (IsNewResKey new (length old.history)) (IsGivenBack old asked resource) old asked new
+
+  -- one of the resources that wait, by its number, or None exactly where none waits
+  pub record AnswersHanded (g : Ghosts T) (old new : State) (answer : Option (ℕ × T)) : Type 0 where
+    pub cases : MatchOption answer (old.waiting ≡ []) (λ handed. Contains old.waiting (label_of g handed.0 handed.1))
+    pub accepted : IfSome answer (λ handed. Accepts old (take_request handed.0) new)
+    pub kept : IfNone answer (new ≡ old)

@@ -1,5 +1,5 @@
 pub mod State
-pub mod Causes
+pub mod Requests
 pub mod Answers
 pub mod Shown
 pub mod Shelved

@@ -7,7 +7,7 @@ use Rattle.rx_resource.specs.declared.Life.TheVariants.{Live}
 use Rattle.rx_event.specs.declared.event.Event.{Event}
 use Rattle.rx_event.specs.Events.{node_of_accept, is_source_of, is_root}
 use Rattle.rx_event.specs.Tree.{is_open}
-use Rattle.rx_event.specs.Resources.{is_held, is_waiting}
+use Rattle.rx_event.specs.Resources.{is_held, is_waiting, uses}
 use Rattle.rx_event.specs.Totals.{held_count, debt}
 use Rattle.rx_event.specs.declared.refusal.Refusal.{Refusal}
 use Rattle.rx_event.specs.Refusals.{first_cause}
@@ -17,9 +17,9 @@ use Rattle.rx_tree.specs.declared.node.Node.{Node}
 use Rattle.rx_tree.specs.Tree.{Tree, IsSound}
 use Rattle.rx_stock.specs.Stock.{Stock}
 use Rattle.rx_register.specs.Kept.{Kept}
-use Rattle.rx_book.specs.State.{AreJust, IsBoxOf}
-use Rattle.rx_book.specs.Answers.{place_of}
-use Rattle.rx_book.specs.Shown.{box_in, tree_key_of}
+use Rattle.rx_book.specs.State.{AreJust, Label, accepted_tag}
+use Rattle.rx_book.specs.Requests.{place_of}
+use Rattle.rx_book.specs.Shown.{label_in, tree_key_of}
 use Rattle.rx_book.specs.declared.answer.At.{At}
 use Rattle.rx_book.specs.declared.answer.At.TheVariants.{Root as AtRoot, Source as AtSource, Inner as AtInner, Notifier as AtNotifier}
 use Rattle.rx_book.specs.declared.standing.Spot.{Spot}
@@ -40,6 +40,11 @@ abbrev pub is_before : Key → Option Key → Bool
 is_before key None = true
 is_before key (Some other) = nat_lt key.number other.number
 
+-- the tag is that of the acceptance, and the uses are those of the history
+pub record IsWritten (h : List Event) (l : Label) : Type 0 where
+  pub tag : option_and_then accepted_tag (slice_get h l.number) ≡ Some l.tag
+  pub uses : l.uses ≡ uses h l.number
+
 module _ {T : Type 0} where
   abbrev pub numbers : List (ℕ × T) → List ℕ
   numbers items = map (λ item. item.0) items
@@ -47,7 +52,7 @@ module _ {T : Type 0} where
   -- a live resource, with the tag of its acceptance and the uses of the history
   pub record IsAsWritten (g : Ghosts T) (h : List Event) (item : ℕ × T) : Type 0 where
     pub live : g.life_of item.1 ≡ Live
-    pub box : IsBoxOf h (box_in g item)
+    pub box : IsWritten h (label_in g item)
 
   -- the record of an open node: its event, whether a source was opened below it, and the resources that are held at it
   pub record IsRecordOf (g : Ghosts T) (h : List Event) (n : ℕ) (node : Node T) : Type 0 where

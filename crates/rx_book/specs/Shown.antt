@@ -2,8 +2,6 @@
 use Rattle.std.specs.Prelude.{ℕ, suc, Bool, true, false, ◌&&◌, ◌==◌, List, [], ◌∷◌, ◌++◌, map, Option, Some, None}
 use Rattle.rx_event.specs.declared.event.Event.{Event}
 use Rattle.rx_resource.specs.declared.Resource.{Ghosts}
-use Rattle.rx_resource.specs.declared.Life.{Life}
-use Rattle.rx_resource.specs.declared.Life.TheVariants.{Live, Released}
 use Rattle.rx_slots.specs.declared.Entry.{Entry}
 use Rattle.rx_slots.specs.declared.Key.{Key as TreeKey}
 use Rattle.rx_tree.specs.declared.node.Node.{Node}
@@ -13,18 +11,7 @@ use Rattle.rx_stock.specs.Stock.{Stock}
 use Rattle.rx_register.specs.Kept.{Kept}
 use Rattle.rx_book.specs.declared.key.Key.{Key}
 use Rattle.rx_book.specs.declared.key.ResKey.{ResKey}
-use Rattle.rx_book.specs.State.{Box, State}
-
-abbrev pub box_of : ℕ → ℕ → ℕ → Box
-box_of number tag uses = record { number = number; tag = tag; uses = uses }
-
-abbrev pub is_live : Life → Bool
-is_live Live = true
-is_live Released = false
-
--- it was neither released nor used
-abbrev pub is_fresh_box : Life → ℕ → Bool
-is_fresh_box life uses = is_live life && uses == 0
+use Rattle.rx_book.specs.State.{Label, State, label_of}
 
 -- the key of a record, as the tree has it
 abbrev pub tree_key_of : Key → TreeKey
@@ -66,9 +53,8 @@ module _ {T : Type 0} where
   abbrev pub held_in : Tree T → List (ℕ × T)
   held_in tree = items_in tree.entries
 
-  -- the box of a resource
-  abbrev pub box_in : Ghosts T → ℕ × T → Box
-  box_in g item = record { number = item.0; tag = g.tag_of item.1; uses = g.uses_of item.1 }
+  abbrev pub label_in : Ghosts T → ℕ × T → Label
+  label_in g item = label_of g item.0 item.1
 
   -- the state of a book
   abbrev pub state_of : Ghosts T → Kept → Stock T → State
@@ -77,7 +63,7 @@ module _ {T : Type 0} where
     limit = s.limit;
     keys = keys_of stock.tree;
     res_keys = res_keys_of stock.tree;
-    held = map (box_in g) (held_in stock.tree);
-    waiting = map (box_in g) stock.waiting;
+    held = map (label_in g) (held_in stock.tree);
+    waiting = map (label_in g) stock.waiting;
     given = s.given;
   }

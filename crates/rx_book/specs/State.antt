@@ -3,6 +3,9 @@ use Rattle.std.specs.Prelude.{◌≡◌, ◌≢◌, ℕ, ◌+◌, ◌≤◌, Boo
 use Rattle.std.specs.List.{All, AllPairs, Contains, list_any}
 use Rattle.std.specs.Option.{option_and_then}
 use Rattle.rx_note.specs.Notes.{IsGrammatical}
+use Rattle.rx_resource.specs.declared.Resource.{Ghosts}
+use Rattle.rx_resource.specs.declared.Life.{Life}
+use Rattle.rx_resource.specs.declared.Life.TheVariants.{Live}
 use Rattle.rx_event.specs.declared.event.Event.{Event}
 use Rattle.rx_event.specs.declared.event.Event.TheVariants.{Accept}
 use Rattle.rx_event.specs.Tree.{is_open, hubs}
@@ -14,21 +17,25 @@ use Rattle.rx_event.specs.Forced.{IsSettled}
 use Rattle.rx_book.specs.declared.key.Key.{Key}
 use Rattle.rx_book.specs.declared.key.ResKey.{ResKey}
 
--- a resource that is kept: the number of its acceptance, its tag, and how often it was used
-pub record Box : Type 0 where
+-- a resource that is kept: the number of its acceptance, its tag, its life, and how often it was used
+pub record Label : Type 0 where
   pub number : ℕ
   pub tag : ℕ
+  pub life : Life
   pub uses : ℕ
 
--- a book: its history and limit, the keys of the open nodes and of the held resources, the boxes held and those waiting, and how
+abbrev pub label_of : {T : Type 0} → Ghosts T → ℕ → T → Label
+label_of g number x = record { number = number; tag = g.tag_of x; life = g.life_of x; uses = g.uses_of x }
+
+-- a book: its history and limit, the keys of the open nodes and of the held resources, the resources held and those waiting, and how
 -- many notes were handed out
 pub record State : Type 0 where
   pub history : List Event
   pub limit : ℕ
   pub keys : List Key
   pub res_keys : List ResKey
-  pub held : List Box
-  pub waiting : List Box
+  pub held : List Label
+  pub waiting : List Label
   pub given : ℕ
 
 abbrev pub has_key : List Key → Key → Bool
@@ -48,24 +55,25 @@ abbrev pub accepted_tag : Event → Option ℕ
 accepted_tag (Accept node tag) = Some tag
 accepted_tag _ = None
 
--- the box has the tag of its acceptance, and the uses of the history
-pub record IsBoxOf (h : List Event) (b : Box) : Type 0 where
-  pub tag : option_and_then accepted_tag (slice_get h b.number) ≡ Some b.tag
-  pub uses : b.uses ≡ uses h b.number
+-- the resource is live, and has the tag of its acceptance and the uses of the history
+pub record IsLabelOf (h : List Event) (l : Label) : Type 0 where
+  pub live : l.life ≡ Live
+  pub tag : option_and_then accepted_tag (slice_get h l.number) ≡ Some l.tag
+  pub uses : l.uses ≡ uses h l.number
 
--- what every book keeps: the boxes that it holds are exactly the resources that its stored lawful history leaves open, those
--- waiting are exactly the ones closed and not yet taken, each in one place, no operator's rule is left undone,
--- and what each observer is told obeys the Observable Contract's grammar. Hubs are not there yet
-pub record IsKept (s : State) : Type 0 where
+-- what every book promises at each moment: the resources that it holds are exactly those that its stored lawful history leaves
+-- held, those waiting are exactly the ones closed or removed and not yet taken, each live and in one place, no operator's rule is
+-- left undone, and what each observer is told obeys the Observable Contract's grammar. Hubs are not there yet
+pub record IsPromised (s : State) : Type 0 where
   pub lawful : IsLawful s.history
   pub settled : IsSettled s.history
   pub unpublished : hubs s.history ≡ []
   pub keys : AreJust (is_open s.history) (map (λ k. k.number) s.keys)
   pub res_keys : AreJust (is_held s.history) (map (λ k. k.number) s.res_keys)
-  pub held : AreJust (is_held s.history) (map (λ b. b.number) s.held)
-  pub waiting : AreJust (is_waiting s.history) (map (λ b. b.number) s.waiting)
-  pub held_boxes : All (IsBoxOf s.history) s.held
-  pub waiting_boxes : All (IsBoxOf s.history) s.waiting
+  pub held : AreJust (is_held s.history) (map (λ l. l.number) s.held)
+  pub waiting : AreJust (is_waiting s.history) (map (λ l. l.number) s.waiting)
+  pub held_labels : All (IsLabelOf s.history) s.held
+  pub waiting_labels : All (IsLabelOf s.history) s.waiting
   pub in_one_place : accepted_count s.history ≡ length s.held + length s.waiting + taken_count s.history
   pub room : length s.history + debt s.history ≤ s.limit
   pub given : s.given ≤ length (notes s.history)

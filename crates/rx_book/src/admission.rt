@@ -7,8 +7,7 @@ ghost use Rattle.rx_event.specs.Refusals.{IsRefusal};
 ghost use Rattle.rx_slots.specs.Slots.{find};
 ghost use Rattle.rx_tree.specs.Tree.{resource_at};
 ghost use Rattle.rx_register.specs.Causes.{causes};
-ghost use Rattle.rx_book.specs.Answers.{place_of};
-ghost use Rattle.rx_book.specs.Causes.{by_key, by_res_key};
+ghost use Rattle.rx_book.specs.Requests.{place_of, by_key, by_res_key};
 ghost use Rattle.rx_book.specs.Shelved.{IsStanding, IsSpot, is_there, Admits};
 
 use crate::answer::At;

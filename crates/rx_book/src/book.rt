@@ -6,7 +6,7 @@ ghost use Rattle.rx_event.specs.Tree.{places};
 ghost use Rattle.rx_event.specs.Notes.{notes};
 ghost use Rattle.rx_event.specs.Totals.{open_count as open_count_in, held_count, waiting_count, accepted_count, taken_count, item_count};
 ghost use Rattle.rx_register.specs.Kept.{letter};
-ghost use Rattle.rx_book.specs.State.{IsKept, has_key, has_res_key};
+ghost use Rattle.rx_book.specs.State.{IsPromised, has_key, has_res_key};
 ghost use Rattle.rx_book.specs.Answers.{is_open_root};
 
 use crate::key::{Key, ResKey, shown_key, tree_key, tree_res_key};
@@ -60,7 +60,7 @@ impl<R: Resource> Book<R> {
     /// tag of its acceptance and the uses of the history, and closing everything has room. It does
     /// nothing.
     pub fn promise(&self)
-        ensures { IsKept self.now }
+        ensures { IsPromised self.now }
     {
         self.register.promise();
         self.stock.promise();

@@ -1,10 +1,7 @@
 //! Items, ends and unsubscriptions.
 
-ghost use Rattle.std.specs.Prelude.{◌≡◌, true, Some, length, OnOk, OnErr, IfOk, IfErr};
-ghost use Rattle.rx_event.specs.Calls.{Emitting, Ending, Aborting, Disposing};
-ghost use Rattle.rx_event.specs.Refusals.{IsRefusal, first_cause};
-ghost use Rattle.rx_book.specs.State.{has_key};
-ghost use Rattle.rx_book.specs.Answers.{against, Accepts};
+ghost use Rattle.rx_book.specs.Requests.{next_request, end_request, abort_request, dispose_request};
+ghost use Rattle.rx_book.specs.Answers.{AnswersPlace, AnswersPlaceOrWant};
 
 use crate::Book;
 use crate::admission::admit_item;
@@ -18,10 +15,7 @@ impl<R: Resource> Book<R> {
     /// `WrongKind` where the node is no leaf, `TooMany` where the item would visit more than
     /// 1,048,576 nodes, `Full`, `NoMemory`. A refusal changes nothing.
     pub fn next(&mut self, leaf: Key, value: i64) -> Result<u64, Refusal>
-        ensures ok { IfOk result (λ place. place ≡ length self.old.history) }
-        ensures accepted { OnOk result (Accepts self.old (against self.old (has_key self.old.keys leaf) true (Emitting leaf.number value)) (Emitting leaf.number value) self.new) }
-        ensures refused { IfErr result (IsRefusal (against self.old (has_key self.old.keys leaf) true (Emitting leaf.number value))) }
-        ensures kept { OnErr result (self.new ≡ self.old) }
+        ensures { AnswersPlaceOrWant self.old (next_request self.old leaf value) self.new result }
     {
         admit_item(&mut self.register, &self.stock, tree_key(leaf), value)?;
         Ok(self.register.next(leaf.number, value))
@@ -31,10 +25,7 @@ impl<R: Resource> Book<R> {
     /// the leaf's end. Refused, in this order: `Gone`, `WrongKind`
     /// where the node is no leaf. It takes no memory. A refusal changes nothing.
     pub fn end(&mut self, leaf: Key, terminal: Terminal) -> Result<u64, Refusal>
-        ensures ok { IfOk result (λ place. place ≡ length self.old.history) }
-        ensures accepted { OnOk result (Accepts self.old (against self.old (has_key self.old.keys leaf) true (Ending leaf.number terminal)) (Ending leaf.number terminal) self.new) }
-        ensures refused { IfErr result (λ why. first_cause (against self.old (has_key self.old.keys leaf) true (Ending leaf.number terminal)) ≡ Some why) }
-        ensures kept { OnErr result (self.new ≡ self.old) }
+        ensures { AnswersPlace self.old (end_request self.old leaf terminal) self.new result }
     {
         let key = tree_key(leaf);
         if !self.stock.contains(key) {
@@ -57,10 +48,7 @@ impl<R: Resource> Book<R> {
     /// this order: `Gone`, `WrongKind` where the node is a leaf, `HasChild` where a node below it is
     /// open. It takes no memory. A refusal changes nothing.
     pub fn abort(&mut self, node: Key, code: u32) -> Result<u64, Refusal>
-        ensures ok { IfOk result (λ place. place ≡ length self.old.history) }
-        ensures accepted { OnOk result (Accepts self.old (against self.old (has_key self.old.keys node) true (Aborting node.number code)) (Aborting node.number code) self.new) }
-        ensures refused { IfErr result (λ why. first_cause (against self.old (has_key self.old.keys node) true (Aborting node.number code)) ≡ Some why) }
-        ensures kept { OnErr result (self.new ≡ self.old) }
+        ensures { AnswersPlace self.old (abort_request self.old node code) self.new result }
     {
         let key = tree_key(node);
         if !self.stock.contains(key) {
@@ -83,10 +71,7 @@ impl<R: Resource> Book<R> {
     /// are still handed out. A root that is closed already is `Gone`. Refused, in
     /// this order: `Gone`, `NotRoot`. It takes no memory. A refusal changes nothing.
     pub fn dispose(&mut self, root: Key) -> Result<u64, Refusal>
-        ensures ok { IfOk result (λ place. place ≡ length self.old.history) }
-        ensures accepted { OnOk result (Accepts self.old (against self.old (has_key self.old.keys root) true (Disposing root.number)) (Disposing root.number) self.new) }
-        ensures refused { IfErr result (λ why. first_cause (against self.old (has_key self.old.keys root) true (Disposing root.number)) ≡ Some why) }
-        ensures kept { OnErr result (self.new ≡ self.old) }
+        ensures { AnswersPlace self.old (dispose_request self.old root) self.new result }
     {
         let key = tree_key(root);
         if !self.stock.contains(key) {

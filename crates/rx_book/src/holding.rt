@@ -1,13 +1,8 @@
 //! Holding, using, removing and taking resources.
 
-ghost use Rattle.std.specs.Prelude.{◌≡◌, ◌+◌, true, Some, [], length, OnOk, OnErr, IfOk, IfErr, IfNone, IfSome, MatchOption, IsTrue};
-ghost use Rattle.std.specs.List.{Contains};
-ghost use Rattle.rx_event.specs.Calls.{Holding, Applying, Removing, Taking};
-ghost use Rattle.rx_event.specs.Refusals.{IsRefusal, first_cause};
-ghost use Rattle.rx_resource.specs.declared.Life.{Life};
-ghost use Rattle.rx_book.specs.State.{has_key, has_res_key};
-ghost use Rattle.rx_book.specs.Answers.{against, against_use, Accepts};
-ghost use Rattle.rx_book.specs.Shown.{box_of, is_fresh_box};
+ghost use Rattle.std.specs.Prelude.{◌≡◌};
+ghost use Rattle.rx_book.specs.Requests.{is_fresh_in, hold_request, apply_request, remove_request};
+ghost use Rattle.rx_book.specs.Answers.{AnswersPlace, AnswersWord, AnswersResKey, AnswersHanded};
 
 use crate::Book;
 use crate::admission::{admit_applying, admit_holding};
@@ -18,7 +13,7 @@ use rx_resource::{Handed, Life, Resource};
 
 /// Whether a resource was neither released nor used.
 pub(crate) fn is_fresh<R: Resource>(resource: &R) -> bool
-    ensures { result ≡ is_fresh_box (R.life_of resource.now) (R.uses_of resource.now) }
+    ensures { result ≡ is_fresh_in R.Resource resource.now }
 {
     resource.life() == Life::Live && resource.uses() == 0
 }
@@ -29,11 +24,7 @@ impl<R: Resource> Book<R> {
     /// was released or used, `Full`, `NoMemory`. A refusal changes nothing and gives the resource
     /// back.
     pub fn hold(&mut self, node: Key, resource: R) -> Result<ResKey, Refused<R>>
-        ensures ok { IfOk result (λ k. (k.number ≡ length self.old.history) × IsTrue (has_res_key self.new.res_keys k)) }
-        ensures accepted { OnOk result (Accepts self.old (against self.old (has_key self.old.keys node) (is_fresh_box (R.life_of resource) (R.uses_of resource)) (Holding node.number (R.tag_of resource))) (Holding node.number (R.tag_of resource)) self.new) }
-        ensures refused { IfErr result (λ e. IsRefusal (against self.old (has_key self.old.keys node) (is_fresh_box (R.life_of resource) (R.uses_of resource)) (Holding node.number (R.tag_of resource))) e.why) }
-        ensures given_back { IfErr result (λ e. e.back ≡ resource) }
-        ensures kept { OnErr result (self.new ≡ self.old) }
+        ensures { AnswersResKey self.old (hold_request R.Resource self.old node resource) resource self.new result }
     {
         let tag = resource.tag();
         let fresh = is_fresh(&resource);
@@ -66,9 +57,7 @@ impl<R: Resource> Book<R> {
     /// in this order: `NotHeld` where the key is no held resource's, `Full`, `NoMemory`. A refusal
     /// changes nothing, and does not use the resource.
     pub fn apply(&mut self, res: ResKey, word: u64) -> Result<u64, Refusal>
-        ensures accepted { OnOk result (Accepts self.old (against_use self.old (has_res_key self.old.res_keys res) (Applying res.number)) (Applying res.number) self.new) }
-        ensures refused { IfErr result (IsRefusal (against_use self.old (has_res_key self.old.res_keys res) (Applying res.number))) }
-        ensures kept { OnErr result (self.new ≡ self.old) }
+        ensures { AnswersWord self.old (apply_request self.old res) self.new result }
     {
         let key = tree_res_key(res);
         admit_applying(&mut self.register, &self.stock, key)?;
@@ -82,10 +71,7 @@ impl<R: Resource> Book<R> {
     /// (Remove of a composite disposable); answers the place of its event. Refused `NotHeld` where the
     /// key is no held resource's. It takes no memory. A refusal changes nothing.
     pub fn remove(&mut self, res: ResKey) -> Result<u64, Refusal>
-        ensures ok { IfOk result (λ place. place ≡ length self.old.history) }
-        ensures accepted { OnOk result (Accepts self.old (against_use self.old (has_res_key self.old.res_keys res) (Removing res.number)) (Removing res.number) self.new) }
-        ensures refused { IfErr result (λ why. first_cause (against_use self.old (has_res_key self.old.res_keys res) (Removing res.number)) ≡ Some why) }
-        ensures kept { OnErr result (self.new ≡ self.old) }
+        ensures { AnswersPlace self.old (remove_request self.old res) self.new result }
     {
         let key = tree_res_key(res);
         if !self.stock.holds(key) {
@@ -100,9 +86,7 @@ impl<R: Resource> Book<R> {
     /// Hands out a resource that waits, for its release; which one is free. None exactly where
     /// nothing waits. It takes no memory.
     pub fn take(&mut self) -> Option<Handed<R>>
-        ensures cases { MatchOption result (self.old.waiting ≡ []) (λ handed. Contains self.old.waiting (box_of handed.0 (R.tag_of handed.1) (R.uses_of handed.1))) }
-        ensures accepted { IfSome result (λ handed. Accepts self.old (against self.old true true (Taking handed.0)) (Taking handed.0) self.new) }
-        ensures kept { IfNone result (self.new ≡ self.old) }
+        ensures { AnswersHanded R.Resource self.old self.new result }
     {
         self.register.promise();
         let held = self.stock.take()?;

@@ -17,14 +17,15 @@
 //!   notes out as [`Mail`].
 //! - A contract sees a [`Book`] as a `State` of `specs/`: the history and its limit, the keys of what
 //!   is open and held, the resources held and waiting, each by number, tag and uses, and the number of
-//!   notes handed out. `Accepts` says what an accepted call does, `against` which causes stand against
-//!   a call, and `IsKept` what holds of every book.
+//!   notes handed out. `Request` says what is asked, `stands` which causes
+//!   stand against it, `Accepts` what an accepted call does, `Answers` what a call answers, and
+//!   `IsPromised` what holds of every book.
 //!
 //! # Promised, and not
 //!
 //! - At each moment the resources held are exactly those that the history leaves open, and those
 //!   waiting exactly the ones closed and not yet taken, each in one place; the history is lawful, and
-//!   no operator's rule is left undone (`IsKept`, which [`Book::promise`] states).
+//!   no operator's rule is left undone (`IsPromised`, which [`Book::promise`] states).
 //! - An accepted call adds its own events, and then only what these force. A refused call changes
 //!   nothing, and gives a resource that was handed in back as it came. The refusals of each call, and
 //!   their order, are exact; that want of memory is given only where memory was really refused is

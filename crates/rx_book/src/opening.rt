@@ -1,11 +1,7 @@
 //! Opening nodes.
 
-ghost use Rattle.std.specs.Prelude.{◌≡◌, ◌+◌, true, length, option_map, OnOk, OnErr, IfOk, IfErr, IsTrue};
-ghost use Rattle.rx_event.specs.Calls.{Opening, OpeningUsing};
-ghost use Rattle.rx_event.specs.Refusals.{IsRefusal};
-ghost use Rattle.rx_book.specs.State.{has_key, has_res_key};
-ghost use Rattle.rx_book.specs.Answers.{place_of, is_known, against, connection_made, Accepts};
-ghost use Rattle.rx_book.specs.Shown.{is_fresh_box};
+ghost use Rattle.rx_book.specs.Requests.{open_request, using_request};
+ghost use Rattle.rx_book.specs.Answers.{AnswersOpened, AnswersOpenedUsing};
 
 use crate::Book;
 use crate::admission::{admit_opening, admit_using};
@@ -22,11 +18,7 @@ impl<R: Resource> Book<R> {
     /// place was opened before, `TooMany` at 1,048,576 open nodes, `Full`, `NoMemory`. A refusal
     /// changes nothing.
     pub fn open(&mut self, at: At, kind: Kind) -> Result<Opened, Refusal>
-        ensures ok { IfOk result (λ o. (o.key.number ≡ length self.old.history) × IsTrue (has_key self.new.keys o.key)) }
-        ensures connected { IfOk result (λ o. option_map (λ k. k.number) o.connected ≡ connection_made self.old.history self.new.history) }
-        ensures accepted { OnOk result (Accepts self.old (against self.old (is_known self.old.keys at) true (Opening (place_of at) kind)) (Opening (place_of at) kind) self.new) }
-        ensures refused { IfErr result (IsRefusal (against self.old (is_known self.old.keys at) true (Opening (place_of at) kind))) }
-        ensures kept { OnErr result (self.new ≡ self.old) }
+        ensures { AnswersOpened self.old (open_request self.old at kind) self.new result }
     {
         let spot = admit_opening(&mut self.register, &self.stock, at, kind)?;
         let number = self.register.len();
@@ -51,11 +43,7 @@ impl<R: Resource> Book<R> {
     /// `WrongKind`, `PlaceTaken`, `NotFresh` where the resource was released or used, `TooMany`,
     /// `Full`, `NoMemory`. A refusal changes nothing and gives the resource back.
     pub fn open_using(&mut self, at: At, resource: R) -> Result<OpenedUsing, Refused<R>>
-        ensures ok { IfOk result (λ o. (o.key.number ≡ length self.old.history) × IsTrue (has_key self.new.keys o.key) × (o.res.number ≡ length self.old.history + 1) × IsTrue (has_res_key self.new.res_keys o.res)) }
-        ensures accepted { OnOk result (Accepts self.old (against self.old (is_known self.old.keys at) (is_fresh_box (R.life_of resource) (R.uses_of resource)) (OpeningUsing (place_of at) (R.tag_of resource))) (OpeningUsing (place_of at) (R.tag_of resource)) self.new) }
-        ensures refused { IfErr result (λ e. IsRefusal (against self.old (is_known self.old.keys at) (is_fresh_box (R.life_of resource) (R.uses_of resource)) (OpeningUsing (place_of at) (R.tag_of resource))) e.why) }
-        ensures given_back { IfErr result (λ e. e.back ≡ resource) }
-        ensures kept { OnErr result (self.new ≡ self.old) }
+        ensures { AnswersOpenedUsing self.old (using_request R.Resource self.old at resource) resource self.new result }
     {
         let tag = resource.tag();
         let fresh = is_fresh(&resource);

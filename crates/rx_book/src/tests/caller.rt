@@ -1,12 +1,10 @@
 //! A caller of the book that is proved: which words it needs, and what it can promise in its turn.
 
 ghost use Rattle.std.specs.Prelude.{◌≡◌, true, IfOk, IfErr, IfSome, OnErr};
-ghost use Rattle.rx_event.specs.declared.event.Place.{Place};
-ghost use Rattle.rx_event.specs.Calls.{OpeningUsing};
-ghost use Rattle.rx_event.specs.Refusals.{IsRefusal};
 ghost use Rattle.rx_resource.specs.declared.Life.{Life};
-ghost use Rattle.rx_book.specs.Answers.{against};
-ghost use Rattle.rx_book.specs.Shown.{is_fresh_box};
+ghost use Rattle.rx_book.specs.declared.answer.At.{At};
+ghost use Rattle.rx_book.specs.Requests.{using_request};
+ghost use Rattle.rx_book.specs.Answers.{IsGivenBack};
 
 use super::lamps::new_lamp;
 use crate::{At, Book, Refused};
@@ -17,8 +15,7 @@ use std::test::Fail;
 // the resources that wait and releases it. What is refused comes back as it was.
 fn use_once<R: Resource>(book: &mut Book<R>, resource: R) -> Result<Option<Released<R>>, Refused<R>>
     ensures released { IfOk result (λ taken. IfSome taken (λ left. R.life_of left.spent ≡ Life.Released)) }
-    ensures refused { IfErr result (λ e. IsRefusal (against book.old true (is_fresh_box (R.life_of resource) (R.uses_of resource)) (OpeningUsing Place.Root (R.tag_of resource))) e.why) }
-    ensures given_back { IfErr result (λ e. e.back ≡ resource) }
+    ensures refused { IfErr result (IsGivenBack book.old (using_request R.Resource book.old At.Root resource) resource) }
     ensures kept { OnErr result (book.new ≡ book.old) }
 {
     let opened = book.open_using(At::Root, resource)?;

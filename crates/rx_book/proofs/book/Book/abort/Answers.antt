@@ -8,22 +8,23 @@ use Rattle.rx_register.specs.Causes.{causes}
 use Rattle.rx_register.specs.Kept.{top_of}
 use Rattle.rx_book.specs.State.{has_key}
 use Rattle.rx_book.specs.Shown.{keys_of}
+use Rattle.rx_book.proofs.Answered.{answers_ok, answers_err}
 use Rattle.rx_book.proofs.CallClose.{gone_first, cause_first, key_known, key_unknown, closes_at, closing_fits, child_test, standing_close, accepts_close}
 use Rattle.rx_book.proofs.book.Book.abort.Goals as goal
 
-pub returns-then-not-contains-clause-refused : goal.returns-then-not-contains-clause-refused
-returns-then-not-contains-clause-refused g c =
+pub returns-then-not-contains : goal.returns-then-not-contains
+returns-then-not-contains g c =
     rw (← c.self.view_is)
-    (gone_first (has_key (keys_of c.self.inside.stock.tree) c.args.node) (causes c.self.inside.register.history c.self.inside.register.limit true (Aborting c.args.node.number c.args.code)) (key_unknown c.self.inside.stock.tree c.args.node c.tree_key-key.result c.tree_key-key.ensures c.contains.result c.contains.ensures.1 c.if-not-contains.true) refl)
+    (answers_err (gone_first (has_key (keys_of c.self.inside.stock.tree) c.args.node) (causes c.self.inside.register.history c.self.inside.register.limit true (Aborting c.args.node.number c.args.code)) (key_unknown c.self.inside.stock.tree c.args.node c.tree_key-key.result c.tree_key-key.ensures c.contains.result c.contains.ensures.1 c.if-not-contains.true) refl) refl)
 
 pub aborting_cause-requires-clause-child : goal.aborting_cause-requires-clause-child
 aborting_cause-requires-clause-child g c =
     child_test g.R.Resource c.self.inside.register c.self.inside.stock c.self.invariant c.promise-2.ensures c.promise.ensures c.tree_key-key.result c.has_child-has_child.result (c.contains.ensures.0 c.if-not-contains.false) c.has_child-has_child.ensures ∙ ap (λ (k : SlotKey). has_open_child c.self.inside.register.history k.number) c.tree_key-key.ensures
 
-pub returns-in-Some-clause-refused : goal.returns-in-Some-clause-refused
-returns-in-Some-clause-refused g c =
+pub returns-in-Some : goal.returns-in-Some
+returns-in-Some g c =
     rw (← c.self.view_is)
-    (cause_first (has_key (keys_of c.self.inside.stock.tree) c.args.node) (causes c.self.inside.register.history c.self.inside.register.limit true (Aborting c.args.node.number c.args.code)) _ (key_known c.self.inside.stock.tree c.args.node c.tree_key-key.result c.tree_key-key.ensures (c.contains.ensures.0 c.if-not-contains.false)) c.in-Some.ensures)
+    (answers_err (cause_first (has_key (keys_of c.self.inside.stock.tree) c.args.node) (causes c.self.inside.register.history c.self.inside.register.limit true (Aborting c.args.node.number c.args.code)) _ (key_known c.self.inside.stock.tree c.args.node c.tree_key-key.result c.tree_key-key.ensures (c.contains.ensures.0 c.if-not-contains.false)) c.in-Some.ensures) refl)
 
 pub close-requires-clause-room : goal.close-requires-clause-room
 close-requires-clause-room g c κs within = closing_fits g.R.Resource c.self.inside.register c.self.inside.stock c.self.invariant c.promise-2.ensures c.promise.ensures c.top_key-top.result.number
@@ -32,7 +33,7 @@ pub invariant_of-self : goal.invariant_of-self
 invariant_of-self g c =
     standing_close g.R.Resource c.self.inside.register c.self.inside.stock c.self.invariant c.promise-2.ensures c.promise.ensures (End c.args.node.number (Error c.args.code) ∷ []) c.top_key-top.result.number c.abort-place.new.self c.close.new.self c.promise-3.ensures (closes_at c.self.inside.register.history (End c.args.node.number (Error c.args.code) ∷ []) c.abort-place.new.self.history (top_of c.self.inside.register.history c.args.node.number) c.top_key-top.result.number (c.top_key-top.ensures.top c.self.inside.register.history c.self.invariant.shelved ∙ ap (λ (k : SlotKey). top_of c.self.inside.register.history k.number) c.tree_key-key.ensures) c.abort-place.ensures.closes) c.close.ensures.kept c.close.ensures.spilled c.close.ensures.room
 
-pub returns-clause-accepted : goal.returns-clause-accepted
-returns-clause-accepted g c =
+pub returns : goal.returns
+returns g c =
     rw (← c.self.view_is)
-    (accepts_close g.R.Resource c.self.inside.register c.self.inside.stock c.self.invariant c.promise-2.ensures c.promise.ensures (End c.args.node.number (Error c.args.code) ∷ []) c.top_key-top.result.number c.abort-place.new.self c.close.new.self c.promise-3.ensures (closes_at c.self.inside.register.history (End c.args.node.number (Error c.args.code) ∷ []) c.abort-place.new.self.history (top_of c.self.inside.register.history c.args.node.number) c.top_key-top.result.number (c.top_key-top.ensures.top c.self.inside.register.history c.self.invariant.shelved ∙ ap (λ (k : SlotKey). top_of c.self.inside.register.history k.number) c.tree_key-key.ensures) c.abort-place.ensures.closes) c.close.ensures.kept c.close.ensures.spilled c.close.ensures.room (has_key (keys_of c.self.inside.stock.tree) c.args.node) (causes c.self.inside.register.history c.self.inside.register.limit true (Aborting c.args.node.number c.args.code)) (Aborting c.args.node.number c.args.code) (key_known c.self.inside.stock.tree c.args.node c.tree_key-key.result c.tree_key-key.ensures (c.contains.ensures.0 c.if-not-contains.false)) c.abort-place.ensures.accepted)
+    (answers_ok c.abort-place.ensures.place (accepts_close g.R.Resource c.self.inside.register c.self.inside.stock c.self.invariant c.promise-2.ensures c.promise.ensures (End c.args.node.number (Error c.args.code) ∷ []) c.top_key-top.result.number c.abort-place.new.self c.close.new.self c.promise-3.ensures (closes_at c.self.inside.register.history (End c.args.node.number (Error c.args.code) ∷ []) c.abort-place.new.self.history (top_of c.self.inside.register.history c.args.node.number) c.top_key-top.result.number (c.top_key-top.ensures.top c.self.inside.register.history c.self.invariant.shelved ∙ ap (λ (k : SlotKey). top_of c.self.inside.register.history k.number) c.tree_key-key.ensures) c.abort-place.ensures.closes) c.close.ensures.kept c.close.ensures.spilled c.close.ensures.room _ refl (key_known c.self.inside.stock.tree c.args.node c.tree_key-key.result c.tree_key-key.ensures (c.contains.ensures.0 c.if-not-contains.false)) c.abort-place.ensures.accepted))

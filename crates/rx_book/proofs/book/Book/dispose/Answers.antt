@@ -5,18 +5,19 @@ use Rattle.rx_slots.specs.declared.Key.{Key as SlotKey}
 use Rattle.rx_register.specs.Causes.{causes}
 use Rattle.rx_book.specs.State.{has_key}
 use Rattle.rx_book.specs.Shown.{keys_of}
+use Rattle.rx_book.proofs.Answered.{answers_ok, answers_err}
 use Rattle.rx_book.proofs.CallClose.{gone_first, cause_first, key_known, key_unknown, closes_at, closing_fits, standing_close, accepts_close}
 use Rattle.rx_book.proofs.book.Book.dispose.Goals as goal
 
-pub returns-then-not-contains-clause-refused : goal.returns-then-not-contains-clause-refused
-returns-then-not-contains-clause-refused g c =
+pub returns-then-not-contains : goal.returns-then-not-contains
+returns-then-not-contains g c =
     rw (← c.self.view_is)
-    (gone_first (has_key (keys_of c.self.inside.stock.tree) c.args.root) (causes c.self.inside.register.history c.self.inside.register.limit true (Disposing c.args.root.number)) (key_unknown c.self.inside.stock.tree c.args.root c.tree_key-key.result c.tree_key-key.ensures c.contains.result c.contains.ensures.1 c.if-not-contains.true) refl)
+    (answers_err (gone_first (has_key (keys_of c.self.inside.stock.tree) c.args.root) (causes c.self.inside.register.history c.self.inside.register.limit true (Disposing c.args.root.number)) (key_unknown c.self.inside.stock.tree c.args.root c.tree_key-key.result c.tree_key-key.ensures c.contains.result c.contains.ensures.1 c.if-not-contains.true) refl) refl)
 
-pub returns-in-Some-clause-refused : goal.returns-in-Some-clause-refused
-returns-in-Some-clause-refused g c =
+pub returns-in-Some : goal.returns-in-Some
+returns-in-Some g c =
     rw (← c.self.view_is)
-    (cause_first (has_key (keys_of c.self.inside.stock.tree) c.args.root) (causes c.self.inside.register.history c.self.inside.register.limit true (Disposing c.args.root.number)) _ (key_known c.self.inside.stock.tree c.args.root c.tree_key-key.result c.tree_key-key.ensures (c.contains.ensures.0 c.if-not-contains.false)) c.in-Some.ensures)
+    (answers_err (cause_first (has_key (keys_of c.self.inside.stock.tree) c.args.root) (causes c.self.inside.register.history c.self.inside.register.limit true (Disposing c.args.root.number)) _ (key_known c.self.inside.stock.tree c.args.root c.tree_key-key.result c.tree_key-key.ensures (c.contains.ensures.0 c.if-not-contains.false)) c.in-Some.ensures) refl)
 
 pub close-requires-clause-room : goal.close-requires-clause-room
 close-requires-clause-room g c κs within = closing_fits g.R.Resource c.self.inside.register c.self.inside.stock c.self.invariant c.promise-2.ensures c.promise.ensures c.tree_key-key.result.number
@@ -25,7 +26,7 @@ pub invariant_of-self : goal.invariant_of-self
 invariant_of-self g c =
     standing_close g.R.Resource c.self.inside.register c.self.inside.stock c.self.invariant c.promise-2.ensures c.promise.ensures (Close c.args.root.number ∷ []) c.tree_key-key.result.number c.dispose-place.new.self c.close.new.self c.promise-3.ensures (closes_at c.self.inside.register.history (Close c.args.root.number ∷ []) c.dispose-place.new.self.history c.args.root.number c.tree_key-key.result.number (ap (λ (k : SlotKey). k.number) c.tree_key-key.ensures) c.dispose-place.ensures.closes) c.close.ensures.kept c.close.ensures.spilled c.close.ensures.room
 
-pub returns-clause-accepted : goal.returns-clause-accepted
-returns-clause-accepted g c =
+pub returns : goal.returns
+returns g c =
     rw (← c.self.view_is)
-    (accepts_close g.R.Resource c.self.inside.register c.self.inside.stock c.self.invariant c.promise-2.ensures c.promise.ensures (Close c.args.root.number ∷ []) c.tree_key-key.result.number c.dispose-place.new.self c.close.new.self c.promise-3.ensures (closes_at c.self.inside.register.history (Close c.args.root.number ∷ []) c.dispose-place.new.self.history c.args.root.number c.tree_key-key.result.number (ap (λ (k : SlotKey). k.number) c.tree_key-key.ensures) c.dispose-place.ensures.closes) c.close.ensures.kept c.close.ensures.spilled c.close.ensures.room (has_key (keys_of c.self.inside.stock.tree) c.args.root) (causes c.self.inside.register.history c.self.inside.register.limit true (Disposing c.args.root.number)) (Disposing c.args.root.number) (key_known c.self.inside.stock.tree c.args.root c.tree_key-key.result c.tree_key-key.ensures (c.contains.ensures.0 c.if-not-contains.false)) c.dispose-place.ensures.accepted)
+    (answers_ok c.dispose-place.ensures.place (accepts_close g.R.Resource c.self.inside.register c.self.inside.stock c.self.invariant c.promise-2.ensures c.promise.ensures (Close c.args.root.number ∷ []) c.tree_key-key.result.number c.dispose-place.new.self c.close.new.self c.promise-3.ensures (closes_at c.self.inside.register.history (Close c.args.root.number ∷ []) c.dispose-place.new.self.history c.args.root.number c.tree_key-key.result.number (ap (λ (k : SlotKey). k.number) c.tree_key-key.ensures) c.dispose-place.ensures.closes) c.close.ensures.kept c.close.ensures.spilled c.close.ensures.room _ refl (key_known c.self.inside.stock.tree c.args.root c.tree_key-key.result c.tree_key-key.ensures (c.contains.ensures.0 c.if-not-contains.false)) c.dispose-place.ensures.accepted))

@@ -12,12 +12,12 @@ use Rattle.rx_event.specs.declared.refusal.Refusal.{Refusal}
 use Rattle.rx_event.specs.declared.refusal.Refusal.TheVariants.{Gone, NotRoot}
 use Rattle.rx_event.specs.Events.{is_root}
 use Rattle.rx_event.specs.Tree.{at, is_open}
-use Rattle.rx_event.specs.Calls.{OpeningUsing, Disposing, IsStepOf}
+use Rattle.rx_event.specs.Calls.{OpeningUsing, IsStepOf}
 use Rattle.rx_event.specs.Refusals.{first_cause}
 use Rattle.rx_event.proofs.Laws.Places.{at-append}
 use Rattle.rx_book.specs.declared.key.Key.{Key}
-use Rattle.rx_book.specs.State.{State, IsKept, has_key}
-use Rattle.rx_book.specs.Answers.{against}
+use Rattle.rx_book.specs.State.{State, IsPromised, has_key}
+use Rattle.rx_book.specs.Requests.{stands, dispose_request}
 use Rattle.rx_book.proofs.ShownKeys.{Contains-has_key}
 use Rattle.rx_event.specs.Lawful.{IsForcedOn, stays, more}
 use Rattle.rx_book.proofs.tests.caller.use_once.Goals as goal
@@ -28,7 +28,7 @@ forced_behind (stays {h}) = ([], sym (append-nil h))
 forced_behind (more {h} {k} {e} before next) = let b = forced_behind before in (b.0 ++ e ∷ [], ap (λ (m : List Event). m ++ e ∷ []) b.1 ∙ append_assoc h b.0 (e ∷ []))
 
 -- a key that a book knows is an open node's
-known_open : (s : State) → IsKept s → (k : Key) → has_key s.keys k ≡ true → is_open s.history k.number ≡ true
+known_open : (s : State) → IsPromised s → (k : Key) → has_key s.keys k ≡ true → is_open s.history k.number ≡ true
 known_open s kept k has =
     let c = Contains-has_key s.keys k has in
     let number : Key → ℕ = λ j. j.number in
@@ -50,7 +50,7 @@ root_opened h k tag n step e =
     at_end h = ap (λ o. option_map_or is_root o false) (slice_get_behind h (Open Root Pass) (Accept (length h) tag ∷ []))
 
 -- nothing stands against the closing of an open root
-closing_accepted : (s : State) (k : Key) (why : Refusal) → has_key s.keys k ≡ true → is_open s.history k.number ≡ true → at is_root s.history k.number ≡ true → first_cause (against s (has_key s.keys k) true (Disposing k.number)) ≡ Some why → ⊥
+closing_accepted : (s : State) (k : Key) (why : Refusal) → has_key s.keys k ≡ true → is_open s.history k.number ≡ true → at is_root s.history k.number ≡ true → first_cause (stands s (dispose_request s k)) ≡ Some why → ⊥
 closing_accepted s k why has alive root e = shape (is_open s.history k.number) (at is_root s.history k.number) why alive root (rw has at e)
   where
     shape : (a b : Bool) (why : Refusal) → a ≡ true → b ≡ true → (if not a then Some Gone else (if not b then Some NotRoot else None)) ≡ Some why → ⊥
@@ -62,5 +62,5 @@ closing_accepted s k why has alive root e = shape (is_open s.history k.number) (
 pub unreachable-requires : goal.unreachable-requires
 unreachable-requires g c =
     let given = c.in_ok-opened.ensures in
-    let refused : first_cause (against c.open_using.new.self (has_key c.open_using.new.self.keys c.in_ok-opened.opened.key) true (Disposing c.in_ok-opened.opened.key.number)) ≡ Some c.in-Err.field-0 = c.in-Err.ensures.refused in
-    closing_accepted c.open_using.new.self c.in_ok-opened.opened.key c.in-Err.field-0 given.ok.1 (known_open c.open_using.new.self c.promise.ensures c.in_ok-opened.opened.key given.ok.1) (root_opened c.args.book.now.history c.open_using.new.self.history _ c.in_ok-opened.opened.key.number given.accepted.step given.ok.0) refused
+    let refused : first_cause (stands c.open_using.new.self (dispose_request c.open_using.new.self c.in_ok-opened.opened.key)) ≡ Some c.in-Err.field-0 = c.in-Err.ensures.refused in
+    closing_accepted c.open_using.new.self c.in_ok-opened.opened.key c.in-Err.field-0 given.ok.key.listed (known_open c.open_using.new.self c.promise.ensures c.in_ok-opened.opened.key given.ok.key.listed) (root_opened c.args.book.now.history c.open_using.new.self.history _ c.in_ok-opened.opened.key.number given.accepted.step given.ok.key.number) refused
