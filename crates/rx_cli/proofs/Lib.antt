@@ -1,4 +1,4 @@
 pub mod Fronts
 pub mod Literals
 pub mod Running
-pub mod Stock
+pub mod Filling

@@ -1,21 +1,24 @@
 -- A run or an audit that was not begun.
 use Rattle.std.proofs.Common.{List, Err, refl, ap, true≢false, Bool, true, false, Result}
-use Rattle.rx_script.specs.declared.ScriptError.{ScriptError}
-use Rattle.rx_script.specs.declared.ScriptError.TheVariants.{Memory}
-use Rattle.rx_script.specs.declared.device.Watched.{Watched}
+use Rattle.rx_device.specs.declared.fault.ScriptError.{ScriptError}
+use Rattle.rx_device.specs.declared.fault.ScriptError.TheVariants.{Memory}
+use Rattle.rx_device.specs.declared.watched.Watched.{Watched}
+use Rattle.rx_script.specs.declared.Form.{Form}
 use Rattle.rx_script.specs.Stage.{Ware}
-use Rattle.rx_cli.specs.Served.{Bytes, Ran, Audited}
+use Rattle.rx_cli.specs.Told.{Bytes}
+use Rattle.rx_cli.specs.Served.{Ran, Audited}
 
 abbrev is_memory : {T : Type 0} → Result T ScriptError → Bool
 is_memory (Err Memory) = true
 is_memory _ = false
 
 -- memory was refused before the input was touched
-pub ran_without_memory : {I O : Type 0} (remaining : I → Bytes) (contents : O → Bytes) (stock : List Ware) (input : Watched I) (output : Watched O)
-    → Ran remaining contents stock input input output output (Err Memory)
-ran_without_memory remaining contents stock input output = record {
-  report = tt;
+pub ran_without_memory : {I O : Type 0} (remaining : I → Bytes) (contents : O → Bytes) (stock : List Ware) (form : Form) (input : Watched I) (output : Watched O)
+    → Ran remaining contents stock form input input output output (Err Memory)
+ran_without_memory remaining contents stock form input output = record {
+  ok = tt;
   stopped = tt;
+  unhurt = tt;
   front = λ e. absurd (true≢false (ap is_memory e));
   silent = λ _. refl;
   read = λ e. absurd (true≢false (ap is_memory e));
@@ -30,6 +33,7 @@ pub audited_without_memory : {I O : Type 0} (remaining : I → Bytes) (contents 
 audited_without_memory remaining contents input output = record {
   verdict = tt;
   stopped = tt;
+  unhurt = tt;
   front = λ e. absurd (true≢false (ap is_memory e));
   silent = λ _. refl;
   read = λ e. absurd (true≢false (ap is_memory e));

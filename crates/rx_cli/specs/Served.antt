@@ -1,42 +1,41 @@
--- What a call of the program does with its streams. A prime marks a stream, or a writer's bytes, after the call.
-use Rattle.std.specs.Prelude.{◌≡◌, ◌≢◌, ◌⊎◌, ℕ, Bool, true, false, List, Option, Result, OnOk, IfOk, IfErr, IsErrOf, codes}
-use Rattle.std.specs.Io.KnownBytes.{Appends, Keeps}
+-- What a call of the program does with its streams. A prime marks a stream after the call.
+use Rattle.std.specs.Prelude.{◌≡◌, ◌≢◌, ◌⊎◌, ℕ, Bool, true, false, List, Result, OnOk, IfOk, IfErr, IsErrOf, codes}
+use Rattle.std.specs.Io.KnownBytes.{Appends}
 use Rattle.clap.specs.declared.error.kind.ErrorKind.{ErrorKind}
 use Rattle.clap.specs.declared.error.kind.ErrorKind.TheVariants.{DisplayHelp, DisplayVersion, OutOfMemory}
 use Rattle.rx_audit.specs.declared.verdict.Verdict.{Verdict}
-use Rattle.rx_script.specs.declared.ScriptError.{ScriptError}
-use Rattle.rx_script.specs.declared.ScriptError.TheVariants.{Read, Write, Syntax, Shape}
-use Rattle.rx_script.specs.declared.device.Watched.{Watched}
-use Rattle.rx_script.specs.declared.device.TheConstants.{MOST_TURNS}
-use Rattle.rx_script.specs.Device.{device_of, turns_of, has_failed, has_stopped, AppendsPrefix}
-use Rattle.rx_script.specs.Outcome.{Reports, GivesTooMuch, GivesNoJson, GivesNoScenario}
-use Rattle.rx_script.specs.Check.{Judges, GivesNoDump}
-use Rattle.rx_script.specs.VerdictText.{is_lawful}
+use Rattle.rx_device.specs.declared.fault.ScriptError.{ScriptError}
+use Rattle.rx_device.specs.declared.fault.ScriptError.TheVariants.{Read, Write, Syntax, Shape}
+use Rattle.rx_device.specs.declared.watched.Watched.{Watched}
+use Rattle.rx_device.specs.Device.{device_of, has_failed, has_stopped, HasReadFault, HasWriteFault, AppendsPrefix}
+use Rattle.rx_device.specs.Input.{GivesTooMuch, GivesNoJson}
+use Rattle.rx_dump.specs.Checking.{Judges, GivesNoDump}
+use Rattle.rx_dump.specs.Verdict.{is_lawful}
+use Rattle.rx_script.specs.declared.Form.{Form}
 use Rattle.rx_script.specs.Stage.{Ware}
+use Rattle.rx_script.specs.Running.{Runs, GivesNoScenario}
 use Rattle.rx_cli.specs.Status.{line_of, status_of, audit_status_of}
-
--- the bytes that a writer holds or a reader has left, where they are known
-abbrev pub Bytes : Type 0
-Bytes = Option (List ℕ)
+use Rattle.rx_cli.specs.Told.{Bytes, IsTold}
 
 -- ---- a run
 
--- the scenario was read from the input and run with this stock, and this is what came of it: its report is written where the
--- outcome is Ok, and a front of it with a write fault; every other fault comes for its cause, with nothing written
-pub record Ran {I O : Type 0} (remaining : I → Bytes) (contents : O → Bytes) (stock : List Ware) (input input' : Watched I) (output output' : Watched O) (outcome : Result (Unit {0}) ScriptError) : Type 0 where
-  pub report : OnOk outcome (Reports stock (remaining (device_of input)) (remaining (device_of input')) (Appends (contents (device_of output)) (contents (device_of output'))))
+-- the scenario was read from the input and run with this stock, and this is what came of it: its report or dump is written where
+-- the outcome is Ok, and a front of it with a write fault; every other fault comes for its cause, with nothing written
+pub record Ran {I O : Type 0} (remaining : I → Bytes) (contents : O → Bytes) (stock : List Ware) (form : Form) (input input' : Watched I) (output output' : Watched O) (outcome : Result (Unit {0}) ScriptError) : Type 0 where
+  pub ok : OnOk outcome (Runs stock form (remaining (device_of input)) (remaining (device_of input')) (Appends (contents (device_of output)) (contents (device_of output'))))
   pub stopped : OnOk outcome (has_stopped input' ≡ true)
-  pub front : IsErrOf outcome Write → Reports stock (remaining (device_of input)) (remaining (device_of input')) (AppendsPrefix (contents (device_of output)) (contents (device_of output')))
+  pub unhurt : OnOk outcome ((has_failed input' ≡ false) × (has_failed output' ≡ false))
+  pub front : IsErrOf outcome Write → Runs stock form (remaining (device_of input)) (remaining (device_of input')) (AppendsPrefix (contents (device_of output)) (contents (device_of output')))
   pub silent : IfErr outcome (λ e. e ≢ Write → output' ≡ output)
-  pub read : IsErrOf outcome Read → (has_failed input' ≡ true) ⊎ (turns_of input' ≡ MOST_TURNS)
-  pub write : IsErrOf outcome Write → (has_failed output' ≡ true) ⊎ (has_stopped output' ≡ true)
+  pub read : IsErrOf outcome Read → HasReadFault input'
+  pub write : IsErrOf outcome Write → HasWriteFault output'
   pub syntax : IsErrOf outcome Syntax → GivesTooMuch (remaining (device_of input)) (remaining (device_of input')) ⊎ GivesNoJson (remaining (device_of input)) (remaining (device_of input'))
   pub shape : IsErrOf outcome Shape → GivesNoScenario (remaining (device_of input)) (remaining (device_of input'))
 
 -- the status and the line tell this outcome
-pub record Tells (errors errors' : Bytes) (outcome : Result (Unit {0}) ScriptError) (status : ℕ) : Type 0 where
+pub record Tells {E : Type 0} (contents : E → Bytes) (errors errors' : Watched E) (outcome : Result (Unit {0}) ScriptError) (status : ℕ) : Type 0 where
   pub says : status ≡ status_of outcome
-  pub line : AppendsPrefix errors errors' (line_of outcome)
+  pub line : IsTold contents errors errors' (line_of outcome)
 
 -- ---- an audit
 
@@ -46,17 +45,18 @@ pub record Tells (errors errors' : Bytes) (outcome : Result (Unit {0}) ScriptErr
 pub record Audited {I O : Type 0} (remaining : I → Bytes) (contents : O → Bytes) (input input' : Watched I) (output output' : Watched O) (outcome : Result Bool ScriptError) : Type 0 where
   pub verdict : IfOk outcome (λ lawful. (v : Verdict) × (lawful ≡ is_lawful v) × Judges v (remaining (device_of input)) (remaining (device_of input')) (Appends (contents (device_of output)) (contents (device_of output'))))
   pub stopped : OnOk outcome (has_stopped input' ≡ true)
+  pub unhurt : OnOk outcome ((has_failed input' ≡ false) × (has_failed output' ≡ false))
   pub front : IsErrOf outcome Write → (v : Verdict) × Judges v (remaining (device_of input)) (remaining (device_of input')) (AppendsPrefix (contents (device_of output)) (contents (device_of output')))
   pub silent : IfErr outcome (λ e. e ≢ Write → output' ≡ output)
-  pub read : IsErrOf outcome Read → (has_failed input' ≡ true) ⊎ (turns_of input' ≡ MOST_TURNS)
-  pub write : IsErrOf outcome Write → (has_failed output' ≡ true) ⊎ (has_stopped output' ≡ true)
+  pub read : IsErrOf outcome Read → HasReadFault input'
+  pub write : IsErrOf outcome Write → HasWriteFault output'
   pub syntax : IsErrOf outcome Syntax → GivesTooMuch (remaining (device_of input)) (remaining (device_of input')) ⊎ GivesNoJson (remaining (device_of input)) (remaining (device_of input'))
   pub shape : IsErrOf outcome Shape → GivesNoDump (remaining (device_of input)) (remaining (device_of input'))
 
 -- the status and the line tell this outcome
-pub record TellsAudit (errors errors' : Bytes) (outcome : Result Bool ScriptError) (status : ℕ) : Type 0 where
+pub record TellsAudit {E : Type 0} (contents : E → Bytes) (errors errors' : Watched E) (outcome : Result Bool ScriptError) (status : ℕ) : Type 0 where
   pub says : status ≡ audit_status_of outcome
-  pub line : AppendsPrefix errors errors' (line_of outcome)
+  pub line : IsTold contents errors errors' (line_of outcome)
 
 -- ---- words that are refused, or ask for help
 
@@ -66,33 +66,35 @@ is_help DisplayHelp = true
 is_help DisplayVersion = true
 is_help _ = false
 
--- memory was refused
-pub record LacksMemory (output output' errors errors' : Bytes) (status : ℕ) : Type 0 where
-  pub says : status ≡ 4
-  pub line : AppendsPrefix errors errors' (codes "rxbook: out of memory\n")
-  pub silent : Keeps output output'
+module _ {O E : Type 0} (output_of : O → Bytes) (errors_of : E → Bytes) (output output' : Watched O) (errors errors' : Watched E) (status : ℕ) where
+  -- memory was refused
+  pub record LacksMemory : Type 0 where
+    pub says : status ≡ 4
+    pub line : IsTold errors_of errors errors' (codes "rxbook: out of memory\n")
+    pub silent : output' ≡ output
 
--- the words are no order, and a text says so
-pub record TellsUsage (output output' errors errors' : Bytes) (status : ℕ) : Type 0 where
-  pub says : status ≡ 2
-  pub line : (text : List ℕ) × AppendsPrefix errors errors' text
-  pub silent : Keeps output output'
+  -- the words are no order, and a text says so
+  pub record TellsUsage : Type 0 where
+    pub says : status ≡ 2
+    pub line : (text : List ℕ) × IsTold errors_of errors errors' text
+    pub silent : output' ≡ output
 
--- the words ask for help, and a text is written
-pub record ShowsHelp (output output' errors errors' : Bytes) (status : ℕ) : Type 0 where
-  pub says : status ≡ 0
-  pub shown : (text : List ℕ) × Appends output output' text
-  pub silent : Keeps errors errors'
+  -- the words ask for help, and a text is written
+  pub record ShowsHelp : Type 0 where
+    pub says : status ≡ 0
+    pub shown : (text : List ℕ) × Appends (output_of (device_of output)) (output_of (device_of output')) text
+    pub silent : errors' ≡ errors
 
--- the words ask for help, and the output refused its text
-pub record FailsHelp (output output' errors errors' : Bytes) (status : ℕ) : Type 0 where
-  pub says : status ≡ 1
-  pub shown : (text : List ℕ) × AppendsPrefix output output' text
-  pub line : AppendsPrefix errors errors' (codes "rxbook: write fault\n")
+  -- the words ask for help, and the output refused its text
+  pub record FailsHelp : Type 0 where
+    pub says : status ≡ 1
+    pub shown : (text : List ℕ) × AppendsPrefix (output_of (device_of output)) (output_of (device_of output')) text
+    pub failed : HasWriteFault output'
+    pub line : IsTold errors_of errors errors' (codes "rxbook: write fault\n")
 
--- how words that are refused by an error of this kind are answered
-abbrev pub RefusedBy : ErrorKind → Bytes → Bytes → Bytes → Bytes → ℕ → Type 0
-RefusedBy k output output' errors errors' status =
-    LacksMemory output output' errors errors' status
-    ⊎ ((is_help k ≡ true) × (ShowsHelp output output' errors errors' status ⊎ FailsHelp output output' errors errors' status))
-    ⊎ ((is_help k ≡ false) × (k ≢ OutOfMemory) × TellsUsage output output' errors errors' status)
+  -- how words that are refused by an error of this kind are answered
+  abbrev pub RefusedBy : ErrorKind → Type 0
+  RefusedBy k =
+      LacksMemory
+      ⊎ ((is_help k ≡ true) × (ShowsHelp ⊎ FailsHelp))
+      ⊎ ((is_help k ≡ false) × (k ≢ OutOfMemory) × TellsUsage)

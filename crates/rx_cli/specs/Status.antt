@@ -1,7 +1,7 @@
 -- The exit status of a run or an audit, and the line on standard error that goes with it.
 use Rattle.std.specs.Prelude.{ℕ, Bool, true, false, List, [], codes, Result, Ok, Err}
-use Rattle.rx_script.specs.declared.ScriptError.{ScriptError}
-use Rattle.rx_script.specs.declared.ScriptError.TheVariants.{Read, Write, Syntax, Shape, Memory}
+use Rattle.rx_device.specs.declared.fault.ScriptError.{ScriptError}
+use Rattle.rx_device.specs.declared.fault.ScriptError.TheVariants.{Read, Write, Syntax, Shape, Memory}
 
 abbrev pub fault_status : ScriptError → ℕ
 fault_status Read = 1

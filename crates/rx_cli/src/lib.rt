@@ -7,7 +7,8 @@
 //!
 //! - An [`Order`] is what the words of a command line ask for; [`order`] reads it by `clap`.
 //! - The stock is the list of resources that a scenario may hold, [`STOCK`] of them, of the kinds
-//!   [`Plain`], [`Tally`] and [`Faulty`], by [`ResourceKind::by_tag`]. [`fill`] makes it.
+//!   [`Plain`], [`Tally`] and [`Faulty`], by [`ResourceKind::by_tag`]. [`stock`] makes it, of
+//!   [`Stocked`] resources.
 //! - A [`Watched`] input or output notes whether the stream behind it failed, so that the contract of
 //!   [`serve`] can say when a stream is at fault.
 //! - A dump is a history in JSON, and a verdict what the audit says of it, both of `rx_script`.
@@ -24,11 +25,12 @@
 //!
 //! # Promised, and not
 //!
-//! - The order is the one that `clap` matches in the words, a run where they name no subcommand; it is
+//! - The order is the one that `clap` matches in the words, a report where they name no subcommand; it is
 //!   refused only where `clap` refuses the words or memory is. What `clap` matches in the words `rxbook`,
-//!   `rxbook run` and `rxbook audit` is proved too ([`words_have_their_orders`]).
-//! - Where the words order a run that is done, the output got the report of a course of the scenario that
-//!   the input is, with this stock, and nothing else. With a write fault it got a front of one, and with
+//!   `rxbook run`, `rxbook run --dump` and `rxbook audit` is proved too ([`words_have_their_orders`]).
+//! - Where the words order a run that is done, no call of a stream failed, the output got the report of a
+//!   course of the scenario that the input is, with this stock, or the dump of its history, and nothing
+//!   else. With a write fault it got a front of one, and with
 //!   any other fault nothing; each fault but want of memory comes only for its cause.
 //! - Where the words order an audit that ends without a fault, the input was a dump, the output got the
 //!   text of the verdict on its history and nothing else, and the status is 0 where that is `lawful`, and
@@ -37,7 +39,8 @@
 //!   read, and only a request for help writes to the output.
 //! - No contract says that memory was really refused where the status is 4.
 //! - The words of help and of usage errors are `clap`'s, and are tested alone.
-//! - A line that the error stream refuses is lost, and the status stays.
+//! - The line on the error stream is there in full where that stream takes bytes; what it refuses is lost,
+//!   and the status stays.
 #![tactic(auto)]
 
 mod boxes;
@@ -51,7 +54,7 @@ mod usage;
 mod word_laws;
 mod words;
 
-pub use boxes::{Faulty, Plain, ResourceKind, STOCK, Tally, fill};
+pub use boxes::{Faulty, Plain, ResourceKind, STOCK, Stocked, Tally, stock};
 pub use program::serve;
 pub use request::Order;
 pub use rx_script::{Closed, Form, ScriptError, Watched, check, close, run};

@@ -2,11 +2,11 @@
 ghost use Rattle.std.specs.Prelude.{◌≡◌, ◌≢◌, ◌⊎◌, [], Bool, map, Result};
 ghost use Rattle.clap.specs.Words.{IsAmong, fault_of};
 ghost use Rattle.clap.specs.declared.error.kind.ErrorKind.{ErrorKind};
-ghost use Rattle.rx_script.specs.declared.ScriptError.{ScriptError};
+ghost use Rattle.rx_device.specs.declared.fault.ScriptError.{ScriptError};
 ghost use Rattle.rx_script.specs.declared.Form.{Form};
 ghost use Rattle.rx_cli.specs.declared.request.Order.{Order};
 ghost use Rattle.rx_cli.specs.Words.{rxbook, Orders};
-ghost use Rattle.rx_script.specs.Device.{IsFresh, KeepsDevice, device_of};
+ghost use Rattle.rx_device.specs.Device.{IsFresh, KeepsDevice};
 ghost use Rattle.rx_script.specs.Stage.{ware_of};
 ghost use Rattle.rx_cli.specs.Served.{Ran, Tells, Audited, TellsAudit, RefusedBy};
 
@@ -24,8 +24,8 @@ use std::io::{Read, Write};
 /// Does what the words order, over these streams and with this stock, and answers the exit status. The
 /// first word is the program's name.
 ///
-/// A run writes to `output` the report of the scenario that `input` has left, or a front of one where
-/// `output` fails, or nothing. An audit writes the verdict on the history of which `input` has a dump
+/// A run writes to `output` the report of the scenario that `input` has left, or its dump, or a front of
+/// it where `output` fails, or nothing. An audit writes the verdict on the history of which `input` has a dump
 /// left, or a front of it, or nothing. Neither stream was used through its watch before.
 ///
 /// A run's status is 0 where it is done, 1 where a stream failed, 3 where the input is no scenario, 4
@@ -39,30 +39,30 @@ pub fn serve<S: AsStr, R: Resource, I: Read, O: Write, E: Write>(
     stock: Vec<R>,
     input: &mut Watched<'_, I>,
     output: &mut Watched<'_, O>,
-    errors: &mut E,
+    errors: &mut Watched<'_, E>,
 ) -> u8
     requires input { IsFresh input.old }
     requires output { IsFresh output.old }
 
-    ensures ran { Orders (map S.text words.now) (Order.Run Form.Report)
+    ensures ran { (form : Form) → Orders (map S.text words.now) (Order.Run form)
         → (outcome : Result (Unit {0}) ScriptError)
-        × Ran I.remaining O.contents (map (λ r. ware_of (R.tag_of r) (R.life_of r) (R.uses_of r)) stock.items)
+        × Ran I.remaining O.contents (map (λ r. ware_of (R.tag_of r) (R.life_of r) (R.uses_of r)) stock.items) form
         input.old input.new output.old output.new outcome
-        × Tells (E.contents errors.old) (E.contents errors.new) outcome result }
+        × Tells E.contents errors.old errors.new outcome result }
     ensures audited { Orders (map S.text words.now) Order.Audit
         → (outcome : Result Bool ScriptError)
         × Audited I.remaining O.contents input.old input.new output.old output.new outcome
-        × TellsAudit (E.contents errors.old) (E.contents errors.new) outcome result }
+        × TellsAudit E.contents errors.old errors.new outcome result }
 
     ensures refused { fault_of rxbook (map S.text words.now) ≢ []
         → (k : ErrorKind)
         × ((k ≡ ErrorKind.OutOfMemory) ⊎ IsAmong k (fault_of rxbook (map S.text words.now)))
-        × RefusedBy k (O.contents (device_of output.old)) (O.contents (device_of output.new)) (E.contents errors.old)
-        (E.contents errors.new) result }
+        × RefusedBy O.contents E.contents output.old output.new errors.old errors.new result k }
     ensures unread { fault_of rxbook (map S.text words.now) ≢ [] → input.new ≡ input.old }
 
     ensures same_input { KeepsDevice input.old input.new }
     ensures same_output { KeepsDevice output.old output.new }
+    ensures same_errors { KeepsDevice errors.old errors.new }
 {
     match order(alloc, words) {
         Ok(Order::Run(form)) => ended(errors, run(alloc, input, output, stock, form)),

@@ -1,10 +1,11 @@
 //! The exit statuses, and the lines on standard error that go with them.
 ghost use Rattle.std.specs.Prelude.{◌≡◌, codes};
 ghost use Rattle.rx_cli.specs.Status.{fault_line, fault_status, status_of, audit_status_of, line_of};
-ghost use Rattle.rx_script.specs.Device.{AppendsPrefix};
+ghost use Rattle.rx_device.specs.Device.{KeepsDevice};
+ghost use Rattle.rx_cli.specs.Told.{IsTold};
 
 use crate::telling::tell;
-use rx_script::ScriptError;
+use rx_script::{ScriptError, Watched};
 use std::io::Write;
 
 // The line of a fault.
@@ -32,9 +33,10 @@ fn fault_status(error: &ScriptError) -> u8
 
 /// The exit status of a run that ended so; where it failed, its line is written to `errors`. A write
 /// that fails there changes nothing.
-pub fn ended<E: Write>(errors: &mut E, outcome: Result<(), ScriptError>) -> u8
+pub fn ended<E: Write>(errors: &mut Watched<'_, E>, outcome: Result<(), ScriptError>) -> u8
     ensures status { result ≡ status_of outcome }
-    ensures line { AppendsPrefix (E.contents errors.old) (E.contents errors.new) (line_of outcome) }
+    ensures line { IsTold E.contents errors.old errors.new (line_of outcome) }
+    ensures same_errors { KeepsDevice errors.old errors.new }
 {
     match outcome {
         Ok(()) => 0,
@@ -47,9 +49,10 @@ pub fn ended<E: Write>(errors: &mut E, outcome: Result<(), ScriptError>) -> u8
 
 /// The exit status of an audit that ended so: 0 where the verdict is lawful, 5 where it is another.
 /// Where the audit failed, the status and the line are those of its fault.
-pub fn judged<E: Write>(errors: &mut E, outcome: Result<bool, ScriptError>) -> u8
+pub fn judged<E: Write>(errors: &mut Watched<'_, E>, outcome: Result<bool, ScriptError>) -> u8
     ensures status { result ≡ audit_status_of outcome }
-    ensures line { AppendsPrefix (E.contents errors.old) (E.contents errors.new) (line_of outcome) }
+    ensures line { IsTold E.contents errors.old errors.new (line_of outcome) }
+    ensures same_errors { KeepsDevice errors.old errors.new }
 {
     match outcome {
         Ok(true) => 0,
@@ -59,10 +62,10 @@ pub fn judged<E: Write>(errors: &mut E, outcome: Result<bool, ScriptError>) -> u
 }
 
 /// The exit status of a program that memory was refused, 4, after its line is written to `errors`.
-pub fn out_of_memory<E: Write>(errors: &mut E) -> u8
+pub fn out_of_memory<E: Write>(errors: &mut Watched<'_, E>) -> u8
     ensures status { result ≡ 4 }
-    ensures line { AppendsPrefix (E.contents errors.old) (E.contents errors.new)
-        (codes "rxbook: out of memory\n") }
+    ensures line { IsTold E.contents errors.old errors.new (codes "rxbook: out of memory\n") }
+    ensures same_errors { KeepsDevice errors.old errors.new }
 {
     ended(errors, Err(ScriptError::Memory))
 }

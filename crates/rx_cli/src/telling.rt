@@ -1,14 +1,15 @@
 //! Writing to the error stream.
-ghost use Rattle.rx_script.specs.Device.{AppendsPrefix};
+ghost use Rattle.rx_device.specs.Device.{KeepsDevice};
+ghost use Rattle.rx_cli.specs.Told.{IsTold};
 
 use rx_script::{Watched, write_text};
 use std::io::Write;
 
-/// Writes the text, or a front of it; what the stream refuses is lost.
-#[tactic(auto, using(crate::proofs::Fronts::front_in_any_case))]
-pub fn tell<E: Write>(errors: &mut E, text: &[u8])
-    ensures { AppendsPrefix (E.contents errors.old) (E.contents errors.new) text.now }
+/// Writes the text, or a front of it where the stream fails or takes no byte; the rest is lost.
+#[tactic(auto, using(crate::proofs::Fronts::told_in_any_case))]
+pub fn tell<E: Write>(errors: &mut Watched<'_, E>, text: &[u8])
+    ensures told { IsTold E.contents errors.old errors.new text.now }
+    ensures same_errors { KeepsDevice errors.old errors.new }
 {
-    let mut watched = Watched::new(errors);
-    let _ = write_text(&mut watched, text);
+    let _ = write_text(errors, text);
 }

@@ -1,8 +1,5 @@
 //! The statuses and lines over memory, help, audits, the stock, streams that fail, and refused memory.
 
-ghost use Rattle.std.specs.Prelude.{◌≡◌, IfOk};
-ghost use Rattle.rx_resource.specs.declared.Life.{Life};
-
 use super::*;
 use clap::error::ErrorKind;
 use rx_resource::{Life, Resource};
@@ -37,14 +34,9 @@ struct Left {
     errors: Vec<u8>,
 }
 
-// A call over memory, with a stock of plain resources.
+// A call over memory, with the program's stock.
 fn call(alloc: Global, words: &[&str], input: &[u8]) -> Result<Left, AllocError> {
-    let make = |tag: u64| -> Result<Plain, AllocError>
-        ensures tag { IfOk result (λ p. p.tag ≡ tag) }
-        ensures live { IfOk result (λ p. p.life ≡ Life.Live) }
-        ensures unused { IfOk result (λ p. p.uses ≡ 0) }
-    { Ok(Plain::new(tag)) };
-    let stock = fill(alloc, 8, &make)?;
+    let stock = stock(alloc)?;
     let mut reader = input;
     let mut output = Vec::new(alloc);
     let mut errors = Vec::new(alloc);
@@ -54,7 +46,7 @@ fn call(alloc: Global, words: &[&str], input: &[u8]) -> Result<Left, AllocError>
         stock,
         &mut Watched::new(&mut reader),
         &mut Watched::new(&mut output),
-        &mut errors,
+        &mut Watched::new(&mut errors),
     );
     Ok(Left {
         status,
@@ -115,9 +107,10 @@ fn each_outcome_has_its_status_and_line(rt: HostRuntime) -> Result<(), Fail> {
 
 #[test]
 fn words_order_what_they_name(rt: HostRuntime) -> Result<(), Fail> {
-    let cases: [(&[&str], Order); 3] = [
+    let cases: [(&[&str], Order); 4] = [
         (&["rxbook"], Order::Run(Form::Report)),
         (&["rxbook", "run"], Order::Run(Form::Report)),
+        (&["rxbook", "run", "--dump"], Order::Run(Form::Dump)),
         (&["rxbook", "audit"], Order::Audit),
     ];
     for (words, wanted) in cases {
@@ -189,7 +182,7 @@ fn help_goes_to_the_output(rt: HostRuntime) -> Result<(), Fail> {
     let whole =
         "Runs scenarios of subscriptions and reports what they did\n\nUsage: rxbook [COMMAND]\n\nCommands:\n  run    Run the scenario on standard input (the default)\n  audit  Judge the dump on standard input\n  help   Print this message or the help of the given subcommand(s)\n\nOptions:\n  -h, --help  Print help\n";
     let run =
-        "Run the scenario on standard input (the default)\n\nUsage: rxbook run\n\nOptions:\n  -h, --help  Print help\n";
+        "Run the scenario on standard input (the default)\n\nUsage: rxbook run [OPTIONS]\n\nOptions:\n      --dump  Write the dump of what happened, in place of the report\n  -h, --help  Print help\n";
     let audit =
         "Judge the dump on standard input\n\nUsage: rxbook audit\n\nOptions:\n  -h, --help  Print help\n";
     let cases: [(&[&str], &str); 5] = [
@@ -274,7 +267,7 @@ fn a_reader_that_fails_is_a_read_fault(rt: HostRuntime) -> Result<(), Fail> {
             stock,
             &mut Watched::new(&mut Broken { reads: 0 }),
             &mut Watched::new(&mut output),
-            &mut errors,
+            &mut Watched::new(&mut errors),
         );
         assert_eq!(rt; status, 1);
         assert!(rt; output.is_empty());
@@ -304,7 +297,7 @@ fn an_output_that_fails_is_a_write_fault(rt: HostRuntime) -> Result<(), Fail> {
             stock,
             &mut Watched::new(&mut input),
             &mut Watched::new(&mut output),
-            &mut errors,
+            &mut Watched::new(&mut errors),
         );
         assert_eq!(rt; status, 1);
         assert_eq!(rt; output.taken.as_slice(), taken);
@@ -326,7 +319,7 @@ fn errors_that_are_not_taken_leave_the_status(rt: HostRuntime) -> Result<(), Fai
             stock,
             &mut Watched::new(&mut input),
             &mut Watched::new(&mut output),
-            &mut make_full(rt.alloc(), 3, false),
+            &mut Watched::new(&mut make_full(rt.alloc(), 3, false)),
         );
         assert_eq!(rt; status, wanted);
         assert!(rt; output.is_empty());
@@ -336,19 +329,7 @@ fn errors_that_are_not_taken_leave_the_status(rt: HostRuntime) -> Result<(), Fai
 
 #[test]
 fn the_stock_has_its_kinds_in_order(rt: HostRuntime) -> Result<(), Fail> {
-    let alloc = rt.alloc();
-    let make = |tag: u64| -> Result<Box<dyn Resource>, AllocError>
-        ensures tag { IfOk result (λ b. tag_of b ≡ tag) }
-        ensures live { IfOk result (λ b. life_of b ≡ Life.Live) }
-        ensures unused { IfOk result (λ b. uses_of b ≡ 0) }
-    {
-        match ResourceKind::by_tag(tag) {
-            ResourceKind::Plain => Ok(Box::new(alloc, Plain::new(tag))?),
-            ResourceKind::Tally => Ok(Box::new(alloc, Tally::new(tag))?),
-            ResourceKind::Faulty => Ok(Box::new(alloc, Faulty::new(tag))?),
-        }
-    };
-    let stock = fill(alloc, STOCK, &make)?;
+    let stock = stock(rt.alloc())?;
     assert_eq!(rt; stock.len(), 256);
     let mut tag = 0u64;
     for held in stock {
@@ -361,6 +342,55 @@ fn the_stock_has_its_kinds_in_order(rt: HostRuntime) -> Result<(), Fail> {
         assert_eq!(rt; held.life(), Life::Released);
         tag = tag.wrapping_add(1);
     }
+    Ok(())
+}
+
+// Holds the first six of the stock at one node, of which the fourth is faulty and the sixth a tally, and
+// uses that.
+const SIX_HELD: &str = "{\"steps\":[
+    {\"do\":\"using\",\"name\":\"a\",\"place\":\"root\",\"res\":\"r0\"},
+    {\"do\":\"hold\",\"node\":\"a\",\"res\":\"r1\"},
+    {\"do\":\"hold\",\"node\":\"a\",\"res\":\"r2\"},
+    {\"do\":\"hold\",\"node\":\"a\",\"res\":\"r3\"},
+    {\"do\":\"hold\",\"node\":\"a\",\"res\":\"r4\"},
+    {\"do\":\"hold\",\"node\":\"a\",\"res\":\"r5\"},
+    {\"do\":\"apply\",\"res\":\"r5\",\"word\":9}]}";
+
+const SIX_HELD_REPORT: &str = "node a open:
+res r0 tag=0 uses=0 held
+res r1 tag=1 uses=0 held
+res r2 tag=2 uses=0 held
+res r3 tag=3 uses=0 held
+res r4 tag=4 uses=0 held
+res r5 tag=5 uses=1 held
+totals nodes=1 open=1 accepted=6 held=6 waiting=0 taken=0
+closed 6 faults 1
+";
+
+#[test]
+fn a_run_takes_a_faulty_and_a_tally(rt: HostRuntime) -> Result<(), Fail> {
+    let left = call(rt.alloc(), &["rxbook"], SIX_HELD.as_bytes())?;
+    assert_eq!(rt; left.status, 0);
+    assert_eq!(rt; left.output.as_slice(), SIX_HELD_REPORT.as_bytes());
+    Ok(())
+}
+
+const FIRST_DUMP: &str =
+    "[[\"open\",\"root\",\"pass\"],[\"accept\",0,0],[\"open\",\"source\",0,\"leaf\"],[\"item\",2,5],[\"end\",2,\"completed\"],[\"end\",0,\"completed\"],[\"take\",1]]\n";
+
+#[test]
+fn a_dump_is_what_happened_and_is_lawful(rt: HostRuntime) -> Result<(), Fail> {
+    let dumped = call(rt.alloc(), &["rxbook", "run", "--dump"], FIRST_RUN.as_bytes())?;
+    assert_eq!(rt; dumped.status, 0);
+    assert_eq!(rt; dumped.output.as_slice(), FIRST_DUMP.as_bytes());
+    let judged = call(rt.alloc(), &["rxbook", "audit"], dumped.output.as_slice())?;
+    assert_eq!(rt; judged.status, 0);
+    assert_eq!(rt; judged.output.as_slice(), b"lawful\nlive:\nheld:\nwaiting:\n".as_slice());
+    // What is held when the steps are done is not yet closed in the dump.
+    let held = call(rt.alloc(), &["rxbook", "run", "--dump"], SIX_HELD.as_bytes())?;
+    let judged = call(rt.alloc(), &["rxbook", "audit"], held.output.as_slice())?;
+    assert_eq!(rt; judged.status, 0);
+    assert_eq!(rt; judged.output.as_slice(), b"lawful\nlive: 0\nheld: 1 2 3 4 5 6\nwaiting:\n".as_slice());
     Ok(())
 }
 
@@ -390,7 +420,7 @@ fn each_kind_answers_words_its_own_way(rt: HostRuntime) {
 #[test]
 fn a_word_that_is_no_text_is_a_usage_error(rt: HostRuntime) {
     let mut errors = Vec::new(rt.alloc());
-    assert_eq!(rt; refuse_bytes(&mut errors), 2);
+    assert_eq!(rt; refuse_bytes(&mut Watched::new(&mut errors)), 2);
     assert_eq!(rt;
         errors.as_slice(),
         b"error: invalid UTF-8 was detected in one or more arguments\n\nUsage: rxbook [COMMAND]\n\nFor more information, try '--help'.\n".as_slice()
@@ -433,7 +463,7 @@ fn a_run_without_memory_says_so_and_writes_nothing(rt: HostRuntime) -> Result<()
             stock,
             &mut Watched::new(&mut input),
             &mut Watched::new(&mut output),
-            &mut errors,
+            &mut Watched::new(&mut errors),
         );
         if status == 0 {
             break;
@@ -467,7 +497,7 @@ fn an_audit_without_memory_says_so_and_writes_nothing(rt: HostRuntime) -> Result
             stock,
             &mut Watched::new(&mut input),
             &mut Watched::new(&mut output),
-            &mut errors,
+            &mut Watched::new(&mut errors),
         );
         if status == 0 {
             break;

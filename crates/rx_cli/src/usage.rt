@@ -1,7 +1,8 @@
 //! What is said where the words are no order.
 ghost use Rattle.std.specs.Prelude.{◌≡◌, ◌≢◌, codes};
 ghost use Rattle.clap.specs.Words.{kind_of};
-ghost use Rattle.rx_script.specs.Device.{AppendsPrefix, KeepsDevice, device_of};
+ghost use Rattle.rx_device.specs.Device.{KeepsDevice};
+ghost use Rattle.rx_cli.specs.Told.{IsTold};
 ghost use Rattle.rx_cli.specs.Status.{no_text_line};
 ghost use Rattle.rx_cli.specs.Served.{RefusedBy, ShowsHelp, FailsHelp, TellsUsage, is_help};
 
@@ -30,12 +31,12 @@ pub fn refuse<O: Write, E: Write>(
     alloc: Global,
     error: &clap::Error,
     output: &mut Watched<'_, O>,
-    errors: &mut E,
+    errors: &mut Watched<'_, E>,
 ) -> u8
     requires { kind_of error.now ≢ ErrorKind.OutOfMemory }
-    ensures refused { RefusedBy (kind_of error.now) (O.contents (device_of output.old)) (O.contents (device_of output.new))
-        (E.contents errors.old) (E.contents errors.new) result }
+    ensures refused { RefusedBy O.contents E.contents output.old output.new errors.old errors.new result (kind_of error.now) }
     ensures same_output { KeepsDevice output.old output.new }
+    ensures same_errors { KeepsDevice errors.old errors.new }
 {
     let Ok(text) = error.to_string(alloc) else {
         return out_of_memory(errors);
@@ -52,9 +53,10 @@ pub fn refuse<O: Write, E: Write>(
 
 /// The exit status where a word of the command line is no UTF-8, 2, after the text that `clap` has for
 /// that is written to `errors`.
-pub fn refuse_bytes<E: Write>(errors: &mut E) -> u8
+pub fn refuse_bytes<E: Write>(errors: &mut Watched<'_, E>) -> u8
     ensures status { result ≡ 2 }
-    ensures line { AppendsPrefix (E.contents errors.old) (E.contents errors.new) no_text_line }
+    ensures line { IsTold E.contents errors.old errors.new no_text_line }
+    ensures same_errors { KeepsDevice errors.old errors.new }
 {
     tell(errors, NO_TEXT.as_bytes());
     2

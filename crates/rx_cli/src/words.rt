@@ -1,10 +1,10 @@
 //! The reading of the words, by `clap`.
-ghost use Rattle.std.specs.Prelude.{◌≡◌, map, IfOk};
-ghost use Rattle.clap.specs.Words.{app_of, subcommand_of, subcommand_rows_of, fault_of, FailsBy};
-ghost use Rattle.rx_cli.specs.Words.{rxbook, order_by_name, order_of};
+ghost use Rattle.std.specs.Prelude.{◌≡◌, map, option_map, codes, IfOk};
+ghost use Rattle.clap.specs.Words.{app_of, subcommand_of, subcommand_rows_of, fault_of, found_of, rows_of, first_of, FailsBy};
+ghost use Rattle.rx_cli.specs.Words.{rxbook, form_by, order_of};
 
 use crate::request::Order;
-use clap::{ArgMatches, Command, Error};
+use clap::{Arg, ArgAction, ArgMatches, Command, Error};
 use rx_script::Form;
 use std::alloc::{AllocError, Global};
 use std::convert::AsStr;
@@ -13,7 +13,13 @@ use std::convert::AsStr;
 fn program<'a>(alloc: Global) -> Result<Command<'a>, AllocError>
     ensures { IfOk result (λ c. app_of c ≡ rxbook) }
 {
-    let run = Command::new(alloc, "run").about("Run the scenario on standard input (the default)");
+    let dump = Arg::new(alloc, "dump")
+        .long("dump")
+        .action(ArgAction::SetTrue)
+        .help("Write the dump of what happened, in place of the report");
+    let run = Command::new(alloc, "run")
+        .about("Run the scenario on standard input (the default)")
+        .arg(dump)?;
     let audit = Command::new(alloc, "audit").about("Judge the dump on standard input");
     Command::new(alloc, "rxbook")
         .about("Runs scenarios of subscriptions and reports what they did")
@@ -21,14 +27,21 @@ fn program<'a>(alloc: Global) -> Result<Command<'a>, AllocError>
         .subcommand(audit)
 }
 
-// The order of the subcommand of this name.
-fn order_by_name(name: &str) -> Order
-    ensures { result ≡ order_by_name name.now }
+// The form that the value of the flag says.
+fn form_by(text: Option<&str>) -> Form
+    ensures { result ≡ form_by (option_map (λ s. s.now) text.entry) }
 {
-    match name {
-        "audit" => Order::Audit,
-        _ => Order::Run(Form::Report),
+    match text {
+        Some("true") => Form::Dump,
+        _ => Form::Report,
     }
+}
+
+// The form that a run's options say.
+fn form_in(options: &ArgMatches<'_>) -> Form
+    ensures { result ≡ form_by (first_of (codes "dump") (rows_of (found_of options.now))) }
+{
+    form_by(options.get_str("dump"))
 }
 
 // The order that the matches are.
@@ -37,7 +50,8 @@ fn order_in(matches: &ArgMatches<'_>) -> Order
 {
     match matches.subcommand() {
         None => Order::Run(Form::Report),
-        Some((name, _)) => order_by_name(name),
+        Some(("audit", _)) => Order::Audit,
+        Some((_, options)) => Order::Run(form_in(options)),
     }
 }
 

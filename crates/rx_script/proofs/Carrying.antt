@@ -6,17 +6,16 @@ use Rattle.rx_event.specs.declared.event.Event.{Event}
 use Rattle.rx_event.specs.declared.refusal.Refusal.{Refusal}
 use Rattle.rx_event.specs.declared.refusal.Refusal.TheVariants.{Gone}
 use Rattle.rx_event.specs.Totals.{taken_count}
-use Rattle.rx_event.specs.Calls.{Call}
 use Rattle.rx_event.specs.Refusals.{first_cause}
-use Rattle.rx_book.specs.State.{State, IsKept}
-use Rattle.rx_book.specs.Causes.{by_key}
+use Rattle.rx_book.specs.State.{State, IsPromised}
+use Rattle.rx_book.specs.Requests.{Request, by_key, stands}
 use Rattle.rx_book.specs.Answers.{Accepts}
 use Rattle.rx_script.specs.declared.answer.Answer.{Answer}
 use Rattle.rx_script.specs.declared.answer.Answer.TheVariants.{Accepted, Refused}
 use Rattle.rx_script.specs.declared.answer.Cause.{Cause}
 use Rattle.rx_script.specs.declared.answer.Cause.TheVariants.{Book}
 use Rattle.rx_script.specs.declared.engine.Engine.{Engine}
-use Rattle.rx_script.specs.Scenario.{Step, drain}
+use Rattle.rx_scenario.specs.Scenario.{Command, drain}
 use Rattle.rx_script.specs.Stage.{Stage, own_cause, call_of, after}
 use Rattle.rx_script.specs.Course.{Drains, Executes, refused, refused_by_book, accepted, drained, book_cause}
 use Rattle.rx_script.specs.Shelf.{Shelf}
@@ -24,20 +23,21 @@ use Rattle.rx_script.specs.Engine.{node_binding, res_binding, stage_of, IsNodeKe
 use Rattle.rx_script.proofs.Going.{step_taken, accepted_continues, node_keys_kept, held_keys_kept}
 
 -- to look for the key is to look whether the node is open
-pub first_cause-by_key : (known : Bool) (stands : Refusal → Bool) → (known ≡ false → stands Gone ≡ true) → first_cause (by_key known stands) ≡ first_cause stands
-first_cause-by_key true stands gone = refl
-first_cause-by_key false stands gone = let stands_gone : stands Gone ≡ true = gone refl in rw stands_gone refl
+pub first_cause-by_key : (known : Bool) (stand : Refusal → Bool) → (known ≡ false → stand Gone ≡ true) → first_cause (by_key known stand) ≡ first_cause stand
+first_cause-by_key true stand gone = refl
+first_cause-by_key false stand gone = let stands_gone : stand Gone ≡ true = gone refl in rw stands_gone refl
 
--- the first of the book's causes against a call by keys is that of the numbers
-pub record Agrees (s : State) (stands : Refusal → Bool) (stage : Stage) (call : Call) : Type 0 where
-  pub same : first_cause stands ≡ book_cause s.limit stage call
+-- the step makes the call that is asked for, and the first of the book's causes against it by keys is that by numbers
+pub record Agrees (s : State) (asked : Request) (stage : Stage) (step : Command) : Type 0 where
+  pub called : call_of stage step ≡ Some asked.call
+  pub same : first_cause (stands s asked) ≡ book_cause s.limit stage asked.call
 
 -- the engine with another book and stock
 abbrev pub with : {R : Type 0} → Engine R → State → Shelf → Engine R
 with e book stock = record { book = book; nodes = e.nodes; resources = e.resources; stock = stock; faults = e.faults }
 
 -- nothing was changed
-pub unchanged : {R : Type 0} (e : Engine R) (step : Step) (answer : Answer) (book : State) (stock : Shelf) → IsSound e → book ≡ e.book → stock.wares ≡ e.stock.wares
+pub unchanged : {R : Type 0} (e : Engine R) (step : Command) (answer : Answer) (book : State) (stock : Shelf) → IsSound e → book ≡ e.book → stock.wares ≡ e.stock.wares
     → Executes e.book.limit (stage_of e) step answer (stage_of e) → Carries e step answer (with e book stock)
 unchanged {R} e step answer book stock sound same_book same_stock executes =
     let at_book : Carries e step answer (with e e.book stock) = record {
@@ -48,62 +48,62 @@ unchanged {R} e step answer book stock sound same_book same_stock executes =
     } in
     subst (λ b. Carries e step answer (with e b stock)) (sym same_book) at_book
 
-pub refused_own : {R : Type 0} (e : Engine R) (step : Step) (why : Cause) (book : State) (stock : Shelf) → IsSound e → book ≡ e.book → stock.wares ≡ e.stock.wares
+pub refused_own : {R : Type 0} (e : Engine R) (step : Command) (why : Cause) (book : State) (stock : Shelf) → IsSound e → book ≡ e.book → stock.wares ≡ e.stock.wares
     → own_cause (stage_of e) step ≡ Some why → Carries e step (Refused why) (with e book stock)
 refused_own e step why book stock sound same_book same_stock own = unchanged e step (Refused why) book stock sound same_book same_stock (refused own)
 
-pub refused_there : {R : Type 0} (e : Engine R) (step : Step) (call : Call) (stands : Refusal → Bool) (why : Refusal) (book : State) (stock : Shelf) → IsSound e → book ≡ e.book → stock.wares ≡ e.stock.wares
-    → own_cause (stage_of e) step ≡ None → call_of (stage_of e) step ≡ Some call → Agrees e.book stands (stage_of e) call
-    → first_cause stands ≡ Some why → Carries e step (Refused (Book why)) (with e book stock)
-refused_there e step call stands why book stock sound same_book same_stock own called agrees cause =
-    unchanged e step (Refused (Book why)) book stock sound same_book same_stock (refused_by_book own called (sym agrees.same ∙ cause))
+pub refused_there : {R : Type 0} (e : Engine R) (step : Command) (asked : Request) (why : Refusal) (book : State) (stock : Shelf) → IsSound e → book ≡ e.book → stock.wares ≡ e.stock.wares
+    → own_cause (stage_of e) step ≡ None → Agrees e.book asked (stage_of e) step
+    → first_cause (stands e.book asked) ≡ Some why → Carries e step (Refused (Book why)) (with e book stock)
+refused_there e step asked why book stock sound same_book same_stock own agrees cause =
+    unchanged e step (Refused (Book why)) book stock sound same_book same_stock (refused_by_book own agrees.called (sym agrees.same ∙ cause))
 
 -- an accepted call, after which the names are these
-pub accepted_to : {R : Type 0} (e new : Engine R) (step : Step) (call : Call) (stands : Refusal → Bool) → IsSound e → IsKept new.book
-    → own_cause (stage_of e) step ≡ None → call_of (stage_of e) step ≡ Some call → Agrees e.book stands (stage_of e) call
-    → Accepts e.book stands call new.book
+pub accepted_to : {R : Type 0} (e new : Engine R) (step : Command) (asked : Request) → IsSound e → IsPromised new.book
+    → own_cause (stage_of e) step ≡ None → Agrees e.book asked (stage_of e) step
+    → Accepts e.book asked new.book
     → stage_of new ≡ after (stage_of e) step new.book.history
-    → All (λ n. IsNodeKey new.book n.key) new.nodes.items → All (λ n. IsHeldKey new.book n.key) new.resources.items → new.faults ≡ e.faults
+    → All (λ n. IsNodeKey new.book n.key) new.nodes → All (λ n. IsHeldKey new.book n.key) new.resources → new.faults ≡ e.faults
     → Carries e step Accepted new
-accepted_to e new step call stands sound kept own called agrees accepts staged nodes resources same_faults = record {
-  executes = subst (λ s. Executes e.book.limit (stage_of e) step Accepted s) (sym staged) (accepted own called (sym agrees.same ∙ accepts.no_cause) accepts.step);
+accepted_to e new step asked sound kept own agrees accepts staged nodes resources same_faults = record {
+  executes = subst (λ s. Executes e.book.limit (stage_of e) step Accepted s) (sym staged) (accepted own agrees.called (sym agrees.same ∙ accepts.no_cause) accepts.step);
   sound = record {
     kept = kept;
     nodes = nodes;
     resources = resources;
-    faults = let taken = step_taken e.book.history new.book.history call accepts.step in let faults = sound.faults in omega arith;
+    faults = let taken = step_taken e.book.history new.book.history asked.call accepts.step in let faults = sound.faults in omega arith;
   };
   limit = accepts.limit;
   given = accepts.given;
 }
 
 -- a call that binds no names
-pub accepted_plain : {R : Type 0} (e : Engine R) (step : Step) (call : Call) (stands : Refusal → Bool) (book : State) → IsSound e → IsKept book
-    → own_cause (stage_of e) step ≡ None → call_of (stage_of e) step ≡ Some call → Agrees e.book stands (stage_of e) call
-    → Accepts e.book stands call book
+pub accepted_plain : {R : Type 0} (e : Engine R) (step : Command) (asked : Request) (book : State) → IsSound e → IsPromised book
+    → own_cause (stage_of e) step ≡ None → Agrees e.book asked (stage_of e) step
+    → Accepts e.book asked book
     → ((k : List Event) → after (stage_of e) step k ≡ record (stage_of e) { history = k })
     → Carries e step Accepted (with e book e.stock)
-accepted_plain e step call stands book sound kept own called agrees accepts plain =
-    let goes = accepted_continues e.book book _ call accepts in
-    accepted_to e (with e book e.stock) step call stands sound kept own called agrees accepts (sym (plain book.history))
-    (node_keys_kept e.book book e.nodes.items sound.kept kept goes sound.nodes) (held_keys_kept e.book book e.resources.items sound.kept kept goes sound.resources) refl
+accepted_plain e step asked book sound kept own agrees accepts plain =
+    let goes = accepted_continues e.book book asked accepts in
+    accepted_to e (with e book e.stock) step asked sound kept own agrees accepts (sym (plain book.history))
+    (node_keys_kept e.book book e.nodes sound.kept kept goes sound.nodes) (held_keys_kept e.book book e.resources sound.kept kept goes sound.resources) refl
 
 -- taking and releasing all that waits
-pub drained_to : {R : Type 0} (e new : Engine R) (released : ℕ) → IsSound e → IsKept new.book → Drains e.book.history new.book.history → Continues e.book new.book
+pub drained_to : {R : Type 0} (e new : Engine R) (released : ℕ) → IsSound e → IsPromised new.book → Drains e.book.history new.book.history → Continues e.book new.book
     → new.nodes ≡ e.nodes → new.resources ≡ e.resources → new.stock ≡ e.stock → taken_count new.book.history ≡ taken_count e.book.history + released → new.faults ≤ e.faults + released
     → Carries e drain Accepted new
 drained_to e new released sound kept drains goes same_nodes same_resources same_stock rose faults =
     let staged : stage_of new ≡ after (stage_of e) drain new.book.history =
-    ap (λ n. record { history = new.book.history; nodes = map node_binding n.items; resources = map res_binding new.resources.items; stock = new.stock.wares }) same_nodes
-    ∙ ap (λ r. record { history = new.book.history; nodes = map node_binding e.nodes.items; resources = map res_binding r.items; stock = new.stock.wares }) same_resources
-    ∙ ap (λ s. record { history = new.book.history; nodes = map node_binding e.nodes.items; resources = map res_binding e.resources.items; stock = s.wares }) same_stock in
+    ap (λ n. record { history = new.book.history; nodes = map node_binding n; resources = map res_binding new.resources; stock = new.stock.wares }) same_nodes
+    ∙ ap (λ r. record { history = new.book.history; nodes = map node_binding e.nodes; resources = map res_binding r; stock = new.stock.wares }) same_resources
+    ∙ ap (λ s. record { history = new.book.history; nodes = map node_binding e.nodes; resources = map res_binding e.resources; stock = s.wares }) same_stock in
     let before = sound.faults in
     record {
       executes = subst (λ s. Executes e.book.limit (stage_of e) drain Accepted s) (sym staged) (drained drains);
       sound = record {
         kept = kept;
-        nodes = subst (λ n. All (λ x. IsNodeKey new.book x.key) n.items) (sym same_nodes) (node_keys_kept e.book new.book e.nodes.items sound.kept kept goes sound.nodes);
-        resources = subst (λ r. All (λ x. IsHeldKey new.book x.key) r.items) (sym same_resources) (held_keys_kept e.book new.book e.resources.items sound.kept kept goes sound.resources);
+        nodes = subst (λ n. All (λ x. IsNodeKey new.book x.key) n) (sym same_nodes) (node_keys_kept e.book new.book e.nodes sound.kept kept goes sound.nodes);
+        resources = subst (λ r. All (λ x. IsHeldKey new.book x.key) r) (sym same_resources) (held_keys_kept e.book new.book e.resources sound.kept kept goes sound.resources);
         faults = omega arith;
       };
       limit = goes.limit;

@@ -28,9 +28,9 @@ use Rattle.rx_event.proofs.Laws.Lawful.{lawful_at}
 use Rattle.rx_event.proofs.Laws.Steps.{may_be_forced, forced_kind, may_open}
 use Rattle.rx_event.proofs.Laws.Totals.{accepted_count-parts}
 use Rattle.rx_book.specs.declared.key.Key.{Key}
-use Rattle.rx_book.specs.State.{State, AreJust, IsKept, has_key}
-use Rattle.rx_book.specs.Answers.{against, Accepts}
-use Rattle.rx_book.specs.Answers.{is_open_root}
+use Rattle.rx_book.specs.State.{State, AreJust, IsPromised, has_key}
+use Rattle.rx_book.specs.Requests.{Request, stands, dispose_request}
+use Rattle.rx_book.specs.Answers.{is_open_root, Accepts}
 use Rattle.rx_script.specs.Course.{Takes, none_taken, next_taken}
 use Rattle.rx_script.proofs.Going.{count_by-append, step_longer}
 
@@ -257,15 +257,15 @@ none_listed number test (x ∷ xs) just never = absurd (both_ways _ (never (numb
 
 -- a book that was closed --------------------------------------------------------------------------
 
-pub closed_book : (mid new : State) → ((n : ℕ) → is_open_root mid.history n ≡ false) → Takes mid.history new.history → IsKept new → (new.keys ≡ []) × (new.held ≡ [])
+pub closed_book : (mid new : State) → ((n : ℕ) → is_open_root mid.history n ≡ false) → Takes mid.history new.history → IsPromised new → (new.keys ≡ []) × (new.held ≡ [])
 closed_book mid new rootless takes kept =
     let still : (n : ℕ) → is_open_root new.history n ≡ false = λ n. false_from_ne_true _ (λ found. both_ways _ (rootless n) (takes_root_older takes n found)) in
     let closed = none_open new.history kept.lawful kept.unpublished still in
     (none_listed (λ k. k.number) (is_open new.history) new.keys kept.keys closed, none_listed (λ b. b.number) (is_held new.history) new.held kept.held (none_held new.history closed))
 
 -- what was accepted and not yet taken is taken at last
-pub closed_released : (old mid new : State) (released : ℕ) → IsKept old → accepted_count mid.history ≡ accepted_count old.history → taken_count mid.history ≡ taken_count old.history → Takes mid.history new.history
-    → IsKept new → new.held ≡ [] → new.waiting ≡ [] → taken_count new.history ≡ taken_count mid.history + released → released ≡ held_count old.history + waiting_count old.history
+pub closed_released : (old mid new : State) (released : ℕ) → IsPromised old → accepted_count mid.history ≡ accepted_count old.history → taken_count mid.history ≡ taken_count old.history → Takes mid.history new.history
+    → IsPromised new → new.held ≡ [] → new.waiting ≡ [] → taken_count new.history ≡ taken_count mid.history + released → released ≡ held_count old.history + waiting_count old.history
 closed_released old mid new released before accepted taken takes after none_held none_waits rose =
     let parts = accepted_count-parts old.history before.lawful in
     let all_accepted = takes_accepted takes in
@@ -301,19 +301,19 @@ root_missing h missing n =
     (cases_lt n (length h))
 
 -- no cause stands against the disposal of an open root
-pub disposable : (s : State) (k : Key) (why : Refusal) → has_key s.keys k ≡ true → is_open_root s.history k.number ≡ true → first_cause (against s (has_key s.keys k) true (Disposing k.number)) ≡ Some why → ⊥
+pub disposable : (s : State) (k : Key) (why : Refusal) → has_key s.keys k ≡ true → is_open_root s.history k.number ≡ true → first_cause (stands s (dispose_request s k)) ≡ Some why → ⊥
 disposable s k why known root cause =
     let parts = and_parts (is_open s.history k.number) (at is_root s.history k.number) root in
     let open_now : is_open s.history k.number ≡ true = parts.0 in
     let at_root : at is_root s.history k.number ≡ true = parts.1 in
-    let nothing : first_cause (against s (has_key s.keys k) true (Disposing k.number)) ≡ None = rw (known, open_now, at_root) refl in
+    let nothing : first_cause (stands s (dispose_request s k)) ≡ None = rw (known, open_now, at_root) refl in
     let clash : Some why ≡ None = sym cause ∙ nothing in
     absurd (cc)
 
 -- each step leaves less room
-pub less_room : (old new : State) (stands : Refusal → Bool) (call : Call) → Accepts old stands call new → IsKept new → 0 < length (outside_of old.history call) → new.limit - length new.history < old.limit - length old.history
-less_room old new stands call accepts kept some =
-    let longer = step_longer old.history new.history call accepts.step in
+pub less_room : (old new : State) (asked : Request) → Accepts old asked new → IsPromised new → 0 < length (outside_of old.history asked.call) → new.limit - length new.history < old.limit - length old.history
+less_room old new asked accepts kept some =
+    let longer = step_longer old.history new.history asked.call accepts.step in
     let room = kept.room in
     let limit = accepts.limit in
     omega arith
@@ -323,7 +323,7 @@ filter_none p [] never = refl
 filter_none p (x ∷ xs) never = ap (λ b. cond b (x ∷ filter p xs) (filter p xs)) (never x) ∙ filter_none p xs never
 
 -- nothing waits where the list of what waits is empty
-pub none_waits : (s : State) → IsKept s → s.waiting ≡ [] → waiting_resources s.history ≡ []
+pub none_waits : (s : State) → IsPromised s → s.waiting ≡ [] → waiting_resources s.history ≡ []
 none_waits s kept empty =
     filter_none (is_waiting s.history) (places s.history)
     (λ n. false_from_ne_true _ (λ waits. let listed : Contains (map (λ b. b.number) s.waiting) n = kept.waiting.every n waits in

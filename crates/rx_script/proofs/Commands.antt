@@ -13,26 +13,27 @@ use Rattle.rx_event.specs.Calls.{Call, Applying, Removing, Emitting, Ending, Abo
 use Rattle.rx_event.specs.Refusals.{first_cause, IsRefusal}
 use Rattle.rx_book.specs.declared.key.Key.{Key}
 use Rattle.rx_book.specs.declared.key.ResKey.{ResKey}
-use Rattle.rx_book.specs.State.{State, IsKept, has_key, has_res_key}
+use Rattle.rx_book.specs.State.{State, IsPromised, has_key, has_res_key}
 use Rattle.rx_register.specs.Causes.{causes}
-use Rattle.rx_book.specs.Causes.{by_key, by_res_key}
-use Rattle.rx_book.specs.Answers.{against, against_use, Accepts}
+use Rattle.rx_book.specs.Requests.{Request, by_key, by_res_key, by_key_of, stands, node_request, res_request}
+use Rattle.rx_book.specs.Answers.{Accepts}
 use Rattle.rx_script.specs.declared.answer.Answer.{Answer}
 use Rattle.rx_script.specs.declared.answer.Answer.TheVariants.{Accepted, Refused}
 use Rattle.rx_script.specs.declared.answer.Cause.TheVariants.{NoName, Book}
 use Rattle.rx_script.specs.declared.engine.Engine.{Engine}
-use Rattle.rx_script.specs.Scenario.{Name, Step, apply, remove, next, end, abort, dispose}
+use Rattle.rx_scenario.specs.Scenario.{Name, Command, apply, remove, next, end, abort, dispose}
 use Rattle.rx_script.specs.Stage.{Stage, bound, is_unbound, own_cause, call_of, front_is_fresh, after}
-use Rattle.rx_script.specs.Engine.{key_of, stage_of, IsNodeKey, IsHeldKey, IsSound, Carries}
+use Rattle.rx_script.specs.Names.{key_of}
+use Rattle.rx_script.specs.Engine.{stage_of, IsNodeKey, IsHeldKey, IsSound, Carries}
 use Rattle.rx_script.proofs.Keys.{has_key-is_open, has_res_key-is_held}
-use Rattle.rx_script.proofs.Names.{key_of-holds, node_bound, node_unbound, res_bound, res_unbound}
+use Rattle.rx_script.proofs.Naming.{key_of-holds, node_bound, node_unbound, res_bound, res_unbound}
 use Rattle.rx_script.proofs.Carrying.{Agrees, first_cause-by_key, with, refused_own, refused_there, accepted_plain}
 
 -- refusals by the book -----------------------------------------------------------------------------
 
 -- where it is no want of memory, the book's first cause
-pub cause_of : (stands : Refusal → Bool) (why : Refusal) → IsRefusal stands why → why ≢ NoMemory → first_cause stands ≡ Some why
-cause_of stands why refusal other = elim refusal [ inl cause ↦ cause | inr none ↦ absurd (other none.1) ]
+pub cause_of : (stand : Refusal → Bool) (why : Refusal) → IsRefusal stand why → why ≢ NoMemory → first_cause stand ≡ Some why
+cause_of stand why refusal other = elim refusal [ inl cause ↦ cause | inr none ↦ absurd (other none.1) ]
 
 pub answered : (r : Result Answer AllocError) (why : Refusal) (P : Answer → Type 0) → IfOk r (λ a. (a ≡ Refused (Book why)) × (why ≢ NoMemory)) → (why ≢ NoMemory → P (Refused (Book why))) → IfOk r P
 answered (Ok a) why P told here = subst P (sym told.0) (here told.1)
@@ -41,67 +42,70 @@ answered (Err e) why P told here = tt
 -- commands that name one node ----------------------------------------------------------------------
 
 -- the step makes this call of the node with this name, and binds nothing
-pub record IsNodeStep (step : Step) (name : Name) (call : ℕ → Call) : Type 0 where
+pub record IsNodeStep (step : Command) (name : Name) (call : ℕ → Call) : Type 0 where
   pub own : (s : Stage) → own_cause s step ≡ cond (is_unbound s.nodes name) (Some NoName) None
   pub called : (s : Stage) → call_of s step ≡ option_map call (bound s.nodes name)
   pub binds_none : (s : Stage) (k : List Event) → after s step k ≡ record s { history = k }
   pub gone : (h : List Event) (limit : ℕ) (is_fresh : Bool) (n : ℕ) → causes h limit is_fresh (call n) Gone ≡ not (is_open h n)
+  pub by_node : (n : ℕ) (known : Bool) (stand : Refusal → Bool) → by_key_of (call n) known stand ≡ by_key known stand
   pub any_front : (h : List Event) (limit : ℕ) (is_fresh : Bool) (n : ℕ) → causes h limit true (call n) ≡ causes h limit is_fresh (call n)
 
 pub next_step : (node : Name) (value : ℤ) → IsNodeStep (next node value) node (λ n. Emitting n value)
-next_step node value = record { own = λ s. refl; called = λ s. refl; binds_none = λ s k. refl; gone = λ h limit f n. refl; any_front = λ h limit f n. refl }
+next_step node value = record { own = λ s. refl; called = λ s. refl; binds_none = λ s k. refl; gone = λ h limit f n. refl; by_node = λ n known stand. refl; any_front = λ h limit f n. refl }
 
 pub end_step : (node : Name) (t : Terminal) → IsNodeStep (end node t) node (λ n. Ending n t)
-end_step node t = record { own = λ s. refl; called = λ s. refl; binds_none = λ s k. refl; gone = λ h limit f n. refl; any_front = λ h limit f n. refl }
+end_step node t = record { own = λ s. refl; called = λ s. refl; binds_none = λ s k. refl; gone = λ h limit f n. refl; by_node = λ n known stand. refl; any_front = λ h limit f n. refl }
 
 pub abort_step : (node : Name) (code : ℕ) → IsNodeStep (abort node code) node (λ n. Aborting n code)
-abort_step node code = record { own = λ s. refl; called = λ s. refl; binds_none = λ s k. refl; gone = λ h limit f n. refl; any_front = λ h limit f n. refl }
+abort_step node code = record { own = λ s. refl; called = λ s. refl; binds_none = λ s k. refl; gone = λ h limit f n. refl; by_node = λ n known stand. refl; any_front = λ h limit f n. refl }
 
 pub dispose_step : (node : Name) → IsNodeStep (dispose node) node Disposing
-dispose_step node = record { own = λ s. refl; called = λ s. refl; binds_none = λ s k. refl; gone = λ h limit f n. refl; any_front = λ h limit f n. refl }
+dispose_step node = record { own = λ s. refl; called = λ s. refl; binds_none = λ s k. refl; gone = λ h limit f n. refl; by_node = λ n known stand. refl; any_front = λ h limit f n. refl }
 
-module _ {R : Type 0} (e : Engine R) {step : Step} {name : Name} {call : ℕ → Call} (is_step : IsNodeStep step name call) (sound : IsSound e) where
-  pub node_nameless : key_of e.nodes.items name ≡ None → Carries e step (Refused NoName) (with e e.book e.stock)
+module _ {R : Type 0} (e : Engine R) {step : Command} {name : Name} {call : ℕ → Call} (is_step : IsNodeStep step name call) (sound : IsSound e) where
+  pub node_nameless : key_of e.nodes name ≡ None → Carries e step (Refused NoName) (with e e.book e.stock)
   node_nameless none =
-      let nameless : is_unbound (stage_of e).nodes name ≡ true = ap is_none (node_unbound e.nodes.items name none) in
+      let nameless : is_unbound (stage_of e).nodes name ≡ true = ap is_none (node_unbound e.nodes name none) in
       refused_own e step NoName e.book e.stock sound refl refl (is_step.own (stage_of e) ∙ ap (λ b. cond b (Some NoName) None) nameless)
 
-  module _ (k : Key) (named : key_of e.nodes.items name ≡ Some k) where
+  module _ (k : Key) (named : key_of e.nodes name ≡ Some k) where
     number_named : bound (stage_of e).nodes name ≡ Some k.number
-    number_named = node_bound e.nodes.items name k named
+    number_named = node_bound e.nodes name k named
 
     no_own_cause : own_cause (stage_of e) step ≡ None
     no_own_cause = is_step.own (stage_of e) ∙ ap (λ o. cond (is_none o) (Some NoName) None) number_named
 
-    called : call_of (stage_of e) step ≡ Some (call k.number)
-    called = is_step.called (stage_of e) ∙ ap (option_map call) number_named
-
     known : has_key e.book.keys k ≡ is_open e.book.history k.number
-    known = has_key-is_open e.book k sound.kept (key_of-holds (IsNodeKey e.book) e.nodes.items name k sound.nodes named)
+    known = has_key-is_open e.book k sound.kept (key_of-holds (IsNodeKey e.book) e.nodes name k sound.nodes named)
 
-    agrees : Agrees e.book (against e.book (has_key e.book.keys k) true (call k.number)) (stage_of e) (call k.number)
+    abbrev asked : Request
+    asked = node_request e.book k (call k.number)
+
+    agrees : Agrees e.book asked (stage_of e) step
     agrees = record {
+      called = is_step.called (stage_of e) ∙ ap (option_map call) number_named;
       same =
-          ap (λ stands. first_cause (by_key (has_key e.book.keys k) stands)) (is_step.any_front e.book.history e.book.limit (front_is_fresh (stage_of e)) k.number)
+          ap first_cause (is_step.by_node k.number (has_key e.book.keys k) (causes e.book.history e.book.limit true (call k.number)))
+          ∙ ap (λ stand. first_cause (by_key (has_key e.book.keys k) stand)) (is_step.any_front e.book.history e.book.limit (front_is_fresh (stage_of e)) k.number)
           ∙ first_cause-by_key (has_key e.book.keys k) (causes e.book.history e.book.limit (front_is_fresh (stage_of e)) (call k.number))
           (λ unknown. is_step.gone e.book.history e.book.limit (front_is_fresh (stage_of e)) k.number ∙ ap not (sym known ∙ unknown));
     }
 
-    pub node_refused : (book : State) (why : Refusal) → book ≡ e.book → IsRefusal (against e.book (has_key e.book.keys k) true (call k.number)) why → why ≢ NoMemory → Carries e step (Refused (Book why)) (with e book e.stock)
-    node_refused book why same refusal other = refused_there e step (call k.number) (against e.book (has_key e.book.keys k) true (call k.number)) why book e.stock sound same refl no_own_cause called agrees (cause_of (against e.book (has_key e.book.keys k) true (call k.number)) why refusal other)
+    pub node_refused : (book : State) (why : Refusal) → book ≡ e.book → IsRefusal (stands e.book (node_request e.book k (call k.number))) why → why ≢ NoMemory → Carries e step (Refused (Book why)) (with e book e.stock)
+    node_refused book why same refusal other = refused_there e step asked why book e.stock sound same refl no_own_cause agrees (cause_of (stands e.book asked) why refusal other)
 
-    pub node_accepted : (book : State) → IsKept book → Accepts e.book (against e.book (has_key e.book.keys k) true (call k.number)) (call k.number) book → Carries e step Accepted (with e book e.stock)
-    node_accepted book kept accepts = accepted_plain e step (call k.number) (against e.book (has_key e.book.keys k) true (call k.number)) book sound kept no_own_cause called agrees accepts (is_step.binds_none (stage_of e))
+    pub node_accepted : (book : State) → IsPromised book → Accepts e.book (node_request e.book k (call k.number)) book → Carries e step Accepted (with e book e.stock)
+    node_accepted book kept accepts = accepted_plain e step asked book sound kept no_own_cause agrees accepts (is_step.binds_none (stage_of e))
 
 -- commands that name one resource ------------------------------------------------------------------
 
 -- the step makes this call of the resource with this name, and binds nothing
-pub record IsResStep (step : Step) (name : Name) (call : ℕ → Call) : Type 0 where
+pub record IsResStep (step : Command) (name : Name) (call : ℕ → Call) : Type 0 where
   pub own : (s : Stage) → own_cause s step ≡ cond (is_unbound s.resources name) (Some NoName) None
   pub called : (s : Stage) → call_of s step ≡ option_map call (bound s.resources name)
   pub binds_none : (s : Stage) (k : List Event) → after s step k ≡ record s { history = k }
   -- to look for the key is to look whether the resource is held
-  pub same_cause : (known : Bool) (h : List Event) (limit : ℕ) (is_fresh : Bool) (n : ℕ) → known ≡ is_held h n → first_cause (by_res_key known (causes h limit true (call n))) ≡ first_cause (causes h limit is_fresh (call n))
+  pub same_cause : (known : Bool) (h : List Event) (limit : ℕ) (is_fresh : Bool) (n : ℕ) → known ≡ is_held h n → first_cause (by_key_of (call n) known (causes h limit true (call n))) ≡ first_cause (causes h limit is_fresh (call n))
 
 apply_same_cause : (known : Bool) (h : List Event) (limit : ℕ) (is_fresh : Bool) (n : ℕ) → known ≡ is_held h n → first_cause (by_res_key known (causes h limit true (Applying n))) ≡ first_cause (causes h limit is_fresh (Applying n))
 apply_same_cause true h limit f n same = refl
@@ -117,32 +121,33 @@ apply_step res word = record { own = λ s. refl; called = λ s. refl; binds_none
 pub remove_step : (res : Name) → IsResStep (remove res) res Removing
 remove_step res = record { own = λ s. refl; called = λ s. refl; binds_none = λ s k. refl; same_cause = remove_same_cause }
 
-module _ {R : Type 0} (e : Engine R) {step : Step} {name : Name} {call : ℕ → Call} (is_step : IsResStep step name call) (sound : IsSound e) where
-  pub res_nameless : key_of e.resources.items name ≡ None → Carries e step (Refused NoName) (with e e.book e.stock)
+module _ {R : Type 0} (e : Engine R) {step : Command} {name : Name} {call : ℕ → Call} (is_step : IsResStep step name call) (sound : IsSound e) where
+  pub res_nameless : key_of e.resources name ≡ None → Carries e step (Refused NoName) (with e e.book e.stock)
   res_nameless none =
-      let nameless : is_unbound (stage_of e).resources name ≡ true = ap is_none (res_unbound e.resources.items name none) in
+      let nameless : is_unbound (stage_of e).resources name ≡ true = ap is_none (res_unbound e.resources name none) in
       refused_own e step NoName e.book e.stock sound refl refl (is_step.own (stage_of e) ∙ ap (λ b. cond b (Some NoName) None) nameless)
 
-  module _ (k : ResKey) (named : key_of e.resources.items name ≡ Some k) where
+  module _ (k : ResKey) (named : key_of e.resources name ≡ Some k) where
     res_number : bound (stage_of e).resources name ≡ Some k.number
-    res_number = res_bound e.resources.items name k named
+    res_number = res_bound e.resources name k named
 
     res_no_own_cause : own_cause (stage_of e) step ≡ None
     res_no_own_cause = is_step.own (stage_of e) ∙ ap (λ o. cond (is_none o) (Some NoName) None) res_number
 
-    res_called : call_of (stage_of e) step ≡ Some (call k.number)
-    res_called = is_step.called (stage_of e) ∙ ap (option_map call) res_number
-
     res_known : has_res_key e.book.res_keys k ≡ is_held e.book.history k.number
-    res_known = has_res_key-is_held e.book k sound.kept (key_of-holds (IsHeldKey e.book) e.resources.items name k sound.resources named)
+    res_known = has_res_key-is_held e.book k sound.kept (key_of-holds (IsHeldKey e.book) e.resources name k sound.resources named)
 
-    res_agrees : Agrees e.book (against_use e.book (has_res_key e.book.res_keys k) (call k.number)) (stage_of e) (call k.number)
-    res_agrees = record { same = is_step.same_cause (has_res_key e.book.res_keys k) e.book.history e.book.limit (front_is_fresh (stage_of e)) k.number res_known }
+    abbrev res_asked : Request
+    res_asked = res_request e.book k (call k.number)
 
-    pub res_refused : (book : State) (why : Refusal) → book ≡ e.book → IsRefusal (against_use e.book (has_res_key e.book.res_keys k) (call k.number)) why → why ≢ NoMemory → Carries e step (Refused (Book why)) (with e book e.stock)
-    res_refused book why same refusal other =
-        refused_there e step (call k.number) (against_use e.book (has_res_key e.book.res_keys k) (call k.number)) why book e.stock sound same refl res_no_own_cause res_called res_agrees
-        (cause_of (against_use e.book (has_res_key e.book.res_keys k) (call k.number)) why refusal other)
+    res_agrees : Agrees e.book res_asked (stage_of e) step
+    res_agrees = record {
+      called = is_step.called (stage_of e) ∙ ap (option_map call) res_number;
+      same = is_step.same_cause (has_res_key e.book.res_keys k) e.book.history e.book.limit (front_is_fresh (stage_of e)) k.number res_known;
+    }
 
-    pub res_accepted : (book : State) → IsKept book → Accepts e.book (against_use e.book (has_res_key e.book.res_keys k) (call k.number)) (call k.number) book → Carries e step Accepted (with e book e.stock)
-    res_accepted book kept accepts = accepted_plain e step (call k.number) (against_use e.book (has_res_key e.book.res_keys k) (call k.number)) book sound kept res_no_own_cause res_called res_agrees accepts (is_step.binds_none (stage_of e))
+    pub res_refused : (book : State) (why : Refusal) → book ≡ e.book → IsRefusal (stands e.book (res_request e.book k (call k.number))) why → why ≢ NoMemory → Carries e step (Refused (Book why)) (with e book e.stock)
+    res_refused book why same refusal other = refused_there e step res_asked why book e.stock sound same refl res_no_own_cause res_agrees (cause_of (stands e.book res_asked) why refusal other)
+
+    pub res_accepted : (book : State) → IsPromised book → Accepts e.book (res_request e.book k (call k.number)) book → Carries e step Accepted (with e book e.stock)
+    res_accepted book kept accepts = accepted_plain e step res_asked book sound kept res_no_own_cause res_agrees accepts (is_step.binds_none (stage_of e))

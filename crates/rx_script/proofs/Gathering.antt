@@ -6,13 +6,15 @@ use Rattle.std.proofs.lemmas.Option.{get_or_from_slice_get}
 use Rattle.std.proofs.lemmas.Grind.{flat_map-append}
 use Rattle.rx_event.specs.declared.event.Event.{Event}
 use Rattle.rx_event.specs.Tree.{at, is_open}
-use Rattle.rx_event.specs.Notes.{Mail, notes}
+use Rattle.rx_note.specs.declared.note.Note.{Note}
+use Rattle.rx_event.specs.Notes.{Mail, notes, notes_to}
 use Rattle.rx_register.specs.declared.mail.Mail.{Mail as Letter}
 use Rattle.rx_book.specs.State.{State}
 use Rattle.rx_register.specs.Kept.{letter}
 use Rattle.rx_book.specs.declared.key.Key.{Key}
-use Rattle.rx_script.specs.declared.engine.Named.{Named}
-use Rattle.rx_script.specs.Engine.{name_of, node_binding}
+use Rattle.rx_script.specs.declared.names.Named.{Named}
+use Rattle.rx_script.specs.Names.{name_of}
+use Rattle.rx_script.specs.Engine.{node_binding}
 use Rattle.rx_script.specs.Text.{node_line}
 use Rattle.rx_script.specs.Stage.{Binding}
 use Rattle.rx_event.specs.Resources.{is_held, is_taken}
@@ -113,14 +115,13 @@ module _ {A : Type 0} (binding : A → Binding) (xs : List A) (i : ℕ) (x : A) 
       here ∙ ap (λ l. l ++ res_shown h (binding x)) before ∙ append_assoc old (res_lines h (map binding (take i xs))) (res_shown h (binding x))
       ∙ ap (λ l. old ++ l) (sym (ap (res_lines h) bindings_more ∙ res_lines-push h (map binding (take i xs)) (binding x)))
 
--- a node's line, from what the book and its mail say
-pub node_line_shown : (h : List Event) (x : Named Key) (name : List ℕ) (open_now : Bool) (mail : List Letter) → name ≡ name_of x → open_now ≡ is_open h x.key.number → mail ≡ map letter (notes h)
-    → node_line name open_now (map (λ m. m.note) (filter (λ m. m.to == x.key.number) mail)) ≡ node_shown h (node_binding x)
-node_line_shown h x name open_now mail same_name same_open all_mail =
-    ap (λ n. node_line n open_now (map (λ m. m.note) (filter (λ m. m.to == x.key.number) mail))) same_name
-    ∙ ap (λ b. node_line (name_of x) b (map (λ m. m.note) (filter (λ m. m.to == x.key.number) mail))) same_open
-    ∙ ap (λ l. node_line (name_of x) (is_open h x.key.number) (map (λ m. m.note) (filter (λ m. m.to == x.key.number) l))) all_mail
-    ∙ ap (λ notes. node_line (name_of x) (is_open h x.key.number) notes) (notes_handed (notes h) x.key.number)
+-- a node's line, from what the book and its tallies say
+pub node_line_shown : (h : List Event) (x : Named Key) (name : List ℕ) (open_now : Bool) (told : List Note) → name ≡ name_of x → open_now ≡ is_open h x.key.number → told ≡ notes_to h x.key.number
+    → node_line name open_now told ≡ node_shown h (node_binding x)
+node_line_shown h x name open_now told same_name same_open same_notes =
+    ap (λ n. node_line n open_now told) same_name
+    ∙ ap (λ b. node_line (name_of x) b told) same_open
+    ∙ ap (λ notes. node_line (name_of x) (is_open h x.key.number) notes) same_notes
 
 -- where a resource is
 pub where_held : (h : List Event) (r : ℕ) → is_held h r ≡ true → whereabouts h r ≡ Held

@@ -1,11 +1,9 @@
 -- What one more step of a history leaves as it was.
-use Rattle.std.proofs.Common.{◌≡◌, ◌≤◌, ◌+◌, ◌++◌, ◌∷◌, [], List, length, length-append, cond, refl, ◌∙◌, arith}
+use Rattle.std.proofs.Common.{◌≡◌, ◌≤◌, ◌+◌, ◌++◌, ◌∷◌, [], Bool, List, length, length-append, cond, refl, ◌∙◌, arith}
 use Rattle.std.specs.Prelude.{count_by}
 use Rattle.std.specs.List.{All}
 use Rattle.std.proofs.lemmas.List.Sums.{sum_by-append}
 use Rattle.rx_event.specs.declared.event.Event.{Event}
-use Rattle.rx_event.specs.declared.refusal.Refusal.{Refusal}
-use Rattle.std.specs.Prelude.{Bool}
 use Rattle.rx_event.specs.Events.{is_take}
 use Rattle.rx_event.specs.Tree.{is_open}
 use Rattle.rx_event.specs.Resources.{is_held}
@@ -14,9 +12,10 @@ use Rattle.rx_event.specs.Lawful.{IsForcedOn, stays, more}
 use Rattle.rx_event.specs.Calls.{Call, outside_of, IsStepOf}
 use Rattle.rx_book.specs.declared.key.Key.{Key}
 use Rattle.rx_book.specs.declared.key.ResKey.{ResKey}
-use Rattle.rx_book.specs.State.{State, IsKept}
+use Rattle.rx_book.specs.State.{State, IsPromised}
+use Rattle.rx_book.specs.Requests.{Request}
 use Rattle.rx_book.specs.Answers.{Accepts}
-use Rattle.rx_script.specs.declared.engine.Named.{Named}
+use Rattle.rx_script.specs.declared.names.Named.{Named}
 use Rattle.rx_script.specs.Engine.{IsNodeKey, IsHeldKey, Continues}
 use Rattle.rx_script.proofs.Keys.{key_kept}
 
@@ -38,11 +37,11 @@ step_longer h k call step = omega (arith, forced_longer step.forced, length-appe
 pub step_taken : (h k : List Event) (call : Call) → IsStepOf h call k → taken_count h + taken_count (outside_of h call) ≤ taken_count k
 step_taken h k call step = omega (arith, forced_taken step.forced, count_by-append is_take h (outside_of h call))
 
-pub accepted_continues : (old new : State) (stands : Refusal → Bool) (call : Call) → Accepts old stands call new → Continues old new
-accepted_continues old new stands call accepted = record {
+pub accepted_continues : (old new : State) (asked : Request) → Accepts old asked new → Continues old new
+accepted_continues old new asked accepted = record {
   limit = accepted.limit;
   given = accepted.given;
-  longer = let longer = step_longer old.history new.history call accepted.step in omega arith;
+  longer = let longer = step_longer old.history new.history asked.call accepted.step in omega arith;
   keys = accepted.keys;
   res_keys = accepted.res_keys;
 }
@@ -60,7 +59,7 @@ continues_more a b c p q = record {
 }
 
 -- a key that a book gave stays so
-node_key_kept : (old new : State) (k : Key) → IsKept old → IsKept new → Continues old new → IsNodeKey old k → IsNodeKey new k
+node_key_kept : (old new : State) (k : Key) → IsPromised old → IsPromised new → Continues old new → IsNodeKey old k → IsNodeKey new k
 node_key_kept old new k before after goes known =
     let longer = goes.longer in
     let within = known.within in
@@ -69,7 +68,7 @@ node_key_kept old new k before after goes known =
       found = key_kept (λ j. j.number) (is_open old.history) (is_open new.history) old.keys new.keys (length old.history) k before.keys after.keys goes.keys known.within known.found;
     }
 
-held_key_kept : (old new : State) (k : ResKey) → IsKept old → IsKept new → Continues old new → IsHeldKey old k → IsHeldKey new k
+held_key_kept : (old new : State) (k : ResKey) → IsPromised old → IsPromised new → Continues old new → IsHeldKey old k → IsHeldKey new k
 held_key_kept old new k before after goes known =
     let longer = goes.longer in
     let within = known.within in
@@ -78,8 +77,8 @@ held_key_kept old new k before after goes known =
       found = key_kept (λ j. j.number) (is_held old.history) (is_held new.history) old.res_keys new.res_keys (length old.history) k before.res_keys after.res_keys goes.res_keys known.within known.found;
     }
 
-pub node_keys_kept : (old new : State) (names : List (Named Key)) → IsKept old → IsKept new → Continues old new → All (λ n. IsNodeKey old n.key) names → All (λ n. IsNodeKey new n.key) names
+pub node_keys_kept : (old new : State) (names : List (Named Key)) → IsPromised old → IsPromised new → Continues old new → All (λ n. IsNodeKey old n.key) names → All (λ n. IsNodeKey new n.key) names
 node_keys_kept old new names before after goes known = λ i d lt. node_key_kept old new _ before after goes (known i d lt)
 
-pub held_keys_kept : (old new : State) (names : List (Named ResKey)) → IsKept old → IsKept new → Continues old new → All (λ n. IsHeldKey old n.key) names → All (λ n. IsHeldKey new n.key) names
+pub held_keys_kept : (old new : State) (names : List (Named ResKey)) → IsPromised old → IsPromised new → Continues old new → All (λ n. IsHeldKey old n.key) names → All (λ n. IsHeldKey new n.key) names
 held_keys_kept old new names before after goes known = λ i d lt. held_key_kept old new _ before after goes (known i d lt)

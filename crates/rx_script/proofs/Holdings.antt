@@ -4,30 +4,33 @@ use Rattle.std.specs.Prelude.{◌≢◌, ◌||◌, Some, None, IsTrue, is_none, 
 use Rattle.std.proofs.Math.Bool.{not}
 use Rattle.std.specs.List.{All}
 use Rattle.rx_event.specs.declared.refusal.Refusal.{Refusal}
-use Rattle.rx_event.specs.declared.refusal.Refusal.TheVariants.{NoMemory}
+use Rattle.rx_event.specs.declared.refusal.Refusal.TheVariants.{NoMemory, Gone}
 use Rattle.rx_event.specs.Tree.{is_open}
 use Rattle.rx_event.specs.Calls.{Call, OpeningUsing, Holding}
 use Rattle.rx_event.specs.Refusals.{first_cause, IsRefusal}
 use Rattle.rx_book.specs.declared.key.Key.{Key}
 use Rattle.rx_book.specs.declared.key.ResKey.{ResKey}
 use Rattle.rx_book.specs.declared.answer.At.{At}
-use Rattle.rx_book.specs.State.{State, IsKept, has_key, has_res_key}
+use Rattle.rx_book.specs.State.{State, IsPromised, has_key, has_res_key}
 use Rattle.rx_register.specs.Causes.{causes}
-use Rattle.rx_book.specs.Answers.{against, Accepts, place_of, is_known}
+use Rattle.rx_book.specs.Requests.{Request, place_of, is_known_place, by_key, by_key_of, stands}
+use Rattle.rx_book.specs.Answers.{Accepts}
 use Rattle.rx_script.specs.declared.answer.Answer.TheVariants.{Accepted, Refused}
 use Rattle.rx_script.specs.declared.answer.Cause.TheVariants.{NoName, NameTaken, NoStock, Book}
-use Rattle.rx_script.specs.declared.engine.Named.{Named}
+use Rattle.rx_script.specs.declared.names.Named.{Named}
 use Rattle.rx_script.specs.declared.engine.Engine.{Engine}
-use Rattle.rx_script.specs.Scenario.{Name, Spot, using, hold}
+use Rattle.rx_scenario.specs.Scenario.{Name, Site, using, hold}
 use Rattle.rx_script.specs.Stage.{Ware, bound, is_unbound, is_empty, own_cause, call_of, front, front_is_fresh, with_binding}
+use Rattle.rx_script.specs.Course.{book_cause}
 use Rattle.rx_script.specs.Shelf.{Shelf}
-use Rattle.rx_script.specs.Engine.{name_of, key_of, node_binding, res_binding, at_of, stage_of, IsNodeKey, IsHeldKey, IsSound, Carries}
+use Rattle.rx_script.specs.Names.{name_of, key_of}
+use Rattle.rx_script.specs.Engine.{node_binding, res_binding, at_of, stage_of, IsNodeKey, IsHeldKey, IsSound, Carries}
 use Rattle.rx_script.proofs.Keys.{has_key-is_open}
-use Rattle.rx_script.proofs.Names.{key_of-holds, node_bound, node_unbound}
+use Rattle.rx_script.proofs.Naming.{key_of-holds, node_bound, node_unbound}
 use Rattle.rx_script.proofs.Going.{accepted_continues, node_keys_kept, held_keys_kept}
 use Rattle.rx_script.proofs.Carrying.{Agrees, first_cause-by_key, with, refused_own, refused_there, accepted_to}
 use Rattle.rx_script.proofs.Commands.{cause_of}
-use Rattle.rx_script.proofs.Openings.{is_bound-nodes, is_bound-resources, IsPlaced, spot_placed, spot_nameless, new_node_key, new_held_key, nodes_bound, resources_bound, same_stage, all_pushed}
+use Rattle.rx_script.proofs.Openings.{is_bound-nodes, is_bound-resources, IsPlaced, site_placed, site_nameless, new_node_key, new_held_key, nodes_bound, resources_bound, same_stage, all_pushed}
 
 -- a stock with a resource in front
 module _ {R : Type 0} (e : Engine R) (w : Ware) (rest : List Ware) (stocked : e.stock.wares ≡ w ∷ rest) where
@@ -44,137 +47,141 @@ module _ {R : Type 0} (e : Engine R) (w : Ware) (rest : List Ware) (stocked : e.
   rest_stocked = ap (drop 1) stocked
 
   -- the causes look at that resource
-  pub agrees_stocked : (known : Bool) (call : Call) → (known ≡ false → causes e.book.history e.book.limit w.is_fresh call Rattle.rx_event.specs.declared.refusal.Refusal.TheVariants.Gone ≡ true) → Agrees e.book (against e.book known w.is_fresh call) (stage_of e) call
-  agrees_stocked known call gone = record {
-    same = first_cause-by_key known (causes e.book.history e.book.limit w.is_fresh call) gone ∙ ap (λ f. first_cause (causes e.book.history e.book.limit f call)) (sym fresh_stocked);
-  }
+  pub same_stocked : (known : Bool) (call : Call) → (known ≡ false → causes e.book.history e.book.limit w.is_fresh call Gone ≡ true)
+      → first_cause (by_key known (causes e.book.history e.book.limit w.is_fresh call)) ≡ book_cause e.book.limit (stage_of e) call
+  same_stocked known call gone =
+      first_cause-by_key known (causes e.book.history e.book.limit w.is_fresh call) gone ∙ ap (λ f. first_cause (causes e.book.history e.book.limit f call)) (sym fresh_stocked)
 
 -- opening with a resource --------------------------------------------------------------------------
 
-module _ {R : Type 0} (e : Engine R) (name : Name) (spot : Spot) (res : Name) (sound : IsSound e) where
-  pub using_nameless : at_of e.nodes.items spot ≡ None → Carries e (using name spot res) (Refused NoName) (with e e.book e.stock)
-  using_nameless none = let nameless = spot_nameless e spot none in refused_own e (using name spot res) NoName e.book e.stock sound refl refl (rw nameless refl)
+module _ {R : Type 0} (e : Engine R) (name : Name) (site : Site) (res : Name) (sound : IsSound e) where
+  pub using_nameless : at_of e.nodes site ≡ None → Carries e (using name site res) (Refused NoName) (with e e.book e.stock)
+  using_nameless none = let nameless = site_nameless e site none in refused_own e (using name site res) NoName e.book e.stock sound refl refl (rw nameless refl)
 
-  module _ (place : At) (at : at_of e.nodes.items spot ≡ Some place) where
-    facts : IsPlaced e spot place
-    facts = spot_placed e spot place sound at
+  module _ (place : At) (at : at_of e.nodes site ≡ Some place) where
+    facts : IsPlaced e site place
+    facts = site_placed e site place sound at
 
-    pub using_taken : (is_some (key_of e.nodes.items name) || is_some (key_of e.resources.items res)) ≡ true → Carries e (using name spot res) (Refused NameTaken) (with e e.book e.stock)
+    pub using_taken : (is_some (key_of e.nodes name) || is_some (key_of e.resources res)) ≡ true → Carries e (using name site res) (Refused NameTaken) (with e e.book e.stock)
     using_taken taken =
         let named = facts.named in
-        let node_named = is_bound-nodes e.nodes.items name in
-        let res_named = is_bound-resources e.resources.items res in
-        refused_own e (using name spot res) NameTaken e.book e.stock sound refl refl (rw (named, node_named, res_named, taken) refl)
+        let node_named = is_bound-nodes e.nodes name in
+        let res_named = is_bound-resources e.resources res in
+        refused_own e (using name site res) NameTaken e.book e.stock sound refl refl (rw (named, node_named, res_named, taken) refl)
 
-    module _ (free : (is_some (key_of e.nodes.items name) || is_some (key_of e.resources.items res)) ≡ false) where
-      pub using_stockless : (stock : Shelf) → e.stock.wares ≡ [] → stock.wares ≡ [] → Carries e (using name spot res) (Refused NoStock) (with e e.book stock)
+    module _ (free : (is_some (key_of e.nodes name) || is_some (key_of e.resources res)) ≡ false) where
+      pub using_stockless : (stock : Shelf) → e.stock.wares ≡ [] → stock.wares ≡ [] → Carries e (using name site res) (Refused NoStock) (with e e.book stock)
       using_stockless stock none same =
           let named = facts.named in
-          let node_named = is_bound-nodes e.nodes.items name in
-          let res_named = is_bound-resources e.resources.items res in
-          refused_own e (using name spot res) NoStock e.book stock sound refl (same ∙ sym none) (rw (named, node_named, res_named, free, none) refl)
+          let node_named = is_bound-nodes e.nodes name in
+          let res_named = is_bound-resources e.resources res in
+          refused_own e (using name site res) NoStock e.book stock sound refl (same ∙ sym none) (rw (named, node_named, res_named, free, none) refl)
 
       module _ (w : Ware) (rest : List Ware) (stocked : e.stock.wares ≡ w ∷ rest) where
-        no_own_cause : own_cause (stage_of e) (using name spot res) ≡ None
+        no_own_cause : own_cause (stage_of e) (using name site res) ≡ None
         no_own_cause =
             let named = facts.named in
-            let node_named = is_bound-nodes e.nodes.items name in
-            let res_named = is_bound-resources e.resources.items res in
+            let node_named = is_bound-nodes e.nodes name in
+            let res_named = is_bound-resources e.resources res in
             let some = some_stocked e w rest stocked in
             rw (named, node_named, res_named, free, some) refl
 
-        called : call_of (stage_of e) (using name spot res) ≡ Some (OpeningUsing (place_of place) w.tag)
-        called =
+        abbrev asked : Request
+        asked = record { call = OpeningUsing (place_of place) w.tag; is_known = is_known_place e.book.keys place; is_fresh = w.is_fresh }
+
+        agrees : Agrees e.book asked (stage_of e) (using name site res)
+        agrees =
             let placed = facts.placed in
             let in_front = front_stocked e w rest stocked in
-            rw (placed, in_front) refl
+            record {
+              called = rw (placed, in_front) refl;
+              same = same_stocked e w rest stocked (is_known_place e.book.keys place) (OpeningUsing (place_of place) w.tag) facts.gone;
+            }
 
-        agrees : Agrees e.book (against e.book (is_known e.book.keys place) w.is_fresh (OpeningUsing (place_of place) w.tag)) (stage_of e) (OpeningUsing (place_of place) w.tag)
-        agrees = agrees_stocked e w rest stocked (is_known e.book.keys place) (OpeningUsing (place_of place) w.tag) facts.gone
-
-        pub using_refused : (book : State) (stock : Shelf) (why : Refusal) → book ≡ e.book → stock.wares ≡ e.stock.wares → IsRefusal (against e.book (is_known e.book.keys place) w.is_fresh (OpeningUsing (place_of place) w.tag)) why → why ≢ NoMemory
-            → Carries e (using name spot res) (Refused (Book why)) (with e book stock)
+        pub using_refused : (book : State) (stock : Shelf) (why : Refusal) → book ≡ e.book → stock.wares ≡ e.stock.wares → IsRefusal (stands e.book (record { call = OpeningUsing (place_of place) w.tag; is_known = is_known_place e.book.keys place; is_fresh = w.is_fresh })) why → why ≢ NoMemory
+            → Carries e (using name site res) (Refused (Book why)) (with e book stock)
         using_refused book stock why same same_stock refusal other =
-            refused_there e (using name spot res) (OpeningUsing (place_of place) w.tag) (against e.book (is_known e.book.keys place) w.is_fresh (OpeningUsing (place_of place) w.tag)) why book stock sound same same_stock no_own_cause called agrees
-            (cause_of (against e.book (is_known e.book.keys place) w.is_fresh (OpeningUsing (place_of place) w.tag)) why refusal other)
+            refused_there e (using name site res) asked why book stock sound same same_stock no_own_cause agrees (cause_of (stands e.book asked) why refusal other)
 
-        pub using_accepted : (new : Engine R) (x : Named Key) (y : Named ResKey) → IsKept new.book
-            → Accepts e.book (against e.book (is_known e.book.keys place) w.is_fresh (OpeningUsing (place_of place) w.tag)) (OpeningUsing (place_of place) w.tag) new.book
+        pub using_accepted : (new : Engine R) (x : Named Key) (y : Named ResKey) → IsPromised new.book
+            → Accepts e.book (record { call = OpeningUsing (place_of place) w.tag; is_known = is_known_place e.book.keys place; is_fresh = w.is_fresh }) new.book
             → x.key.number ≡ length e.book.history → IsTrue (has_key new.book.keys x.key) → name_of x ≡ name → y.key.number ≡ length e.book.history + 1 → IsTrue (has_res_key new.book.res_keys y.key) → name_of y ≡ res
-            → new.nodes.items ≡ e.nodes.items ++ x ∷ [] → new.resources.items ≡ e.resources.items ++ y ∷ [] → new.stock.wares ≡ rest → new.faults ≡ e.faults → Carries e (using name spot res) Accepted new
+            → new.nodes ≡ e.nodes ++ x ∷ [] → new.resources ≡ e.resources ++ y ∷ [] → new.stock.wares ≡ rest → new.faults ≡ e.faults → Carries e (using name site res) Accepted new
         using_accepted new x y kept accepts number listed same_name res_number res_listed same_res pushed res_pushed same_stock same_faults =
-            let goes = accepted_continues e.book new.book _ (OpeningUsing (place_of place) w.tag) accepts in
-            accepted_to e new (using name spot res) (OpeningUsing (place_of place) w.tag) (against e.book (is_known e.book.keys place) w.is_fresh (OpeningUsing (place_of place) w.tag)) sound kept no_own_cause called agrees accepts
+            let goes = accepted_continues e.book new.book asked accepts in
+            accepted_to e new (using name site res) asked sound kept no_own_cause agrees accepts
             (same_stage new.book.history _ _ _ _ _ _
-            (nodes_bound e.nodes.items new.nodes.items x (length e.book.history) pushed number ∙ ap (λ n. with_binding (map node_binding e.nodes.items) n (length e.book.history)) same_name)
-            (resources_bound e.resources.items new.resources.items y (length e.book.history + 1) res_pushed res_number ∙ ap (λ n. with_binding (map res_binding e.resources.items) n (length e.book.history + 1)) same_res)
+            (nodes_bound e.nodes new.nodes x (length e.book.history) pushed number ∙ ap (λ n. with_binding (map node_binding e.nodes) n (length e.book.history)) same_name)
+            (resources_bound e.resources new.resources y (length e.book.history + 1) res_pushed res_number ∙ ap (λ n. with_binding (map res_binding e.resources) n (length e.book.history + 1)) same_res)
             (same_stock ∙ sym (rest_stocked e w rest stocked)))
-            (all_pushed (λ n. IsNodeKey new.book n.key) e.nodes.items new.nodes.items x pushed (node_keys_kept e.book new.book e.nodes.items sound.kept kept goes sound.nodes) (new_node_key e.book new.book _ (OpeningUsing (place_of place) w.tag) x.key accepts number (omega arith) listed))
-            (all_pushed (λ n. IsHeldKey new.book n.key) e.resources.items new.resources.items y res_pushed (held_keys_kept e.book new.book e.resources.items sound.kept kept goes sound.resources) (new_held_key e.book new.book _ (OpeningUsing (place_of place) w.tag) y.key 1 accepts res_number (omega arith) res_listed))
+            (all_pushed (λ n. IsNodeKey new.book n.key) e.nodes new.nodes x pushed (node_keys_kept e.book new.book e.nodes sound.kept kept goes sound.nodes) (new_node_key e.book new.book asked x.key accepts number (omega arith) listed))
+            (all_pushed (λ n. IsHeldKey new.book n.key) e.resources new.resources y res_pushed (held_keys_kept e.book new.book e.resources sound.kept kept goes sound.resources) (new_held_key e.book new.book asked y.key 1 accepts res_number (omega arith) res_listed))
             same_faults
 
 -- holding ------------------------------------------------------------------------------------------
 
 module _ {R : Type 0} (e : Engine R) (node : Name) (res : Name) (sound : IsSound e) where
-  pub hold_nameless : key_of e.nodes.items node ≡ None → Carries e (hold node res) (Refused NoName) (with e e.book e.stock)
+  pub hold_nameless : key_of e.nodes node ≡ None → Carries e (hold node res) (Refused NoName) (with e e.book e.stock)
   hold_nameless none =
-      let nameless : is_unbound (stage_of e).nodes node ≡ true = ap is_none (node_unbound e.nodes.items node none) in
+      let nameless : is_unbound (stage_of e).nodes node ≡ true = ap is_none (node_unbound e.nodes node none) in
       refused_own e (hold node res) NoName e.book e.stock sound refl refl (rw nameless refl)
 
-  module _ (k : Key) (at : key_of e.nodes.items node ≡ Some k) where
+  module _ (k : Key) (at : key_of e.nodes node ≡ Some k) where
     number_named : bound (stage_of e).nodes node ≡ Some k.number
-    number_named = node_bound e.nodes.items node k at
+    number_named = node_bound e.nodes node k at
 
-    pub hold_taken : is_some (key_of e.resources.items res) ≡ true → Carries e (hold node res) (Refused NameTaken) (with e e.book e.stock)
+    pub hold_taken : is_some (key_of e.resources res) ≡ true → Carries e (hold node res) (Refused NameTaken) (with e e.book e.stock)
     hold_taken taken =
         let named = number_named in
-        let res_named = is_bound-resources e.resources.items res ∙ taken in
+        let res_named = is_bound-resources e.resources res ∙ taken in
         refused_own e (hold node res) NameTaken e.book e.stock sound refl refl (rw (named, res_named) refl)
 
-    module _ (free : is_some (key_of e.resources.items res) ≡ false) where
+    module _ (free : is_some (key_of e.resources res) ≡ false) where
       pub hold_stockless : (stock : Shelf) → e.stock.wares ≡ [] → stock.wares ≡ [] → Carries e (hold node res) (Refused NoStock) (with e e.book stock)
       hold_stockless stock none same =
           let named = number_named in
-          let res_named = is_bound-resources e.resources.items res ∙ free in
+          let res_named = is_bound-resources e.resources res ∙ free in
           refused_own e (hold node res) NoStock e.book stock sound refl (same ∙ sym none) (rw (named, res_named, none) refl)
 
       module _ (w : Ware) (rest : List Ware) (stocked : e.stock.wares ≡ w ∷ rest) where
         hold_no_own_cause : own_cause (stage_of e) (hold node res) ≡ None
         hold_no_own_cause =
             let named = number_named in
-            let res_named = is_bound-resources e.resources.items res ∙ free in
+            let res_named = is_bound-resources e.resources res ∙ free in
             let some = some_stocked e w rest stocked in
             rw (named, res_named, some) refl
 
-        hold_called : call_of (stage_of e) (hold node res) ≡ Some (Holding k.number w.tag)
-        hold_called =
+        hold_known : has_key e.book.keys k ≡ is_open e.book.history k.number
+        hold_known = has_key-is_open e.book k sound.kept (key_of-holds (IsNodeKey e.book) e.nodes node k sound.nodes at)
+
+        abbrev hold_asked : Request
+        hold_asked = record { call = Holding k.number w.tag; is_known = has_key e.book.keys k; is_fresh = w.is_fresh }
+
+        hold_agrees : Agrees e.book hold_asked (stage_of e) (hold node res)
+        hold_agrees =
             let named = number_named in
             let in_front = front_stocked e w rest stocked in
-            rw (named, in_front) refl
+            record {
+              called = rw (named, in_front) refl;
+              same = same_stocked e w rest stocked (has_key e.book.keys k) (Holding k.number w.tag) (λ unknown. ap not (sym hold_known ∙ unknown));
+            }
 
-        hold_known : has_key e.book.keys k ≡ is_open e.book.history k.number
-        hold_known = has_key-is_open e.book k sound.kept (key_of-holds (IsNodeKey e.book) e.nodes.items node k sound.nodes at)
-
-        hold_agrees : Agrees e.book (against e.book (has_key e.book.keys k) w.is_fresh (Holding k.number w.tag)) (stage_of e) (Holding k.number w.tag)
-        hold_agrees = agrees_stocked e w rest stocked (has_key e.book.keys k) (Holding k.number w.tag) (λ unknown. ap not (sym hold_known ∙ unknown))
-
-        pub hold_refused : (book : State) (stock : Shelf) (why : Refusal) → book ≡ e.book → stock.wares ≡ e.stock.wares → IsRefusal (against e.book (has_key e.book.keys k) w.is_fresh (Holding k.number w.tag)) why → why ≢ NoMemory
+        pub hold_refused : (book : State) (stock : Shelf) (why : Refusal) → book ≡ e.book → stock.wares ≡ e.stock.wares → IsRefusal (stands e.book (record { call = Holding k.number w.tag; is_known = has_key e.book.keys k; is_fresh = w.is_fresh })) why → why ≢ NoMemory
             → Carries e (hold node res) (Refused (Book why)) (with e book stock)
         hold_refused book stock why same same_stock refusal other =
-            refused_there e (hold node res) (Holding k.number w.tag) (against e.book (has_key e.book.keys k) w.is_fresh (Holding k.number w.tag)) why book stock sound same same_stock hold_no_own_cause hold_called hold_agrees
-            (cause_of (against e.book (has_key e.book.keys k) w.is_fresh (Holding k.number w.tag)) why refusal other)
+            refused_there e (hold node res) hold_asked why book stock sound same same_stock hold_no_own_cause hold_agrees (cause_of (stands e.book hold_asked) why refusal other)
 
-        pub hold_accepted : (new : Engine R) (y : Named ResKey) → IsKept new.book → Accepts e.book (against e.book (has_key e.book.keys k) w.is_fresh (Holding k.number w.tag)) (Holding k.number w.tag) new.book
+        pub hold_accepted : (new : Engine R) (y : Named ResKey) → IsPromised new.book → Accepts e.book (record { call = Holding k.number w.tag; is_known = has_key e.book.keys k; is_fresh = w.is_fresh }) new.book
             → y.key.number ≡ length e.book.history → IsTrue (has_res_key new.book.res_keys y.key) → name_of y ≡ res
-            → new.nodes.items ≡ e.nodes.items → new.resources.items ≡ e.resources.items ++ y ∷ [] → new.stock.wares ≡ rest → new.faults ≡ e.faults → Carries e (hold node res) Accepted new
+            → new.nodes ≡ e.nodes → new.resources ≡ e.resources ++ y ∷ [] → new.stock.wares ≡ rest → new.faults ≡ e.faults → Carries e (hold node res) Accepted new
         hold_accepted new y kept accepts number listed same_res same_nodes pushed same_stock same_faults =
-            let goes = accepted_continues e.book new.book _ (Holding k.number w.tag) accepts in
-            accepted_to e new (hold node res) (Holding k.number w.tag) (against e.book (has_key e.book.keys k) w.is_fresh (Holding k.number w.tag)) sound kept hold_no_own_cause hold_called hold_agrees accepts
+            let goes = accepted_continues e.book new.book hold_asked accepts in
+            accepted_to e new (hold node res) hold_asked sound kept hold_no_own_cause hold_agrees accepts
             (same_stage new.book.history _ _ _ _ _ _ (ap (map node_binding) same_nodes)
-            (resources_bound e.resources.items new.resources.items y (length e.book.history) pushed number ∙ ap (λ n. with_binding (map res_binding e.resources.items) n (length e.book.history)) same_res)
+            (resources_bound e.resources new.resources y (length e.book.history) pushed number ∙ ap (λ n. with_binding (map res_binding e.resources) n (length e.book.history)) same_res)
             (same_stock ∙ sym (rest_stocked e w rest stocked)))
-            (subst (All (λ n. IsNodeKey new.book n.key)) (sym same_nodes) (node_keys_kept e.book new.book e.nodes.items sound.kept kept goes sound.nodes))
-            (all_pushed (λ n. IsHeldKey new.book n.key) e.resources.items new.resources.items y pushed (held_keys_kept e.book new.book e.resources.items sound.kept kept goes sound.resources) (new_held_key e.book new.book _ (Holding k.number w.tag) y.key 0 accepts (number ∙ sym (add-zero (length e.book.history))) (omega arith) listed))
+            (subst (All (λ n. IsNodeKey new.book n.key)) (sym same_nodes) (node_keys_kept e.book new.book e.nodes sound.kept kept goes sound.nodes))
+            (all_pushed (λ n. IsHeldKey new.book n.key) e.resources new.resources y pushed (held_keys_kept e.book new.book e.resources sound.kept kept goes sound.resources) (new_held_key e.book new.book hold_asked y.key 0 accepts (number ∙ sym (add-zero (length e.book.history))) (omega arith) listed))
             same_faults
 
 -- a resource that was put back in front

@@ -10,7 +10,7 @@ use Rattle.rx_event.specs.Tree.{is_open}
 use Rattle.rx_event.specs.Resources.{is_held}
 use Rattle.rx_book.specs.declared.key.Key.{Key}
 use Rattle.rx_book.specs.declared.key.ResKey.{ResKey}
-use Rattle.rx_book.specs.State.{State, has_key, has_res_key, AreJust, IsKept}
+use Rattle.rx_book.specs.State.{State, has_key, has_res_key, AreJust, IsPromised}
 use Rattle.rx_script.specs.Engine.{IsNodeKey, IsHeldKey}
 
 Contains-map : {A B : Type 0} (f : A → B) (xs : List A) (x : A) → Contains xs x → Contains (map f xs) (f x)
@@ -87,13 +87,13 @@ same_test false true p q = q refl
 same_test false false p q = refl
 
 -- a key that a book gave is in its list just where its node is open
-pub has_key-is_open : (s : State) (k : Key) → IsKept s → IsNodeKey s k → has_key s.keys k ≡ is_open s.history k.number
+pub has_key-is_open : (s : State) (k : Key) → IsPromised s → IsNodeKey s k → has_key s.keys k ≡ is_open s.history k.number
 has_key-is_open s k kept node =
     same_test _ _
     (λ h. let listed = Contains-map (λ (j : Key). j.number) s.keys k (has_key-contained s.keys k h) in subst (λ n. is_open s.history n ≡ true) listed.2 (kept.keys.each listed.0 k.number listed.1))
     (λ open_now. has_key-from_contained s.keys k (node.found open_now))
 
-pub has_res_key-is_held : (s : State) (k : ResKey) → IsKept s → IsHeldKey s k → has_res_key s.res_keys k ≡ is_held s.history k.number
+pub has_res_key-is_held : (s : State) (k : ResKey) → IsPromised s → IsHeldKey s k → has_res_key s.res_keys k ≡ is_held s.history k.number
 has_res_key-is_held s k kept held =
     same_test _ _
     (λ h. let listed = Contains-map (λ (j : ResKey). j.number) s.res_keys k (has_res_key-contained s.res_keys k h) in subst (λ n. is_held s.history n ≡ true) listed.2 (kept.res_keys.each listed.0 k.number listed.1))

@@ -1,9 +1,7 @@
-pub mod Written
-pub mod Lists
-pub mod Steps
+pub mod Binding
 pub mod Texts
 pub mod Keys
-pub mod Names
+pub mod Naming
 pub mod Going
 pub mod Carrying
 pub mod Commands
@@ -13,7 +11,3 @@ pub mod Closings
 pub mod Leading
 pub mod Gathering
 pub mod Reporting
-pub mod Counts
-pub mod Histories
-pub mod ReadBack
-pub mod Compact

@@ -16,18 +16,20 @@ use Rattle.rx_book.specs.declared.key.Key.{Key}
 use Rattle.rx_book.specs.declared.key.ResKey.{ResKey}
 use Rattle.rx_book.specs.declared.answer.At.{At}
 use Rattle.rx_book.specs.declared.answer.At.TheVariants.{Root as AtRoot, Source as AtSource}
-use Rattle.rx_book.specs.State.{State, IsKept, has_key, has_res_key}
+use Rattle.rx_book.specs.State.{State, IsPromised, has_key, has_res_key}
 use Rattle.rx_register.specs.Causes.{causes, is_gone}
-use Rattle.rx_book.specs.Answers.{against, Accepts, place_of, is_known}
+use Rattle.rx_book.specs.Requests.{Request, place_of, is_known_place, stands, open_request}
+use Rattle.rx_book.specs.Answers.{Accepts}
 use Rattle.rx_script.specs.declared.answer.Answer.TheVariants.{Accepted, Refused}
 use Rattle.rx_script.specs.declared.answer.Cause.TheVariants.{NoName, NameTaken, Book}
-use Rattle.rx_script.specs.declared.engine.Named.{Named}
+use Rattle.rx_script.specs.declared.names.Named.{Named}
 use Rattle.rx_script.specs.declared.engine.Engine.{Engine}
-use Rattle.rx_script.specs.Scenario.{Name, Spot, root, source, open_node}
-use Rattle.rx_script.specs.Stage.{Binding, Ware, Stage, is_bound, is_unbound_spot, own_cause, call_of, place_at, with_binding}
-use Rattle.rx_script.specs.Engine.{name_of, key_of, node_binding, res_binding, at_of, stage_of, IsNodeKey, IsHeldKey, IsSound, Carries}
+use Rattle.rx_scenario.specs.Scenario.{Name, Site, root, source, open_node}
+use Rattle.rx_script.specs.Stage.{Binding, Ware, Stage, is_bound, is_unbound_site, own_cause, call_of, place_at, with_binding}
+use Rattle.rx_script.specs.Names.{name_of, key_of}
+use Rattle.rx_script.specs.Engine.{node_binding, res_binding, at_of, stage_of, IsNodeKey, IsHeldKey, IsSound, Carries}
 use Rattle.rx_script.proofs.Keys.{has_key-is_open, has_key-contained, has_res_key-contained}
-use Rattle.rx_script.proofs.Names.{key_of-holds, bound-nodes, bound-resources, node_bound, node_unbound}
+use Rattle.rx_script.proofs.Naming.{key_of-holds, bound-nodes, bound-resources, node_bound, node_unbound}
 use Rattle.rx_script.proofs.Going.{step_longer, accepted_continues, node_keys_kept, held_keys_kept}
 use Rattle.rx_script.proofs.Carrying.{Agrees, first_cause-by_key, with, refused_own, refused_there, accepted_to}
 use Rattle.rx_script.proofs.Commands.{cause_of}
@@ -46,18 +48,18 @@ is_bound-resources names name = ap is_some (bound-resources names name) ∙ is_s
 
 -- places -------------------------------------------------------------------------------------------
 
--- what is known of the place that a spot stands for
-pub record IsPlaced {R : Type 0} (e : Engine R) (spot : Spot) (place : At) : Type 0 where
-  pub named : is_unbound_spot (stage_of e) spot ≡ false
-  pub placed : place_at (stage_of e) spot ≡ Some (place_of place)
-  pub gone : is_known e.book.keys place ≡ false → is_gone e.book.history (place_of place) ≡ true
+-- what is known of the place that a site stands for
+pub record IsPlaced {R : Type 0} (e : Engine R) (site : Site) (place : At) : Type 0 where
+  pub named : is_unbound_site (stage_of e) site ≡ false
+  pub placed : place_at (stage_of e) site ≡ Some (place_of place)
+  pub gone : is_known_place e.book.keys place ≡ false → is_gone e.book.history (place_of place) ≡ true
 
-source_placed : {R : Type 0} (e : Engine R) (name : Name) (place : At) (o : Option Key) → IsSound e → key_of e.nodes.items name ≡ o → option_map AtSource o ≡ Some place → IsPlaced e (source name) place
+source_placed : {R : Type 0} (e : Engine R) (name : Name) (place : At) (o : Option Key) → IsSound e → key_of e.nodes name ≡ o → option_map AtSource o ≡ Some place → IsPlaced e (source name) place
 source_placed e name place None sound is at = absurd (cc)
 source_placed e name place (Some k) sound is at =
     let same : AtSource k ≡ place = cc in
-    let number = node_bound e.nodes.items name k is in
-    let known = has_key-is_open e.book k sound.kept (key_of-holds (IsNodeKey e.book) e.nodes.items name k sound.nodes is) in
+    let number = node_bound e.nodes name k is in
+    let known = has_key-is_open e.book k sound.kept (key_of-holds (IsNodeKey e.book) e.nodes name k sound.nodes is) in
     let here : IsPlaced e (source name) (AtSource k) = record {
       named = ap is_none number;
       placed = ap (option_map Source) number;
@@ -65,33 +67,33 @@ source_placed e name place (Some k) sound is at =
     } in
     subst (IsPlaced e (source name)) same here
 
-pub spot_placed : {R : Type 0} (e : Engine R) (spot : Spot) (place : At) → IsSound e → at_of e.nodes.items spot ≡ Some place → IsPlaced e spot place
-spot_placed e root place sound at =
+pub site_placed : {R : Type 0} (e : Engine R) (site : Site) (place : At) → IsSound e → at_of e.nodes site ≡ Some place → IsPlaced e site place
+site_placed e root place sound at =
     let same : AtRoot ≡ place = cc in
     let here : IsPlaced e root AtRoot = record { named = refl; placed = refl; gone = λ unknown. absurd (cc) } in
     subst (IsPlaced e root) same here
-spot_placed e (source name) place sound at = source_placed e name place (key_of e.nodes.items name) sound refl at
+site_placed e (source name) place sound at = source_placed e name place (key_of e.nodes name) sound refl at
 
-source_nameless : {R : Type 0} (e : Engine R) (name : Name) (o : Option Key) → key_of e.nodes.items name ≡ o → option_map AtSource o ≡ None → is_unbound_spot (stage_of e) (source name) ≡ true
-source_nameless e name None is at = ap is_none (node_unbound e.nodes.items name is)
+source_nameless : {R : Type 0} (e : Engine R) (name : Name) (o : Option Key) → key_of e.nodes name ≡ o → option_map AtSource o ≡ None → is_unbound_site (stage_of e) (source name) ≡ true
+source_nameless e name None is at = ap is_none (node_unbound e.nodes name is)
 source_nameless e name (Some k) is at = absurd (cc)
 
-pub spot_nameless : {R : Type 0} (e : Engine R) (spot : Spot) → at_of e.nodes.items spot ≡ None → is_unbound_spot (stage_of e) spot ≡ true
-spot_nameless e root at = absurd (cc)
-spot_nameless e (source name) at = source_nameless e name (key_of e.nodes.items name) refl at
+pub site_nameless : {R : Type 0} (e : Engine R) (site : Site) → at_of e.nodes site ≡ None → is_unbound_site (stage_of e) site ≡ true
+site_nameless e root at = absurd (cc)
+site_nameless e (source name) at = source_nameless e name (key_of e.nodes name) refl at
 
 -- new names ----------------------------------------------------------------------------------------
 
-pub new_node_key : (old new : State) (stands : Refusal → Bool) (call : Call) (k : Key) → Accepts old stands call new → k.number ≡ length old.history → 0 < length (outside_of old.history call)
+pub new_node_key : (old new : State) (asked : Request) (k : Key) → Accepts old asked new → k.number ≡ length old.history → 0 < length (outside_of old.history asked.call)
     → IsTrue (has_key new.keys k) → IsNodeKey new k
-new_node_key old new stands call k accepts number some listed =
-    let longer = step_longer old.history new.history call accepts.step in
+new_node_key old new asked k accepts number some listed =
+    let longer = step_longer old.history new.history asked.call accepts.step in
     record { within = omega arith; found = λ open_now. has_key-contained new.keys k listed }
 
-pub new_held_key : (old new : State) (stands : Refusal → Bool) (call : Call) (k : ResKey) (place : ℕ) → Accepts old stands call new → k.number ≡ length old.history + place → place < length (outside_of old.history call)
+pub new_held_key : (old new : State) (asked : Request) (k : ResKey) (place : ℕ) → Accepts old asked new → k.number ≡ length old.history + place → place < length (outside_of old.history asked.call)
     → IsTrue (has_res_key new.res_keys k) → IsHeldKey new k
-new_held_key old new stands call k place accepts number some listed =
-    let longer = step_longer old.history new.history call accepts.step in
+new_held_key old new asked k place accepts number some listed =
+    let longer = step_longer old.history new.history asked.call accepts.step in
     record { within = omega arith; found = λ held_now. has_res_key-contained new.res_keys k listed }
 
 pub nodes_bound : (xs ys : List (Named Key)) (x : Named Key) (number : ℕ) → ys ≡ xs ++ x ∷ [] → x.key.number ≡ number → map node_binding ys ≡ with_binding (map node_binding xs) (name_of x) number
@@ -113,46 +115,48 @@ all_pushed P xs ys x pushed all here = subst (All P) (sym pushed) (All-push P xs
 
 -- opening ------------------------------------------------------------------------------------------
 
-module _ {R : Type 0} (e : Engine R) (name : Name) (spot : Spot) (kind : Kind) (sound : IsSound e) where
-  pub open_nameless : at_of e.nodes.items spot ≡ None → Carries e (open_node name spot kind) (Refused NoName) (with e e.book e.stock)
-  open_nameless none = let nameless = spot_nameless e spot none in refused_own e (open_node name spot kind) NoName e.book e.stock sound refl refl (rw nameless refl)
+module _ {R : Type 0} (e : Engine R) (name : Name) (site : Site) (kind : Kind) (sound : IsSound e) where
+  pub open_nameless : at_of e.nodes site ≡ None → Carries e (open_node name site kind) (Refused NoName) (with e e.book e.stock)
+  open_nameless none = let nameless = site_nameless e site none in refused_own e (open_node name site kind) NoName e.book e.stock sound refl refl (rw nameless refl)
 
-  module _ (place : At) (at : at_of e.nodes.items spot ≡ Some place) where
-    facts : IsPlaced e spot place
-    facts = spot_placed e spot place sound at
+  module _ (place : At) (at : at_of e.nodes site ≡ Some place) where
+    facts : IsPlaced e site place
+    facts = site_placed e site place sound at
 
-    pub open_taken : is_some (key_of e.nodes.items name) ≡ true → Carries e (open_node name spot kind) (Refused NameTaken) (with e e.book e.stock)
+    pub open_taken : is_some (key_of e.nodes name) ≡ true → Carries e (open_node name site kind) (Refused NameTaken) (with e e.book e.stock)
     open_taken taken =
         let named = facts.named in
-        let is_taken = is_bound-nodes e.nodes.items name ∙ taken in
-        refused_own e (open_node name spot kind) NameTaken e.book e.stock sound refl refl (rw (named, is_taken) refl)
+        let is_taken = is_bound-nodes e.nodes name ∙ taken in
+        refused_own e (open_node name site kind) NameTaken e.book e.stock sound refl refl (rw (named, is_taken) refl)
 
-    module _ (free : is_some (key_of e.nodes.items name) ≡ false) where
-      no_own_cause : own_cause (stage_of e) (open_node name spot kind) ≡ None
+    module _ (free : is_some (key_of e.nodes name) ≡ false) where
+      no_own_cause : own_cause (stage_of e) (open_node name site kind) ≡ None
       no_own_cause =
           let named = facts.named in
-          let is_free = is_bound-nodes e.nodes.items name ∙ free in
+          let is_free = is_bound-nodes e.nodes name ∙ free in
           rw (named, is_free) refl
 
-      called : call_of (stage_of e) (open_node name spot kind) ≡ Some (Opening (place_of place) kind)
-      called = ap (option_map (λ p. Opening p kind)) facts.placed
+      abbrev asked : Request
+      asked = open_request e.book place kind
 
-      agrees : Agrees e.book (against e.book (is_known e.book.keys place) true (Opening (place_of place) kind)) (stage_of e) (Opening (place_of place) kind)
-      agrees = record { same = first_cause-by_key (is_known e.book.keys place) (causes e.book.history e.book.limit true (Opening (place_of place) kind)) facts.gone }
+      agrees : Agrees e.book asked (stage_of e) (open_node name site kind)
+      agrees = record {
+        called = ap (option_map (λ p. Opening p kind)) facts.placed;
+        same = first_cause-by_key (is_known_place e.book.keys place) (causes e.book.history e.book.limit true (Opening (place_of place) kind)) facts.gone;
+      }
 
-      pub open_refused : (book : State) (why : Refusal) → book ≡ e.book → IsRefusal (against e.book (is_known e.book.keys place) true (Opening (place_of place) kind)) why → why ≢ NoMemory
-          → Carries e (open_node name spot kind) (Refused (Book why)) (with e book e.stock)
+      pub open_refused : (book : State) (why : Refusal) → book ≡ e.book → IsRefusal (stands e.book (open_request e.book place kind)) why → why ≢ NoMemory
+          → Carries e (open_node name site kind) (Refused (Book why)) (with e book e.stock)
       open_refused book why same refusal other =
-          refused_there e (open_node name spot kind) (Opening (place_of place) kind) (against e.book (is_known e.book.keys place) true (Opening (place_of place) kind)) why book e.stock sound same refl no_own_cause called agrees
-          (cause_of (against e.book (is_known e.book.keys place) true (Opening (place_of place) kind)) why refusal other)
+          refused_there e (open_node name site kind) asked why book e.stock sound same refl no_own_cause agrees (cause_of (stands e.book asked) why refusal other)
 
-      pub open_accepted : (new : Engine R) (x : Named Key) → IsKept new.book → Accepts e.book (against e.book (is_known e.book.keys place) true (Opening (place_of place) kind)) (Opening (place_of place) kind) new.book
-          → x.key.number ≡ length e.book.history → IsTrue (has_key new.book.keys x.key) → name_of x ≡ name → new.nodes.items ≡ e.nodes.items ++ x ∷ [] → new.resources.items ≡ e.resources.items → new.stock.wares ≡ e.stock.wares → new.faults ≡ e.faults
-          → Carries e (open_node name spot kind) Accepted new
+      pub open_accepted : (new : Engine R) (x : Named Key) → IsPromised new.book → Accepts e.book (open_request e.book place kind) new.book
+          → x.key.number ≡ length e.book.history → IsTrue (has_key new.book.keys x.key) → name_of x ≡ name → new.nodes ≡ e.nodes ++ x ∷ [] → new.resources ≡ e.resources → new.stock.wares ≡ e.stock.wares → new.faults ≡ e.faults
+          → Carries e (open_node name site kind) Accepted new
       open_accepted new x kept accepts number listed same_name pushed same_resources same_stock same_faults =
-          let goes = accepted_continues e.book new.book _ (Opening (place_of place) kind) accepts in
-          accepted_to e new (open_node name spot kind) (Opening (place_of place) kind) (against e.book (is_known e.book.keys place) true (Opening (place_of place) kind)) sound kept no_own_cause called agrees accepts
-          (same_stage new.book.history _ _ _ _ _ _ (nodes_bound e.nodes.items new.nodes.items x (length e.book.history) pushed number ∙ ap (λ n. with_binding (map node_binding e.nodes.items) n (length e.book.history)) same_name) (ap (map res_binding) same_resources) same_stock)
-          (all_pushed (λ n. IsNodeKey new.book n.key) e.nodes.items new.nodes.items x pushed (node_keys_kept e.book new.book e.nodes.items sound.kept kept goes sound.nodes) (new_node_key e.book new.book _ (Opening (place_of place) kind) x.key accepts number (omega arith) listed))
-          (subst (All (λ n. IsHeldKey new.book n.key)) (sym same_resources) (held_keys_kept e.book new.book e.resources.items sound.kept kept goes sound.resources))
+          let goes = accepted_continues e.book new.book asked accepts in
+          accepted_to e new (open_node name site kind) asked sound kept no_own_cause agrees accepts
+          (same_stage new.book.history _ _ _ _ _ _ (nodes_bound e.nodes new.nodes x (length e.book.history) pushed number ∙ ap (λ n. with_binding (map node_binding e.nodes) n (length e.book.history)) same_name) (ap (map res_binding) same_resources) same_stock)
+          (all_pushed (λ n. IsNodeKey new.book n.key) e.nodes new.nodes x pushed (node_keys_kept e.book new.book e.nodes sound.kept kept goes sound.nodes) (new_node_key e.book new.book asked x.key accepts number (omega arith) listed))
+          (subst (All (λ n. IsHeldKey new.book n.key)) (sym same_resources) (held_keys_kept e.book new.book e.resources sound.kept kept goes sound.resources))
           same_faults

@@ -1,15 +1,18 @@
 -- The whole report of a course.
-use Rattle.std.proofs.Common.{◌≡◌, ◌≤◌, ◌+◌, ◌++◌, ℕ, List, min, sym, ap, subst, ◌∙◌, arith}
+use Rattle.std.proofs.Common.{◌≡◌, ◌≤◌, ◌+◌, ◌++◌, ℕ, List, min, refl, sym, ap, subst, ◌∙◌, append-nil, arith}
 use Rattle.rx_event.specs.declared.event.Event.{Event}
 use Rattle.rx_event.specs.Lawful.{IsLawful}
 use Rattle.rx_event.specs.Totals.{accepted_count, taken_count, held_count, waiting_count}
 use Rattle.rx_event.proofs.Laws.Totals.{accepted_count-parts}
 use Rattle.rx_script.specs.declared.answer.Answer.{Answer}
-use Rattle.rx_script.specs.Scenario.{Script}
+use Rattle.rx_scenario.specs.Scenario.{Script}
 use Rattle.rx_script.specs.Stage.{Ware, Stage, start}
 use Rattle.rx_script.specs.Course.{Leads, Course, IsCourseOf}
-use Rattle.rx_script.specs.Text.{closed_line}
-use Rattle.rx_script.specs.Report.{unclosed_report, report}
+use Rattle.rx_dump.specs.Dump.{dump}
+use Rattle.rx_script.specs.declared.Form.{Form}
+use Rattle.rx_script.specs.declared.Form.TheVariants.{Report, Dump}
+use Rattle.rx_script.specs.Report.{report, output}
+use Rattle.rx_script.specs.Outputs.{unclosed_output, closing}
 
 -- no more releases met a fault than resources were accepted
 pub few_faults : (h last : List Event) (faults before at_end released most : ℕ) → last ≡ h → IsLawful h → before ≤ taken_count last → at_end ≤ released → released ≡ held_count h + waiting_count h → faults ≡ min (before + at_end) most
@@ -20,12 +23,17 @@ few_faults h last faults before at_end released most same lawful few_before few_
     let taken : taken_count last ≡ taken_count h = ap taken_count same in
     omega arith
 
-pub whole_report : (script : Script) (stock : List Ware) (limit : ℕ) (first last : Stage) (answers : List Answer) (h : List Event) (unclosed whole : List ℕ) (released faults : ℕ)
-    → Leads limit first script.steps answers last → limit ≡ script.events → first ≡ start stock → last.history ≡ h → unclosed ≡ unclosed_report answers last
-    → released ≡ held_count h + waiting_count h → whole ≡ unclosed ++ closed_line released faults → faults ≤ accepted_count last.history
-    → (c : Course) × (n : ℕ) × IsCourseOf script stock c × (n ≤ accepted_count c.last.history) × (whole ≡ report c n)
+outputs_whole : (form : Form) (c : Course) (faults : ℕ) → unclosed_output form c.answers c.last ++ closing form (held_count c.last.history + waiting_count c.last.history) faults ≡ output form c faults
 unfolding report
-whole_report script stock limit first last answers h unclosed whole released faults leads same_limit same_first same_history lines rest is_whole few =
+outputs_whole Report c faults = refl
+outputs_whole Dump c faults = append-nil (dump c.last.history)
+
+pub whole_output : (form : Form) (script : Script) (stock : List Ware) (limit : ℕ) (first last : Stage) (answers : List Answer) (h : List Event) (unclosed whole : List ℕ) (released faults : ℕ)
+    → Leads limit first script.steps answers last → limit ≡ script.events → first ≡ start stock → last.history ≡ h → unclosed ≡ unclosed_output form answers last
+    → released ≡ held_count h + waiting_count h → whole ≡ unclosed ++ closing form released faults → faults ≤ accepted_count last.history
+    → (c : Course) × (n : ℕ) × IsCourseOf script stock c × (n ≤ accepted_count c.last.history) × (whole ≡ output form c n)
+whole_output form script stock limit first last answers h unclosed whole released faults leads same_limit same_first same_history lines rest is_whole few =
     let course : Leads script.events (start stock) script.steps answers last = subst (λ n. Leads n (start stock) script.steps answers last) same_limit (subst (λ s. Leads limit s script.steps answers last) same_first leads) in
     let left : released ≡ held_count last.history + waiting_count last.history = rest ∙ ap (λ l. held_count l + waiting_count l) (sym same_history) in
-    (record { answers = answers; last = last }, faults, course, few, is_whole ∙ ap (λ l. l ++ closed_line released faults) lines ∙ ap (λ n. unclosed_report answers last ++ closed_line n faults) left)
+    let c : Course = record { answers = answers; last = last } in
+    (c, faults, course, few, is_whole ∙ ap (λ l. l ++ closing form released faults) lines ∙ ap (λ n. unclosed_output form answers last ++ closing form n faults) left ∙ outputs_whole form c faults)

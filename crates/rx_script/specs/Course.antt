@@ -10,7 +10,7 @@ use Rattle.rx_script.specs.declared.answer.Answer.{Answer}
 use Rattle.rx_script.specs.declared.answer.Answer.TheVariants.{Accepted, Refused}
 use Rattle.rx_script.specs.declared.answer.Cause.{Cause}
 use Rattle.rx_script.specs.declared.answer.Cause.TheVariants.{Book}
-use Rattle.rx_script.specs.Scenario.{Step, drain, Script}
+use Rattle.rx_scenario.specs.Scenario.{Command, drain, Script}
 use Rattle.rx_script.specs.Stage.{Ware, Stage, start, own_cause, call_of, front_is_fresh, after}
 
 -- from h one resource after another is taken
@@ -28,16 +28,16 @@ abbrev pub book_cause : ℕ → Stage → Call → Option Refusal
 book_cause limit s call = first_cause (causes s.history limit (front_is_fresh s) call)
 
 -- a step, where the book has so many events at most, its answer, and what follows
-pub data Executes (limit : ℕ) (s : Stage) : Step → Answer → Stage → Type 0 where
-  refused : {step : Step} {why : Cause} → own_cause s step ≡ Some why → Executes limit s step (Refused why) s
-  refused_by_book : {step : Step} {call : Call} {why : Refusal} → own_cause s step ≡ None → call_of s step ≡ Some call → book_cause limit s call ≡ Some why → Executes limit s step (Refused (Book why)) s
-  accepted : {step : Step} {call : Call} {k : List Event} → own_cause s step ≡ None → call_of s step ≡ Some call → book_cause limit s call ≡ None → IsStepOf s.history call k → Executes limit s step Accepted (after s step k)
+pub data Executes (limit : ℕ) (s : Stage) : Command → Answer → Stage → Type 0 where
+  refused : {step : Command} {why : Cause} → own_cause s step ≡ Some why → Executes limit s step (Refused why) s
+  refused_by_book : {step : Command} {call : Call} {why : Refusal} → own_cause s step ≡ None → call_of s step ≡ Some call → book_cause limit s call ≡ Some why → Executes limit s step (Refused (Book why)) s
+  accepted : {step : Command} {call : Call} {k : List Event} → own_cause s step ≡ None → call_of s step ≡ Some call → book_cause limit s call ≡ None → IsStepOf s.history call k → Executes limit s step Accepted (after s step k)
   drained : {k : List Event} → Drains s.history k → Executes limit s drain Accepted (after s drain k)
 
 -- the steps in order lead here with these answers
-pub data Leads (limit : ℕ) (first : Stage) : List Step → List Answer → Stage → Type 0 where
+pub data Leads (limit : ℕ) (first : Stage) : List Command → List Answer → Stage → Type 0 where
   not_begun : Leads limit first [] [] first
-  executed : {steps : List Step} {answers : List Answer} {s t : Stage} {step : Step} {answer : Answer} → Leads limit first steps answers s → Executes limit s step answer t → Leads limit first (steps ++ step ∷ []) (answers ++ answer ∷ []) t
+  executed : {steps : List Command} {answers : List Answer} {s t : Stage} {step : Command} {answer : Answer} → Leads limit first steps answers s → Executes limit s step answer t → Leads limit first (steps ++ step ∷ []) (answers ++ answer ∷ []) t
 
 -- the answers of the executed steps, in order, and where the scenario is at its end
 pub record Course : Type 0 where

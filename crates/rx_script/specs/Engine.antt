@@ -9,22 +9,16 @@ use Rattle.rx_book.specs.declared.key.Key.{Key}
 use Rattle.rx_book.specs.declared.key.ResKey.{ResKey}
 use Rattle.rx_book.specs.declared.answer.At.{At}
 use Rattle.rx_book.specs.declared.answer.At.TheVariants.{Root as AtRoot, Source as AtSource}
-use Rattle.rx_book.specs.State.{State, IsKept}
+use Rattle.rx_book.specs.State.{State, IsPromised}
 use Rattle.rx_script.specs.declared.answer.Answer.{Answer}
-use Rattle.rx_script.specs.declared.engine.Named.{Named}
+use Rattle.rx_script.specs.declared.names.Named.{Named}
 use Rattle.rx_script.specs.declared.engine.Engine.{Engine}
-use Rattle.rx_script.specs.Scenario.{Name, Spot, root, source, Step}
+use Rattle.rx_scenario.specs.Scenario.{Name, Site, root, source, Command}
+use Rattle.rx_script.specs.Names.{name_of, key_of}
 use Rattle.rx_script.specs.Stage.{Binding, Stage}
 use Rattle.rx_script.specs.Course.{Executes}
 
 -- names --------------------------------------------------------------------------------------------
-
-abbrev pub name_of : {K : Type 0} → Named K → Name
-name_of n = string_bytes n.name
-
--- the first key that has the name
-unfoldable pub key_of : {K : Type 0} → List (Named K) → Name → Option K
-key_of names name = option_map (λ n. n.key) (find (λ n. bytes_eq (name_of n) name) names)
 
 abbrev pub node_binding : Named Key → Binding
 node_binding n = record { name = name_of n; number = n.key.number }
@@ -33,7 +27,7 @@ abbrev pub res_binding : Named ResKey → Binding
 res_binding n = record { name = name_of n; number = n.key.number }
 
 -- where a node is to be opened, by keys
-abbrev pub at_of : List (Named Key) → Spot → Option At
+abbrev pub at_of : List (Named Key) → Site → Option At
 at_of names root = Some AtRoot
 at_of names (source name) = option_map AtSource (key_of names name)
 
@@ -41,7 +35,7 @@ at_of names (source name) = option_map AtSource (key_of names name)
 
 -- the stage that an engine is at
 abbrev pub stage_of : {R : Type 0} → Engine R → Stage
-stage_of e = record { history = e.book.history; nodes = map node_binding e.nodes.items; resources = map res_binding e.resources.items; stock = e.stock.wares }
+stage_of e = record { history = e.book.history; nodes = map node_binding e.nodes; resources = map res_binding e.resources; stock = e.stock.wares }
 
 -- a key that a book gave: it is the key of its node as long as that is open
 pub record IsNodeKey (s : State) (k : Key) : Type 0 where
@@ -62,13 +56,13 @@ pub record Continues (old new : State) : Type 0 where
 
 -- what an engine keeps
 pub record IsSound {R : Type 0} (e : Engine R) : Type 0 where
-  pub kept : IsKept e.book
-  pub nodes : All (λ n. IsNodeKey e.book n.key) e.nodes.items
-  pub resources : All (λ n. IsHeldKey e.book n.key) e.resources.items
+  pub kept : IsPromised e.book
+  pub nodes : All (λ n. IsNodeKey e.book n.key) e.nodes
+  pub resources : All (λ n. IsHeldKey e.book n.key) e.resources
   pub faults : e.faults ≤ taken_count e.book.history
 
 -- the step was executed with this answer, and all else is as before
-pub record Carries {R : Type 0} (old : Engine R) (step : Step) (answer : Answer) (new : Engine R) : Type 0 where
+pub record Carries {R : Type 0} (old : Engine R) (step : Command) (answer : Answer) (new : Engine R) : Type 0 where
   pub executes : Executes old.book.limit (stage_of old) step answer (stage_of new)
   pub sound : IsSound new
   pub limit : new.book.limit ≡ old.book.limit

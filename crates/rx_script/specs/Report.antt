@@ -1,4 +1,4 @@
--- The report of a course.
+-- The report of a course, and its dump.
 use Rattle.std.specs.Prelude.{ℕ, ◌+◌, Bool, true, false, List, ◌++◌, slice_get, filter, flat_map, count_by, unwrap_or, option_and_then, if◌then◌else◌}
 use Rattle.std.specs.List.{enumerate_from}
 use Rattle.rx_event.specs.declared.event.Place.TheVariants.{Root}
@@ -18,6 +18,9 @@ use Rattle.rx_script.specs.declared.line.Account.{Account}
 use Rattle.rx_script.specs.declared.line.Totals.{Totals}
 use Rattle.rx_script.specs.Stage.{Binding, Stage}
 use Rattle.rx_script.specs.Text.{refused_line, node_line, res_line, totals_line, closed_line}
+use Rattle.rx_dump.specs.Dump.{dump}
+use Rattle.rx_script.specs.declared.Form.{Form}
+use Rattle.rx_script.specs.declared.Form.TheVariants.{Report, Dump}
 use Rattle.rx_script.specs.Course.{Course}
 
 -- the steps that were refused, in order of execution
@@ -61,3 +64,8 @@ unclosed_report answers s = refused_lines answers ++ node_lines s.history s.node
 -- the text, where so many releases of the whole run met a fault. What is held or waits after the last step is released then
 unfoldable pub report : Course → ℕ → List ℕ
 report c faults = unclosed_report c.answers c.last ++ closed_line (held_count c.last.history + waiting_count c.last.history) faults
+
+-- what is written of a course, in this form: its report, or the dump of its history before the closing
+abbrev pub output : Form → Course → ℕ → List ℕ
+output Report c faults = report c faults
+output Dump c faults = dump c.last.history

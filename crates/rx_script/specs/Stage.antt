@@ -6,11 +6,11 @@ use Rattle.rx_event.specs.declared.event.Place.{Place}
 use Rattle.rx_event.specs.declared.event.Place.TheVariants.{Root, Source}
 use Rattle.rx_event.specs.declared.event.Event.{Event}
 use Rattle.rx_event.specs.Calls.{Call, Opening, OpeningUsing, Holding, Applying, Removing, Emitting, Ending, Aborting, Disposing}
-use Rattle.rx_resource.specs.declared.Life.{Life}
-use Rattle.rx_book.specs.Shown.{is_fresh_box}
+use Rattle.rx_resource.specs.declared.Resource.{Ghosts}
+use Rattle.rx_book.specs.Requests.{is_fresh_in}
 use Rattle.rx_script.specs.declared.answer.Cause.{Cause}
 use Rattle.rx_script.specs.declared.answer.Cause.TheVariants.{NoName, NameTaken, NoStock}
-use Rattle.rx_script.specs.Scenario.{Name, Spot, root, source, Step, using, open_node, hold, apply, remove, next, end, abort, dispose, drain}
+use Rattle.rx_scenario.specs.Scenario.{Name, Site, root, source, Command, using, open_node, hold, apply, remove, next, end, abort, dispose, drain}
 
 -- a name, and the number of the node or resource that it stands for
 pub record Binding : Type 0 where
@@ -23,8 +23,8 @@ pub record Ware : Type 0 where
   pub is_fresh : Bool
 
 -- a book takes a resource that was neither released nor used
-abbrev pub ware_of : ℕ → Life → ℕ → Ware
-ware_of tag life uses = record { tag = tag; is_fresh = is_fresh_box life uses }
+abbrev pub ware_of : {T : Type 0} → Ghosts T → T → Ware
+ware_of g x = record { tag = g.tag_of x; is_fresh = is_fresh_in g x }
 
 -- what has happened, what the names of nodes and of resources stand for, in order of binding, and what is left of the stock
 pub record Stage : Type 0 where
@@ -49,14 +49,14 @@ is_unbound bindings name = is_none (bound bindings name)
 abbrev pub is_bound : List Binding → Name → Bool
 is_bound bindings name = is_some (bound bindings name)
 
-abbrev pub is_unbound_spot : Stage → Spot → Bool
-is_unbound_spot s root = false
-is_unbound_spot s (source name) = is_unbound s.nodes name
+abbrev pub is_unbound_site : Stage → Site → Bool
+is_unbound_site s root = false
+is_unbound_site s (source name) = is_unbound s.nodes name
 
 -- it uses a name that is not bound
-abbrev pub lacks_name : Stage → Step → Bool
-lacks_name s (using name spot res) = is_unbound_spot s spot
-lacks_name s (open_node name spot kind) = is_unbound_spot s spot
+abbrev pub lacks_name : Stage → Command → Bool
+lacks_name s (using name site res) = is_unbound_site s site
+lacks_name s (open_node name site kind) = is_unbound_site s site
 lacks_name s (hold node res) = is_unbound s.nodes node
 lacks_name s (apply res word) = is_unbound s.resources res
 lacks_name s (remove res) = is_unbound s.resources res
@@ -67,9 +67,9 @@ lacks_name s (dispose node) = is_unbound s.nodes node
 lacks_name s drain = false
 
 -- it would bind a name that is bound; nodes and resources have a space of names each
-abbrev pub takes_name : Stage → Step → Bool
-takes_name s (using name spot res) = is_bound s.nodes name || is_bound s.resources res
-takes_name s (open_node name spot kind) = is_bound s.nodes name
+abbrev pub takes_name : Stage → Command → Bool
+takes_name s (using name site res) = is_bound s.nodes name || is_bound s.resources res
+takes_name s (open_node name site kind) = is_bound s.nodes name
 takes_name s (hold node res) = is_bound s.resources res
 takes_name s (apply res word) = false
 takes_name s (remove res) = false
@@ -84,9 +84,9 @@ is_empty [] = true
 is_empty (ware ∷ stock) = false
 
 -- it takes a resource of the stock, and none is left
-abbrev pub lacks_stock : Stage → Step → Bool
-lacks_stock s (using name spot res) = is_empty s.stock
-lacks_stock s (open_node name spot kind) = false
+abbrev pub lacks_stock : Stage → Command → Bool
+lacks_stock s (using name site res) = is_empty s.stock
+lacks_stock s (open_node name site kind) = false
 lacks_stock s (hold node res) = is_empty s.stock
 lacks_stock s (apply res word) = false
 lacks_stock s (remove res) = false
@@ -97,7 +97,7 @@ lacks_stock s (dispose node) = false
 lacks_stock s drain = false
 
 -- the first of these that stands
-abbrev pub own_cause : Stage → Step → Option Cause
+abbrev pub own_cause : Stage → Command → Option Cause
 own_cause s step =
     if lacks_name s step then Some NoName
     else if takes_name s step then Some NameTaken
@@ -106,7 +106,7 @@ own_cause s step =
 
 -- the call of the book -----------------------------------------------------------------------------
 
-abbrev pub place_at : Stage → Spot → Option Place
+abbrev pub place_at : Stage → Site → Option Place
 place_at s root = Some Root
 place_at s (source name) = option_map Source (bound s.nodes name)
 
@@ -118,9 +118,9 @@ abbrev pub front_is_fresh : Stage → Bool
 front_is_fresh s = option_map_or (λ w. w.is_fresh) (front s) true
 
 -- the call that a step makes, with numbers in place of names
-abbrev pub call_of : Stage → Step → Option Call
-call_of s (using name spot res) = option_and_then (λ place. option_map (λ w. OpeningUsing place w.tag) (front s)) (place_at s spot)
-call_of s (open_node name spot kind) = option_map (λ place. Opening place kind) (place_at s spot)
+abbrev pub call_of : Stage → Command → Option Call
+call_of s (using name site res) = option_and_then (λ place. option_map (λ w. OpeningUsing place w.tag) (front s)) (place_at s site)
+call_of s (open_node name site kind) = option_map (λ place. Opening place kind) (place_at s site)
 call_of s (hold node res) = option_and_then (λ n. option_map (λ w. Holding n w.tag) (front s)) (bound s.nodes node)
 call_of s (apply res word) = option_map Applying (bound s.resources res)
 call_of s (remove res) = option_map Removing (bound s.resources res)
@@ -137,9 +137,9 @@ with_binding bindings name number = bindings ++ (record { name = name; number = 
 
 -- after an accepted step that took the history to k: a node is numbered by the place of its opening, and a resource by the
 -- place of its acceptance
-abbrev pub after : Stage → Step → List Event → Stage
-after s (using name spot res) k = record { history = k; nodes = with_binding s.nodes name (length s.history); resources = with_binding s.resources res (length s.history + 1); stock = drop 1 s.stock }
-after s (open_node name spot kind) k = record { history = k; nodes = with_binding s.nodes name (length s.history); resources = s.resources; stock = s.stock }
+abbrev pub after : Stage → Command → List Event → Stage
+after s (using name site res) k = record { history = k; nodes = with_binding s.nodes name (length s.history); resources = with_binding s.resources res (length s.history + 1); stock = drop 1 s.stock }
+after s (open_node name site kind) k = record { history = k; nodes = with_binding s.nodes name (length s.history); resources = s.resources; stock = s.stock }
 after s (hold node res) k = record { history = k; nodes = s.nodes; resources = with_binding s.resources res (length s.history); stock = drop 1 s.stock }
 after s (apply res word) k = record { history = k; nodes = s.nodes; resources = s.resources; stock = s.stock }
 after s (remove res) k = record { history = k; nodes = s.nodes; resources = s.resources; stock = s.stock }

@@ -14,7 +14,7 @@ use Rattle.rx_script.specs.declared.line.Whereabouts.{Whereabouts}
 use Rattle.rx_script.specs.declared.line.Whereabouts.TheVariants.{Held, Waiting, Taken}
 use Rattle.rx_script.specs.declared.line.Account.{Account}
 use Rattle.rx_script.specs.declared.line.Totals.{Totals}
-use Rattle.rx_script.specs.Scenario.{Name}
+use Rattle.rx_scenario.specs.Scenario.{Name}
 
 -- refused steps ------------------------------------------------------------------------------------
 

@@ -1,38 +1,32 @@
 //! A scenario at work: a book, what its names stand for, and the stock that is left.
 
 ghost use Rattle.std.specs.Prelude.{◌≡◌, ◌≢◌, ◌≤◌, [], ◌∷◌, ◌++◌, true, false, is_some, map, string_bytes, Some, IfOk, IfErr, OnOk, OnErr};
-ghost use Rattle.rx_book.specs.State.{IsKept};
+ghost use Rattle.rx_book.specs.State.{IsPromised};
 ghost use Rattle.rx_event.specs.declared.refusal.Refusal.{Refusal};
 ghost use Rattle.rx_script.specs.declared.answer.Answer.{Answer};
 ghost use Rattle.rx_script.specs.declared.answer.Cause.{Cause};
-ghost use Rattle.rx_script.specs.Scenario.{spot_of, step_of, using, open_node, hold as holding, apply as applying, remove as removing, next as emitting, end as ending, abort as aborting, dispose as disposing, drain as draining};
+ghost use Rattle.rx_scenario.specs.Scenario.{site_of, command_of, using, open_node, hold as holding, apply as applying, remove as removing, next as emitting, end as ending, abort as aborting, dispose as disposing, drain as draining};
 ghost use Rattle.rx_script.specs.Stage.{start, ware_of};
 ghost use Rattle.rx_script.specs.Course.{Leads};
-ghost use Rattle.rx_script.specs.Engine.{key_of, at_of, stage_of, IsSound, Carries};
+ghost use Rattle.rx_script.specs.Engine.{at_of, stage_of, IsSound, Carries};
 
 use crate::answer::{Answer, Cause};
 use crate::closing::release_waiting;
-use crate::scenario::{Command, Site};
+use crate::names::Names;
 use crate::stock::Stock;
 use rx_book::{At, Book, Key, ResKey};
 use rx_event::{Kind, Refusal, Terminal};
 use rx_resource::Resource;
+use rx_scenario::{Command, Site};
 use std::alloc::{AllocError, Global};
-
-/// A name, and the key that it stands for.
-#[derive(Drop)]
-pub struct Named<K> {
-    pub name: String,
-    pub key: K,
-}
 
 /// A book, the names of its nodes and of its resources in order of binding, the stock that is
 /// left, and how many releases have met a fault.
 #[derive(Drop)]
 pub struct Engine<R: Resource> {
     pub book: Book<R>,
-    pub nodes: Vec<Named<Key>>,
-    pub resources: Vec<Named<ResKey>>,
+    pub nodes: Names<Key>,
+    pub resources: Names<ResKey>,
     pub stock: Stock<R>,
     pub faults: u64,
 }
@@ -41,7 +35,7 @@ pub struct Engine<R: Resource> {
 pub fn begin<R: Resource>(alloc: Global, max_events: u64, stock: Vec<R>) -> Engine<R>
     requires { max_events ≤ 4294967295 }
     ensures sound { IsSound result }
-    ensures stage { stage_of result ≡ start (map (λ r. ware_of (R.tag_of r) (R.life_of r) (R.uses_of r)) stock.items) }
+    ensures stage { stage_of result ≡ start (map (ware_of R.Resource) stock.items) }
     ensures limit { result.book.limit ≡ max_events }
     ensures given { result.book.given ≡ 0 }
 {
@@ -49,38 +43,20 @@ pub fn begin<R: Resource>(alloc: Global, max_events: u64, stock: Vec<R>) -> Engi
     book.promise();
     Engine {
         book,
-        nodes: Vec::new(alloc),
-        resources: Vec::new(alloc),
+        nodes: Names::new(alloc),
+        resources: Names::new(alloc),
         stock: Stock::new(stock),
         faults: 0,
     }
 }
 
-/// The key that a name stands for.
-#[tactic(auto, unfolding(crate::specs::Engine::key_of))]
-pub fn key_of<K: Copy>(names: &[Named<K>], name: &str) -> Option<K>
-    ensures { result ≡ key_of names.now name.now }
-{
-    names
-        .iter()
-        .find(|named| named.name.as_str() == name)
-        .map(|named| named.key)
-}
-
-/// Whether a name stands for a key.
-pub fn is_bound<K: Copy>(names: &[Named<K>], name: &str) -> bool
-    ensures { result ≡ is_some (key_of names.now name.now) }
-{
-    key_of(names, name).is_some()
-}
-
 /// The place that a site stands for.
-pub fn place_of(names: &[Named<Key>], site: &Site) -> Option<At>
-    ensures { result ≡ at_of names.now (spot_of site.now) }
+pub fn place_of(names: &Names<Key>, site: &Site) -> Option<At>
+    ensures { result ≡ at_of names.now (site_of site.now) }
 {
     match site {
         Site::Root => Some(At::Root),
-        Site::Source(name) => key_of(names, name.as_str()).map(At::Source),
+        Site::Source(name) => names.get(name.as_str()).map(At::Source),
     }
 }
 
@@ -104,7 +80,7 @@ pub fn next<R: Resource>(
     requires { IsSound engine.old }
     ensures { IfOk result (λ a. Carries engine.old (emitting node.now value) a engine.new) }
 {
-    let Some(leaf) = key_of(engine.nodes.as_slice(), node) else {
+    let Some(leaf) = engine.nodes.get(node) else {
         return Ok(Answer::Refused(Cause::NoName));
     };
     match engine.book.next(leaf, value) {
@@ -125,7 +101,7 @@ pub fn end<R: Resource>(
     requires { IsSound engine.old }
     ensures { IfOk result (λ a. Carries engine.old (ending node.now terminal) a engine.new) }
 {
-    let Some(leaf) = key_of(engine.nodes.as_slice(), node) else {
+    let Some(leaf) = engine.nodes.get(node) else {
         return Ok(Answer::Refused(Cause::NoName));
     };
     match engine.book.end(leaf, terminal) {
@@ -146,7 +122,7 @@ pub fn apply<R: Resource>(
     requires { IsSound engine.old }
     ensures { IfOk result (λ a. Carries engine.old (applying res.now word) a engine.new) }
 {
-    let Some(key) = key_of(engine.resources.as_slice(), res) else {
+    let Some(key) = engine.resources.get(res) else {
         return Ok(Answer::Refused(Cause::NoName));
     };
     match engine.book.apply(key, word) {
@@ -163,7 +139,7 @@ pub fn remove<R: Resource>(engine: &mut Engine<R>, res: &str) -> Result<Answer, 
     requires { IsSound engine.old }
     ensures { IfOk result (λ a. Carries engine.old (removing res.now) a engine.new) }
 {
-    let Some(key) = key_of(engine.resources.as_slice(), res) else {
+    let Some(key) = engine.resources.get(res) else {
         return Ok(Answer::Refused(Cause::NoName));
     };
     match engine.book.remove(key) {
@@ -184,7 +160,7 @@ pub fn abort<R: Resource>(
     requires { IsSound engine.old }
     ensures { IfOk result (λ a. Carries engine.old (aborting node.now code) a engine.new) }
 {
-    let Some(key) = key_of(engine.nodes.as_slice(), node) else {
+    let Some(key) = engine.nodes.get(node) else {
         return Ok(Answer::Refused(Cause::NoName));
     };
     match engine.book.abort(key, code) {
@@ -201,7 +177,7 @@ pub fn dispose<R: Resource>(engine: &mut Engine<R>, node: &str) -> Result<Answer
     requires { IsSound engine.old }
     ensures { IfOk result (λ a. Carries engine.old (disposing node.now) a engine.new) }
 {
-    let Some(root) = key_of(engine.nodes.as_slice(), node) else {
+    let Some(root) = engine.nodes.get(node) else {
         return Ok(Answer::Refused(Cause::NoName));
     };
     match engine.book.dispose(root) {
@@ -221,21 +197,18 @@ pub fn open<R: Resource>(
     kind: Kind,
 ) -> Result<Answer, AllocError>
     requires { IsSound engine.old }
-    ensures { IfOk result (λ a. Carries engine.old (open_node (string_bytes name) (spot_of site.now) kind) a engine.new) }
+    ensures { IfOk result (λ a. Carries engine.old (open_node (string_bytes name) (site_of site.now) kind) a engine.new) }
 {
-    let Some(place) = place_of(engine.nodes.as_slice(), site) else {
+    let Some(place) = place_of(&engine.nodes, site) else {
         return Ok(Answer::Refused(Cause::NoName));
     };
-    if is_bound(engine.nodes.as_slice(), name.as_str()) {
+    if engine.nodes.is_bound(name.as_str()) {
         return Ok(Answer::Refused(Cause::NameTaken));
     }
     match engine.book.open(place, kind) {
         Ok(opened) => {
             engine.book.promise();
-            engine.nodes.push(Named {
-                name,
-                key: opened.key,
-            })?;
+            engine.nodes.bind(name, opened.key)?;
             Ok(Answer::Accepted)
         }
         Err(why) => refused(why),
@@ -250,15 +223,15 @@ pub fn using<R: Resource>(
     res: String,
 ) -> Result<Answer, AllocError>
     requires { IsSound engine.old }
-    ensures { IfOk result (λ a. Carries engine.old (using (string_bytes name) (spot_of site.now) (string_bytes res)) a engine.new) }
+    ensures { IfOk result (λ a. Carries engine.old (using (string_bytes name) (site_of site.now) (string_bytes res)) a engine.new) }
 {
-    let Some(place) = place_of(engine.nodes.as_slice(), site) else {
+    let Some(place) = place_of(&engine.nodes, site) else {
         return Ok(Answer::Refused(Cause::NoName));
     };
-    if is_bound(engine.nodes.as_slice(), name.as_str()) {
+    if engine.nodes.is_bound(name.as_str()) {
         return Ok(Answer::Refused(Cause::NameTaken));
     }
-    if is_bound(engine.resources.as_slice(), res.as_str()) {
+    if engine.resources.is_bound(res.as_str()) {
         return Ok(Answer::Refused(Cause::NameTaken));
     }
     let Some(resource) = engine.stock.take() else {
@@ -267,14 +240,8 @@ pub fn using<R: Resource>(
     match engine.book.open_using(place, resource) {
         Ok(opened) => {
             engine.book.promise();
-            engine.nodes.push(Named {
-                name,
-                key: opened.key,
-            })?;
-            engine.resources.push(Named {
-                name: res,
-                key: opened.res,
-            })?;
+            engine.nodes.bind(name, opened.key)?;
+            engine.resources.bind(res, opened.res)?;
             Ok(Answer::Accepted)
         }
         Err(unheld) => {
@@ -293,10 +260,10 @@ pub fn hold<R: Resource>(
     requires { IsSound engine.old }
     ensures { IfOk result (λ a. Carries engine.old (holding node.now (string_bytes res)) a engine.new) }
 {
-    let Some(key) = key_of(engine.nodes.as_slice(), node) else {
+    let Some(key) = engine.nodes.get(node) else {
         return Ok(Answer::Refused(Cause::NoName));
     };
-    if is_bound(engine.resources.as_slice(), res.as_str()) {
+    if engine.resources.is_bound(res.as_str()) {
         return Ok(Answer::Refused(Cause::NameTaken));
     }
     let Some(resource) = engine.stock.take() else {
@@ -305,10 +272,7 @@ pub fn hold<R: Resource>(
     match engine.book.hold(key, resource) {
         Ok(held) => {
             engine.book.promise();
-            engine.resources.push(Named {
-                name: res,
-                key: held,
-            })?;
+            engine.resources.bind(res, held)?;
             Ok(Answer::Accepted)
         }
         Err(unheld) => {
@@ -331,7 +295,7 @@ pub fn drain<R: Resource>(engine: &mut Engine<R>)
 /// Carries out one command. Err where memory was refused; then the scenario goes no further.
 pub fn execute<R: Resource>(engine: &mut Engine<R>, command: Command) -> Result<Answer, AllocError>
     requires { IsSound engine.old }
-    ensures { IfOk result (λ a. Carries engine.old (step_of command) a engine.new) }
+    ensures { IfOk result (λ a. Carries engine.old (command_of command) a engine.new) }
 {
     match command {
         Command::Using { name, place, res } => using(engine, name, &place, res),
@@ -357,7 +321,7 @@ pub fn execute_all<R: Resource>(
     commands: Vec<Command>,
 ) -> Result<Vec<Answer>, AllocError>
     requires { IsSound engine.old }
-    ensures leads { IfOk result (λ v. Leads engine.old.book.limit (stage_of engine.old) (map step_of commands.items) v.items (stage_of engine.new)) }
+    ensures leads { IfOk result (λ v. Leads engine.old.book.limit (stage_of engine.old) (map command_of commands.items) v.items (stage_of engine.new)) }
     ensures sound { OnOk result (IsSound engine.new) }
     ensures given { OnOk result (engine.new.book.given ≡ engine.old.book.given) }
 {

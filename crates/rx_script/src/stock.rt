@@ -23,13 +23,13 @@ impl<R: Resource> Model for Stock<R> {
 
     ghost Value = { Shelf };
 
-    ghost view = { λ s. record { wares = map (λ r. ware_of (R.tag_of r) (R.life_of r) (R.uses_of r)) (option_to_list s.returned ++ into_iter_items s.rest); has_room = is_none s.returned } };
+    ghost view = { λ s. record { wares = map (ware_of R.Resource) (option_to_list s.returned ++ into_iter_items s.rest); has_room = is_none s.returned } };
 }
 
 impl<R: Resource> Stock<R> {
     /// All of these, the first in front.
     pub fn new(resources: Vec<R>) -> Self
-        ensures wares { result.wares ≡ map (λ r. ware_of (R.tag_of r) (R.life_of r) (R.uses_of r)) resources.items }
+        ensures wares { result.wares ≡ map (ware_of R.Resource) resources.items }
         ensures room { result.has_room ≡ true }
     {
         Stock {
@@ -40,7 +40,7 @@ impl<R: Resource> Stock<R> {
 
     /// The resource in front, if there is one.
     pub fn take(&mut self) -> Option<R>
-        ensures some { IfSome result (λ r. self.old.wares ≡ (ware_of (R.tag_of r) (R.life_of r) (R.uses_of r)) ∷ self.new.wares) }
+        ensures some { IfSome result (λ r. self.old.wares ≡ (ware_of R.Resource r) ∷ self.new.wares) }
         ensures none { IfNone result ((self.old.wares ≡ []) × (self.new.wares ≡ [])) }
         ensures room { self.new.has_room ≡ true }
     {
@@ -53,7 +53,7 @@ impl<R: Resource> Stock<R> {
     /// Puts the resource that was taken last back in front.
     pub fn put_back(&mut self, resource: R)
         requires { self.old.has_room ≡ true }
-        ensures { self.new.wares ≡ (ware_of (R.tag_of resource) (R.life_of resource) (R.uses_of resource)) ∷ self.old.wares }
+        ensures { self.new.wares ≡ (ware_of R.Resource resource) ∷ self.old.wares }
     {
         self.returned = Some(resource);
     }

@@ -1,12 +1,11 @@
 //! The lines of a report, each written behind a text.
 
-ghost use Rattle.std.specs.Prelude.{◌≡◌, ◌++◌, ◌==◌, map, filter, flat_map, string_bytes, OnOk};
+ghost use Rattle.std.specs.Prelude.{◌≡◌, ◌++◌, flat_map, string_bytes, OnOk};
 ghost use Rattle.rx_script.specs.Text.{refusal_name, cause_name, refused_line, note_text, node_line, whereabouts_text, res_line, totals_line, closed_line};
 ghost use Rattle.rx_script.specs.Report.{refused_lines};
 
 use crate::answer::{Answer, Cause};
 use crate::line::{Account, Totals, Whereabouts};
-use rx_book::Mail;
 use rx_event::{Refusal, Terminal};
 use rx_note::Note;
 use std::alloc::AllocError;
@@ -79,31 +78,28 @@ fn push_note(text: &mut String, note: &Note) -> Result<(), AllocError>
     }
 }
 
-fn push_notes(text: &mut String, node: u64, mail: &[Mail]) -> Result<(), AllocError>
-    ensures { OnOk result (string_bytes text.new ≡ string_bytes text.old ++ flat_map note_text (map (λ m. m.note) (filter (λ m. m.to == node) mail.now))) }
+fn push_notes(text: &mut String, notes: &[Note]) -> Result<(), AllocError>
+    ensures { OnOk result (string_bytes text.new ≡ string_bytes text.old ++ flat_map note_text notes.now) }
 {
-    for letter in mail {
-        if letter.to == node {
-            push_note(text, &letter.note)?;
-        }
+    for note in notes {
+        push_note(text, note)?;
     }
     Ok(())
 }
 
-/// The line of a node: its name, whether it is open, and those of the notes that went to it.
+/// The line of a node: its name, whether it is open, and the notes that went to it.
 #[tactic(auto, unfolding(crate::specs::Text::node_line))]
 pub fn push_node(
     text: &mut String,
     name: &str,
     is_open: bool,
-    node: u64,
-    mail: &[Mail],
+    notes: &[Note],
 ) -> Result<(), AllocError>
-    ensures { OnOk result (string_bytes text.new ≡ string_bytes text.old ++ node_line name.now is_open (map (λ m. m.note) (filter (λ m. m.to == node) mail.now))) }
+    ensures { OnOk result (string_bytes text.new ≡ string_bytes text.old ++ node_line name.now is_open notes.now) }
 {
     let openness = if is_open { "open" } else { "closed" };
     write!(text, "node {name} {openness}:")?;
-    push_notes(text, node, mail)?;
+    push_notes(text, notes)?;
     text.push_str("\n")
 }
 

@@ -3,14 +3,7 @@
 //! It gathers the words, makes the stock of resources, and leaves the rest to `rx_cli::serve`.
 #![tactic(auto)]
 
-ghost use Rattle.std.specs.Prelude.{◌≡◌, IfOk};
-ghost use Rattle.rx_resource.specs.declared.Life.{Life};
-
-use rx_cli::{
-    Faulty, Plain, ResourceKind, STOCK, Tally, Watched, fill, out_of_memory, refuse_bytes, serve,
-};
-use rx_resource::{Life, Resource};
-use std::alloc::AllocError;
+use rx_cli::{Watched, out_of_memory, refuse_bytes, serve, stock};
 use std::env::Env;
 use std::process::ExitCode;
 use std::{env, io};
@@ -22,7 +15,8 @@ fn gather<R: Env + AllocGlobal>(rt: &R) -> io::Result<Vec<String>> {
 
 fn main(rt: HostRuntime) -> ExitCode {
     let alloc = rt.alloc();
-    let mut errors = rt.stderr();
+    let mut stderr = rt.stderr();
+    let mut errors = Watched::new(&mut stderr);
     let words = match gather(&rt) {
         Ok(words) => words,
         Err(error) => {
@@ -33,18 +27,7 @@ fn main(rt: HostRuntime) -> ExitCode {
             });
         }
     };
-    let make = |tag: u64| -> Result<Box<dyn Resource>, AllocError>
-        ensures tag { IfOk result (λ b. tag_of b ≡ tag) }
-        ensures live { IfOk result (λ b. life_of b ≡ Life.Live) }
-        ensures unused { IfOk result (λ b. uses_of b ≡ 0) }
-    {
-        match ResourceKind::by_tag(tag) {
-            ResourceKind::Plain => Ok(Box::new(alloc, Plain::new(tag))?),
-            ResourceKind::Tally => Ok(Box::new(alloc, Tally::new(tag))?),
-            ResourceKind::Faulty => Ok(Box::new(alloc, Faulty::new(tag))?),
-        }
-    };
-    let Ok(stock) = fill(alloc, STOCK, &make) else {
+    let Ok(stock) = stock(alloc) else {
         return ExitCode::from(out_of_memory(&mut errors));
     };
     let mut output = io::writer(&rt);

@@ -2,7 +2,7 @@
 
 ghost use Rattle.std.specs.Prelude.{◌≢◌, OnOk, IfErr, map};
 ghost use Rattle.std.specs.Io.KnownBytes.{Appends, Keeps};
-ghost use Rattle.rx_script.specs.Outcome.{Reports};
+ghost use Rattle.rx_script.specs.Running.{Runs};
 ghost use Rattle.rx_script.specs.Stage.{ware_of};
 
 use super::sights::Releases;
@@ -19,7 +19,7 @@ fn serve<R: Read, W: Write, S: Resource>(
     writer: &mut W,
     stock: Vec<S>,
 ) -> Result<(), ScriptError>
-    ensures ok { OnOk result (Reports (map (λ r. ware_of (S.tag_of r) (S.life_of r) (S.uses_of r)) stock.items)
+    ensures ok { OnOk result (Runs (map (ware_of S.Resource) stock.items) Form.Report
         (R.remaining reader.old) (R.remaining reader.new) (Appends (W.contents writer.old) (W.contents writer.new))) }
     ensures silent { IfErr result (λ e. e ≢ ScriptError.Write → Keeps (W.contents writer.old) (W.contents writer.new)) }
 {

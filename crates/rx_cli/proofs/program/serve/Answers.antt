@@ -1,13 +1,13 @@
 use Rattle.std.proofs.Common.{Err}
-use Rattle.rx_script.specs.declared.ScriptError.TheVariants.{Memory}
+use Rattle.rx_device.specs.declared.fault.ScriptError.TheVariants.{Memory}
 use Rattle.rx_cli.proofs.Running.{ran_without_memory, audited_without_memory}
 use Rattle.rx_cli.proofs.program.serve.Goals as goal
 
 -- a run for which memory was refused before it began
 pub returns-then-eq-clause-ran : goal.returns-then-eq-clause-ran
-returns-then-eq-clause-ran g c = λ _. (
+returns-then-eq-clause-ran g c = λ form _. (
   Err Memory,
-  ran_without_memory _ _ _ _ _,
+  ran_without_memory _ _ _ form _ _,
   record {
     says = c.out_of_memory.ensures.status;
     line = c.out_of_memory.ensures.line;

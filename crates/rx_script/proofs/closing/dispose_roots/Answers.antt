@@ -3,7 +3,7 @@ use Rattle.rx_script.proofs.Closings.{disposed_taken, disposed_accepted, root_fo
 use Rattle.rx_script.proofs.closing.dispose_roots.Goals as goal
 
 pub loop-root-smaller : goal.loop-root-smaller
-loop-root-smaller g c = less_room c.loop-root.book c.dispose.new.self _ _ c.in-Ok.ensures.accepted c.promise-in-Ok.ensures (omega arith)
+loop-root-smaller g c = less_room c.loop-root.book c.dispose.new.self _ c.in-Ok.ensures.accepted c.promise-in-Ok.ensures (omega arith)
 
 pub loop-root-preserved : goal.loop-root-preserved
 loop-root-preserved g c = record {

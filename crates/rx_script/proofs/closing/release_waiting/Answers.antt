@@ -14,7 +14,7 @@ loop-handed-init g c = record {
 }
 
 pub loop-handed-smaller : goal.loop-handed-smaller
-loop-handed-smaller g c = less_room c.loop-handed.book c.take.new.self _ _ c.in-Some.ensures.accepted c.promise-in-Some.ensures (omega arith)
+loop-handed-smaller g c = less_room c.loop-handed.book c.take.new.self _ c.in-Some.ensures.accepted c.promise-in-Some.ensures (omega arith)
 
 pub loop-handed-preserved : goal.loop-handed-preserved
 loop-handed-preserved g c =
@@ -23,7 +23,7 @@ loop-handed-preserved g c =
     record {
       kept = c.promise-in-Some.ensures;
       takes = next_taken c.loop-handed.invariant.takes c.in-Some.ensures.accepted.step;
-      continues = continues_more c.args.book.now c.loop-handed.book c.take.new.self c.loop-handed.invariant.continues (accepted_continues c.loop-handed.book c.take.new.self _ _ c.in-Some.ensures.accepted);
+      continues = continues_more c.args.book.now c.loop-handed.book c.take.new.self c.loop-handed.invariant.continues (accepted_continues c.loop-handed.book c.take.new.self _ c.in-Some.ensures.accepted);
       faults = elim c.if-is_some.branch [ then-is_some w ↦ omega arith | else-is_some w ↦ omega arith ];
     }
 

@@ -1,0 +1,102 @@
+//! The stock, of all kinds of resource.
+ghost use Rattle.std.specs.Prelude.{◌≡◌, ◌+◌, ◌<◌, ◌^◌, IfOk, map};
+ghost use Rattle.std.specs.List.{range_with_len};
+ghost use Rattle.rx_cli.specs.Boxes.{kind_by, kind_of, marks_of, release_of, shown, fresh_by};
+ghost use Rattle.rx_cli.specs.Marks.{released};
+
+use super::{Faulty, Plain, ResourceKind, Tally};
+use rx_resource::{Life, Resource};
+use std::alloc::{AllocError, Global};
+
+/// How many resources the program's stock has.
+pub const STOCK: u64 = 256;
+
+/// A resource of the program's stock.
+#[derive(Drop)]
+pub enum Stocked {
+    Plain(Plain),
+    Tally(Tally),
+    Faulty(Faulty),
+}
+
+impl Stocked {
+    /// The stock's resource with this tag, live and never applied, of the kind that
+    /// [`ResourceKind::by_tag`] says.
+    pub fn by_tag(tag: u64) -> Stocked
+        ensures kind { kind_of result ≡ kind_by tag }
+        ensures fresh { shown result ≡ fresh_by tag }
+    {
+        match ResourceKind::by_tag(tag) {
+            ResourceKind::Plain => Stocked::Plain(Plain::new(tag)),
+            ResourceKind::Tally => Stocked::Tally(Tally::new(tag)),
+            ResourceKind::Faulty => Stocked::Faulty(Faulty::new(tag)),
+        }
+    }
+}
+
+impl Resource for Stocked {
+    ghost tag_of = { λ s. (marks_of s).tag };
+
+    ghost life_of = { λ s. (marks_of s).life };
+
+    ghost uses_of = { λ s. (marks_of s).uses };
+
+    fn tag(&self) -> u64 {
+        match self {
+            Stocked::Plain(plain) => plain.tag(),
+            Stocked::Tally(tally) => tally.tag(),
+            Stocked::Faulty(faulty) => faulty.tag(),
+        }
+    }
+
+    fn life(&self) -> Life {
+        match self {
+            Stocked::Plain(plain) => plain.life(),
+            Stocked::Tally(tally) => tally.life(),
+            Stocked::Faulty(faulty) => faulty.life(),
+        }
+    }
+
+    fn uses(&self) -> u64 {
+        match self {
+            Stocked::Plain(plain) => plain.uses(),
+            Stocked::Tally(tally) => tally.uses(),
+            Stocked::Faulty(faulty) => faulty.uses(),
+        }
+    }
+
+    fn apply(&mut self, word: u64) -> u64 {
+        match self {
+            Stocked::Plain(plain) => plain.apply(word),
+            Stocked::Tally(tally) => tally.apply(word),
+            Stocked::Faulty(faulty) => faulty.apply(word),
+        }
+    }
+
+    /// Answers the fault of code 2 where the kind is `Faulty`, else `Ok`.
+    fn release(&mut self) -> Result<(), u32>
+        ensures answer { result ≡ release_of (kind_of self.old) }
+        ensures released { shown self.new ≡ (kind_of self.old, released (marks_of self.old)) }
+    {
+        match self {
+            Stocked::Plain(plain) => plain.release(),
+            Stocked::Tally(tally) => tally.release(),
+            Stocked::Faulty(faulty) => faulty.release(),
+        }
+    }
+}
+
+/// The program's stock: a fresh resource for each tag from 0 up to 255, in order, each of the kind of
+/// its tag.
+///
+/// Err comes where memory is refused for the list.
+#[tactic(auto, using(crate::proofs::Filling::shown_more))]
+pub fn stock(alloc: Global) -> Result<Vec<Stocked>, AllocError>
+    ensures { IfOk result (λ v. map shown v.items ≡ map fresh_by (range_with_len 0 256)) }
+{
+    let mut stock = Vec::new(alloc);
+    for tag in 0..STOCK {
+        stock.push(Stocked::by_tag(tag))?;
+    }
+    Ok(stock)
+}

@@ -1,0 +1,12 @@
+use Rattle.std.proofs.Common.{◌∙◌, arith}
+use Rattle.std.proofs.lemmas.Grind.{common_steps}
+use Rattle.rx_device.proofs.Written.{written_more}
+use Rattle.rx_device.proofs.writing.write_text.Goals as goal
+
+pub loop-done-preserved : goal.loop-done-preserved
+loop-done-preserved g c = record {
+  same = c.write.ensures.same_device ∙ c.loop-done.invariant.same;
+  within = grind (arith, common_steps);
+  written = written_more _ _ _ _ _ _ c.loop-done.invariant.written c.in-Some.ensures.written;
+  unhurt = c.in-Some.ensures.unhurt ∙ c.loop-done.invariant.unhurt;
+}

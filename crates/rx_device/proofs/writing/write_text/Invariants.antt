@@ -1,0 +1,16 @@
+-- A front of the text is written.
+use Rattle.std.proofs.Common.{◌≡◌, length, ◌-◌, ◌≤◌, take}
+use Rattle.std.specs.Io.KnownBytes.{Appends}
+use Rattle.rx_device.specs.Device.{device_of, KeepsDevice, has_failed}
+use Rattle.rx_device.proofs.writing.write_text.Given as goal
+
+abbrev pub invariant-loop-done : goal.invariant-loop-done
+invariant-loop-done g l = record {
+  same : KeepsDevice l.initial.writer l.writer;
+  within : l.done ≤ length l.text;
+  written : Appends (g.W.Write.contents (device_of l.initial.writer)) (g.W.Write.contents (device_of l.writer)) (take l.done l.text);
+  unhurt : has_failed l.writer ≡ has_failed l.initial.writer;
+}
+
+abbrev pub decreases-loop-done : goal.decreases-loop-done
+decreases-loop-done g l = length l.text - l.done

@@ -1,0 +1,51 @@
+-- What is known of a device that is watched, and of the bytes that went through it.
+use Rattle.std.specs.Prelude.{◌≡◌, ℕ, ◌≤◌, ◌⊎◌, Bool, true, false, List, length, take, Option}
+use Rattle.std.specs.Io.KnownBytes.{Appends}
+use Rattle.std.specs.Borrow.{MutBor}
+use Rattle.rx_device.specs.declared.watched.Watched.{Watched}
+
+-- the device that is watched
+abbrev pub device_of : {D : Type 0} → Watched D → D
+device_of w = w.device.now
+
+-- the reference to the device stays, so that whoever lent it learns what became of it
+abbrev pub KeepsDevice : {D : Type 0} → Watched D → Watched D → Type 0
+KeepsDevice old new = new.device.ghost_name ≡ old.device.ghost_name
+
+-- the device is watched through this reference
+abbrev pub Watches : {D : Type 0} → Watched D → MutBor D → Type 0
+Watches w device = w.device.ghost_name ≡ device.ghost_name
+
+-- how often it was called
+abbrev pub turns_of : {D : Type 0} → Watched D → ℕ
+turns_of w = w.turns
+
+-- some call of it failed
+abbrev pub has_failed : {D : Type 0} → Watched D → Bool
+has_failed w = w.failed
+
+-- some call of it moved no byte: a reader at its end, a writer that takes none
+abbrev pub has_stopped : {D : Type 0} → Watched D → Bool
+has_stopped w = w.stopped
+
+-- nothing was asked of it yet
+pub record IsFresh {D : Type 0} (w : Watched D) : Type 0 where
+  pub turns : turns_of w ≡ 0
+  pub failed : has_failed w ≡ false
+  pub stopped : has_stopped w ≡ false
+
+-- how often a reader may be asked for bytes before it counts as one that never ends
+abbrev pub most_turns : ℕ
+most_turns = 33554432
+
+-- the reader failed, or it had not ended after so many turns
+abbrev pub HasReadFault : {D : Type 0} → Watched D → Type 0
+HasReadFault w = (has_failed w ≡ true) ⊎ (turns_of w ≡ most_turns)
+
+-- the writer failed, or took no byte
+abbrev pub HasWriteFault : {D : Type 0} → Watched D → Type 0
+HasWriteFault w = (has_failed w ≡ true) ⊎ (has_stopped w ≡ true)
+
+-- a front of the text was written, and nothing else
+abbrev pub AppendsPrefix : Option (List ℕ) → Option (List ℕ) → List ℕ → Type 0
+AppendsPrefix old new text = (n : ℕ) × (n ≤ length text) × Appends old new (take n text)

@@ -1,0 +1,33 @@
+//! Devices that are watched: JSON from a reader, text to a writer, and whose fault a fault is.
+//!
+//! # Vocabulary
+//!
+//! - A [`Watched`] reader or writer notes how often the device behind it was called, whether a call
+//!   failed, and whether one moved no byte, so that a contract can say whose fault a fault is
+//!   (`specs/Device.antt`).
+//! - [`read_value`] reads a device to its end and gives the JSON value that its bytes are; what a device
+//!   gave is said in `specs/Input.antt`. [`write_text`] writes a whole text.
+//! - A [`ScriptError`] says why a text was not read or written, a [`ShapeError`] why a JSON value is not
+//!   what was asked for (`specs/Gives.antt`).
+//!
+//! # Promised, and not
+//!
+//! - An Ok means that no call of the device failed; of a reader, that it was read to its end.
+//! - Each error comes only for its cause, and a cause is never passed over. `Memory` alone has no cause
+//!   that a contract could name: that it is given only where memory was refused is tested above.
+//! - How `serde_json` reads a text is its own promise. How fast a device is, nothing says.
+#![tactic(auto)]
+
+mod fault;
+mod reading;
+mod shape;
+mod value;
+mod watched;
+mod writing;
+
+pub use fault::ScriptError;
+pub use reading::{MOST_BYTES, MOST_TURNS};
+pub use shape::ShapeError;
+pub use value::read_value;
+pub use watched::Watched;
+pub use writing::{WriteFault, write_text};

@@ -1,0 +1,87 @@
+//! A reader or a writer that is watched.
+
+ghost use Rattle.std.specs.Prelude.{◌≡◌, ◌<◌, ◌≤◌, ◌+◌, ◌-◌, ◌^◌, true, length, min, take, IfSome, IfNone};
+ghost use Rattle.std.specs.Io.KnownBytes.{Appends, Consumes, IsAtEnd, Keeps};
+ghost use Rattle.rx_device.specs.Device.{device_of, KeepsDevice, Watches, turns_of, has_failed, has_stopped, HasWriteFault, IsFresh};
+
+use std::io::{Read, Write};
+
+/// A reader or a writer, with what is known of its calls: how many there were, whether one failed,
+/// and whether one moved no byte, as a reader's does at its end.
+#[derive(Drop)]
+pub struct Watched<'a, D> {
+    device: &'a mut D,
+    turns: u64,
+    failed: bool,
+    stopped: bool,
+}
+
+impl<'a, D> Watched<'a, D> {
+    /// Watches a device, from which nothing was asked through this watch yet.
+    pub fn new(device: &'a mut D) -> Self
+        ensures device { device_of result ≡ device.old }
+        ensures watches { Watches result device.entry }
+        ensures fresh { IsFresh result }
+    {
+        Watched {
+            device,
+            turns: 0,
+            failed: false,
+            stopped: false,
+        }
+    }
+}
+
+impl<R: Read> Watched<'_, R> {
+    // The next bytes, and how many they are; None where the reader failed.
+    pub(crate) fn read(&mut self, buffer: &mut [u8]) -> Option<usize>
+        requires { 0 < length buffer.old }
+        ensures same_device { KeepsDevice self.old self.new }
+        ensures turns { turns_of self.new ≡ min (turns_of self.old + 1) (2 ^ 64 - 1) }
+        ensures within { IfSome result (λ n. n ≤ length buffer.new) }
+        ensures bytes { IfSome result (λ n. Consumes (R.remaining (device_of self.old)) (R.remaining (device_of self.new)) (take n buffer.new)) }
+        ensures end { IfSome result (λ n. n ≡ 0 → IsAtEnd (R.remaining (device_of self.new)) × (has_stopped self.new ≡ true)) }
+        ensures failed { IfNone result (has_failed self.new ≡ true) }
+        ensures unhurt { IfSome result (λ _. has_failed self.new ≡ has_failed self.old) }
+    {
+        self.turns = self.turns.saturating_add(1);
+        match self.device.read(buffer) {
+            Ok(count) => {
+                self.stopped = self.stopped || count == 0;
+                Some(count)
+            }
+            Err(_) => {
+                self.failed = true;
+                None
+            }
+        }
+    }
+}
+
+impl<W: Write> Watched<'_, W> {
+    // How many bytes of the text were written, which are more than none; None where the writer
+    // failed or took none.
+    pub(crate) fn write(&mut self, text: &[u8]) -> Option<usize>
+        requires { 0 < length text.now }
+        ensures same_device { KeepsDevice self.old self.new }
+        ensures written { IfSome result (λ n. Appends (W.contents (device_of self.old)) (W.contents (device_of self.new)) (take n text.now)) }
+        ensures some { IfSome result (λ n. (0 < n) × (n ≤ length text.now)) }
+        ensures kept { IfNone result (Keeps (W.contents (device_of self.old)) (W.contents (device_of self.new))) }
+        ensures failed { IfNone result (HasWriteFault self.new) }
+        ensures unhurt { IfSome result (λ _. has_failed self.new ≡ has_failed self.old) }
+    {
+        self.turns = self.turns.saturating_add(1);
+        match self.device.write(text) {
+            Ok(0) => {
+                self.stopped = true;
+                None
+            }
+            Ok(count) => Some(count),
+            Err(_) => {
+                self.failed = true;
+                None
+            }
+        }
+    }
+}
+

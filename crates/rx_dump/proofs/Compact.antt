@@ -1,0 +1,72 @@
+-- The dump's text as that of its JSON value.
+use Rattle.std.proofs.Common.{◌≡◌, pos, negsuc, true, false, List, [], ◌∷◌, ◌++◌, refl, ap, sym, ◌∙◌, codes, map, decimal, append_assoc}
+use Rattle.std.specs.Prelude.{flat_map}
+use Rattle.serde_json.proofs.OnLiterals.{serde_json_on_literals}
+use Rattle.serde_json.specs.View.{items_of}
+use Rattle.serde_json.specs.Written.{compact_text, items_text}
+use Rattle.rx_note.specs.declared.note.Terminal.{Terminal}
+use Rattle.rx_note.specs.declared.note.Terminal.TheVariants.{Completed, Error}
+use Rattle.rx_event.specs.declared.event.Place.{Place}
+use Rattle.rx_event.specs.declared.event.Place.TheVariants.{Root, Source, Inner, Notifier}
+use Rattle.rx_event.specs.declared.event.Kind.{Kind}
+use Rattle.rx_event.specs.declared.event.Kind.TheVariants.{Leaf, Pass, Flat, Switch, Until, Sub}
+use Rattle.rx_event.specs.declared.event.Mode.TheVariants.{Auto, Manual}
+use Rattle.rx_event.specs.declared.event.Event.{Event}
+use Rattle.rx_event.specs.declared.event.Event.TheVariants.{Open, Hub, Connect, Accept, Use, Remove, Item, Decline, End, Close, Take}
+use Rattle.rx_dump.specs.Dump.{place_text, kind_text, terminal_text, event_text, next_text, events_text, dump}
+use Rattle.rx_dump.specs.Claims.Dumps.{kind_parts, place_parts, terminal_parts, event_data, history_data}
+
+kind_compact : (kind : Kind) → items_text true (items_of (kind_parts kind)) ≡ codes "," ++ kind_text kind ++ codes "]"
+unfolding serde_json_on_literals
+kind_compact Leaf = refl
+kind_compact Pass = refl
+kind_compact Flat = refl
+kind_compact Switch = refl
+kind_compact Until = refl
+kind_compact (Sub hub) = refl
+
+place_compact : (place : Place) (kind : Kind) → items_text true (items_of (place_parts place ++ kind_parts kind)) ≡ codes "," ++ place_text place ++ codes "," ++ kind_text kind ++ codes "]"
+unfolding serde_json_on_literals
+place_compact Root kind = ap (λ s. codes ",\"root\"" ++ s) (kind_compact kind)
+place_compact (Source n) kind = ap (λ s. codes ",\"source\"," ++ (decimal n ++ s)) (kind_compact kind) ∙ simp append_assoc
+place_compact (Inner n) kind = ap (λ s. codes ",\"inner\"," ++ (decimal n ++ s)) (kind_compact kind) ∙ simp append_assoc
+place_compact (Notifier n) kind = ap (λ s. codes ",\"notifier\"," ++ (decimal n ++ s)) (kind_compact kind) ∙ simp append_assoc
+
+terminal_compact : (terminal : Terminal) → items_text true (items_of (terminal_parts terminal)) ≡ codes "," ++ terminal_text terminal ++ codes "]"
+unfolding serde_json_on_literals
+terminal_compact Completed = refl
+terminal_compact (Error code) = refl
+
+event_compact : (e : Event) → compact_text (event_data e) ≡ event_text e
+unfolding serde_json_on_literals event_text
+event_compact (Open place kind) = ap (λ s. codes "[\"open\"" ++ s) (place_compact place kind)
+event_compact (Hub Auto) = refl
+event_compact (Hub Manual) = refl
+event_compact (Connect hub) = refl
+event_compact (Accept node tag) = simp append_assoc
+event_compact (Use res) = refl
+event_compact (Remove res) = refl
+event_compact (Item leaf (pos n)) = simp append_assoc
+event_compact (Item leaf (negsuc n)) = simp append_assoc
+event_compact (Decline node) = refl
+event_compact (End node terminal) = ap (λ s. codes "[\"end\"," ++ (decimal node ++ s)) (terminal_compact terminal) ∙ simp append_assoc
+event_compact (Close node) = refl
+event_compact (Take res) = refl
+
+rest_compact : (h : List Event) → items_text true (items_of (map event_data h)) ≡ flat_map next_text h ++ codes "]"
+rest_compact [] = refl
+rest_compact (e ∷ es) =
+    ap (λ s. codes "," ++ (s ++ items_text true (items_of (map event_data es)))) (event_compact e)
+    ∙ ap (λ s. codes "," ++ (event_text e ++ s)) (rest_compact es)
+    ∙ simp append_assoc
+
+events_compact : (h : List Event) → items_text false (items_of (map event_data h)) ≡ events_text h ++ codes "]"
+events_compact [] = refl
+events_compact (e ∷ es) =
+    ap (λ s. s ++ items_text true (items_of (map event_data es))) (event_compact e)
+    ∙ ap (λ s. event_text e ++ s) (rest_compact es)
+    ∙ sym (append_assoc (event_text e) (flat_map next_text es) (codes "]"))
+
+pub compact : (h : List Event) → dump h ≡ compact_text (history_data h) ++ codes "\n"
+unfolding dump
+compact h = sym (ap (λ s. codes "[" ++ s ++ codes "\n") (events_compact h) ∙ simp append_assoc)

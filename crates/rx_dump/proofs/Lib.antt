@@ -1,0 +1,4 @@
+pub mod Counts
+pub mod Histories
+pub mod ReadBack
+pub mod Compact

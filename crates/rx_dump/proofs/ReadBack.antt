@@ -1,0 +1,68 @@
+-- Each event's JSON value is read as the event.
+use Rattle.std.proofs.Common.{◌≡◌, pos, negsuc, true, List, [], ◌∷◌, Some, option_map, refl, ap, map}
+use Rattle.std.specs.List.{list_all}
+use Rattle.std.proofs.lemmas.Bool.{and_parts}
+use Rattle.serde_json.specs.View.{items_of}
+use Rattle.serde_json.specs.Data.{Data, array}
+use Rattle.rx_note.specs.declared.note.Terminal.TheVariants.{Completed, Error}
+use Rattle.rx_event.specs.declared.event.Place.{Place}
+use Rattle.rx_event.specs.declared.event.Place.TheVariants.{Root, Source, Inner, Notifier}
+use Rattle.rx_event.specs.declared.event.Kind.{Kind}
+use Rattle.rx_event.specs.declared.event.Kind.TheVariants.{Leaf, Pass, Flat, Switch, Until, Sub}
+use Rattle.rx_event.specs.declared.event.Mode.TheVariants.{Auto, Manual}
+use Rattle.rx_event.specs.declared.event.Event.{Event}
+use Rattle.rx_event.specs.declared.event.Event.TheVariants.{Open, Hub, Connect, Accept, Use, Remove, Item, Decline, End, Close, Take}
+use Rattle.rx_dump.specs.History.{has_count, word_at, number_at, value_at, only_number, plain_kind, kind_from, place_below, open_below, open_by, open_of, terminal_by, end_of, mode_by, hub_of, accept_of, item_of, event_by, event_of, each_event, history_of}
+use Rattle.rx_dump.specs.Claims.Dumps.{kind_parts, event_data, history_data, is_in_range}
+
+kind_after_two : (a b : Data) (kind : Kind) → kind_from 2 (array (items_of (a ∷ b ∷ kind_parts kind))) ≡ Some kind
+unfolding kind_from has_count word_at number_at plain_kind
+kind_after_two a b Leaf = refl
+kind_after_two a b Pass = refl
+kind_after_two a b Flat = refl
+kind_after_two a b Switch = refl
+kind_after_two a b Until = refl
+kind_after_two a b (Sub hub) = refl
+
+kind_after_three : (a b c : Data) (kind : Kind) → kind_from 3 (array (items_of (a ∷ b ∷ c ∷ kind_parts kind))) ≡ Some kind
+unfolding kind_from has_count word_at number_at plain_kind
+kind_after_three a b c Leaf = refl
+kind_after_three a b c Pass = refl
+kind_after_three a b c Flat = refl
+kind_after_three a b c Switch = refl
+kind_after_three a b c Until = refl
+kind_after_three a b c (Sub hub) = refl
+
+open_read : (place : Place) (kind : Kind) → event_of (event_data (Open place kind)) ≡ Some (Open place kind)
+unfolding event_of event_by open_of open_by open_below place_below word_at number_at
+open_read Root kind = ap (option_map (Open Root)) (kind_after_two _ _ kind)
+open_read (Source n) kind = ap (option_map (Open (Source n))) (kind_after_three _ _ _ kind)
+open_read (Inner n) kind = ap (option_map (Open (Inner n))) (kind_after_three _ _ _ kind)
+open_read (Notifier n) kind = ap (option_map (Open (Notifier n))) (kind_after_three _ _ _ kind)
+
+event_read : (e : Event) → is_in_range e ≡ true → event_of (event_data e) ≡ Some e
+unfolding event_of event_by hub_of mode_by accept_of item_of end_of terminal_by only_number has_count word_at number_at value_at
+event_read (Open place kind) h = open_read place kind
+event_read (Hub Auto) h = refl
+event_read (Hub Manual) h = refl
+event_read (Connect hub) h = refl
+event_read (Accept node tag) h = refl
+event_read (Use res) h = refl
+event_read (Remove res) h = refl
+event_read (Item leaf (pos n)) h = rw h refl
+event_read (Item leaf (negsuc n)) h = refl
+event_read (Decline node) h = refl
+event_read (End node Completed) h = refl
+event_read (End node (Error code)) h = rw h refl
+event_read (Close node) h = refl
+event_read (Take res) h = refl
+
+each_read : (h : List Event) → list_all is_in_range h ≡ true → each_event (items_of (map event_data h)) ≡ Some h
+each_read [] within = refl
+each_read (e ∷ es) within =
+    let both = and_parts (is_in_range e) (list_all is_in_range es) within in
+    rw (event_read e both.0, each_read es both.1) refl
+
+pub read_back : (h : List Event) → list_all is_in_range h ≡ true → history_of (history_data h) ≡ Some h
+unfolding history_of
+read_back h within = each_read h within

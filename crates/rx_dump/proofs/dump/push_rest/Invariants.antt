@@ -1,0 +1,8 @@
+-- The events so far, each after a comma.
+use Rattle.std.proofs.Common.{◌≡◌, ◌++◌, take, string_bytes}
+use Rattle.std.specs.Prelude.{flat_map}
+use Rattle.rx_dump.specs.Dump.{next_text}
+use Rattle.rx_dump.proofs.dump.push_rest.Given as goal
+
+abbrev pub invariant-loop-event : goal.invariant-loop-event
+invariant-loop-event l = string_bytes l.text ≡ string_bytes l.initial.text ++ flat_map next_text (take l.event-index l.events)

@@ -1,0 +1,2 @@
+-- What is proved of dumps as definitions.
+pub mod Dumps

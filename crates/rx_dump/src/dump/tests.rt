@@ -1,0 +1,79 @@
+//! Dumps written out, and read back.
+
+use super::push_dump;
+use crate::history::history_of;
+use rx_event::{Event, Kind, Mode, Place, Terminal};
+use serde_json::Value;
+use std::alloc::Global;
+use std::process::Abort;
+use std::test::Fail;
+
+fn opening(place: Place, kind: Kind) -> Event {
+    Event::Open { place, kind }
+}
+
+fn assert_dump(
+    rt: &impl Abort,
+    alloc: Global,
+    history: &[Event],
+    expected: &str,
+) -> Result<(), Fail> {
+    let mut text = String::new(alloc);
+    push_dump(&mut text, history)?;
+    assert_eq!(rt; text.as_str(), expected);
+    let Ok(value) = Value::from_slice(alloc, text.as_str().as_bytes()) else {
+        return Err(Fail::from("no JSON"));
+    };
+    let read = history_of(alloc, &value)?;
+    assert_eq!(rt; read.as_slice(), history);
+    Ok(())
+}
+
+#[test]
+fn nothing_happened(rt: HostRuntime) -> Result<(), Fail> {
+    assert_dump(&rt, rt.alloc(), &[], "[]\n")
+}
+
+#[test]
+fn a_whole_life(rt: HostRuntime) -> Result<(), Fail> {
+    let history = [
+        opening(Place::Root, Kind::Pass),
+        Event::Accept(0, 0),
+        opening(Place::Source(0), Kind::Leaf),
+        Event::Item(2, 5),
+        Event::End(2, Terminal::Completed),
+        Event::End(0, Terminal::Completed),
+        Event::Take(1),
+    ];
+    let expected =
+        "[[\"open\",\"root\",\"pass\"],[\"accept\",0,0],[\"open\",\"source\",0,\"leaf\"],[\"item\",2,5],[\"end\",2,\"completed\"],[\"end\",0,\"completed\"],[\"take\",1]]\n";
+    assert_dump(&rt, rt.alloc(), &history, expected)
+}
+
+#[test]
+fn each_form_of_an_event_is_written(rt: HostRuntime) -> Result<(), Fail> {
+    let history = [
+        Event::Hub(Mode::Auto),
+        Event::Hub(Mode::Manual),
+        Event::Connect(1),
+        opening(Place::Source(2), Kind::Until),
+        opening(Place::Notifier(3), Kind::Sub(0)),
+        opening(Place::Inner(u64::MAX), Kind::Flat),
+        opening(Place::Root, Kind::Switch),
+        Event::Accept(3, u64::MAX),
+        Event::Use(7),
+        Event::Remove(7),
+        Event::Item(4, i64::MIN),
+        Event::Item(4, i64::MAX),
+        Event::Decline(5),
+        Event::End(5, Terminal::Error(u32::MAX)),
+        Event::Close(6),
+    ];
+    let expected = "[[\"hub\",\"auto\"],[\"hub\",\"manual\"],[\"connect\",1],\
+        [\"open\",\"source\",2,\"until\"],[\"open\",\"notifier\",3,\"sub\",0],\
+        [\"open\",\"inner\",18446744073709551615,\"flat\"],[\"open\",\"root\",\"switch\"],\
+        [\"accept\",3,18446744073709551615],[\"use\",7],[\"remove\",7],\
+        [\"item\",4,-9223372036854775808],[\"item\",4,9223372036854775807],[\"decline\",5],\
+        [\"end\",5,\"error\",4294967295],[\"close\",6]]\n";
+    assert_dump(&rt, rt.alloc(), &history, expected)
+}

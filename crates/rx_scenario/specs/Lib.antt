@@ -1,0 +1,2 @@
+pub mod Scenario
+pub mod Reading

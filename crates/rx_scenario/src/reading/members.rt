@@ -1,0 +1,188 @@
+//! Members of objects, and the names, numbers and words in them.
+
+ghost use Rattle.std.specs.Prelude.{◌≡◌, ◌≤◌, map, string_bytes, IfOk};
+ghost use Rattle.std.specs.List.{list_all};
+ghost use Rattle.std.specs.Map.{keys_of};
+ghost use Rattle.serde_json.specs.View.{view, members_view};
+ghost use Rattle.rx_scenario.specs.Scenario.{site_of};
+ghost use Rattle.rx_device.specs.Gives.{Gives};
+ghost use Rattle.rx_scenario.specs.Reading.{is_one_of, has_only, is_object_of, is_name_byte, is_name, name_in, value_in, word_in, code_in, terminal_in, site_by, site_in, kind_by, kind_in, events_in};
+
+use crate::scenario::Site;
+use rx_device::ShapeError;
+use rx_event::{Kind, Terminal};
+use serde_json::{Map, Value};
+use std::alloc::Global;
+
+fn is_one_of(key: &str, names: &[&str]) -> bool
+    ensures { result ≡ is_one_of (map (λ s. s.now) names.now) key.now }
+{
+    names.contains(&key)
+}
+
+fn are_all_of(members: &Map<String, Value>, names: &[&str]) -> bool
+    ensures { result ≡ list_all (λ k. is_one_of (map (λ s. s.now) names.now) (string_bytes k)) (keys_of members.now.entries) }
+{
+    members.keys().all(|key| is_one_of(key.as_str(), names))
+}
+
+#[tactic(auto, unfolding(crate::specs::Reading::has_only))]
+fn has_only(members: &Map<String, Value>, names: &[&str]) -> bool
+    ensures { result ≡ has_only (map (λ s. s.now) names.now) (members_view members.now.entries) }
+{
+    are_all_of(members, names)
+}
+
+/// Whether a value is an object with no member of another name.
+pub fn is_object_of(value: &Value, names: &[&str]) -> bool
+    ensures { result ≡ is_object_of (map (λ s. s.now) names.now) (view value.now) }
+{
+    match value {
+        Value::Object(members) => has_only(members, names),
+        _ => false,
+    }
+}
+
+#[tactic(auto, unfolding(crate::specs::Reading::is_name_byte))]
+fn is_name_byte(byte: u8) -> bool
+    ensures { result ≡ is_name_byte byte }
+{
+    matches!(byte, b'0'..=b'9' | b'A'..=b'Z' | b'a'..=b'z' | b'-' | b'_')
+}
+
+fn are_name_bytes(bytes: &[u8]) -> bool
+    ensures { result ≡ list_all is_name_byte bytes.now }
+{
+    bytes.iter().all(|byte| is_name_byte(*byte))
+}
+
+#[tactic(auto, unfolding(crate::specs::Reading::is_name))]
+fn is_name(text: &str) -> bool
+    ensures { result ≡ is_name text.now }
+{
+    let bytes = text.as_bytes();
+    1 <= bytes.len() && bytes.len() <= 32 && are_name_bytes(bytes)
+}
+
+/// The name at a key: 1 to 32 ASCII letters, digits, dashes and underscores.
+#[tactic(auto, unfolding(crate::specs::Reading::name_in))]
+pub fn name_in(alloc: Global, object: &Value, key: &str) -> Result<String, ShapeError>
+    ensures { Gives string_bytes result (name_in key.now (view object.now)) }
+{
+    let Some(text) = object.get(key).and_then(Value::as_str) else {
+        return Err(ShapeError::Shape);
+    };
+    if !is_name(text) {
+        return Err(ShapeError::Shape);
+    }
+    Ok(String::from_str(alloc, text)?)
+}
+
+/// The member `value`, an item.
+#[tactic(auto, unfolding(crate::specs::Reading::value_in))]
+pub fn value_in(object: &Value) -> Result<i64, ShapeError>
+    ensures { Gives (λ v. v) result (value_in (view object.now)) }
+{
+    match object.get("value").and_then(Value::as_i64) {
+        Some(number) => Ok(number),
+        None => Err(ShapeError::Shape),
+    }
+}
+
+/// The member `word`, what a resource is used on.
+#[tactic(auto, unfolding(crate::specs::Reading::word_in))]
+pub fn word_in(object: &Value) -> Result<u64, ShapeError>
+    ensures { Gives (λ w. w) result (word_in (view object.now)) }
+{
+    match object.get("word").and_then(Value::as_u64) {
+        Some(word) => Ok(word),
+        None => Err(ShapeError::Shape),
+    }
+}
+
+/// The member `error`, an error's code.
+#[tactic(auto, unfolding(crate::specs::Reading::code_in))]
+pub fn code_in(object: &Value) -> Result<u32, ShapeError>
+    ensures { Gives (λ c. c) result (code_in (view object.now)) }
+{
+    match object.get("error").and_then(Value::as_u64) {
+        Some(number) if number <= 4_294_967_295 => Ok(number as u32),
+        _ => Err(ShapeError::Shape),
+    }
+}
+
+/// The member `error`, an error's code, or a completion where there is no such member.
+#[tactic(auto, unfolding(crate::specs::Reading::terminal_in))]
+pub fn terminal_in(object: &Value) -> Result<Terminal, ShapeError>
+    ensures { Gives (λ t. t) result (terminal_in (view object.now)) }
+{
+    let Some(error) = object.get("error") else {
+        return Ok(Terminal::Completed);
+    };
+    match error.as_u64() {
+        Some(code) if code < 4_294_967_296 => Ok(Terminal::Error(code as u32)),
+        _ => Err(ShapeError::Shape),
+    }
+}
+
+#[tactic(auto, unfolding(crate::specs::Reading::site_by))]
+fn site_by(alloc: Global, place: &str, object: &Value) -> Result<Site, ShapeError>
+    ensures { Gives site_of result (site_by place.now (view object.now)) }
+{
+    match place {
+        "root" => match object.get("of") {
+            Some(_) => Err(ShapeError::Shape),
+            None => Ok(Site::Root),
+        },
+        "source" => Ok(Site::Source(name_in(alloc, object, "of")?)),
+        _ => Err(ShapeError::Shape),
+    }
+}
+
+/// The members `place` and `of`: a root, or the source of a node.
+#[tactic(auto, unfolding(crate::specs::Reading::site_in))]
+pub fn site_in(alloc: Global, object: &Value) -> Result<Site, ShapeError>
+    ensures { Gives site_of result (site_in (view object.now)) }
+{
+    let Some(place) = object.get("place").and_then(Value::as_str) else {
+        return Err(ShapeError::Shape);
+    };
+    site_by(alloc, place, object)
+}
+
+#[tactic(auto, unfolding(crate::specs::Reading::kind_by))]
+fn kind_by(kind: &str) -> Result<Kind, ShapeError>
+    ensures { Gives (λ k. k) result (kind_by kind.now) }
+{
+    match kind {
+        "leaf" => Ok(Kind::Leaf),
+        "pass" => Ok(Kind::Pass),
+        _ => Err(ShapeError::Shape),
+    }
+}
+
+/// The member `kind`: a leaf, or a node that mirrors its source.
+#[tactic(auto, unfolding(crate::specs::Reading::kind_in))]
+pub fn kind_in(object: &Value) -> Result<Kind, ShapeError>
+    ensures { Gives (λ k. k) result (kind_in (view object.now)) }
+{
+    let Some(kind) = object.get("kind").and_then(Value::as_str) else {
+        return Err(ShapeError::Shape);
+    };
+    kind_by(kind)
+}
+
+/// The member `events`, a limit from 1 to 4,294,967,295, which is 1,048,576 where there is none.
+#[tactic(auto, unfolding(crate::specs::Reading::events_in))]
+pub fn events_in(object: &Value) -> Result<u64, ShapeError>
+    ensures value { Gives (λ n. n) result (events_in (view object.now)) }
+    ensures limited { IfOk result (λ n. n ≤ 4294967295) }
+{
+    let Some(events) = object.get("events") else {
+        return Ok(1_048_576);
+    };
+    match events.as_u64() {
+        Some(number) if 1 <= number && number < 4_294_967_296 => Ok(number),
+        _ => Err(ShapeError::Shape),
+    }
+}

@@ -1,8 +1,0 @@
-use Rattle.std.proofs.Common.{◌∙◌, sym}
-use Rattle.rx_script.specs.Reading.{has_only}
-use Rattle.rx_script.proofs.Lists.{list_all_keys}
-use Rattle.rx_script.proofs.decode.members.has_only.Goals as goal
-
-pub returns : goal.returns
-unfolding has_only
-returns c = c.are_all_of.ensures ∙ sym (list_all_keys _ c.args.members.now.entries)

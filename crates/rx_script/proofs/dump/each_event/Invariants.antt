@@ -1,9 +1,0 @@
--- The events that were read, before those that are left.
-use Rattle.std.proofs.Common.{◌≡◌, drop}
-use Rattle.serde_json.specs.View.{items_view}
-use Rattle.rx_script.specs.Dump.{each_event}
-use Rattle.rx_script.proofs.Histories.{with_past}
-use Rattle.rx_script.proofs.dump.each_event.Given as goal
-
-abbrev pub invariant-loop-value : goal.invariant-loop-value
-invariant-loop-value l = each_event (items_view l.values.items) ≡ with_past l.history.items (each_event (items_view (drop l.value-index l.values.items)))
