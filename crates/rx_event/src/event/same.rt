@@ -82,7 +82,8 @@ fn same_event(one: Event, other: Event) -> bool
 }
 
 impl Event {
-    /// Whether it is the same event as the other, as `==` says too, of which nothing is proved.
+    /// Whether it is the same event as the other. `==` answers the same, by a clause that is too large
+    /// for the proof of a caller.
     #[tactic(auto, using(crate::proofs::Laws::Sames::same_event_equal))]
     pub fn same(self, other: Event) -> bool
         ensures value { result ≡ same_event self other }
