@@ -1,0 +1,7 @@
+pub mod NoCause
+pub mod Connecting
+pub mod Follow
+pub mod Fits
+pub mod Paid
+pub mod Calls
+pub mod Empty

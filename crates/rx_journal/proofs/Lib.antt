@@ -1,0 +1,3 @@
+mod Written
+mod Examples
+pub mod Laws

@@ -1,0 +1,5 @@
+pub mod Causes
+pub mod State
+pub mod Paid
+pub mod Claims
+pub mod Ties

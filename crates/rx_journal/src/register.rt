@@ -1,0 +1,120 @@
+//! What happened, by numbers alone, and what is counted of it, so that no call has to search for it.
+
+mod limits;
+mod mail;
+mod write;
+
+ghost use Rattle.std.specs.Prelude.{◌≡◌, ◌+◌, ◌<◌, ◌≤◌, [], length, slice_get, OnOk, OnErr};
+ghost use Rattle.rx_event.specs.Totals.{item_count, accepted_count, taken_count};
+ghost use Rattle.rx_journal.specs.State.{IsPromised};
+
+use rx_event::{Event, History, Mail};
+use std::alloc::{AllocError, Global};
+use std::collections::VecDeque;
+use std::marker::Model;
+
+/// The stored history, what is counted of it, and the notes that were not handed out.
+#[derive(Drop)]
+pub struct Register {
+    history: History,
+    limit: u64,
+    item_total: u64,
+    accepted_total: u64,
+    taken_total: u64,
+    mail: VecDeque<Mail>,
+    // How many notes at the front are of written events; those behind are of the next event.
+    told: usize,
+}
+
+impl Model for Register {
+    ghost use Rattle.rx_journal.specs.State.{State};
+
+    ghost Value = { State };
+
+    ghost use Rattle.rx_journal.specs.Ties.{state_of, IsTied};
+
+    ghost view = { state_of };
+
+    ghost invariant = { IsTied };
+}
+
+impl Register {
+    /// With no events, and of at most `limit`, which is at most 4,294,967,295. It takes no memory.
+    pub fn new(alloc: Global, limit: u64) -> Self
+        requires { limit ≤ 4294967295 }
+        ensures history { result.history ≡ [] }
+        ensures limit { result.limit ≡ limit }
+        ensures room { result.room ≡ 0 }
+        ensures given { result.given ≡ 0 }
+        ensures pending { result.pending ≡ [] }
+    {
+        Register {
+            history: History::new(alloc, limit),
+            limit,
+            item_total: 0,
+            accepted_total: 0,
+            taken_total: 0,
+            mail: VecDeque::new(alloc),
+            told: 0,
+        }
+    }
+
+    /// What a register promises at every moment, for proofs. It does nothing.
+    pub fn promise(&self)
+        ensures { IsPromised self.now }
+    {
+        let _count = self.history.len();
+    }
+
+    /// Gets room for so many events in all beyond those that are there, so that writing as many takes
+    /// no memory. Refused only where there was less room and memory was refused. No event changes
+    /// either way.
+    pub fn reserve(&mut self, events: u64) -> Result<(), AllocError>
+        requires { length self.old.history + events ≤ self.old.limit }
+        ensures ok { OnOk result (events ≤ self.new.room) }
+        ensures err { OnErr result (self.old.room < events) }
+        ensures kept { self.new ≡ record self.old { room = self.new.room } }
+        ensures room { self.old.room ≤ self.new.room }
+        ensures refused { OnErr result (self.new ≡ self.old) }
+    {
+        match self.history.reserve(events) {
+            Ok(()) => Ok(()),
+            Err(_) => Err(AllocError),
+        }
+    }
+
+    /// How many events there are.
+    pub fn len(&self) -> u64
+        ensures { result ≡ length self.now.history }
+    {
+        self.history.len()
+    }
+
+    /// The event at a place, if there is one.
+    pub fn event(&self, place: u64) -> Option<Event>
+        ensures { result ≡ slice_get self.now.history place }
+    {
+        self.history.get(place)
+    }
+
+    /// How many items were emitted.
+    pub fn items(&self) -> u64
+        ensures { result ≡ item_count self.now.history }
+    {
+        self.item_total
+    }
+
+    /// How many resources were accepted.
+    pub fn accepted(&self) -> u64
+        ensures { result ≡ accepted_count self.now.history }
+    {
+        self.accepted_total
+    }
+
+    /// How many resources were taken.
+    pub fn taken(&self) -> u64
+        ensures { result ≡ taken_count self.now.history }
+    {
+        self.taken_total
+    }
+}
