@@ -73,7 +73,7 @@ fn each_outcome_has_its_status_and_line(rt: HostRuntime) -> Result<(), Fail> {
             "error: unrecognized subcommand 'bad'\n\nUsage: rxbook [COMMAND]\n\nFor more information, try '--help'.\n",
         ),
         (
-            &["rxbook", "run", "--dump"],
+            &["rxbook", "run", "--drum"],
             empty,
             2,
             "",
