@@ -77,7 +77,7 @@ fn each_outcome_has_its_status_and_line(rt: HostRuntime) -> Result<(), Fail> {
             empty,
             2,
             "",
-            "error: unexpected argument '--dump' found\n\nUsage: rxbook run\n\nFor more information, try '--help'.\n",
+            "error: unexpected argument '--drum' found\n\nUsage: rxbook run\n\nFor more information, try '--help'.\n",
         ),
         (
             &["rxbook", "audit", "x"],
