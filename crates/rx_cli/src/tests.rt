@@ -73,11 +73,11 @@ fn each_outcome_has_its_status_and_line(rt: HostRuntime) -> Result<(), Fail> {
             "error: unrecognized subcommand 'bad'\n\nUsage: rxbook [COMMAND]\n\nFor more information, try '--help'.\n",
         ),
         (
-            &["rxbook", "run", "--drum"],
+            &["rxbook", "audit", "--dump"],
             empty,
             2,
             "",
-            "error: unexpected argument '--drum' found\n\nUsage: rxbook run\n\nFor more information, try '--help'.\n",
+            "error: unexpected argument '--dump' found\n\nUsage: rxbook audit\n\nFor more information, try '--help'.\n",
         ),
         (
             &["rxbook", "audit", "x"],
