@@ -46,7 +46,7 @@ pub fn serve<S: AsStr, R: Resource, I: Read, O: Write, E: Write>(
 
     ensures ran { (form : Form) → Orders (map S.text words.now) (Order.Run form)
         → (outcome : Result (Unit {0}) ScriptError)
-        × Ran I.remaining O.contents (map (λ r. ware_of (R.tag_of r) (R.life_of r) (R.uses_of r)) stock.items) form
+        × Ran I.remaining O.contents (map (ware_of R.Resource) stock.items) form
         input.old input.new output.old output.new outcome
         × Tells E.contents errors.old errors.new outcome result }
     ensures audited { Orders (map S.text words.now) Order.Audit

@@ -73,11 +73,11 @@ fn each_outcome_has_its_status_and_line(rt: HostRuntime) -> Result<(), Fail> {
             "error: unrecognized subcommand 'bad'\n\nUsage: rxbook [COMMAND]\n\nFor more information, try '--help'.\n",
         ),
         (
-            &["rxbook", "run", "--dump"],
+            &["rxbook", "audit", "--dump"],
             empty,
             2,
             "",
-            "error: unexpected argument '--dump' found\n\nUsage: rxbook run\n\nFor more information, try '--help'.\n",
+            "error: unexpected argument '--dump' found\n\nUsage: rxbook audit\n\nFor more information, try '--help'.\n",
         ),
         (
             &["rxbook", "audit", "x"],
@@ -380,17 +380,31 @@ const FIRST_DUMP: &str =
 
 #[test]
 fn a_dump_is_what_happened_and_is_lawful(rt: HostRuntime) -> Result<(), Fail> {
-    let dumped = call(rt.alloc(), &["rxbook", "run", "--dump"], FIRST_RUN.as_bytes())?;
+    let dumped = call(
+        rt.alloc(),
+        &["rxbook", "run", "--dump"],
+        FIRST_RUN.as_bytes(),
+    )?;
     assert_eq!(rt; dumped.status, 0);
     assert_eq!(rt; dumped.output.as_slice(), FIRST_DUMP.as_bytes());
     let judged = call(rt.alloc(), &["rxbook", "audit"], dumped.output.as_slice())?;
     assert_eq!(rt; judged.status, 0);
-    assert_eq!(rt; judged.output.as_slice(), b"lawful\nlive:\nheld:\nwaiting:\n".as_slice());
+    assert_eq!(rt;
+        judged.output.as_slice(),
+        b"lawful\nlive:\nheld:\nwaiting:\n".as_slice()
+    );
     // What is held when the steps are done is not yet closed in the dump.
-    let held = call(rt.alloc(), &["rxbook", "run", "--dump"], SIX_HELD.as_bytes())?;
+    let held = call(
+        rt.alloc(),
+        &["rxbook", "run", "--dump"],
+        SIX_HELD.as_bytes(),
+    )?;
     let judged = call(rt.alloc(), &["rxbook", "audit"], held.output.as_slice())?;
     assert_eq!(rt; judged.status, 0);
-    assert_eq!(rt; judged.output.as_slice(), b"lawful\nlive: 0\nheld: 1 2 3 4 5 6\nwaiting:\n".as_slice());
+    assert_eq!(rt;
+        judged.output.as_slice(),
+        b"lawful\nlive: 0\nheld: 1 2 3 4 5 6\nwaiting:\n".as_slice()
+    );
     Ok(())
 }
 

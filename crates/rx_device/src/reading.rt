@@ -18,10 +18,7 @@ pub const MOST_TURNS: u32 = 33_554_432;
 const PIECE: usize = 4096;
 
 /// All that the reader has left.
-pub fn read_all<R: Read>(
-    alloc: Global,
-    reader: &mut Watched<'_, R>,
-) -> Result<Vec<u8>, ScriptError>
+pub fn read_all<R: Read>(alloc: Global, reader: &mut Watched<'_, R>) -> Result<Vec<u8>, ScriptError>
     requires fresh { IsFresh reader.old }
 
     ensures ok { IfOk result (λ v. GivesWhole (R.remaining (device_of reader.old)) (R.remaining (device_of reader.new)) v.items) }

@@ -84,4 +84,3 @@ impl<W: Write> Watched<'_, W> {
         }
     }
 }
-

@@ -117,12 +117,7 @@ fn carry_out<S: Resource>(
 }
 
 // The last line of a report; a dump has none.
-fn push_closing(
-    text: &mut String,
-    form: Form,
-    released: u64,
-    faults: u64,
-) -> Result<(), AllocError>
+fn push_closing(text: &mut String, form: Form, released: u64, faults: u64) -> Result<(), AllocError>
     ensures { OnOk result (string_bytes text.new ≡ string_bytes text.old ++ closing form released faults) }
 {
     match form {

@@ -1,0 +1,6 @@
+use Rattle.std.proofs.Common.{subst}
+use Rattle.rx_cli.specs.Told.{IsTold}
+use Rattle.rx_cli.proofs.usage.refuse_bytes.Goals as goal
+
+pub returns-clause-line : goal.returns-clause-line
+returns-clause-line g c = subst (IsTold g.E.Write.contents c.args.errors.now c.tell.new.errors) c.as_bytes.ensures.value c.tell.ensures.told
