@@ -3,3 +3,4 @@ pub mod Marks
 pub mod Served
 pub mod Status
 pub mod Words
+pub mod Storms

@@ -44,6 +44,7 @@ mod boxes;
 mod program;
 mod request;
 mod statuses;
+mod storming;
 mod telling;
 #[cfg(test)]
 mod tests;
@@ -56,6 +57,7 @@ pub use program::serve;
 pub use request::Order;
 pub use rx_script::{Closed, Form, ScriptError, Watched, check, close, run};
 pub use statuses::out_of_memory;
+pub use storming::{StormFault, storm};
 pub use usage::refuse_bytes;
 pub use word_laws::words_have_their_orders;
 pub use words::order;
