@@ -14,12 +14,12 @@ mod numbers;
 mod tests;
 mod threads;
 
-use rx_script::{Watched, close, write_text};
 use figures::Figures;
 use rx_book::Book;
 use rx_crew::{Desk, Gate, finish};
 use rx_ledger::PARTS;
 use rx_resource::Resource;
+use rx_script::{Watched, close, write_text};
 use std::alloc::Global;
 use std::io::Write;
 use std::marker::Brand;

@@ -56,12 +56,12 @@ sums-outside h (OpeningUsing place tag) =
     let both : h ++ Open place Pass ∷ accept ∷ [] ≡ (h ++ Open place Pass ∷ []) ++ accept ∷ [] = sym (append_assoc h (Open place Pass ∷ []) (accept ∷ [])) in
     ap sums_of both ∙ sums-push (h ++ Open place Pass ∷ []) accept ∙ ap (counts accept) opened
     ∙ same_sums (counts accept (sums_of h)) (record (sums_of h) { accepted = accepted_count h + 1 }) (omega arith) refl (omega arith)
-sums-outside h (Holding node tag) = 
+sums-outside h (Holding node tag) =
     let more : Sums = record (sums_of h) { accepted = accepted_count h + 1 } in
     one_more h (Accept node tag) more (same_sums (counts (Accept node tag) (sums_of h)) more (omega arith) refl (omega arith))
 sums-outside h (Applying r) = one_more h (Use r) (sums_of h) (plain (Use r) (sums_of h) refl refl refl)
 sums-outside h (Removing r) = one_more h (Remove r) (sums_of h) (plain (Remove r) (sums_of h) refl refl refl)
-sums-outside h (Emitting leaf value) = 
+sums-outside h (Emitting leaf value) =
     let more : Sums = record (sums_of h) { items = item_count h + 1 } in
     one_more h (Item leaf value) more (same_sums (counts (Item leaf value) (sums_of h)) more refl (omega arith) (omega arith))
 sums-outside h (Ending leaf t) = one_more h (End leaf t) (sums_of h) (plain (End leaf t) (sums_of h) refl refl refl)
@@ -72,7 +72,7 @@ sums-outside h (Disposing root) = one_more h (Close root) (sums_of h) (plain (Cl
 sums-outside h (Publishing mode) = one_more h (Hub mode) (sums_of h) (plain (Hub mode) (sums_of h) refl refl refl)
 sums-outside h (Connecting g) = one_more h (Connect g) (sums_of h) (plain (Connect g) (sums_of h) refl refl refl)
 sums-outside h (Disconnecting c) = one_more h (Close c) (sums_of h) (plain (Close c) (sums_of h) refl refl refl)
-sums-outside h (Taking r) = 
+sums-outside h (Taking r) =
     let more : Sums = record (sums_of h) { taken = taken_count h + 1 } in
     one_more h (Take r) more (same_sums (counts (Take r) (sums_of h)) more (omega arith) (omega arith) refl)
 

@@ -59,9 +59,9 @@ one_more leaf before now rest p receipts r n far pulled is =
     record {
       left = sym next.left;
       given = map-append (λ (r : Receipt). r.event) receipts (r ∷ [])
-        ∙ ap (λ (l : List Event). l ++ r.event ∷ []) far.given
-        ∙ ap (λ (e : Event). map (event_of leaf) (take n before) ++ e ∷ []) is
-        ∙ sym (map-append (event_of leaf) (take n before) (p ∷ [])) ∙ ap (map (event_of leaf)) (sym next.taken);
+          ∙ ap (λ (l : List Event). l ++ r.event ∷ []) far.given
+          ∙ ap (λ (e : Event). map (event_of leaf) (take n before) ++ e ∷ []) is
+          ∙ sym (map-append (event_of leaf) (take n before) (p ∷ [])) ∙ ap (map (event_of leaf)) (sym next.taken);
     }
 
 pub is_within : (leaf : ℕ) (before now rest : List Pull) (p : Pull) (receipts : List Receipt) (n : ℕ)

@@ -73,6 +73,9 @@ fn a_feed_stops_at_its_turns_at_the_end_and_when_refused(rt: HostRuntime) -> Res
     assert_eq!(rt; stops, [Stop::Turns, Stop::Turns, Stop::Done, gone]);
     let end = Event::End(0, Terminal::Completed);
     let (first, second) = (Event::Item(0, 5), Event::Item(0, 5));
-    assert_eq!(rt; events.as_slice(), [(1, first), (2, second), (3, end)].as_slice());
+    assert_eq!(rt;
+        events.as_slice(),
+        [(1, first), (2, second), (3, end)].as_slice()
+    );
     Ok(())
 }

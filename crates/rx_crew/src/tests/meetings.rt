@@ -65,7 +65,11 @@ impl Resource for Actor {
     fn release(&mut self) -> Result<(), u32> {
         self.life = Life::Released;
         self.stage.store(1, Ordering::SeqCst);
-        if came_to(&self.stage, 2) { Ok(()) } else { Err(9) }
+        if came_to(&self.stage, 2) {
+            Ok(())
+        } else {
+            Err(9)
+        }
     }
 }
 
@@ -92,11 +96,7 @@ fn asks_meanwhile<
     A: Ledger + Send + Sync,
     K: Ledger + Send + Sync,
     T: Threads + Wait + Sync,
->(
-    rt: &T,
-    alloc: Global,
-    blanks: (Blank, Blank, Blank),
-) -> Result<(u64, u64), Fail>
+>(rt: &T, alloc: Global, blanks: (Blank, Blank, Blank)) -> Result<(u64, u64), Fail>
     requires items { Opens I.name I.parts blanks.0.name blanks.0.parts }
     requires accepted { Opens A.name A.parts blanks.1.name blanks.1.parts }
     requires taken { Opens K.name K.parts blanks.2.name blanks.2.parts }
@@ -157,11 +157,7 @@ fn both_release<
     A: Ledger + Send + Sync,
     K: Ledger + Send + Sync,
     T: Threads + Wait + Sync,
->(
-    rt: &T,
-    alloc: Global,
-    blanks: (Blank, Blank, Blank),
-) -> Result<u64, Fail>
+>(rt: &T, alloc: Global, blanks: (Blank, Blank, Blank)) -> Result<u64, Fail>
     requires items { Opens I.name I.parts blanks.0.name blanks.0.parts }
     requires accepted { Opens A.name A.parts blanks.1.name blanks.1.parts }
     requires taken { Opens K.name K.parts blanks.2.name blanks.2.parts }

@@ -25,7 +25,11 @@ fn worked<I: Ledger, A: Ledger, K: Ledger>(
     let book = Book::new(alloc, 1000);
     let (desk, mut seat) = Desk::<Lamp, I, A, K>::new(book, blanks.0, blanks.1, blanks.2);
     for tag in 2..5u64 {
-        let opened = match desk.floor.lock(rt).open_using(&mut seat, At::Root, new_lamp(tag)) {
+        let opened = match desk
+            .floor
+            .lock(rt)
+            .open_using(&mut seat, At::Root, new_lamp(tag))
+        {
             Ok(opened) => opened,
             Err(_) => return Err(Fail::from("nothing was opened")),
         };
@@ -35,7 +39,10 @@ fn worked<I: Ledger, A: Ledger, K: Ledger>(
     let one = worker(rt, &desk, none.seat, &Open, 1);
     desk.floor.lock(rt).shut();
     let rest = worker(rt, &desk, one.seat, &Open, 9);
-    let faults = none.faults.saturating_add(one.faults).saturating_add(rest.faults);
+    let faults = none
+        .faults
+        .saturating_add(one.faults)
+        .saturating_add(rest.faults);
     let released = [none.released, one.released, rest.released];
     Ok((released, faults, [none.stop, one.stop, rest.stop]))
 }

@@ -35,9 +35,11 @@ returns-then-is_done-clause-stop g c =
     let n : vec_len c.push_reserved.new.self ≡ c.loop-turn._turn + 1 = omega (arith, c.push_reserved.ensures.len, c.reserve.ensures.len, counted) in
     let course = rw c.pull-pull.ensures at c.loop-turn.invariant.course in
     let none = ends_here _ _ (sym c.is_done.ensures ∙ c.if-is_done.true) course in
-    let test = c.loop-turn-test.true in
-    (omega (arith, n, test),
-    n ∙ is_last _ _ _ _ _ _ c.loop-turn.invariant.far (c.pull-pull.ensures ∙ ap (λ (l : List Pull). c.pull-pull.result ∷ l) none), none)
+    let test = c.loop-turn-test.true in (
+      omega (arith, n, test),
+      n ∙ is_last _ _ _ _ _ _ c.loop-turn.invariant.far (c.pull-pull.ensures ∙ ap (λ (l : List Pull). c.pull-pull.result ∷ l) none),
+      none,
+    )
 
 pub loop-turn-preserved : goal.loop-turn-preserved
 loop-turn-preserved g c =
@@ -55,6 +57,6 @@ loop-turn-preserved g c =
       far = rw items (one_more _ _ _ _ _ _ r _ c.loop-turn.invariant.far c.pull-pull.ensures c.event_at.ensures);
       course = goes_on _ _ (sym c.is_done.ensures ∙ c.if-is_done.false) course;
       shares = c.in-Ok.ensures.counted
-        ∙ ap (λ (s : Shares). record s { items = s.items + items_of p }) c.loop-turn.invariant.shares
-        ∙ ap (λ (n : ℕ). record c.args.seat { items = n }) sum;
+          ∙ ap (λ (s : Shares). record s { items = s.items + items_of p }) c.loop-turn.invariant.shares
+          ∙ ap (λ (n : ℕ). record c.args.seat { items = n }) sum;
     }
