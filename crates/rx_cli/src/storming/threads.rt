@@ -13,7 +13,7 @@ use std::alloc::Global;
 use std::sync::Wait;
 use std::sync::ledger::Ledger;
 use std::thread;
-use std::thread::Threads;
+use std::thread::{JoinHandle, SpawnError, Threads};
 
 /// What the threads gave back.
 #[derive(Drop)]
@@ -74,6 +74,24 @@ impl<I: Ledger, A: Ledger, K: Ledger> Gathered<I, A, K> {
         self.faults = self.faults.saturating_add(worked.faults);
         self.keep(worked.seat);
     }
+
+    /// Joins the feeds, shuts the desk, and joins the workers.
+    fn join_all<R: Resource, T: Threads + Wait>(
+        &mut self,
+        rt: &T,
+        desk: &Desk<R, I, A, K>,
+        feeds: Vec<JoinHandle<Option<Fed<I, A, K>>>>,
+        works: Vec<JoinHandle<Worked<I, A, K>>>,
+    ) {
+        for thread in feeds {
+            self.add_fed(thread.join(rt));
+        }
+        desk.floor.lock(rt).shut();
+        desk.bell.notify_all();
+        for thread in works {
+            self.add_worked(thread.join(rt));
+        }
+    }
 }
 
 /// Opens a Using root with the resource and a leaf below it, and feeds that the numbers below `items`
@@ -96,10 +114,18 @@ fn emit_all<R: Resource, I: Ledger, A: Ledger, K: Ledger>(
     Some(feed(rt, alloc, desk, seat, leaf, &mut numbers, turns))
 }
 
-/// Tells the workers to stop once nothing waits.
-fn shut<R: Resource, I: Ledger, A: Ledger, K: Ledger>(rt: &impl Wait, desk: &Desk<R, I, A, K>) {
-    desk.floor.lock(rt).shut();
-    desk.bell.notify_all();
+/// Keeps a thread that was started, to be joined; or answers what kept it from that.
+fn keep_thread<V: Send + Drop, F: Drop>(
+    threads: &mut Vec<JoinHandle<V>>,
+    started: Result<JoinHandle<V>, SpawnError<F>>,
+) -> Option<StormFault> {
+    match started {
+        Ok(thread) => match threads.push(thread) {
+            Ok(()) => None,
+            Err(_) => Some(StormFault::Memory),
+        },
+        Err(_) => Some(StormFault::Thread),
+    }
 }
 
 /// Starts a feeding thread for each resource and so many working threads, each with a seat of its own;
@@ -137,17 +163,10 @@ pub fn run_threads<
                 let Some(seat) = first.split() else {
                     break;
                 };
-                match scope.spawn(move || emit_all(rt, alloc, desk, seat, resource, items)) {
-                    Ok(thread) => {
-                        if feeds.push(thread).is_err() {
-                            gathered.blame(StormFault::Memory);
-                            break;
-                        }
-                    }
-                    Err(_) => {
-                        gathered.blame(StormFault::Thread);
-                        break;
-                    }
+                let started = scope.spawn(move || emit_all(rt, alloc, desk, seat, resource, items));
+                gathered.fault = keep_thread(&mut feeds, started);
+                if gathered.fault.is_some() {
+                    break;
                 }
             }
             for _worker in 0..workers {
@@ -157,22 +176,10 @@ pub fn run_threads<
                 let Some(seat) = first.split() else {
                     break;
                 };
-                match scope.spawn(move || worker(rt, desk, seat, gate, turns)) {
-                    Ok(thread) => {
-                        if works.push(thread).is_err() {
-                            gathered.blame(StormFault::Memory);
-                        }
-                    }
-                    Err(_) => gathered.blame(StormFault::Thread),
-                }
+                let started = scope.spawn(move || worker(rt, desk, seat, gate, turns));
+                gathered.fault = keep_thread(&mut works, started);
             }
-            for thread in feeds {
-                gathered.add_fed(thread.join(rt));
-            }
-            shut(rt, desk);
-            for thread in works {
-                gathered.add_worked(thread.join(rt));
-            }
+            gathered.join_all(rt, desk, feeds, works);
             gathered.keep(first);
             gathered
         },
