@@ -1,12 +1,14 @@
 -- What a step adds to the totals.
-use Rattle.std.proofs.Common.{◌≡◌, Result, Ok, Err, ℕ, ◌+◌, Bool, true, false, List, [], ◌∷◌, ◌++◌, length, refl, sym, ap, ◌∙◌, arith, append_assoc, cond}
+use Rattle.std.proofs.Common.{◌≡◌, ◌+◌, true, false, List, [], ◌∷◌, ◌++◌, length, refl, sym, ap, ◌∙◌, arith, append_assoc, cond}
 use Rattle.rx_event.specs.declared.event.Event.{Event}
 use Rattle.rx_event.specs.declared.event.Event.TheVariants.{Open, Hub, Connect, Accept, Use, Remove, Item, Decline, End, Close, Take}
 use Rattle.rx_note.specs.declared.note.Terminal.TheVariants.{Error}
 use Rattle.rx_event.specs.declared.event.Kind.TheVariants.{Pass}
 use Rattle.rx_event.specs.Events.{is_item, makes_resource, is_take}
 use Rattle.rx_event.specs.Lawful.{stays, more, IsForcedOn}
-use Rattle.rx_event.specs.Calls.{Call, Opening, OpeningUsing, Holding, Applying, Removing, Emitting, Ending, Aborting, Declining, Failing, Disposing, Publishing, Connecting, Disconnecting, Taking, outside_of, IsStepOf}
+use Rattle.rx_event.specs.Calls.{Call, outside_of, IsStepOf}
+use Rattle.rx_event.specs.Calls.{Opening, OpeningUsing, Holding, Applying, Removing, Emitting, Ending, Aborting}
+use Rattle.rx_event.specs.Calls.{Declining, Failing, Disposing, Publishing, Connecting, Disconnecting, Taking}
 use Rattle.rx_event.specs.Totals.{item_count, accepted_count, taken_count}
 use Rattle.rx_event.proofs.Laws.Steps.{forced_kind, may_be_forced}
 use Rattle.rx_event.proofs.Laws.Totals.{item_count-push, accepted_count-push, taken_count-push}
@@ -54,10 +56,14 @@ sums-outside h (OpeningUsing place tag) =
     let both : h ++ Open place Pass ∷ accept ∷ [] ≡ (h ++ Open place Pass ∷ []) ++ accept ∷ [] = sym (append_assoc h (Open place Pass ∷ []) (accept ∷ [])) in
     ap sums_of both ∙ sums-push (h ++ Open place Pass ∷ []) accept ∙ ap (counts accept) opened
     ∙ same_sums (counts accept (sums_of h)) (record (sums_of h) { accepted = accepted_count h + 1 }) (omega arith) refl (omega arith)
-sums-outside h (Holding node tag) = one_more h (Accept node tag) (record (sums_of h) { accepted = accepted_count h + 1 }) (same_sums (counts (Accept node tag) (sums_of h)) (record (sums_of h) { accepted = accepted_count h + 1 }) (omega arith) refl (omega arith))
+sums-outside h (Holding node tag) =
+    let more : Sums = record (sums_of h) { accepted = accepted_count h + 1 } in
+    one_more h (Accept node tag) more (same_sums (counts (Accept node tag) (sums_of h)) more (omega arith) refl (omega arith))
 sums-outside h (Applying r) = one_more h (Use r) (sums_of h) (plain (Use r) (sums_of h) refl refl refl)
 sums-outside h (Removing r) = one_more h (Remove r) (sums_of h) (plain (Remove r) (sums_of h) refl refl refl)
-sums-outside h (Emitting leaf value) = one_more h (Item leaf value) (record (sums_of h) { items = item_count h + 1 }) (same_sums (counts (Item leaf value) (sums_of h)) (record (sums_of h) { items = item_count h + 1 }) refl (omega arith) (omega arith))
+sums-outside h (Emitting leaf value) =
+    let more : Sums = record (sums_of h) { items = item_count h + 1 } in
+    one_more h (Item leaf value) more (same_sums (counts (Item leaf value) (sums_of h)) more refl (omega arith) (omega arith))
 sums-outside h (Ending leaf t) = one_more h (End leaf t) (sums_of h) (plain (End leaf t) (sums_of h) refl refl refl)
 sums-outside h (Aborting n code) = one_more h (End n (Error code)) (sums_of h) (plain (End n (Error code)) (sums_of h) refl refl refl)
 sums-outside h (Declining f) = one_more h (Decline f) (sums_of h) (plain (Decline f) (sums_of h) refl refl refl)
@@ -66,7 +72,9 @@ sums-outside h (Disposing root) = one_more h (Close root) (sums_of h) (plain (Cl
 sums-outside h (Publishing mode) = one_more h (Hub mode) (sums_of h) (plain (Hub mode) (sums_of h) refl refl refl)
 sums-outside h (Connecting g) = one_more h (Connect g) (sums_of h) (plain (Connect g) (sums_of h) refl refl refl)
 sums-outside h (Disconnecting c) = one_more h (Close c) (sums_of h) (plain (Close c) (sums_of h) refl refl refl)
-sums-outside h (Taking r) = one_more h (Take r) (record (sums_of h) { taken = taken_count h + 1 }) (same_sums (counts (Take r) (sums_of h)) (record (sums_of h) { taken = taken_count h + 1 }) (omega arith) (omega arith) refl)
+sums-outside h (Taking r) =
+    let more : Sums = record (sums_of h) { taken = taken_count h + 1 } in
+    one_more h (Take r) more (same_sums (counts (Take r) (sums_of h)) more (omega arith) (omega arith) refl)
 
 -- a step adds to the totals just what its call counts
 pub sums-step : (h k : List Event) (call : Call) → IsStepOf h call k → sums_of k ≡ counting call (sums_of h)

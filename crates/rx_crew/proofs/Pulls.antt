@@ -1,5 +1,5 @@
 -- One pull more.
-use Rattle.std.proofs.Common.{◌≡◌, ℕ, zero, suc, ◌+◌, ◌<◌, Bool, true, false, List, [], ◌∷◌, ◌++◌, length, take, drop, refl, sym, ap, ◌∙◌, arith, add-one}
+use Rattle.std.proofs.Common.{◌≡◌, ℕ, zero, suc, ◌+◌, ◌<◌, true, false, List, [], ◌∷◌, ◌++◌, length, take, drop, refl, sym, ap, ◌∙◌, arith, add-one}
 use Rattle.std.proofs.lemmas.Bool.{false≢true}
 use Rattle.std.proofs.lemmas.List.{map-append, length-drop}
 use Rattle.std.proofs.lemmas.List.Sums.{sum_by_push}
@@ -52,19 +52,25 @@ pub record SoFar (leaf : ℕ) (before now : List Pull) (receipts : List Receipt)
   pub left : now ≡ drop n before
   pub given : map (λ r. r.event) receipts ≡ map (event_of leaf) (take n before)
 
-pub one_more : (leaf : ℕ) (before now rest : List Pull) (p : Pull) (receipts : List Receipt) (r : Receipt) (n : ℕ) → SoFar leaf before now receipts n → now ≡ p ∷ rest → r.event ≡ event_of leaf p → SoFar leaf before rest (receipts ++ r ∷ []) (n + 1)
+pub one_more : (leaf : ℕ) (before now rest : List Pull) (p : Pull) (receipts : List Receipt) (r : Receipt) (n : ℕ)
+    → SoFar leaf before now receipts n → now ≡ p ∷ rest → r.event ≡ event_of leaf p → SoFar leaf before rest (receipts ++ r ∷ []) (n + 1)
 one_more leaf before now rest p receipts r n far pulled is =
     let next = next_pull n before p rest (sym far.left ∙ pulled) in
     record {
       left = sym next.left;
-      given = map-append (λ (r : Receipt). r.event) receipts (r ∷ []) ∙ ap (λ (l : List Event). l ++ r.event ∷ []) far.given ∙ ap (λ (e : Event). map (event_of leaf) (take n before) ++ e ∷ []) is ∙ sym (map-append (event_of leaf) (take n before) (p ∷ [])) ∙ ap (map (event_of leaf)) (sym next.taken);
+      given = map-append (λ (r : Receipt). r.event) receipts (r ∷ [])
+          ∙ ap (λ (l : List Event). l ++ r.event ∷ []) far.given
+          ∙ ap (λ (e : Event). map (event_of leaf) (take n before) ++ e ∷ []) is
+          ∙ sym (map-append (event_of leaf) (take n before) (p ∷ [])) ∙ ap (map (event_of leaf)) (sym next.taken);
     }
 
-pub is_within : (leaf : ℕ) (before now rest : List Pull) (p : Pull) (receipts : List Receipt) (n : ℕ) → SoFar leaf before now receipts n → now ≡ p ∷ rest → (n < length before) × (rest ≡ drop (n + 1) before)
+pub is_within : (leaf : ℕ) (before now rest : List Pull) (p : Pull) (receipts : List Receipt) (n : ℕ)
+    → SoFar leaf before now receipts n → now ≡ p ∷ rest → (n < length before) × (rest ≡ drop (n + 1) before)
 is_within leaf before now rest p receipts n far pulled = let next = next_pull n before p rest (sym far.left ∙ pulled) in (next.within, sym next.left)
 
 -- where nothing is left after one more, it was the last
-pub is_last : (leaf : ℕ) (before now : List Pull) (p : Pull) (receipts : List Receipt) (n : ℕ) → SoFar leaf before now receipts n → now ≡ p ∷ [] → n + 1 ≡ length before
+pub is_last : (leaf : ℕ) (before now : List Pull) (p : Pull) (receipts : List Receipt) (n : ℕ)
+    → SoFar leaf before now receipts n → now ≡ p ∷ [] → n + 1 ≡ length before
 is_last leaf before now p receipts n far pulled =
     let next = next_pull n before p [] (sym far.left ∙ pulled) in
     let none : length (drop (n + 1) before) ≡ 0 = ap length next.left in
@@ -76,5 +82,8 @@ item_or_none leaf (PullItem v) = refl
 item_or_none leaf (PullDone t) = refl
 
 -- the count of the items among the receipts
-pub items-push : (leaf : ℕ) (p : Pull) (receipts : List Receipt) (r : Receipt) → r.event ≡ event_of leaf p → count_by (λ (r : Receipt). is_item r.event) (receipts ++ r ∷ []) ≡ count_by (λ (r : Receipt). is_item r.event) receipts + items_of p
-items-push leaf p receipts r is = sum_by_push (λ (r : Receipt). cond (is_item r.event) 1 0) receipts r ∙ ap (λ (n : ℕ). count_by (λ (r : Receipt). is_item r.event) receipts + n) (ap (λ (e : Event). cond (is_item e) 1 0) is ∙ sym (item_or_none leaf p))
+pub items-push : (leaf : ℕ) (p : Pull) (receipts : List Receipt) (r : Receipt)
+    → r.event ≡ event_of leaf p → count_by (λ (r : Receipt). is_item r.event) (receipts ++ r ∷ []) ≡ count_by (λ (r : Receipt). is_item r.event) receipts + items_of p
+items-push leaf p receipts r is =
+    sum_by_push (λ (r : Receipt). cond (is_item r.event) 1 0) receipts r
+    ∙ ap (λ (n : ℕ). count_by (λ (r : Receipt). is_item r.event) receipts + n) (ap (λ (e : Event). cond (is_item e) 1 0) is ∙ sym (item_or_none leaf p))

@@ -8,10 +8,15 @@ use Rattle.rx_crew.specs.Counting.{sums_of, counting}
 use Rattle.rx_crew.proofs.Counted.{sums-step}
 
 -- ledgers that agreed with the history, and count what the accepted call does, agree with the history after it
-pub counted : (old new : State) (asked : Request) (before after : Sums) → Accepts old asked new → before ≡ sums_of old.history → after ≡ counting asked.call before → after ≡ sums_of new.history
-counted old new asked before after accepts agreed counts = counts ∙ ap (counting asked.call) agreed ∙ sym (sums-step old.history new.history asked.call accepts.step)
+pub counted : (old new : State) (asked : Request) (before after : Sums)
+    → Accepts old asked new → before ≡ sums_of old.history → after ≡ counting asked.call before → after ≡ sums_of new.history
+counted old new asked before after accepts agreed counts =
+    counts ∙ ap (counting asked.call) agreed ∙ sym (sums-step old.history new.history asked.call accepts.step)
 
 -- the same of a call that counts nothing, whatever it answers
-pub uncounted : {A E : Type 0} (gives : A → Type 0) (refuses : E → Type 0) (old new : State) (asked : Request) (answer : Result A E) (ledgers : Sums) → Answers gives refuses old asked new answer → ledgers ≡ counting asked.call ledgers → ledgers ≡ sums_of old.history → ledgers ≡ sums_of new.history
-uncounted gives refuses old new asked (Ok x) ledgers answers none agreed = counted old new asked ledgers ledgers answers.accepted agreed none
-uncounted gives refuses old new asked (Err e) ledgers answers none agreed = agreed ∙ ap (λ (s : State). sums_of s.history) (sym answers.kept)
+pub uncounted : {A E : Type 0} (gives : A → Type 0) (refuses : E → Type 0) (old new : State) (asked : Request) (answer : Result A E) (ledgers : Sums)
+    → Answers gives refuses old asked new answer → ledgers ≡ counting asked.call ledgers → ledgers ≡ sums_of old.history → ledgers ≡ sums_of new.history
+uncounted gives refuses old new asked (Ok x) ledgers answers none agreed =
+    counted old new asked ledgers ledgers answers.accepted agreed none
+uncounted gives refuses old new asked (Err e) ledgers answers none agreed =
+    agreed ∙ ap (λ (s : State). sums_of s.history) (sym answers.kept)

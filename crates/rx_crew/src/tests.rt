@@ -3,4 +3,7 @@
 mod caller;
 mod calls;
 mod day;
+mod feeds;
 mod lamps;
+mod meetings;
+mod workers;

@@ -33,7 +33,10 @@ impl<I: Ledger, A: Ledger, K: Ledger> Model for Seat<I, A, K> {
 
     ghost view = { λ s. record { parts = s.parts; items = s.item_share.amount; accepted = s.accepted_share.amount; taken = s.taken_share.amount } };
 
-    ghost invariant = { λ s. (0 < s.parts) × (I.parts ≡ all_parts) × IsCount s.parts s.items s.item_share.parts s.item_share.amount × IsCount s.parts s.accepted s.accepted_share.parts s.accepted_share.amount × IsCount s.parts s.taken s.taken_share.parts s.taken_share.amount };
+    ghost invariant = { λ s. (0 < s.parts) × (I.parts ≡ all_parts)
+        × IsCount s.parts s.items s.item_share.parts s.item_share.amount
+        × IsCount s.parts s.accepted s.accepted_share.parts s.accepted_share.amount
+        × IsCount s.parts s.taken s.taken_share.parts s.taken_share.amount };
 }
 
 impl<I: Ledger, A: Ledger, K: Ledger> Seat<I, A, K> {

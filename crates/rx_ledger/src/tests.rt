@@ -17,9 +17,7 @@ fn blanks() -> (Blank, Blank, Blank)
 }
 
 // Splits until no part is left to give, and answers how often that went.
-fn splits_of<I: Ledger, A: Ledger, K: Ledger>(
-    blanks: (Blank, Blank, Blank),
-) -> u64
+fn splits_of<I: Ledger, A: Ledger, K: Ledger>(blanks: (Blank, Blank, Blank)) -> u64
     requires items { Opens I.name I.parts blanks.0.name blanks.0.parts }
     requires accepted { Opens A.name A.parts blanks.1.name blanks.1.parts }
     requires taken { Opens K.name K.parts blanks.2.name blanks.2.parts }

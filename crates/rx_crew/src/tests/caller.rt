@@ -3,8 +3,8 @@
 ghost use Rattle.std.specs.Prelude.{◌≡◌, IfOk, IsOk};
 ghost use Rattle.rx_ledger.specs.Shares.{all_parts, Opens};
 
-use super::lamps::{Lamp, blanks, new_lamp};
-use crate::{Desk, Finished, Gate, finish, worker};
+use super::lamps::{Lamp, Open, blanks, new_lamp};
+use crate::{Desk, Finished, finish, worker};
 use rx_book::{At, Book};
 use rx_ledger::Seat;
 use rx_resource::Resource;
@@ -15,15 +15,6 @@ use std::sync::ledger::{Blank, Ledger};
 use std::test::Fail;
 use std::thread;
 use std::thread::Threads;
-
-// A gate that does nothing.
-struct Open;
-
-impl Gate for Open {
-    fn before(&self, _number: u64) {}
-
-    fn after(&self, _number: u64) {}
-}
 
 // Subscribes with a resource and unsubscribes; then shuts the desk, so that the worker ends.
 fn subscribe_once<R: Resource, I: Ledger, A: Ledger, K: Ledger>(

@@ -1,6 +1,5 @@
 //! A desk with two seats: one hands a resource in, the other takes it out.
 
-ghost use Rattle.std.specs.Prelude.{◌≡◌};
 ghost use Rattle.rx_ledger.specs.Shares.{Opens};
 
 use super::lamps::{Lamp, blanks, new_lamp};

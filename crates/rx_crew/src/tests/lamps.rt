@@ -1,9 +1,10 @@
-//! What the tests share: a resource, and the blanks of a desk.
+//! What the tests share: a resource, a gate, and the blanks of a desk.
 
 ghost use Rattle.std.specs.Prelude.{◌≡◌};
 ghost use Rattle.rx_resource.specs.declared.Life.{Life};
 ghost use Rattle.rx_ledger.specs.Shares.{all_parts};
 
+use crate::Gate;
 use rx_ledger::PARTS;
 use rx_resource::{Life, Resource};
 use std::sync::ledger::Blank;
@@ -56,6 +57,15 @@ pub(super) fn new_lamp(tag: u64) -> Lamp
         uses: 0,
         life: Life::Live,
     }
+}
+
+// A gate that does nothing.
+pub(super) struct Open;
+
+impl Gate for Open {
+    fn before(&self, _number: u64) {}
+
+    fn after(&self, _number: u64) {}
 }
 
 // Three blanks of all parts.
