@@ -7,7 +7,8 @@ use Rattle.std.proofs.lemmas.Grind.{flat_map-append}
 use Rattle.rx_event.specs.declared.event.Event.{Event}
 use Rattle.rx_event.specs.Tree.{at, is_open}
 use Rattle.rx_note.specs.declared.note.Note.{Note}
-use Rattle.rx_event.specs.Notes.{Mail, notes, notes_to}
+use Rattle.rx_event.specs.Notes.{notes, notes_to}
+use Rattle.rx_event.specs.declared.mail.Mail.{Mail}
 use Rattle.rx_register.specs.declared.mail.Mail.{Mail as Letter}
 use Rattle.rx_book.specs.State.{State}
 use Rattle.rx_register.specs.Kept.{letter}
