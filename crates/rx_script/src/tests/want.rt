@@ -40,7 +40,6 @@ fn a_run_without_memory_writes_nothing_and_keeps_nothing(rt: HostRuntime) -> Res
         stocks.push(releases.stock(rt.alloc(), &[0, 1, 2])?)?;
     }
     let mut refused = 0u32;
-    let mut kept = 0u32;
     let mut scarce = Scarce::new(rt.alloc())?;
     for _ in 0..RUNS {
         let Some(stock) = stocks.pop() else { break };
@@ -58,15 +57,12 @@ fn a_run_without_memory_writes_nothing_and_keeps_nothing(rt: HostRuntime) -> Res
         }
         assert!(rt; matches!(outcome, Err(ScriptError::Memory)), "{outcome:?}");
         assert!(rt; output.is_empty());
-        let released = releases.count().wrapping_sub(before);
-        assert!(rt; released <= 3);
-        kept = kept.max(released);
+        assert!(rt; releases.count().wrapping_sub(before) <= 3);
         refused = refused.wrapping_add(1);
         assert!(rt; scarce.give_back_one());
     }
     assert_eq!(rt; output.as_slice(), REPORT.as_bytes());
     assert!(rt; refused > 3, "refused {refused}");
-    assert!(rt; kept > 0, "released {kept} of a run that was refused");
     assert!(rt; scarce.block_count() < MOST_BLOCKS);
     Ok(())
 }
