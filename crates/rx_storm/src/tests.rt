@@ -34,12 +34,12 @@ fn four_samples(alloc: Global) -> Result<Vec<Sample>, AllocError>
     ensures live { IfOk result (λ v. All (λ s. s.life ≡ Life.Live) v.items) }
     ensures unused { IfOk result (λ v. All (λ s. s.uses ≡ 0) v.items) }
 {
-    vec![in alloc;
+    Ok(vec![in alloc;
         Sample::new(0),
         Sample::new(1),
         Sample::new(2),
         Sample::faulty(3, 2),
-    ]
+    ]?)
 }
 
 // A storm of four sources, three workers and a hundred items.
