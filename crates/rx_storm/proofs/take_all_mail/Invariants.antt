@@ -1,0 +1,5 @@
+use Rattle.std.specs.Prelude.{◌≡◌}
+use Rattle.rx_storm.proofs.take_all_mail.Given as goal
+
+abbrev pub invariant-loop-notes : goal.invariant-loop-notes
+invariant-loop-notes g l = l.book.history ≡ l.initial.book.history

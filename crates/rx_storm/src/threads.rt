@@ -1,0 +1,187 @@
+//! The threads of a storm.
+
+ghost use Rattle.std.specs.Thread.{IsSend, IsSync};
+
+use crate::StormFault;
+use crate::numbers::Numbers;
+use rx_book::At;
+use rx_crew::{Desk, Fed, Gate, Stop, Worked, feed, worker};
+use rx_event::Kind;
+use rx_ledger::{Receipt, Seat};
+use rx_resource::Resource;
+use std::alloc::Global;
+use std::sync::Wait;
+use std::sync::ledger::Ledger;
+use std::thread;
+use std::thread::{JoinHandle, SpawnError, Threads};
+
+/// What the threads gave back.
+#[derive(Drop)]
+pub struct Gathered<I: Ledger, A: Ledger, K: Ledger> {
+    /// The seats of all that were started, and the first seat.
+    pub seats: Vec<Seat<I, A, K>>,
+    /// The receipts of the feeds.
+    pub receipts: Vec<Receipt>,
+    /// How many resources the workers released.
+    pub released: u64,
+    /// How many of those releases answered a fault.
+    pub faults: u64,
+    /// What kept the storm from its end, if something did.
+    pub fault: Option<StormFault>,
+}
+
+impl<I: Ledger, A: Ledger, K: Ledger> Gathered<I, A, K> {
+    /// Nothing yet.
+    fn new(alloc: Global) -> Gathered<I, A, K> {
+        Gathered {
+            seats: Vec::new(alloc),
+            receipts: Vec::new(alloc),
+            released: 0,
+            faults: 0,
+            fault: None,
+        }
+    }
+
+    /// Notes what kept the storm from its end, where nothing did before.
+    fn blame(&mut self, fault: StormFault) {
+        if self.fault.is_none() {
+            self.fault = Some(fault);
+        }
+    }
+
+    /// Keeps a seat, or notes that there was no memory for it.
+    fn keep(&mut self, seat: Seat<I, A, K>) {
+        if self.seats.push(seat).is_err() {
+            self.blame(StormFault::Memory);
+        }
+    }
+
+    /// Adds what a feed did; None where it could not open its nodes.
+    fn add_fed(&mut self, fed: Option<Fed<I, A, K>>) {
+        let Some(fed) = fed else {
+            self.blame(StormFault::Memory);
+            return;
+        };
+        if fed.stop != Stop::Done || self.receipts.extend_from_slice(&fed.receipts).is_err() {
+            self.blame(StormFault::Memory);
+        }
+        self.keep(fed.seat);
+    }
+
+    /// Adds what a worker did.
+    fn add_worked(&mut self, worked: Worked<I, A, K>) {
+        self.released = self.released.saturating_add(worked.released);
+        self.faults = self.faults.saturating_add(worked.faults);
+        self.keep(worked.seat);
+    }
+
+    /// Joins the feeds, shuts the desk, and joins the workers.
+    fn join_all<R: Resource, T: Threads + Wait>(
+        &mut self,
+        rt: &T,
+        desk: &Desk<R, I, A, K>,
+        feeds: Vec<JoinHandle<Option<Fed<I, A, K>>>>,
+        works: Vec<JoinHandle<Worked<I, A, K>>>,
+    ) {
+        for thread in feeds {
+            self.add_fed(thread.join(rt));
+        }
+        desk.floor.lock(rt).shut();
+        desk.bell.notify_all();
+        for thread in works {
+            self.add_worked(thread.join(rt));
+        }
+    }
+}
+
+/// Opens a Using root with the resource and a leaf below it, and feeds that the numbers below `items`
+/// and a completion. None where the opening was refused.
+fn emit_all<R: Resource, I: Ledger, A: Ledger, K: Ledger>(
+    rt: &impl Wait,
+    alloc: Global,
+    desk: &Desk<R, I, A, K>,
+    seat: Seat<I, A, K>,
+    resource: R,
+    items: u32,
+) -> Option<Fed<I, A, K>> {
+    let mut seat = seat;
+    let mut floor = desk.floor.lock(rt);
+    let root = floor.open_using(&mut seat, At::Root, resource).ok()?.key;
+    let leaf = floor.open(At::Source(root), Kind::Leaf).ok()?.key;
+    drop(floor);
+    let mut numbers = Numbers::below(items);
+    let turns = u64::from(items) + 1;
+    Some(feed(rt, alloc, desk, seat, leaf, &mut numbers, turns))
+}
+
+/// Keeps a thread that was started, to be joined; or answers what kept it from that.
+fn keep_thread<V: Send + Drop, F: Drop>(
+    threads: &mut Vec<JoinHandle<V>>,
+    started: Result<JoinHandle<V>, SpawnError<F>>,
+) -> Option<StormFault> {
+    match started {
+        Ok(thread) => match threads.push(thread) {
+            Ok(()) => None,
+            Err(_) => Some(StormFault::Memory),
+        },
+        Err(_) => Some(StormFault::Thread),
+    }
+}
+
+/// Starts a feeding thread for each resource and so many working threads, each with a seat of its own;
+/// joins the feeds, shuts the desk and joins the workers. Where a thread cannot be had or memory is
+/// refused, that is noted, and no further one is started.
+pub fn run_threads<
+    R: Resource,
+    I: Ledger + Send + Sync,
+    A: Ledger + Send + Sync,
+    K: Ledger + Send + Sync,
+    G: Gate,
+    T: Threads + Wait + Sync,
+>(
+    rt: &T,
+    alloc: Global,
+    desk: &Desk<R, I, A, K>,
+    first: Seat<I, A, K>,
+    stock: Vec<R>,
+    workers: u64,
+    items: u32,
+    gate: &G,
+) -> Gathered<I, A, K> {
+    let turns = (stock.len() as u64).saturating_add(1);
+    thread::scope(
+        thread::scope_env(),
+        rt,
+        move |scope| -> Gathered<I, A, K>
+            requires { IsSync T.row × IsSync G.row × IsSend R.row × IsSend I.row × IsSync I.row × IsSend A.row × IsSync A.row × IsSend K.row × IsSync K.row }
+        {
+            let mut first = first;
+            let mut gathered = Gathered::new(alloc);
+            let mut feeds = Vec::new(alloc);
+            let mut works = Vec::new(alloc);
+            for resource in stock {
+                let Some(seat) = first.split() else {
+                    break;
+                };
+                let started = scope.spawn(move || emit_all(rt, alloc, desk, seat, resource, items));
+                gathered.fault = keep_thread(&mut feeds, started);
+                if gathered.fault.is_some() {
+                    break;
+                }
+            }
+            for _worker in 0..workers {
+                if gathered.fault.is_some() {
+                    break;
+                }
+                let Some(seat) = first.split() else {
+                    break;
+                };
+                let started = scope.spawn(move || worker(rt, desk, seat, gate, turns));
+                gathered.fault = keep_thread(&mut works, started);
+            }
+            gathered.join_all(rt, desk, feeds, works);
+            gathered.keep(first);
+            gathered
+        },
+    )
+}
