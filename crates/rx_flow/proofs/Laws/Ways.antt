@@ -1,0 +1,297 @@
+-- The way of an item inside one tree is its climb in every history whose records the tree has.
+use Rattle.std.proofs.Common.{◌≡◌, ℕ, zero, suc, ◌-◌, ◌+◌, Bool, true, false, List, [], ◌∷◌, ◌++◌, length, Option, Some, None, IsSome, IfSome, is_some, option_map, slice_get, refl, sym, ap, ◌∙◌, arith, append-nil}
+use Rattle.std.specs.Prelude.{if◌then◌else◌}
+use Rattle.std.specs.List.{filter_map}
+use Rattle.std.specs.Option.{option_and_then, option_map_or, option_or, option_to_list}
+use Rattle.std.proofs.lemmas.Bool.{false≢true}
+use Rattle.std.proofs.lemmas.List.Elements.{filter_map-append}
+use Rattle.std.proofs.lemmas.Option.{same_Some, none-some}
+use Rattle.rx_event.specs.declared.event.Place.TheVariants.{Root, Source, Inner, Notifier}
+use Rattle.rx_event.specs.declared.event.Event.{Event}
+use Rattle.rx_event.specs.declared.event.Event.TheVariants.{Open, Connect}
+use Rattle.rx_event.specs.Events.{is_merging, parent_named, hub_connected}
+use Rattle.rx_event.specs.Tree.{at, parent, if_less, open_subscribers}
+use Rattle.rx_event.specs.Climb.{Stop as NumberedStop, Projection as ProjectionTo, Firing as FiringOf, stop_made as stop_made_in, stop_at, onward, onward_from, onward_unless, visited, most_visits, climb, stops}
+use Rattle.rx_slots.specs.declared.Key.{Key}
+use Rattle.rx_slots.specs.Slots.{Slots, find}
+use Rattle.rx_forest.specs.declared.node.Node.{Node}
+use Rattle.rx_forest.specs.Tree.{IsSound, named_above}
+use Rattle.rx_forest.proofs.Laws.Parents.{named_parent}
+use Rattle.rx_flow.specs.declared.stop.Stop.{Stop}
+use Rattle.rx_flow.specs.declared.stop.Stop.TheVariants.{Delivery, Projection, Firing, Connection}
+use Rattle.rx_flow.specs.Way.{made_of, above_of, if_merging, stop_made, stop_of, onward_of, way_within, way, end_of}
+use Rattle.rx_flow.specs.Records.{AreRecordsOf}
+use Rattle.rx_flow.specs.Claims.{IsWay, numbers, numbered}
+
+-- one node ------------------------------------------------------------------------------------------
+
+-- a tree whose records are those of the history
+pub record IsTold (h : List Event) (nodes : Slots Node) : Type 0 where
+  pub sound : IsSound nodes
+  pub records : AreRecordsOf h nodes
+
+some_node : (o : Option Node) → IsSome o → (node : Node) × (o ≡ Some node)
+some_node None found = absurd (false≢true found)
+some_node (Some node) found = (node, refl)
+
+merging_told : (h : List Event) (nodes : Slots Node) → IsTold h nodes → (up : Key) → IsSome (find nodes up) →
+    at is_merging h up.number ≡ option_map_or is_merging (made_of nodes up) false
+merging_told h nodes t up found =
+    let n = some_node (find nodes up) found in
+    ap (λ (o : Option Event). option_map_or is_merging o false) (t.records.each up n.0 n.1).made ∙
+    sym (ap (λ (o : Option Node). option_map_or is_merging (option_map (λ node. node.made) o) false) n.1)
+
+-- the stop at a node by its record is that of the history
+stop_told : (h : List Event) (nodes : Slots Node) → IsTold h nodes → (key : Key) (above : Option Key) (made : Event) →
+    parent_named made ≡ option_map (λ k. k.number) above → IfSome above (λ k. IsSome (find nodes k)) →
+    stop_made_in h key.number made ≡ option_and_then numbered (stop_made nodes key above made)
+stop_told h nodes t key above (Open Root kind) named there = refl
+stop_told h nodes t key None (Open (Source f) kind) named there = absurd (none-some f (sym named))
+stop_told h nodes t key (Some up) (Open (Source f) kind) named there =
+    ap (λ q. if at is_merging h q then Some (ProjectionTo q) else None) (same_Some f up.number named) ∙
+    ap (λ b. if b then Some (ProjectionTo up.number) else None) (merging_told h nodes t up there) ∙
+    shape (option_map_or is_merging (made_of nodes up) false)
+  where
+    shape : (b : Bool) →
+        (if b then Some (ProjectionTo up.number) else None) ≡ option_and_then numbered (option_map (λ k. Projection k) (if b then Some up else None))
+    shape true = refl
+    shape false = refl
+stop_told h nodes t key None (Open (Notifier u) kind) named there = absurd (none-some u (sym named))
+stop_told h nodes t key (Some up) (Open (Notifier u) kind) named there = ap (λ q. Some (FiringOf q)) (same_Some u up.number named)
+stop_told h nodes t key above (Open (Inner f) kind) named there = refl
+stop_told h nodes t key above (Connect g) named there = refl
+stop_told h nodes t key above _ named there = refl
+
+-- of a node that is found
+stop_seen : (h : List Event) (nodes : Slots Node) → IsTold h nodes → (key : Key) (node : Node) → find nodes key ≡ Some node →
+    stop_at h key.number ≡ option_and_then numbered (stop_of nodes key)
+stop_seen h nodes t key node found =
+    let placed = t.sound.placed key node found in
+    ap (option_and_then (stop_made_in h key.number)) (t.records.each key node found).made ∙
+    stop_told h nodes t key node.above node.made placed.named placed.there ∙
+    sym (ap (λ (o : Option Node). option_and_then numbered (option_and_then (stop_made nodes key (option_and_then (λ n. n.above) o)) (option_map (λ n. n.made) o))) found)
+
+-- the parent of a node is that above its record
+parent_seen : (h : List Event) (nodes : Slots Node) → IsTold h nodes → (key : Key) (node : Node) → find nodes key ≡ Some node →
+    parent h key.number ≡ option_map (λ k. k.number) node.above
+unfolding parent
+parent_seen h nodes t key node found =
+    ap (λ (o : Option Event). option_and_then (if_less key.number) (option_and_then parent_named o)) (t.records.each key node found).made ∙
+    sym (ap (option_and_then (named_above key.number)) found) ∙ sym (named_parent nodes key node found t.sound)
+
+-- where an item goes on ---------------------------------------------------------------------------
+
+-- where a climb goes on from the end of a way: from a connection to the open subscribers of its hub
+abbrev pub beyond : List Event → Slots Node → Option Stop → List ℕ
+beyond h nodes (Some (Connection c)) = option_map_or (open_subscribers h) (option_and_then hub_connected (made_of nodes c)) []
+beyond h nodes (Some (Delivery c)) = []
+beyond h nodes (Some (Projection c)) = []
+beyond h nodes (Some (Firing c)) = []
+beyond h nodes None = []
+
+abbrev is_connection : Stop → Bool
+is_connection (Connection c) = true
+is_connection _ = false
+
+no_connection : (s : Stop) (c : Key) → is_connection s ≡ false → s ≡ Connection c → ⊥
+no_connection s c other same = false≢true (sym other ∙ ap is_connection same)
+
+-- only a Connect makes a connection
+connection_made : (nodes : Slots Node) (key c : Key) (above : Option Key) (made : Event) → stop_made nodes key above made ≡ Some (Connection c) →
+    (g : ℕ) × (made ≡ Connect g) × (key ≡ c)
+connection_made nodes key c above (Connect g) stop = (g, refl, same_connection key c (same_Some (Connection key) (Connection c) stop)) where
+  same_connection : (a b : Key) → Connection a ≡ Connection b → a ≡ b
+  same_connection a b same = cc
+connection_made nodes key c above (Open Root kind) stop = absurd (no_connection (Delivery key) c refl (same_Some _ _ stop))
+connection_made nodes key c above (Open (Source f) kind) stop = absurd (by_merging (option_and_then (if_merging nodes) above) stop) where
+  by_merging : (o : Option Key) → option_map (λ k. Projection k) o ≡ Some (Connection c) → ⊥
+  by_merging None none = none-some (Connection c) none
+  by_merging (Some k) same = no_connection (Projection k) c refl (same_Some _ _ same)
+connection_made nodes key c above (Open (Notifier u) kind) stop = absurd (by_above above stop) where
+  by_above : (o : Option Key) → option_map (λ k. Firing k) o ≡ Some (Connection c) → ⊥
+  by_above None none = none-some (Connection c) none
+  by_above (Some k) same = no_connection (Firing k) c refl (same_Some _ _ same)
+connection_made nodes key c above (Open (Inner f) kind) stop = absurd (none-some (Connection c) stop)
+connection_made nodes key c above _ stop = absurd (none-some (Connection c) stop)
+
+-- a node at which an item does not stop is no connection
+goes_to_parent : (h : List Event) (nodes : Slots Node) (key : Key) (above : Option Key) (made : Event) (n : ℕ) → stop_made nodes key above made ≡ None →
+    onward_from h n made ≡ option_to_list (parent h n)
+goes_to_parent h nodes key above (Connect g) n free = absurd (none-some (Connection key) (sym free))
+goes_to_parent h nodes key above (Open place kind) n free = refl
+goes_to_parent h nodes key above _ n free = refl
+
+onward_seen : (h : List Event) (nodes : Slots Node) → IsTold h nodes → (key : Key) (node : Node) → find nodes key ≡ Some node → stop_of nodes key ≡ None →
+    onward h key.number ≡ option_to_list (option_map (λ k. k.number) node.above)
+onward_seen h nodes t key node found free =
+    let stop : stop_made nodes key node.above node.made ≡ None = sym (ap (λ (o : Option Node). option_and_then (stop_made nodes key (option_and_then (λ n. n.above) o)) (option_map (λ n. n.made) o)) found) ∙
+    free in
+    ap (λ (s : Option NumberedStop). onward_unless s (option_map_or (onward_from h key.number) (slice_get h key.number) [])) (stop_seen h nodes t key node found ∙ ap (option_and_then numbered) free) ∙
+    ap (λ (o : Option Event). option_map_or (onward_from h key.number) o []) (t.records.each key node found).made ∙
+    goes_to_parent h nodes key node.above node.made key.number stop ∙ ap option_to_list (parent_seen h nodes t key node found)
+
+above_seen : (nodes : Slots Node) (key : Key) (node : Node) → find nodes key ≡ Some node → above_of nodes key ≡ node.above
+above_seen nodes key node found = ap (option_and_then (λ n. n.above)) found
+
+onward_some : (nodes : Slots Node) (key up : Key) → onward_of nodes key ≡ Some up → (stop_of nodes key ≡ None) × (above_of nodes key ≡ Some up)
+onward_some nodes key up on = by_stop (stop_of nodes key) refl on where
+  by_stop : (s : Option Stop) → stop_of nodes key ≡ s → (if is_some s then None else above_of nodes key) ≡ Some up →
+      (stop_of nodes key ≡ None) × (above_of nodes key ≡ Some up)
+  by_stop None free above = (free, above)
+  by_stop (Some s) stop none = absurd (none-some up none)
+
+above_found : (nodes : Slots Node) (key up : Key) → IsSound nodes → above_of nodes key ≡ Some up → IsSome (find nodes up)
+above_found nodes key up sound above = by_node (find nodes key) refl above where
+  by_above : (o : Option Key) → o ≡ Some up → IfSome o (λ k. IsSome (find nodes k)) → IsSome (find nodes up)
+  by_above None same there = absurd (none-some up same)
+  by_above (Some k) same there = ap (λ q. is_some (find nodes q)) (same_Some up k (sym same)) ∙ there
+
+  by_node : (o : Option Node) → find nodes key ≡ o → option_and_then (λ n. n.above) o ≡ Some up → IsSome (find nodes up)
+  by_node None found same = absurd (none-some up same)
+  by_node (Some node) found same = by_above node.above same (sound.placed key node found).there
+
+onward_up : (h : List Event) (nodes : Slots Node) → IsTold h nodes → (key : Key) (node : Node) (up : Key) → find nodes key ≡ Some node →
+    stop_of nodes key ≡ None → above_of nodes key ≡ Some up → onward h key.number ≡ up.number ∷ []
+onward_up h nodes t key node up found free above =
+    onward_seen h nodes t key node found free ∙
+    ap (λ (o : Option Key). option_to_list (option_map (λ k. k.number) o)) (sym (above_seen nodes key node found) ∙ above)
+
+-- from the end of a way
+onward_ended : (h : List Event) (nodes : Slots Node) → IsTold h nodes → (key : Key) (node : Node) → find nodes key ≡ Some node → (s : Option Stop) →
+    stop_of nodes key ≡ s → onward_of nodes key ≡ None → onward h key.number ≡ beyond h nodes s
+onward_ended h nodes t key node found None free ended =
+    let top : node.above ≡ None = sym (above_seen nodes key node found) ∙ sym (ap (λ (s : Option Stop). if is_some s then None else above_of nodes key) free) ∙
+    ended in
+    onward_seen h nodes t key node found free ∙ ap (λ (o : Option Key). option_to_list (option_map (λ k. k.number) o)) top
+onward_ended h nodes t key node found (Some (Delivery c)) stop ended = ap (λ (s : Option NumberedStop). onward_unless s (option_map_or (onward_from h key.number) (slice_get h key.number) [])) (stop_seen h nodes t key node found ∙ ap (option_and_then numbered) stop)
+onward_ended h nodes t key node found (Some (Projection c)) stop ended = ap (λ (s : Option NumberedStop). onward_unless s (option_map_or (onward_from h key.number) (slice_get h key.number) [])) (stop_seen h nodes t key node found ∙ ap (option_and_then numbered) stop)
+onward_ended h nodes t key node found (Some (Firing c)) stop ended = ap (λ (s : Option NumberedStop). onward_unless s (option_map_or (onward_from h key.number) (slice_get h key.number) [])) (stop_seen h nodes t key node found ∙ ap (option_and_then numbered) stop)
+onward_ended h nodes t key node found (Some (Connection c)) stop ended =
+    let here : stop_made nodes key node.above node.made ≡ Some (Connection c) = sym (ap (λ (o : Option Node). option_and_then (stop_made nodes key (option_and_then (λ n. n.above) o)) (option_map (λ n. n.made) o)) found) ∙
+    stop in
+    let c_is = connection_made nodes key c node.above node.made here in
+    ap (λ (s : Option NumberedStop). onward_unless s (option_map_or (onward_from h key.number) (slice_get h key.number) [])) (stop_seen h nodes t key node found ∙ ap (option_and_then numbered) stop) ∙
+    ap (λ (o : Option Event). option_map_or (onward_from h key.number) o []) ((t.records.each key node found).made ∙ ap (λ e. Some e) c_is.1) ∙
+    sym (ap (λ (o : Option Event). option_map_or (open_subscribers h) (option_and_then hub_connected o) []) (ap (made_of nodes) (sym c_is.2) ∙ ap (option_map (λ (n : Node). n.made)) found ∙ ap (λ e. Some e) c_is.1))
+
+-- the whole way ---------------------------------------------------------------------------------------
+
+visited_nothing : (left : ℕ) (h : List Event) → visited left h [] ≡ []
+visited_nothing zero h = refl
+visited_nothing (suc left) h = refl
+
+or_none : (s : Option Stop) → option_or s None ≡ s
+or_none None = refl
+or_none (Some x) = refl
+
+one_less : (a : ℕ) → suc a - 1 ≡ a
+one_less a = omega arith
+
+both_less : (a b : ℕ) → suc a - suc b ≡ a - b
+both_less a b = omega arith
+
+-- the climb is the way, and then what is beyond its end
+visited_way : (h : List Event) (nodes : Slots Node) → IsTold h nodes → (left : ℕ) (key : Key) → IsSome (find nodes key) →
+    visited left h (key.number ∷ []) ≡ numbers (way_within left nodes key) ++ visited (left - length (way_within left nodes key)) h (beyond h nodes (end_of nodes (way_within left nodes key)))
+visited_way h nodes t zero key there = refl
+visited_way h nodes t (suc left) key there = by_onward (onward_of nodes key) refl (λ up found. visited_way h nodes t left up found) where
+  node : (x : Node) × (find nodes key ≡ Some x)
+  node = some_node (find nodes key) there
+
+  goal : List Key → Type 0
+  goal keys = visited (suc left) h (key.number ∷ []) ≡ numbers keys ++ visited (suc left - length keys) h (beyond h nodes (end_of nodes keys))
+
+  by_onward : (o : Option Key) → onward_of nodes key ≡ o →
+      ((up : Key) → IsSome (find nodes up) → visited left h (up.number ∷ []) ≡ numbers (way_within left nodes up) ++ visited (left - length (way_within left nodes up)) h (beyond h nodes (end_of nodes (way_within left nodes up)))) →
+      goal (key ∷ option_map_or (way_within left nodes) o [])
+  by_onward None ended rest =
+      ap (λ (ns : List ℕ). key.number ∷ visited left h ns) (append-nil (onward h key.number) ∙ onward_ended h nodes t key node.0 node.1 (stop_of nodes key) refl ended ∙ ap (beyond h nodes) (sym (or_none (stop_of nodes key)))) ∙
+      ap (λ k. key.number ∷ visited k h (beyond h nodes (option_or (stop_of nodes key) None))) (sym (one_less left))
+  by_onward (Some up) on rest =
+      let goes = onward_some nodes key up on in
+      ap (λ (ns : List ℕ). key.number ∷ visited left h (ns ++ [])) (onward_up h nodes t key node.0 up node.1 goes.0 goes.1) ∙
+      ap (λ (ns : List ℕ). key.number ∷ ns) (rest up (above_found nodes key up t.sound goes.1) ∙ ap (λ (s : Option Stop). numbers (way_within left nodes up) ++ visited (left - length (way_within left nodes up)) h (beyond h nodes (option_or s (end_of nodes (way_within left nodes up))))) (sym goes.0)) ∙
+      ap (λ k. key.number ∷ (numbers (way_within left nodes up) ++ visited k h (beyond h nodes (option_or (stop_of nodes key) (end_of nodes (way_within left nodes up)))))) (sym (both_less left (length (way_within left nodes up))))
+
+-- the way has one stop at most, its last
+stops_way : (h : List Event) (nodes : Slots Node) → IsTold h nodes → (left : ℕ) (key : Key) → IsSome (find nodes key) →
+    filter_map (stop_at h) (numbers (way_within left nodes key)) ≡ option_to_list (option_and_then numbered (end_of nodes (way_within left nodes key)))
+stops_way h nodes t zero key there = refl
+stops_way h nodes t (suc left) key there = by_stop (stop_of nodes key) refl (onward_of nodes key) refl (λ up found. stops_way h nodes t left up found) where
+  node : (x : Node) × (find nodes key ≡ Some x)
+  node = some_node (find nodes key) there
+
+  goal : Option Stop → List Key → Type 0
+  goal s keys = filter_map (stop_at h) (key.number ∷ numbers keys) ≡ option_to_list (option_and_then numbered (option_or s (end_of nodes keys)))
+
+  here : (s : Option Stop) → stop_of nodes key ≡ s → stop_at h key.number ≡ option_and_then numbered s
+  here s stop = stop_seen h nodes t key node.0 node.1 ∙ ap (option_and_then numbered) stop
+
+  one : (o : Option NumberedStop) → stop_at h key.number ≡ o → filter_map (stop_at h) (key.number ∷ []) ≡ option_to_list o
+  one None stop = rw stop refl
+  one (Some x) stop = rw stop refl
+
+  by_stop : (s : Option Stop) → stop_of nodes key ≡ s → (o : Option Key) → onward_of nodes key ≡ o →
+      ((up : Key) → IsSome (find nodes up) → filter_map (stop_at h) (numbers (way_within left nodes up)) ≡ option_to_list (option_and_then numbered (end_of nodes (way_within left nodes up)))) →
+      goal (stop_of nodes key) (option_map_or (way_within left nodes) o [])
+  by_stop s stop None ended rest = one (option_and_then numbered (stop_of nodes key)) (here (stop_of nodes key) refl) ∙
+      ap (λ (x : Option Stop). option_to_list (option_and_then numbered x)) (sym (or_none (stop_of nodes key)))
+  by_stop None stop (Some up) on rest = rw (here None stop, stop) (rest up (above_found nodes key up t.sound (onward_some nodes key up on).1))
+  by_stop (Some s) stop (Some up) on rest = absurd (none-some s (sym (onward_some nodes key up on).0 ∙ stop))
+
+-- in the history ------------------------------------------------------------------------------------
+
+told : {h : List Event} {nodes : Slots Node} {key : Key} → IsWay h nodes key → IsTold h nodes
+told w = record { sound = w.sound; records = w.records }
+
+-- the climb begins with the way
+climb_way : (h : List Event) (nodes : Slots Node) (key : Key) → IsWay h nodes key →
+    climb h key.number ≡ numbers (way nodes key) ++ visited (suc most_visits - length (way nodes key)) h (beyond h nodes (end_of nodes (way nodes key)))
+unfolding climb
+climb_way h nodes key w = visited_way h nodes (told w) (suc most_visits) key w.found
+
+nothing_beyond : (h : List Event) (nodes : Slots Node) (s : Option Stop) → ((c : Key) → ¬ (s ≡ Some (Connection c))) → beyond h nodes s ≡ []
+nothing_beyond h nodes None none = refl
+nothing_beyond h nodes (Some (Delivery c)) none = refl
+nothing_beyond h nodes (Some (Projection c)) none = refl
+nothing_beyond h nodes (Some (Firing c)) none = refl
+nothing_beyond h nodes (Some (Connection c)) none = absurd (none c refl)
+
+-- where it reaches no connection, it is the climb
+pub climb_whole_way : (h : List Event) (nodes : Slots Node) (key : Key) → IsWay h nodes key →
+    ((c : Key) → ¬ (end_of nodes (way nodes key) ≡ Some (Connection c))) → climb h key.number ≡ numbers (way nodes key)
+climb_whole_way h nodes key w none =
+    climb_way h nodes key w ∙
+    ap (λ (ns : List ℕ). numbers (way nodes key) ++ visited (suc most_visits - length (way nodes key)) h ns) (nothing_beyond h nodes (end_of nodes (way nodes key)) none) ∙
+    ap (λ (ns : List ℕ). numbers (way nodes key) ++ ns) (visited_nothing (suc most_visits - length (way nodes key)) h) ∙
+    append-nil (numbers (way nodes key))
+
+-- and its stop the only one
+pub stops_whole_way : (h : List Event) (nodes : Slots Node) (key : Key) → IsWay h nodes key →
+    ((c : Key) → ¬ (end_of nodes (way nodes key) ≡ Some (Connection c))) →
+    stops h key.number ≡ option_to_list (option_and_then numbered (end_of nodes (way nodes key)))
+unfolding stops
+stops_whole_way h nodes key w none = ap (filter_map (stop_at h)) (climb_whole_way h nodes key w none) ∙ stops_way h nodes (told w) (suc most_visits) key w.found
+
+beyond_hub : (h : List Event) (nodes : Slots Node) (s : Option Stop) (c : Key) (g : ℕ) → s ≡ Some (Connection c) → made_of nodes c ≡ Some (Connect g) →
+    beyond h nodes s ≡ open_subscribers h g
+beyond_hub h nodes s c g stop made = ap (beyond h nodes) stop ∙
+    ap (λ (o : Option Event). option_map_or (open_subscribers h) (option_and_then hub_connected o) []) made
+
+-- from a connection the climb goes on to the open subscribers of its hub
+pub climb_connected_way : (h : List Event) (nodes : Slots Node) (key c : Key) (g : ℕ) → IsWay h nodes key → end_of nodes (way nodes key) ≡ Some (Connection c) →
+    made_of nodes c ≡ Some (Connect g) →
+    climb h key.number ≡ numbers (way nodes key) ++ visited (suc most_visits - length (way nodes key)) h (open_subscribers h g)
+climb_connected_way h nodes key c g w stop made =
+    climb_way h nodes key w ∙
+    ap (λ (ns : List ℕ). numbers (way nodes key) ++ visited (suc most_visits - length (way nodes key)) h ns) (beyond_hub h nodes (end_of nodes (way nodes key)) c g stop made)
+
+-- and so do the stops
+pub stops_connected_way : (h : List Event) (nodes : Slots Node) (key c : Key) (g : ℕ) → IsWay h nodes key → end_of nodes (way nodes key) ≡ Some (Connection c) →
+    made_of nodes c ≡ Some (Connect g) →
+    stops h key.number ≡ filter_map (stop_at h) (visited (suc most_visits - length (way nodes key)) h (open_subscribers h g))
+unfolding stops
+stops_connected_way h nodes key c g w stop made =
+    let rest = visited (suc most_visits - length (way nodes key)) h (open_subscribers h g) in
+    ap (filter_map (stop_at h)) (climb_connected_way h nodes key c g w stop made) ∙ filter_map-append (stop_at h) (numbers (way nodes key)) rest ∙
+    ap (λ (ss : List NumberedStop). ss ++ filter_map (stop_at h) rest) (stops_way h nodes (told w) (suc most_visits) key w.found ∙ ap (λ (s : Option Stop). option_to_list (option_and_then numbered s)) stop)

@@ -1,0 +1,93 @@
+-- How far an item's way was walked.
+use Rattle.std.proofs.Common.{◌≡◌, ℕ, zero, suc, ◌+◌, ◌≤◌, Bool, true, false, Option, Some, None, is_some, List, [], ◌∷◌, length, refl, sym, ap, ◌∙◌, arith, true≢false}
+use Rattle.std.proofs.Math.Bool.{not}
+use Rattle.std.specs.Option.{option_map_or, option_or}
+use Rattle.rx_event.specs.Climb.{most_visits}
+use Rattle.rx_slots.specs.declared.Key.{Key}
+use Rattle.rx_slots.specs.Slots.{Slots}
+use Rattle.rx_forest.specs.declared.node.Node.{Node}
+use Rattle.rx_flow.specs.declared.stop.Stop.{Stop}
+use Rattle.rx_flow.specs.Way.{above_of, stop_of, onward_of, way_within, way, end_of}
+
+-- so many nodes were visited from the first on, and of the way what begins at this node is left
+pub record IsOnWay (nodes : Slots Node) (first at : Key) (visits : ℕ) : Type 0 where
+  pub left : ℕ
+  pub sum : visits + left ≡ suc most_visits
+  pub visited : length (way nodes first) + 1 ≡ visits + length (way_within (suc left) nodes at)
+  pub ends : end_of nodes (way nodes first) ≡ end_of nodes (way_within (suc left) nodes at)
+
+pub at_first : (nodes : Slots Node) (first : Key) → IsOnWay nodes first first 1
+at_first nodes first = record { left = most_visits; sum = omega arith; visited = omega arith; ends = refl }
+
+-- where an item does not stop
+onward_free : (nodes : Slots Node) (at : Key) → stop_of nodes at ≡ None → onward_of nodes at ≡ above_of nodes at
+onward_free nodes at free = rw free refl
+
+onward_stopped : (nodes : Slots Node) (at : Key) (s : Stop) → stop_of nodes at ≡ Some s → onward_of nodes at ≡ None
+onward_stopped nodes at s stops = rw stops refl
+
+pub one_further : (nodes : Slots Node) (first at next : Key) (visits : ℕ) → IsOnWay nodes first at visits → visits ≤ most_visits → stop_of nodes at ≡ None →
+    above_of nodes at ≡ Some next → IsOnWay nodes first next (visits + 1)
+one_further nodes first at next visits w few free above = by_left w.left w.sum w.visited w.ends where
+  longer : (left : ℕ) → way_within (suc left) nodes at ≡ at ∷ way_within left nodes next
+  longer left = ap (λ (o : Option Key). at ∷ option_map_or (way_within left nodes) o []) (onward_free nodes at free ∙ above)
+
+  by_left : (left : ℕ) → visits + left ≡ suc most_visits → length (way nodes first) + 1 ≡ visits + length (way_within (suc left) nodes at) →
+      end_of nodes (way nodes first) ≡ end_of nodes (way_within (suc left) nodes at) → IsOnWay nodes first next (visits + 1)
+  by_left zero sum visited ends = absurd (omega arith)
+  by_left (suc left) sum visited ends = record {
+    left = left;
+    sum = omega arith;
+    visited = let n = visited ∙ ap (λ (ks : List Key). visits + length ks) (longer (suc left)) in omega arith;
+    ends = ends ∙ ap (end_of nodes) (longer (suc left)) ∙ ap (λ (s : Option Stop). option_or s (end_of nodes (way_within (suc left) nodes next))) free;
+  }
+
+or_none : (s : Option Stop) → option_or s None ≡ s
+or_none None = refl
+or_none (Some x) = refl
+
+-- where the way ends
+last_one : (nodes : Slots Node) (first at : Key) (visits : ℕ) (w : IsOnWay nodes first at visits) → way_within (suc w.left) nodes at ≡ at ∷ [] →
+    (visits ≡ length (way nodes first)) × (stop_of nodes at ≡ end_of nodes (way nodes first))
+last_one nodes first at visits w last =
+    let n = w.visited ∙ ap (λ (ks : List Key). visits + length ks) last in
+    (omega arith, sym (w.ends ∙ ap (end_of nodes) last ∙ or_none (stop_of nodes at)))
+
+ends_here : (nodes : Slots Node) (at : Key) (left : ℕ) → onward_of nodes at ≡ None → way_within (suc left) nodes at ≡ at ∷ []
+ends_here nodes at left none = ap (λ (o : Option Key). at ∷ option_map_or (way_within left nodes) o []) none
+
+-- at a stop
+pub at_stop : (nodes : Slots Node) (first at : Key) (visits : ℕ) (s : Stop) → IsOnWay nodes first at visits → stop_of nodes at ≡ Some s →
+    (visits ≡ length (way nodes first)) × (stop_of nodes at ≡ end_of nodes (way nodes first))
+at_stop nodes first at visits s w stops = last_one nodes first at visits w (ends_here nodes at w.left (onward_stopped nodes at s stops))
+
+-- at a node that stands below none
+pub at_top : (nodes : Slots Node) (first at : Key) (visits : ℕ) → IsOnWay nodes first at visits → stop_of nodes at ≡ None → above_of nodes at ≡ None →
+    (visits ≡ length (way nodes first)) × (stop_of nodes at ≡ end_of nodes (way nodes first))
+at_top nodes first at visits w free top = last_one nodes first at visits w (ends_here nodes at w.left (onward_free nodes at free ∙ top))
+
+-- and at the limit
+pub at_limit : (nodes : Slots Node) (first at : Key) (visits : ℕ) → IsOnWay nodes first at visits → most_visits + 1 ≤ visits →
+    (visits ≡ length (way nodes first)) × (stop_of nodes at ≡ end_of nodes (way nodes first))
+at_limit nodes first at visits w many = last_one nodes first at visits w (by_left w.left w.sum) where
+  by_onward : (o : Option Key) → at ∷ option_map_or (way_within zero nodes) o [] ≡ at ∷ []
+  by_onward None = refl
+  by_onward (Some k) = refl
+
+  by_left : (left : ℕ) → visits + left ≡ suc most_visits → way_within (suc left) nodes at ≡ at ∷ []
+  by_left zero sum = by_onward (onward_of nodes at)
+  by_left (suc left) sum = absurd (omega arith)
+
+-- what a loop's test says ---------------------------------------------------------------------------
+
+pub limit_is : most_visits ≡ 1048576
+unfolding most_visits
+limit_is = refl
+
+pub free_of : (s : Option Stop) (b : Bool) → is_some s ≡ not b → b ≡ true → s ≡ None
+free_of None b test none = refl
+free_of (Some x) b test none = absurd (true≢false (test ∙ ap not none))
+
+pub stop_there : (s : Option Stop) (b : Bool) → is_some s ≡ not b → b ≡ false → (x : Stop) × (s ≡ Some x)
+stop_there (Some x) b test some = (x, refl)
+stop_there None b test some = absurd (true≢false (sym (test ∙ ap not some)))

@@ -1,0 +1,5 @@
+use Rattle.rx_flow.proofs.Laws.Dues.{due_forced, quiet_settled, quiet_settled_hubless, settled_quiet_records}
+use Rattle.rx_flow.proofs.theorems.due_is_forced.Goals as goal
+
+pub returns : goal.returns
+returns c = record { forced = due_forced; settled = quiet_settled; hubless = quiet_settled_hubless; quiet = settled_quiet_records }

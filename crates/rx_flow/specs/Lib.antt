@@ -1,0 +1,4 @@
+pub mod Way
+pub mod Due
+pub mod Records
+pub mod Claims

@@ -1,0 +1,17 @@
+use Rattle.std.proofs.Common.{◌≡◌, ◌+◌, IsSome, vec_len, vec_capacity}
+use Rattle.rx_slots.specs.Slots.{find}
+use Rattle.rx_forest.specs.Cuts.{Descends, IsCutting}
+use Rattle.rx_forest.specs.Store.{nodes_of}
+use Rattle.rx_forest.proofs.tree.Tree.close_below.Given as goal
+
+abbrev pub invariant-loop-above : goal.invariant-loop-above
+invariant-loop-above g l = record {
+  cutting : IsCutting l.initial.self-inside.store l.self-inside.store l.fn.key l.fn.closed.items l.closed.items;
+  down : Descends (nodes_of l.initial.self-inside.store) l.fn.key l.at;
+  there : IsSome (find (nodes_of l.self-inside.store) l.at);
+  count : vec_len l.closed + l.self-inside.store.nodes.count ≡ vec_len l.fn.closed + l.initial.self-inside.store.nodes.count;
+  capacity : vec_capacity l.closed ≡ vec_capacity l.fn.closed;
+}
+
+abbrev pub decreases-loop-above : goal.decreases-loop-above
+decreases-loop-above g l = l.self-inside.store.nodes.count

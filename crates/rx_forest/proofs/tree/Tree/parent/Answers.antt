@@ -1,0 +1,10 @@
+use Rattle.std.proofs.Common.{sym, ◌∙◌}
+use Rattle.rx_forest.specs.Store.{nodes_of}
+use Rattle.rx_forest.proofs.Laws.Parents.{named_parent}
+use Rattle.rx_forest.proofs.tree.Tree.parent.Goals as goal
+
+pub returns-clause-number : goal.returns-clause-number
+returns-clause-number g c = rw (← c.self.view_is) (named_parent (nodes_of c.self.inside.store) c.args.key c.in_ok-node.field-0 (sym c.node.ensures ∙ c.in_ok-node.was) c.self.invariant.sound)
+
+pub returns-clause-found : goal.returns-clause-found
+returns-clause-found g c = rw (← c.self.view_is) ((c.self.invariant.sound.placed c.args.key c.in_ok-node.field-0 (sym c.node.ensures ∙ c.in_ok-node.was)).there)

@@ -1,0 +1,44 @@
+//! The record of an open node, what is left of it once it is closed, and a resource in the store.
+
+use rx_event::{Event, Marks};
+use rx_slots::Key;
+
+/// The record of an open node.
+#[derive(Clone, Copy, Debug, PartialEq, Eq)]
+pub struct Node {
+    /// The Open or Connect that made it.
+    pub made: Event,
+    /// The key of the node that it stands below, if it stands below one.
+    pub above: Option<Key>,
+    /// What it remembers of what happened below it.
+    pub marks: Marks,
+}
+
+/// The record of a node that was moved out of its tree, with the key that it had there.
+#[derive(Clone, Copy, Debug, PartialEq, Eq)]
+pub struct Closed {
+    /// The key that found it.
+    pub key: Key,
+    /// The record as it was.
+    pub node: Node,
+}
+
+/// A resource in the store.
+#[derive(Drop)]
+pub struct Stowed<R: Drop> {
+    /// The key of the node that it came to be held at.
+    pub node: Key,
+    /// Whether it was removed from there.
+    pub removed: bool,
+    /// The resource itself.
+    pub resource: R,
+}
+
+/// The key of a resource: its slot in the store of resources, and the number of its acceptance.
+#[derive(Clone, Copy, Debug, PartialEq, Eq)]
+pub struct ResKey {
+    /// The slot, from 0 on.
+    pub slot: usize,
+    /// The number that the caller gave to `hold`.
+    pub number: u64,
+}

@@ -1,0 +1,407 @@
+//! The tree, and the calls on its records.
+
+ghost use Rattle.std.specs.Prelude.{◌≡◌, ℕ, ◌+◌, ◌<◌, ◌≤◌, ◌^◌, ◌↔◌, [], ◌++◌, IsOk, IsSome, IsTrue, IfOk, IfErr, IfSome, IfNone, OnOk, OnErr, OnSome, Some, None, option_map, vec_len, vec_capacity, take, drop, length, cond, is_some, count_by};
+ghost use Rattle.rx_resource.specs.declared.Life.{Life};
+ghost use Rattle.rx_slots.specs.declared.Key.{Key};
+ghost use Rattle.rx_slots.specs.Slots.{find, entry_at, KeepsOthers};
+ghost use Rattle.rx_forest.specs.Ties.{sibling_ring};
+
+use crate::links::Place;
+use crate::node::{Closed, Node, ResKey, Stowed};
+use crate::store::Store;
+use rx_event::{Event, Marks};
+use rx_resource::Resource;
+use rx_slots::Key;
+use std::alloc::{AllocError, Global};
+use std::marker::Model;
+
+// The ring that a node stands on among its siblings; a connection stands on none.
+fn sibling_ring(node: Node) -> Option<Place>
+    ensures { result ≡ sibling_ring node }
+{
+    match (node.above, node.made) {
+        (Some(above), _) => Some(Place::Children(above.slot)),
+        (
+            None,
+            Event::Open {
+                place: rx_event::Place::Root,
+                ..
+            },
+        ) => Some(Place::Roots),
+        _ => None,
+    }
+}
+
+/// The open nodes with the resources that came to them.
+///
+/// What stands below a node is closed with it (Observable Contract: an end and an unsubscription stop
+/// the observable, and so all that it subscribed to), and what is held at it then waits for its
+/// release, as the resource of Using does.
+#[derive(Drop)]
+pub struct Tree<R: Resource> {
+    store: Store<R>,
+}
+
+impl<R: Resource> Model for Tree<R> {
+    ghost use Rattle.rx_forest.specs.Tree.{Tree as Shown};
+
+    ghost Value = { Shown R };
+
+    ghost use Rattle.rx_forest.specs.Store.{shown};
+    ghost use Rattle.rx_forest.specs.Ties.{IsTied};
+
+    ghost view = { λ t. shown t.store };
+
+    ghost invariant = { λ t. IsTied t.store };
+}
+
+impl<R: Resource> Tree<R> {
+    ghost use Rattle.rx_forest.specs.Tree.{IsPromised, IsNewest, IsPast, IsPlaced, IsChild, IsRoot, IsFirst, HasNone, Rewrites, blank_node, parent_number, with_marks, with_last, first_of};
+    ghost use Rattle.rx_forest.specs.Below.{is_below};
+    ghost use Rattle.rx_forest.specs.Closing.{IsSubtree, outside};
+    ghost use Rattle.rx_forest.specs.declared.node.Stowed.{Stowed};
+    ghost use Rattle.rx_forest.specs.Resources.{is_held, is_held_at, store_key, stowed_at, stowed_of, removed, waiting_count, Takes, Uses};
+
+    /// A tree with no node and no resource, which takes no memory until the first reservation.
+    pub fn new(alloc: Global) -> Self
+        ensures nodes { result.nodes.entries ≡ [] }
+        ensures count { result.nodes.count ≡ 0 }
+        ensures room { result.nodes.room ≡ 0 }
+        ensures resources { result.resources.entries ≡ [] }
+        ensures resource_count { result.resources.count ≡ 0 }
+        ensures resource_room { result.resources.room ≡ 0 }
+        ensures chain { result.chain ≡ [] }
+    {
+        Tree {
+            store: Store::new(alloc),
+        }
+    }
+
+    /// What holds of every tree, for proofs: no two nodes and no two resources have one number, each
+    /// node stands where its event says, and what may be due is open. It does nothing.
+    pub fn promise(&self)
+        ensures { IsPromised self.now }
+    {
+        let _store = &self.store;
+    }
+
+    /// Makes room for `additional` nodes more, so that as many calls of `open` succeed and take no
+    /// memory. Refused only where there was less room and memory was refused. Nothing else changes
+    /// either way.
+    pub fn reserve(&mut self, additional: usize) -> Result<(), AllocError>
+        ensures ok { OnOk result (additional ≤ self.new.nodes.room) }
+        ensures succeeds { additional ≤ self.old.nodes.room → IsOk result }
+        ensures had_room { additional ≤ self.old.nodes.room → self.new ≡ self.old }
+        ensures kept { self.new ≡ record self.old { nodes = record self.old.nodes { room = self.new.nodes.room } } }
+        ensures room { self.old.nodes.room ≤ self.new.nodes.room }
+    {
+        self.store.nodes.reserve(additional)
+    }
+
+    /// Makes room for `additional` resources more, so that as many calls of `hold` succeed and take no
+    /// memory. Refused only where there was less room and memory was refused. Nothing else changes
+    /// either way.
+    pub fn reserve_resources(&mut self, additional: usize) -> Result<(), AllocError>
+        ensures ok { OnOk result (additional ≤ self.new.resources.room) }
+        ensures succeeds { additional ≤ self.old.resources.room → IsOk result }
+        ensures had_room { additional ≤ self.old.resources.room → self.new ≡ self.old }
+        ensures kept { self.new ≡ record self.old { resources = record self.old.resources { room = self.new.resources.room } } }
+        ensures room { self.old.resources.room ≤ self.new.resources.room }
+    {
+        self.store.resources.reserve(additional)
+    }
+
+    /// How many nodes are open.
+    pub fn len(&self) -> usize
+        ensures value { result ≡ self.now.nodes.count }
+        ensures counted { result ≡ count_by is_some self.now.nodes.entries }
+    {
+        self.store.nodes.len()
+    }
+
+    /// Whether a key finds a node.
+    pub fn contains(&self, key: Key) -> bool
+        ensures { IsTrue result ↔ IsSome (find self.now.nodes key) }
+    {
+        self.store.node(key).is_some()
+    }
+
+    /// The Open or Connect that made the node; None where the key finds none.
+    pub fn made(&self, key: Key) -> Option<Event>
+        ensures { result ≡ option_map (λ node. node.made) (find self.now.nodes key) }
+    {
+        Some(self.store.node(key)?.made)
+    }
+
+    /// The node's marks; None where the key finds none.
+    pub fn marks(&self, key: Key) -> Option<Marks>
+        ensures { result ≡ option_map (λ node. node.marks) (find self.now.nodes key) }
+    {
+        Some(self.store.node(key)?.marks)
+    }
+
+    /// The key of the node that this one stands below; None for a root, for a connection, and where
+    /// the key finds none.
+    pub fn parent(&self, key: Key) -> Option<Key>
+        ensures number { option_map (λ parent. parent.number) result ≡ parent_number self.now.nodes key }
+        ensures found { IfSome result (λ parent. IsSome (find self.now.nodes parent)) }
+    {
+        self.store.node(key)?.above
+    }
+
+    /// The key of the oldest node directly below this one; None where there is none.
+    pub fn first_child(&self, key: Key) -> Option<Key>
+        ensures some { IfSome result (IsFirst (IsChild self.now.nodes key) 0) }
+        ensures none { IfNone result (HasNone (IsChild self.now.nodes key) 0) }
+    {
+        let _node = self.store.node(key)?;
+        match self.store.link(Place::Children(key.slot)).next {
+            Place::Sibling(slot) => self.store.node_at(slot),
+            _ => None,
+        }
+    }
+
+    /// The key of the next younger node directly below the same one; None for the youngest, for a node
+    /// that stands below none, and where the key finds none.
+    pub fn next_sibling(&self, key: Key) -> Option<Key>
+        ensures some { IfSome result (λ next. (parent : Key) → IsChild self.now.nodes parent key →
+            IsFirst (IsChild self.now.nodes parent) (key.number + 1) next) }
+        ensures none { IfNone result ((parent : Key) → IsChild self.now.nodes parent key →
+            HasNone (IsChild self.now.nodes parent) (key.number + 1)) }
+        ensures alone { parent_number self.now.nodes key ≡ None → result ≡ None }
+    {
+        let _parent = self.store.node(key)?.above?;
+        match self.store.link(Place::Sibling(key.slot)).next {
+            Place::Sibling(slot) => self.store.node_at(slot),
+            _ => None,
+        }
+    }
+
+    /// The key of the oldest open root; None where no root is open. A connection is no root.
+    pub fn first_root(&self) -> Option<Key>
+        ensures some { IfSome result (IsFirst (IsRoot self.now.nodes) 0) }
+        ensures none { IfNone result (HasNone (IsRoot self.now.nodes) 0) }
+    {
+        match self.store.link(Place::Roots).next {
+            Place::Sibling(slot) => self.store.node_at(slot),
+            _ => None,
+        }
+    }
+
+    /// Adds a record with blank marks, and gives its key.
+    ///
+    /// The event is the Open or Connect that makes the node, and `above` the key of the node that its
+    /// place names, None for a root or a connection; with the key the parent needs no search.
+    /// Refused only where there was no room and memory was refused; then nothing else changes.
+    pub fn open(&mut self, number: u64, made: Event, above: Option<Key>) -> Result<Key, AllocError>
+        requires newest { IsNewest self.old number }
+        requires placed { IsPlaced self.old.nodes number made above }
+
+        // The record goes to a slot that was free, and no other changes.
+        ensures numbered { IfOk result (λ key. key.number ≡ number) }
+        ensures was_free { IfOk result (λ key. entry_at self.old.nodes key.slot ≡ None) }
+        ensures opened { IfOk result (λ key. find self.new.nodes key ≡ Some (blank_node made above)) }
+        ensures kept { IfOk result (λ key. KeepsOthers self.old.nodes self.new.nodes key) }
+        ensures count { OnOk result (self.new.nodes.count ≡ self.old.nodes.count + 1) }
+        ensures resources { self.new.resources ≡ self.old.resources }
+        ensures chain { self.new.chain ≡ self.old.chain }
+
+        // One place of the room is used, where there was room.
+        ensures succeeds { 0 < self.old.nodes.room → IsOk result }
+        ensures had_room { 0 < self.old.nodes.room → self.new.nodes.room + 1 ≡ self.old.nodes.room }
+
+        ensures err { OnErr result (self.new ≡ record self.old { nodes = record self.old.nodes { room = self.new.nodes.room } }) }
+        ensures room { OnErr result (self.old.nodes.room ≤ self.new.nodes.room) }
+    {
+        let node = Node {
+            made,
+            above,
+            marks: Marks::blank(),
+        };
+        let key = match self.store.add_node(number, node) {
+            Ok(key) => key,
+            Err(refused) => return Err(refused),
+        };
+        if let Some(ring) = sibling_ring(node) {
+            self.store.join(ring, Place::Sibling(key.slot));
+        }
+        Ok(key)
+    }
+
+    /// Gives the node these marks, and puts it last on the chain of what may be due where it is not
+    /// there. Nothing changes where the key finds none. It takes no memory.
+    pub fn set_marks(&mut self, key: Key, marks: Marks)
+        ensures nodes { Rewrites self.old.nodes self.new.nodes key (with_marks marks) }
+        ensures chain { self.new.chain ≡ cond (is_some (find self.old.nodes key)) (with_last key self.old.chain) self.old.chain }
+        ensures resources { self.new.resources ≡ self.old.resources }
+    {
+        if let Some(_node) = self.store.node(key) {
+            self.store.write_marks(key, marks);
+            if !self.store.is_noted(key.slot) {
+                self.store.join(Place::Due, Place::Noted(key.slot));
+            }
+        }
+    }
+
+    /// The key of the node that is first on the chain of what may be due; None where it is empty.
+    pub fn pending(&self) -> Option<Key>
+        ensures { result ≡ first_of self.now.chain }
+    {
+        match self.store.link(Place::Due).next {
+            Place::Noted(slot) => self.store.node_at(slot),
+            _ => None,
+        }
+    }
+
+    /// Drops the first of the chain of what may be due; nothing changes where it is empty. It takes no
+    /// memory.
+    pub fn unchain(&mut self)
+        ensures { self.new ≡ record self.old { chain = drop 1 self.old.chain } }
+    {
+        if let Place::Noted(slot) = self.store.link(Place::Due).next {
+            self.store.leave(Place::Noted(slot));
+        }
+    }
+
+    /// Moves the node and all below it out into the caller's list. The resources that were held there
+    /// wait from then on, since their node is open no more.
+    ///
+    /// The caller keeps room in the list for as many records as the tree has. It takes no memory, and
+    /// time that grows with what it moves out alone; the slots are free again.
+    pub fn close_below(&mut self, key: Key, closed: &mut Vec<Closed>)
+        requires open { IsSome (find self.old.nodes key) }
+        requires room { vec_len closed.old + self.old.nodes.count ≤ vec_capacity closed.old }
+
+        // The list begins as it did, and goes on with the subtree.
+        ensures before { take (length closed.old.items) closed.new.items ≡ closed.old.items }
+        ensures moved { IsSubtree self.old.nodes key.number (drop (length closed.old.items) closed.new.items) }
+        ensures kept { (other : Key) → find self.new.nodes other ≡ cond (is_below self.old.nodes key.number other.number) None (find self.old.nodes other) }
+        ensures count { vec_len closed.new + self.new.nodes.count ≡ vec_len closed.old + self.old.nodes.count }
+        ensures room { self.new.nodes.room + self.new.nodes.count ≡ self.old.nodes.room + self.old.nodes.count }
+        ensures list_room { vec_capacity closed.new ≡ vec_capacity closed.old }
+        ensures chain { self.new.chain ≡ outside self.old.nodes key.number self.old.chain }
+        ensures resources { self.new.resources ≡ self.old.resources }
+    {
+        let mut at = key;
+        while let Some(above) = self.store.close_leaf(key, at, closed) {
+            at = above;
+        }
+    }
+
+    /// Adds a resource that is held at the node, and gives its key.
+    ///
+    /// Refused only where there was no room and memory was refused: the resource then comes back, and
+    /// nothing else changes.
+    pub fn hold(&mut self, key: Key, number: u64, resource: R) -> Result<ResKey, R>
+        requires open { IsSome (find self.old.nodes key) }
+        requires newest { IsPast self.old.resources number }
+
+        // The resource goes to a slot that was free, and no other changes.
+        ensures numbered { IfOk result (λ res. res.number ≡ number) }
+        ensures was_free { IfOk result (λ res. entry_at self.old.resources res.slot ≡ None) }
+        ensures held { IfOk result (λ res. stowed_of self.new res ≡ Some (stowed_at key resource)) }
+        ensures kept { IfOk result (λ res. KeepsOthers self.old.resources self.new.resources (store_key res)) }
+        ensures count { OnOk result (self.new.resources.count ≡ self.old.resources.count + 1) }
+        ensures nodes { self.new.nodes ≡ self.old.nodes }
+        ensures chain { self.new.chain ≡ self.old.chain }
+
+        // One place of the room is used, where there was room.
+        ensures succeeds { 0 < self.old.resources.room → IsOk result }
+        ensures had_room { 0 < self.old.resources.room → self.new.resources.room + 1 ≡ self.old.resources.room }
+
+        ensures given_back { IfErr result (λ back. back ≡ resource) }
+        ensures err { OnErr result (self.new ≡ record self.old { resources = record self.old.resources { room = self.new.resources.room } }) }
+        ensures room { OnErr result (self.old.resources.room ≤ self.new.resources.room) }
+    {
+        let stowed = Stowed {
+            node: key,
+            removed: false,
+            resource,
+        };
+        match self.store.add_resource(number, stowed) {
+            Ok(stored) => {
+                self.store
+                    .join(Place::Held(key.slot), Place::Stored(stored.slot));
+                Ok(ResKey {
+                    slot: stored.slot,
+                    number: stored.number,
+                })
+            }
+            Err(back) => Err(back),
+        }
+    }
+
+    /// Whether a resource is held under this key.
+    pub fn holds(&self, res: ResKey) -> bool
+        ensures { result ≡ is_held_at self.now res }
+    {
+        self.store.holds(Key {
+            slot: res.slot,
+            number: res.number,
+        })
+    }
+
+    /// Uses a held resource on a word, and answers its word.
+    pub fn apply(&mut self, res: ResKey, word: u64) -> u64
+        requires held { IsTrue (is_held_at self.old res) }
+        requires live { IfSome (stowed_of self.old res) (λ stowed. R.life_of stowed.resource ≡ Life.Live) }
+        requires countable { IfSome (stowed_of self.old res) (λ stowed. R.uses_of stowed.resource + 1 < 2 ^ 64) }
+        ensures { IfSome (stowed_of self.old res) (Uses R.Resource self.old self.new res) }
+    {
+        let key = Key {
+            slot: res.slot,
+            number: res.number,
+        };
+        match self.store.resources.get_mut(key) {
+            Some(stored) => stored.stowed.resource.apply(word),
+            None => unreachable!(),
+        }
+    }
+
+    /// Takes a held resource away from its node: it then waits. It takes no memory.
+    pub fn unhold(&mut self, res: ResKey)
+        requires held { IsTrue (is_held_at self.old res) }
+        ensures resources { Rewrites self.old.resources self.new.resources (store_key res) removed }
+        ensures nodes { self.new.nodes ≡ self.old.nodes }
+        ensures chain { self.new.chain ≡ self.old.chain }
+    {
+        let key = Key {
+            slot: res.slot,
+            number: res.number,
+        };
+        let place = Place::Stored(res.slot);
+        self.store.leave(place);
+        self.store.mark_removed(key);
+        self.store.join(Place::Waiting, place);
+    }
+
+    /// How many resources wait. It takes time that grows with their number.
+    pub fn waiting(&self) -> u64
+        ensures { result ≡ waiting_count self.now }
+    {
+        self.store.count_waiting()
+    }
+
+    /// Takes out a resource that waits, with its number; None where none waits. It takes no memory.
+    pub fn take_waiting(&mut self) -> Option<(u64, R)>
+        ensures some { IfSome result (λ taken. Takes self.old self.new taken.0 taken.1) }
+        ensures none { IfNone result ((key : Key) (stowed : Stowed R) → find self.old.resources key ≡ Some stowed → IsTrue (is_held self.old.nodes stowed)) }
+        ensures kept { IfNone result (self.new ≡ self.old) }
+        ensures nodes { self.new.nodes ≡ self.old.nodes }
+        ensures chain { self.new.chain ≡ self.old.chain }
+    {
+        match self.store.link(Place::Waiting).next {
+            Place::Stored(slot) => {
+                let Some(key) = self.store.resource_at(slot) else {
+                    unreachable!()
+                };
+                self.store.leave(Place::Stored(key.slot));
+                let Some(stowed) = self.store.take_resource(key) else {
+                    unreachable!()
+                };
+                Some((key.number, stowed.resource))
+            }
+            _ => None,
+        }
+    }
+}

@@ -1,0 +1,11 @@
+pub mod ListMembers
+pub mod Listed
+pub mod Records
+pub mod Stored
+pub mod PlainHistory
+pub mod Tied
+pub mod Written
+pub mod HeldKept
+pub mod Newest
+pub mod Settling
+pub mod Taking

@@ -1,0 +1,275 @@
+-- What one event leaves of the records of open nodes.
+use Rattle.std.proofs.Common.{◌≡◌, ◌≢◌, ℕ, zero, suc, ◌<◌, ◌==◌, Bool, true, false, cond, List, [], ◌∷◌, ◌++◌, length, Option, Some, None, is_some, option_map, slice_get, refl, sym, ap, subst, ◌∙◌, inl, inr, ◌⊎◌, arith, length-append}
+use Rattle.std.proofs.Math.Bool.{not, ◌&&◌, ◌||◌}
+use Rattle.std.specs.List.{list_any}
+use Rattle.std.specs.Option.{option_and_then, option_map_or}
+use Rattle.std.proofs.lemmas.Bool.{false≢true, cases_order, and_parts, and_from, or_parts, both_ways, eqb-true, eq-eqb, not-true, not_from_false}
+use Rattle.std.proofs.lemmas.Option.{none-some, same_Some}
+use Rattle.rx_event.specs.declared.marks.Marks.{Marks}
+use Rattle.rx_event.specs.declared.event.Event.{Event}
+use Rattle.rx_event.specs.Events.{makes_node, parent_named}
+use Rattle.rx_event.specs.Tree.{is_open, parent, if_less, ancestors, shuts}
+use Rattle.rx_event.specs.Marks.{marks_of, due_at, touches}
+use Rattle.rx_event.specs.Lawful.{MayFollow, IsLawful}
+use Rattle.rx_event.proofs.Laws.Places.{slice_get-append, slice_get_last}
+use Rattle.rx_event.proofs.Laws.Parents.{ancestors_step, parent-lt, option_map_or-same}
+use Rattle.rx_event.proofs.Laws.Openness.{shuts_none, is_open_within, is_open_kept, is_open_unchanged, parent_open}
+use Rattle.rx_event.proofs.Laws.Totals.{is_open_new}
+use Rattle.rx_event.proofs.Laws.MarksNew.{marks-new}
+use Rattle.rx_event.proofs.Laws.MarksTouched.{marks_untouched, blank_quiet}
+use Rattle.rx_slots.specs.declared.Key.{Key}
+use Rattle.rx_slots.specs.Slots.{Slots, find, entry_at, with_number, KeepsOthers}
+use Rattle.rx_forest.specs.declared.node.Node.{Node}
+use Rattle.rx_forest.specs.Tree.{IsSound, AreApart, Rewrites, blank_node, named_above, parent_number, with_marks, with_last, is_key, is_on}
+use Rattle.rx_forest.specs.Below.{up, ancestors as tree_ancestors, is_below}
+use Rattle.rx_forest.specs.Closing.{outside}
+use Rattle.rx_forest.proofs.Laws.Below.{climb_step, up-lt, record_found}
+use Rattle.rx_forest.proofs.Laws.Keys.{same_key, cases_key}
+use Rattle.rx_ground.specs.Ties.{IsRecordOf, HasKey, AreRecords}
+
+-- the chain ---------------------------------------------------------------------------------------
+
+key_itself : (a : Key) → is_key a a ≡ true
+key_itself a = and_from _ _ (eq-eqb a.slot a.slot refl) (eq-eqb a.number a.number refl)
+
+pub key_is : (a b : Key) → is_key a b ≡ true → a ≡ b
+key_is a b same = let parts = and_parts _ _ same in same_key a b (eqb-true a.slot b.slot parts.0) (eqb-true a.number b.number parts.1)
+
+on_append : (k : Key) (xs ys : List Key) → is_on k (xs ++ ys) ≡ (is_on k xs || is_on k ys)
+on_append k [] ys = refl
+on_append k (x ∷ xs) ys = by_test (is_key k x) (on_append k xs ys) where
+  by_test : (b : Bool) → is_on k (xs ++ ys) ≡ (is_on k xs || is_on k ys) → (b || is_on k (xs ++ ys)) ≡ ((b || is_on k xs) || is_on k ys)
+  by_test true e = refl
+  by_test false e = e
+
+-- a key that is put on the chain is there
+pub on_last : (p : Key) (chain : List Key) → is_on p (with_last p chain) ≡ true
+on_last p chain = by_test (is_on p chain) refl where
+  by_test : (b : Bool) → is_on p chain ≡ b → is_on p (cond b chain (chain ++ p ∷ [])) ≡ true
+  by_test true e = e
+  by_test false e = on_append p chain (p ∷ []) ∙ rw (e, key_itself p) refl
+
+-- and what is not there then was not there before
+pub off_last : (k p : Key) (chain : List Key) → is_on k (with_last p chain) ≡ false → is_on k chain ≡ false
+off_last k p chain off = by_test (is_on p chain) off where
+  by_test : (b : Bool) → is_on k (cond b chain (chain ++ p ∷ [])) ≡ false → is_on k chain ≡ false
+  by_test true e = e
+  by_test false e = (or_parts (is_on k chain) _ (sym (on_append k chain (p ∷ [])) ∙ e)).0
+
+-- what stays open and is not on the chain that stays was not on it
+pub off_outside : (nodes : Slots Node) (top : ℕ) (k : Key) (chain : List Key) → is_below nodes top k.number ≡ false → is_on k (outside nodes top chain) ≡ false → is_on k chain ≡ false
+off_outside nodes top k [] apart off = refl
+off_outside nodes top k (x ∷ chain) apart off = by_test (off_outside nodes top k chain apart) (is_below nodes top x.number) refl off where
+  by_key : (is_on k (outside nodes top chain) ≡ false → is_on k chain ≡ false) → is_below nodes top x.number ≡ true → is_on k (outside nodes top chain) ≡ false → (b : Bool) → is_key k x ≡ b → (b || is_on k chain) ≡ false
+  by_key rest e off true same = absurd (false≢true (sym apart ∙ ap (λ (j : Key). is_below nodes top j.number) (key_is k x same) ∙ e))
+  by_key rest e off false other = rest off
+
+  by_test : (is_on k (outside nodes top chain) ≡ false → is_on k chain ≡ false) → (b : Bool) → is_below nodes top x.number ≡ b → is_on k (cond (not b) (x ∷ outside nodes top chain) (outside nodes top chain)) ≡ false → (is_key k x || is_on k chain) ≡ false
+  by_test rest false e off = let parts = or_parts (is_key k x) (is_on k (outside nodes top chain)) off in rw parts.0 (rest parts.1)
+  by_test rest true e off = by_key rest e off (is_key k x) refl
+
+-- a step of the records ---------------------------------------------------------------------------
+
+-- the records are those of the open nodes, but that the marks of this one, if it is one, are not yet those of the history
+pub record AreNearly (h : List Event) (stale : Option ℕ) (nodes : Slots Node) (chain : List Key) : Type 0 where
+  pub made : (key : Key) (node : Node) → find nodes key ≡ Some node → slice_get h key.number ≡ Some node.made
+  pub alive : (key : Key) (node : Node) → find nodes key ≡ Some node → is_open h key.number ≡ true
+  pub marks : (key : Key) (node : Node) → find nodes key ≡ Some node → stale ≢ Some key.number → node.marks ≡ marks_of h key.number
+  pub every : (n : ℕ) → is_open h n ≡ true → HasKey nodes n
+  pub quiet : (key : Key) (node : Node) → find nodes key ≡ Some node → stale ≢ Some key.number → is_on key chain ≡ false → due_at node.made node.marks key.number ≡ None
+
+pub all_fresh : (h : List Event) (nodes : Slots Node) (chain : List Key) → AreNearly h None nodes chain → AreRecords h nodes chain
+all_fresh h nodes chain near = record {
+  each = λ key node found. record { made = near.made key node found; alive = near.alive key node found; marks = near.marks key node found (λ e. none-some key.number e) };
+  every = near.every;
+  quiet = λ key node found off. near.quiet key node found (λ e. none-some key.number e) off;
+}
+
+-- the marks of that record are set
+pub remarked : (h : List Event) (nodes new : Slots Node) (chain : List Key) (p : Key) (before : Node) (change : Marks → Marks) → AreNearly h (Some p.number) nodes chain → AreApart nodes → find nodes p ≡ Some before → marks_of h p.number ≡ change before.marks → Rewrites nodes new p (λ node. with_marks (change node.marks) node) → AreRecords h new (with_last p chain)
+remarked h nodes new chain p before change near apart at_p marked rewrites = record { each = each; every = every; quiet = quiet } where
+  here : find new p ≡ Some (with_marks (change before.marks) before)
+  here = rewrites.changed ∙ ap (option_map (λ (node : Node). with_marks (change node.marks) node)) at_p
+
+  other : (key : Key) (node : Node) → key ≢ p → find new key ≡ Some node → find nodes key ≡ Some node
+  other key node differs found = sym (rewrites.others key differs) ∙ found
+
+  fresh : (key : Key) (node : Node) → key ≢ p → find nodes key ≡ Some node → ◌≢◌ {A = Option ℕ} (Some p.number) (Some key.number)
+  fresh key node differs found same = differs (apart key p (ap is_some found) (ap is_some at_p) (sym (same_Some p.number key.number same)))
+
+  each : (key : Key) (node : Node) → find new key ≡ Some node → IsRecordOf h key.number node
+  each key node found = by_key (cases_key key p) where
+    by_key : (key ≡ p) ⊎ (key ≢ p) → IsRecordOf h key.number node
+    by_key (inl same) =
+        let is : with_marks (change before.marks) before ≡ node = same_Some _ _ (sym here ∙ sym (ap (find new) same) ∙ found) in
+        let n : key.number ≡ p.number = ap (λ (k : Key). k.number) same in
+        record {
+          made = ap (slice_get h) n ∙ near.made p before at_p ∙ ap (λ (x : Node). Some x.made) is;
+          alive = ap (is_open h) n ∙ near.alive p before at_p;
+          marks = sym (ap (λ (x : Node). x.marks) is) ∙ sym marked ∙ ap (marks_of h) (sym n);
+        }
+    by_key (inr differs) =
+        let was = other key node differs found in
+        record { made = near.made key node was; alive = near.alive key node was; marks = near.marks key node was (fresh key node differs was) }
+
+  every : (n : ℕ) → is_open h n ≡ true → HasKey new n
+  every n alive = by_key (near.every n alive) where
+    by_key : HasKey nodes n → HasKey new n
+    by_key has = by_cases (cases_key has.key p) where
+      by_cases : (has.key ≡ p) ⊎ (has.key ≢ p) → HasKey new n
+      by_cases (inl same) = record { key = p; value = with_marks (change before.marks) before; found = here; numbered = ap (λ (k : Key). k.number) (sym same) ∙ has.numbered }
+      by_cases (inr differs) = record { key = has.key; value = has.value; found = rewrites.others has.key differs ∙ has.found; numbered = has.numbered }
+
+  quiet : (key : Key) (node : Node) → find new key ≡ Some node → is_on key (with_last p chain) ≡ false → due_at node.made node.marks key.number ≡ None
+  quiet key node found off = by_key (cases_key key p) where
+    by_key : (key ≡ p) ⊎ (key ≢ p) → due_at node.made node.marks key.number ≡ None
+    by_key (inl same) = absurd (both_ways (is_on p (with_last p chain)) (sym (ap (λ (k : Key). is_on k (with_last p chain)) same) ∙ off) (on_last p chain))
+    by_key (inr differs) =
+        let was = other key node differs found in
+        near.quiet key node was (fresh key node differs was) (off_last key p chain off)
+
+-- another chain, off which nothing is due
+pub rechained : (h : List Event) (nodes : Slots Node) (chain other : List Key) → AreRecords h nodes chain → ((key : Key) (node : Node) → find nodes key ≡ Some node → is_on key other ≡ false → is_on key chain ≡ true → due_at node.made node.marks key.number ≡ None) → AreRecords h nodes other
+rechained h nodes chain other r quiet = record {
+  each = r.each;
+  every = r.every;
+  quiet = λ key node found off. by_test key node found off (is_on key chain) refl;
+}
+  where
+    by_test : (key : Key) (node : Node) → find nodes key ≡ Some node → is_on key other ≡ false → (b : Bool) → is_on key chain ≡ b → due_at node.made node.marks key.number ≡ None
+    by_test key node found off true on = quiet key node found off on
+    by_test key node found off false on = r.quiet key node found on
+
+-- the way up --------------------------------------------------------------------------------------
+
+tree_ancestors_step : (nodes : Slots Node) (n : ℕ) → tree_ancestors nodes n ≡ n ∷ option_map_or (tree_ancestors nodes) (up nodes n) []
+unfolding tree_ancestors
+tree_ancestors_step nodes n = climb_step (up nodes) (up-lt nodes) n
+
+named_parent : (h : List Event) (n : ℕ) (node : Node) → slice_get h n ≡ Some node.made → named_above n node ≡ parent h n
+unfolding parent
+named_parent h n node made = ap (λ o. option_and_then (if_less n) (option_and_then parent_named o)) (sym made)
+
+module _ (h : List Event) (nodes : Slots Node) (chain : List Key) (r : AreRecords h nodes chain) where
+  -- the parent of a node of the tree is that of the history
+  pub parent_in_tree : (key : Key) (node : Node) → find nodes key ≡ Some node → parent_number nodes key ≡ parent h key.number
+  parent_in_tree key node found = ap (option_and_then (named_above key.number)) found ∙ named_parent h key.number node (r.each key node found).made
+
+  module _ (sound : IsSound nodes) where
+    up_is_parent : (has_key : Key) (node : Node) → find nodes has_key ≡ Some node → up nodes has_key.number ≡ parent h has_key.number
+    up_is_parent key node found = ap (option_and_then (named_above key.number)) (record_found nodes sound key node found) ∙ named_parent h key.number node (r.each key node found).made
+
+    climbs_agree : (k n : ℕ) → n < k → is_open h n ≡ true → tree_ancestors nodes n ≡ ancestors h n
+    climbs_agree zero n l alive = absurd (omega arith)
+    climbs_agree (suc k) n l alive =
+        let has = r.every n alive in
+        let at : up nodes n ≡ parent h n = subst (λ (m : ℕ). up nodes m ≡ parent h m) has.numbered (up_is_parent has.key has.value has.found) in
+        tree_ancestors_step nodes n ∙ ap (λ o. n ∷ option_map_or (tree_ancestors nodes) o []) at ∙ ap (λ (xs : List ℕ). n ∷ xs) (option_map_or-same (tree_ancestors nodes) (ancestors h) (parent h n) [] (λ p below. let s : p < n = parent-lt h n p below in climbs_agree k p (omega arith) (parent_open h n p alive below))) ∙ sym (ancestors_step h n)
+
+    -- what is below a node of the tree is within it in the history
+    pub below_is_within : (key : Key) (node : Node) → find nodes key ≡ Some node → (top : ℕ) → is_below nodes top key.number ≡ list_any (λ a. top == a) (ancestors h key.number)
+    below_is_within key node found top = ap (list_any (λ a. top == a)) (climbs_agree (suc key.number) key.number (omega arith) (r.each key node found).alive)
+
+-- events ------------------------------------------------------------------------------------------
+
+module _ (h : List Event) (e : Event) (law : IsLawful h) (next : MayFollow h e) (nodes : Slots Node) (chain : List Key) (r : AreRecords h nodes chain) where
+  -- what was made is still made
+  made_still : (key : Key) (node : Node) → find nodes key ≡ Some node → slice_get (h ++ e ∷ []) key.number ≡ Some node.made
+  made_still key node found = let is = r.each key node found in slice_get-append h (e ∷ []) key.number (is_open_within h key.number is.alive) ∙ is.made
+
+  -- an event that touches no node
+  pub records_still : shuts_none e ≡ true → makes_node e ≡ false → ((n : ℕ) → touches h n e ≡ false) → AreRecords (h ++ e ∷ []) nodes chain
+  records_still shuts makes untouched = record {
+    each = λ key node found. let is = r.each key node found in
+        record {
+          made = made_still key node found;
+          alive = is_open_unchanged h e shuts makes key.number ∙ is.alive;
+          marks = is.marks ∙ sym (marks_untouched h e law next key.number (is_open_within h key.number is.alive) (is_open_unchanged h e shuts makes key.number ∙ is.alive) (untouched key.number));
+        };
+    every = λ n alive. r.every n (sym (is_open_unchanged h e shuts makes n) ∙ alive);
+    quiet = r.quiet;
+  }
+
+  -- a new node
+  pub records_opened : (new : Slots Node) (key : Key) (above : Option Key) → shuts_none e ≡ true → makes_node e ≡ true → ((n : ℕ) → parent_named e ≢ Some n → touches h n e ≡ false) → key.number ≡ length h → entry_at nodes key.slot ≡ None → find new key ≡ Some (blank_node e above) → KeepsOthers nodes new key → AreNearly (h ++ e ∷ []) (parent_named e) new chain
+  records_opened new key above shuts makes untouched numbered free found others = record {
+    made = made;
+    alive = alive;
+    marks = marks;
+    every = every;
+    quiet = quiet;
+  }
+    where
+      old : (k : Key) (node : Node) → k ≢ key → find new k ≡ Some node → find nodes k ≡ Some node
+      old k node differs f = sym (others k differs) ∙ f
+
+      open_still : (k : Key) (node : Node) → find nodes k ≡ Some node → is_open (h ++ e ∷ []) k.number ≡ true
+      open_still k node f = let is = r.each k node f in is_open_kept h e k.number (is_open_within h k.number is.alive) shuts ∙ is.alive
+
+      is_blank : (k : Key) (node : Node) → k ≡ key → find new k ≡ Some node → blank_node e above ≡ node
+      is_blank k node same f = same_Some _ _ (sym found ∙ sym (ap (find new) same) ∙ f)
+
+      at_end : (k : Key) → k ≡ key → k.number ≡ length h
+      at_end k same = ap (λ (j : Key). j.number) same ∙ numbered
+
+      made : (k : Key) (node : Node) → find new k ≡ Some node → slice_get (h ++ e ∷ []) k.number ≡ Some node.made
+      made k node f = by_key (cases_key k key) where
+        by_key : (k ≡ key) ⊎ (k ≢ key) → slice_get (h ++ e ∷ []) k.number ≡ Some node.made
+        by_key (inl same) = ap (slice_get (h ++ e ∷ [])) (at_end k same) ∙ slice_get_last h e ∙ ap (λ (x : Node). Some x.made) (is_blank k node same f)
+        by_key (inr differs) = made_still k node (old k node differs f)
+
+      alive : (k : Key) (node : Node) → find new k ≡ Some node → is_open (h ++ e ∷ []) k.number ≡ true
+      alive k node f = by_key (cases_key k key) where
+        by_key : (k ≡ key) ⊎ (k ≢ key) → is_open (h ++ e ∷ []) k.number ≡ true
+        by_key (inl same) = ap (is_open (h ++ e ∷ [])) (at_end k same) ∙ is_open_new h e next ∙ makes
+        by_key (inr differs) = open_still k node (old k node differs f)
+
+      marks : (k : Key) (node : Node) → find new k ≡ Some node → parent_named e ≢ Some k.number → node.marks ≡ marks_of (h ++ e ∷ []) k.number
+      marks k node f fresh = by_key (cases_key k key) where
+        by_key : (k ≡ key) ⊎ (k ≢ key) → node.marks ≡ marks_of (h ++ e ∷ []) k.number
+        by_key (inl same) = sym (ap (λ (x : Node). x.marks) (is_blank k node same f)) ∙ sym (marks-new h e law next) ∙ ap (marks_of (h ++ e ∷ [])) (sym (at_end k same))
+        by_key (inr differs) =
+            let was = old k node differs f in
+            let is = r.each k node was in
+            is.marks ∙ sym (marks_untouched h e law next k.number (is_open_within h k.number is.alive) (open_still k node was) (untouched k.number fresh))
+
+      every : (n : ℕ) → is_open (h ++ e ∷ []) n ≡ true → HasKey new n
+      every n open_now = by_place (cases_order n (length h)) where
+        by_place : (n ≡ length h) ⊎ ((n < length h) ⊎ (length h < n)) → HasKey new n
+        by_place (inl same) = record { key = key; value = blank_node e above; found = found; numbered = numbered ∙ sym same }
+        by_place (inr (inl l)) =
+            let has = r.every n (sym (is_open_kept h e n l shuts) ∙ open_now) in
+            record { key = has.key; value = has.value; found = others has.key (λ same. none-some has.value (sym (ap (λ (k : Key). find nodes k) same ∙ ap (with_number key.number) free) ∙ has.found)) ∙ has.found; numbered = has.numbered }
+        by_place (inr (inr g)) = absurd (let w = is_open_within (h ++ e ∷ []) n open_now in omega (arith, length-append h (e ∷ [])))
+
+      quiet : (k : Key) (node : Node) → find new k ≡ Some node → parent_named e ≢ Some k.number → is_on k chain ≡ false → due_at node.made node.marks k.number ≡ None
+      quiet k node f fresh off = by_key (cases_key k key) where
+        by_key : (k ≡ key) ⊎ (k ≢ key) → due_at node.made node.marks k.number ≡ None
+        by_key (inl same) = ap (λ (x : Node). due_at x.made x.marks k.number) (sym (is_blank k node same f)) ∙ blank_quiet e k.number
+        by_key (inr differs) = r.quiet k node (old k node differs f) off
+
+  -- what a closing leaves
+  pub records_cut : (new : Slots Node) (rest : List Key) (top : ℕ) (stale : Option ℕ) → IsSound nodes → ((n : ℕ) → stale ≢ Some n → is_open (h ++ e ∷ []) n ≡ true → marks_of (h ++ e ∷ []) n ≡ marks_of h n) → ((n : ℕ) → is_open (h ++ e ∷ []) n ≡ (is_open h n && not (list_any (λ a. top == a) (ancestors h n)))) → ((key : Key) → find new key ≡ cond (is_below nodes top key.number) None (find nodes key)) → rest ≡ outside nodes top chain → AreNearly (h ++ e ∷ []) stale new rest
+  records_cut new rest top stale sound kept opens cuts chained = record {
+    made = λ k node f. let o = was k node f in made_still k node o.1;
+    alive = λ k node f. let o = was k node f in alive k node o.1 o.0;
+    marks = λ k node f fresh. let o = was k node f in (r.each k node o.1).marks ∙ sym (kept k.number fresh (alive k node o.1 o.0));
+    every = every;
+    quiet = λ k node f fresh off. let o = was k node f in r.quiet k node o.1 (off_outside nodes top k chain o.0 (sym (ap (is_on k) chained) ∙ off));
+  }
+    where
+      was : (k : Key) (node : Node) → find new k ≡ Some node → (is_below nodes top k.number ≡ false) × (find nodes k ≡ Some node)
+      was k node f = by_test (is_below nodes top k.number) refl (sym (cuts k) ∙ f) where
+        by_test : (b : Bool) → is_below nodes top k.number ≡ b → cond b None (find nodes k) ≡ Some node → (is_below nodes top k.number ≡ false) × (find nodes k ≡ Some node)
+        by_test true e f = absurd (none-some node f)
+        by_test false e f = (e, f)
+
+      alive : (k : Key) (node : Node) → find nodes k ≡ Some node → is_below nodes top k.number ≡ false → is_open (h ++ e ∷ []) k.number ≡ true
+      alive k node f apart = opens k.number ∙ and_from _ _ (r.each k node f).alive (not_from_false _ (sym (below_is_within h nodes chain r sound k node f top) ∙ apart))
+
+      every : (n : ℕ) → is_open (h ++ e ∷ []) n ≡ true → HasKey new n
+      every n open_now =
+          let parts = and_parts _ _ (sym (opens n) ∙ open_now) in
+          let has = r.every n parts.0 in
+          let apart : is_below nodes top has.key.number ≡ false = below_is_within h nodes chain r sound has.key has.value has.found top ∙ ap (λ m. list_any (λ a. top == a) (ancestors h m)) has.numbered ∙ not-true _ parts.1 in
+          record { key = has.key; value = has.value; found = cuts has.key ∙ ap (λ b. cond b None (find nodes has.key)) apart ∙ has.found; numbered = has.numbered }

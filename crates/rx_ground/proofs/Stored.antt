@@ -1,0 +1,224 @@
+-- What one event leaves of the resources in the store.
+use Rattle.std.proofs.Common.{◌≡◌, ◌≢◌, ℕ, ◌+◌, ◌<◌, Bool, true, false, cond, List, [], ◌∷◌, ◌++◌, length, Option, Some, None, is_some, IsSome, option_map, slice_get, refl, sym, ap, subst, ◌∙◌, inl, inr, ◌⊎◌, arith, length-append}
+use Rattle.std.proofs.Math.Bool.{◌||◌}
+use Rattle.std.specs.List.{list_any}
+use Rattle.std.specs.Option.{option_and_then, option_map_or}
+use Rattle.std.proofs.lemmas.Bool.{false≢true, cases_order, or_parts, or_right, both_ways, eq-eqb, ne_eqb}
+use Rattle.std.proofs.lemmas.Option.{none-some, same_Some, slice_get_within}
+use Rattle.rx_resource.specs.declared.Resource.{Ghosts}
+use Rattle.rx_resource.specs.declared.Life.TheVariants.{Live}
+use Rattle.rx_event.specs.declared.event.Event.{Event}
+use Rattle.rx_event.specs.declared.event.Event.TheVariants.{Accept, Use, Remove, Take}
+use Rattle.rx_event.specs.Events.{makes_resource, node_of_accept, is_remove_of, is_take_of, is_use_of}
+use Rattle.rx_event.specs.Tree.{at, is_open}
+use Rattle.rx_event.specs.Resources.{uses}
+use Rattle.rx_event.specs.Lawful.{IsLawful}
+use Rattle.rx_event.proofs.Laws.Places.{slice_get-append, slice_get_last, at-append}
+use Rattle.rx_event.proofs.Laws.Searches.{list_any_push, or_false}
+use Rattle.rx_event.proofs.Laws.Openness.{stays_closed}
+use Rattle.rx_event.proofs.Laws.Resources.{node_of-lt, no_remove, no_take}
+use Rattle.rx_event.proofs.Laws.Totals.{uses-push, uses_new}
+use Rattle.rx_slots.specs.declared.Key.{Key}
+use Rattle.rx_slots.specs.Slots.{Slots, find, entry_at, with_number, KeepsOthers}
+use Rattle.rx_forest.specs.declared.node.Node.{Node}
+use Rattle.rx_forest.specs.declared.node.Stowed.{Stowed}
+use Rattle.rx_forest.specs.Tree.{Tree, AreApart, Rewrites}
+use Rattle.rx_forest.specs.Resources.{stowed_at, removed, with_resource}
+use Rattle.rx_forest.proofs.Laws.Keys.{cases_key, some_of}
+use Rattle.rx_ground.specs.Ties.{HasKey, IsStored, AreStored}
+
+-- the event is about no resource of this number
+pub record IsApart (r : ℕ) (e : Event) : Type 0 where
+  pub removes : is_remove_of r e ≡ false
+  pub takes : is_take_of r e ≡ false
+  pub uses : is_use_of r e ≡ false
+
+module _ {T : Type 0} (g : Ghosts T) (h : List Event) (law : IsLawful h) where
+  -- where a stored resource came to be held is an older node
+  pub stored_within : (nodes : Slots Node) (r : ℕ) (s : Stowed T) → IsStored g h nodes r s → (r < length h) × (s.node.number < r)
+  stored_within nodes r s is = (slice_get_within h r _ is.accepted, node_of-lt h law r s.node.number (ap (option_and_then node_of_accept) is.accepted))
+
+  module _ (e : Event) where
+    -- a search for an event of a resource that this one is not about
+    still : (q : Event → Bool) → q e ≡ false → list_any q (h ++ e ∷ []) ≡ list_any q h
+    still q apart = list_any_push q h e ∙ ap (λ b. list_any q h || b) apart ∙ or_false (list_any q h)
+
+    -- what is open after an event was open before, if it is no new node
+    pub open_before : (n : ℕ) → n < length h → is_open (h ++ e ∷ []) n ≡ true → is_open h n ≡ true
+    open_before n l alive = by_test (is_open h n) refl where
+      by_test : (b : Bool) → is_open h n ≡ b → b ≡ true
+      by_test true was = refl
+      by_test false was = absurd (false≢true (sym (stays_closed h e n l was) ∙ alive))
+
+    pub stored_still : (nodes new : Slots Node) (r : ℕ) (s : Stowed T) → IsStored g h nodes r s → IsApart r e → ((key : Key) → IsSome (find nodes key) → is_open (h ++ e ∷ []) key.number ≡ true → IsSome (find new key)) → IsStored g (h ++ e ∷ []) new r s
+    stored_still nodes new r s is apart kept = record {
+      accepted = slice_get-append h (e ∷ []) r within.0 ∙ is.accepted;
+      removed = is.removed ∙ sym (still (is_remove_of r) apart.removes);
+      untaken = still (is_take_of r) apart.takes ∙ is.untaken;
+      home = λ alive. kept s.node (is.home (open_before s.node.number (let a = within.0 in let b = within.1 in omega arith) alive)) alive;
+      live = is.live;
+      uses = is.uses ∙ sym (uses-push h e r ∙ ap (λ b. uses h r + cond {A = ℕ} b 1 0) apart.uses ∙ no_more (uses h r));
+    }
+      where
+        within : (r < length h) × (s.node.number < r)
+        within = stored_within nodes r s is
+
+        no_more : (n : ℕ) → n + 0 ≡ n
+        no_more n = omega arith
+
+    -- an acceptance is not of this event
+    accepted_before : (r : ℕ) → makes_resource e ≡ false → at makes_resource (h ++ e ∷ []) r ≡ true → at makes_resource h r ≡ true
+    accepted_before r none made = by_place (cases_order r (length h)) where
+      by_place : (r ≡ length h) ⊎ ((r < length h) ⊎ (length h < r)) → at makes_resource h r ≡ true
+      by_place (inl same) = absurd (both_ways _ none (sym (ap (λ o. option_map_or makes_resource o false) (ap (slice_get (h ++ e ∷ [])) same ∙ slice_get_last h e)) ∙ made))
+      by_place (inr (inl l)) = sym (at-append makes_resource h (e ∷ []) r l) ∙ made
+      by_place (inr (inr gr)) = absurd (let w = within_now r made in omega (arith, length-append h (e ∷ []))) where
+        within_now : (r : ℕ) → at makes_resource (h ++ e ∷ []) r ≡ true → r < length (h ++ e ∷ [])
+        within_now r made = by_event (slice_get (h ++ e ∷ []) r) refl made where
+          by_event : (o : Option Event) → slice_get (h ++ e ∷ []) r ≡ o → option_map_or makes_resource o false ≡ true → r < length (h ++ e ∷ [])
+          by_event None none made = absurd (false≢true made)
+          by_event (Some x) found made = slice_get_within (h ++ e ∷ []) r x found
+
+    untaken_before : (r : ℕ) → list_any (is_take_of r) (h ++ e ∷ []) ≡ false → list_any (is_take_of r) h ≡ false
+    untaken_before r none = (or_parts (list_any (is_take_of r) h) (is_take_of r e) (sym (list_any_push (is_take_of r) h e) ∙ none)).0
+
+    -- an event that is about no resource
+    pub all_stored : (old new : Tree T) → AreStored g h old → new.resources ≡ old.resources → makes_resource e ≡ false → ((r : ℕ) → IsApart r e) → ((key : Key) → IsSome (find old.nodes key) → is_open (h ++ e ∷ []) key.number ≡ true → IsSome (find new.nodes key)) → AreStored g (h ++ e ∷ []) new
+    all_stored old new s same none apart kept = record {
+      each = λ key x found. stored_still old.nodes new.nodes key.number x (s.each key x (sym (ap (λ (r : Slots (Stowed T)). find r key) same) ∙ found)) (apart key.number) kept;
+      every = λ r made untaken. let has = s.every r (accepted_before r none made) (untaken_before r untaken) in record { key = has.key; value = has.value; found = ap (λ (x : Slots (Stowed T)). find x has.key) same ∙ has.found; numbered = has.numbered };
+    }
+
+    -- one that is about the resource of one key alone
+    pub all_stored_but : (old new : Tree T) (k : Key) → AreStored g h old → AreApart old.resources → IsSome (find old.resources k) → new.nodes ≡ old.nodes → KeepsOthers old.resources new.resources k → makes_resource e ≡ false → ((r : ℕ) → r ≢ k.number → IsApart r e) → ((x : Stowed T) → find new.resources k ≡ Some x → IsStored g (h ++ e ∷ []) old.nodes k.number x) → (list_any (is_take_of k.number) (h ++ e ∷ []) ≡ false → IsSome (find new.resources k)) → AreStored g (h ++ e ∷ []) new
+    all_stored_but old new k s unique there nodes others none apart here left = record { each = each; every = every } where
+      kept : (key : Key) → IsSome (find old.nodes key) → is_open (h ++ e ∷ []) key.number ≡ true → IsSome (find old.nodes key)
+      kept key some alive = some
+
+      each : (key : Key) (x : Stowed T) → find new.resources key ≡ Some x → IsStored g (h ++ e ∷ []) new.nodes key.number x
+      each key x found = subst (λ (ns : Slots Node). IsStored g (h ++ e ∷ []) ns key.number x) (sym nodes) (by_key (cases_key key k)) where
+        by_key : (key ≡ k) ⊎ (key ≢ k) → IsStored g (h ++ e ∷ []) old.nodes key.number x
+        by_key (inl same) = subst (λ (j : Key). IsStored g (h ++ e ∷ []) old.nodes j.number x) (sym same) (here x (sym (ap (find new.resources) same) ∙ found))
+        by_key (inr differs) =
+            let was : find old.resources key ≡ Some x = sym (others key differs) ∙ found in
+            stored_still old.nodes old.nodes key.number x (s.each key x was) (apart key.number (λ same. differs (unique key k (ap is_some was) there same))) kept
+
+      every : (r : ℕ) → at makes_resource (h ++ e ∷ []) r ≡ true → list_any (is_take_of r) (h ++ e ∷ []) ≡ false → HasKey new.resources r
+      every r made untaken = by_key (s.every r (accepted_before r none made) (untaken_before r untaken)) where
+        by_key : HasKey old.resources r → HasKey new.resources r
+        by_key has = by_cases (cases_key has.key k) where
+          by_cases : (has.key ≡ k) ⊎ (has.key ≢ k) → HasKey new.resources r
+          by_cases (inl same) =
+              let at_k : k.number ≡ r = ap (λ (j : Key). j.number) (sym same) ∙ has.numbered in
+              let x = some_of (find new.resources k) (left (ap (λ (n : ℕ). list_any (is_take_of n) (h ++ e ∷ [])) at_k ∙ untaken)) in
+              record { key = k; value = x.0; found = x.1; numbered = at_k }
+          by_cases (inr differs) = record { key = has.key; value = has.value; found = others has.key differs ∙ has.found; numbered = has.numbered }
+
+-- each event --------------------------------------------------------------------------------------
+
+module _ {T : Type 0} (g : Ghosts T) (h : List Event) (law : IsLawful h) (old new : Tree T) (s : AreStored g h old) (unique : AreApart old.resources) (nodes : new.nodes ≡ old.nodes) where
+  -- a resource is used
+  pub stored_used : (k : Key) (before : Stowed T) (after : T) → find old.resources k ≡ Some before → g.uses_of after ≡ g.uses_of before.resource + 1 → g.tag_of after ≡ g.tag_of before.resource → g.life_of after ≡ g.life_of before.resource → Rewrites old.resources new.resources k (with_resource after) → AreStored g (h ++ Use k.number ∷ []) new
+  stored_used k before after found used tagged lives w = all_stored_but g h law (Use k.number) old new k s unique (ap is_some found) nodes w.others refl apart here (λ untaken. ap is_some now) where
+    now : find new.resources k ≡ Some (with_resource after before)
+    now = w.changed ∙ ap (option_map (with_resource after)) found
+
+    was : IsStored g h old.nodes k.number before
+    was = s.each k before found
+
+    within : (k.number < length h) × (before.node.number < k.number)
+    within = stored_within g h law old.nodes k.number before was
+
+    apart : (r : ℕ) → r ≢ k.number → IsApart r (Use k.number)
+    apart r differs = record { removes = refl; takes = refl; uses = ne_eqb k.number r (λ same. differs (sym same)) }
+
+    after_it : IsStored g (h ++ Use k.number ∷ []) old.nodes k.number (with_resource after before)
+    after_it = record {
+      accepted = slice_get-append h (Use k.number ∷ []) k.number within.0 ∙ was.accepted ∙ ap (λ (t : ℕ). Some (Accept before.node.number t)) (sym tagged);
+      removed = was.removed ∙ sym (still g h law (Use k.number) (is_remove_of k.number) refl);
+      untaken = still g h law (Use k.number) (is_take_of k.number) refl ∙ was.untaken;
+      home = λ alive. was.home (open_before g h law (Use k.number) before.node.number (let a = within.0 in let b = within.1 in omega arith) alive);
+      live = lives ∙ was.live;
+      uses = used ∙ ap (λ (n : ℕ). n + 1) was.uses ∙ sym (uses-push h (Use k.number) k.number ∙ ap (λ b. uses h k.number + cond {A = ℕ} b 1 0) (eq-eqb k.number k.number refl));
+    }
+
+    here : (x : Stowed T) → find new.resources k ≡ Some x → IsStored g (h ++ Use k.number ∷ []) old.nodes k.number x
+    here x f = subst (IsStored g (h ++ Use k.number ∷ []) old.nodes k.number) (same_Some _ x (sym now ∙ f)) after_it
+
+  -- a resource is removed
+  pub stored_removed : (k : Key) (before : Stowed T) → find old.resources k ≡ Some before → Rewrites old.resources new.resources k removed → AreStored g (h ++ Remove k.number ∷ []) new
+  stored_removed k before found w = all_stored_but g h law (Remove k.number) old new k s unique (ap is_some found) nodes w.others refl apart here (λ untaken. ap is_some now) where
+    now : find new.resources k ≡ Some (removed before)
+    now = w.changed ∙ ap (option_map removed) found
+
+    was : IsStored g h old.nodes k.number before
+    was = s.each k before found
+
+    within : (k.number < length h) × (before.node.number < k.number)
+    within = stored_within g h law old.nodes k.number before was
+
+    apart : (r : ℕ) → r ≢ k.number → IsApart r (Remove k.number)
+    apart r differs = record { removes = ne_eqb k.number r (λ same. differs (sym same)); takes = refl; uses = refl }
+
+    no_more : (n : ℕ) → n + 0 ≡ n
+    no_more n = omega arith
+
+    after_it : IsStored g (h ++ Remove k.number ∷ []) old.nodes k.number (removed before)
+    after_it = record {
+      accepted = slice_get-append h (Remove k.number ∷ []) k.number within.0 ∙ was.accepted;
+      removed = sym (list_any_push (is_remove_of k.number) h (Remove k.number) ∙ or_right (list_any (is_remove_of k.number) h) _ (eq-eqb k.number k.number refl));
+      untaken = still g h law (Remove k.number) (is_take_of k.number) refl ∙ was.untaken;
+      home = λ alive. was.home (open_before g h law (Remove k.number) before.node.number (let a = within.0 in let b = within.1 in omega arith) alive);
+      live = was.live;
+      uses = was.uses ∙ sym (uses-push h (Remove k.number) k.number ∙ no_more (uses h k.number));
+    }
+
+    here : (x : Stowed T) → find new.resources k ≡ Some x → IsStored g (h ++ Remove k.number ∷ []) old.nodes k.number x
+    here x f = subst (IsStored g (h ++ Remove k.number ∷ []) old.nodes k.number) (same_Some _ x (sym now ∙ f)) after_it
+
+  -- a resource is taken
+  pub stored_taken : (k : Key) → IsSome (find old.resources k) → find new.resources k ≡ None → KeepsOthers old.resources new.resources k → AreStored g (h ++ Take k.number ∷ []) new
+  stored_taken k there gone others = all_stored_but g h law (Take k.number) old new k s unique there nodes others refl apart (λ x f. absurd (none-some x (sym gone ∙ f))) (λ untaken. absurd (both_ways _ untaken (list_any_push (is_take_of k.number) h (Take k.number) ∙ or_right (list_any (is_take_of k.number) h) _ (eq-eqb k.number k.number refl)))) where
+    apart : (r : ℕ) → r ≢ k.number → IsApart r (Take k.number)
+    apart r differs = record { removes = refl; takes = ne_eqb k.number r (λ same. differs (sym same)); uses = refl }
+
+  -- a fresh resource is accepted
+  pub stored_accepted : (home k : Key) (x : T) → IsSome (find old.nodes home) → g.life_of x ≡ Live → g.uses_of x ≡ 0 → k.number ≡ length h → entry_at old.resources k.slot ≡ None → find new.resources k ≡ Some (stowed_at home x) → KeepsOthers old.resources new.resources k → AreStored g (h ++ Accept home.number (g.tag_of x) ∷ []) new
+  stored_accepted home k x there lives unused numbered free found others = record { each = each; every = every } where
+    e : Event
+    e = Accept home.number (g.tag_of x)
+
+    after_it : IsStored g (h ++ e ∷ []) old.nodes (length h) (stowed_at home x)
+    after_it = record {
+      accepted = slice_get_last h e;
+      removed = sym (still g h law e (is_remove_of (length h)) refl ∙ no_remove h law (length h) (omega arith));
+      untaken = still g h law e (is_take_of (length h)) refl ∙ no_take h law (length h) (omega arith);
+      home = λ alive. there;
+      live = lives;
+      uses = unused ∙ sym (uses_new h e law refl);
+    }
+
+    kept : (key : Key) → IsSome (find old.nodes key) → is_open (h ++ e ∷ []) key.number ≡ true → IsSome (find old.nodes key)
+    kept key some alive = some
+
+    each : (key : Key) (y : Stowed T) → find new.resources key ≡ Some y → IsStored g (h ++ e ∷ []) new.nodes key.number y
+    each key y f = subst (λ (ns : Slots Node). IsStored g (h ++ e ∷ []) ns key.number y) (sym nodes) (by_key (cases_key key k)) where
+      by_key : (key ≡ k) ⊎ (key ≢ k) → IsStored g (h ++ e ∷ []) old.nodes key.number y
+      by_key (inl same) =
+          let at_end : key.number ≡ length h = ap (λ (j : Key). j.number) same ∙ numbered in
+          subst (λ (n : ℕ). IsStored g (h ++ e ∷ []) old.nodes n y) (sym at_end) (subst (IsStored g (h ++ e ∷ []) old.nodes (length h)) (same_Some _ y (sym found ∙ sym (ap (find new.resources) same) ∙ f)) after_it)
+      by_key (inr differs) = stored_still g h law e old.nodes old.nodes key.number y (s.each key y (sym (others key differs) ∙ f)) (record { removes = refl; takes = refl; uses = refl }) kept
+
+    every : (r : ℕ) → at makes_resource (h ++ e ∷ []) r ≡ true → list_any (is_take_of r) (h ++ e ∷ []) ≡ false → HasKey new.resources r
+    every r made untaken = by_place (cases_order r (length h)) where
+      by_place : (r ≡ length h) ⊎ ((r < length h) ⊎ (length h < r)) → HasKey new.resources r
+      by_place (inl same) = record { key = k; value = stowed_at home x; found = found; numbered = numbered ∙ sym same }
+      by_place (inr (inl l)) =
+          let has = s.every r (sym (at-append makes_resource h (e ∷ []) r l) ∙ made) (untaken_before g h law e r untaken) in
+          record { key = has.key; value = has.value; found = others has.key (λ same. none-some has.value (sym (ap (find old.resources) same ∙ ap (with_number k.number) free) ∙ has.found)) ∙ has.found; numbered = has.numbered }
+      by_place (inr (inr gr)) = absurd (let w = within_now in omega (arith, length-append h (e ∷ []))) where
+        within_now : r < length (h ++ e ∷ [])
+        within_now = by_event (slice_get (h ++ e ∷ []) r) refl made where
+          by_event : (o : Option Event) → slice_get (h ++ e ∷ []) r ≡ o → option_map_or makes_resource o false ≡ true → r < length (h ++ e ∷ [])
+          by_event None none m = absurd (false≢true m)
+          by_event (Some x) f m = slice_get_within (h ++ e ∷ []) r x f

@@ -1,0 +1,25 @@
+-- What one write leaves of a register.
+use Rattle.std.proofs.Common.{◌≡◌, ◌+◌, List, [], ◌∷◌, ◌++◌, length, refl, ap, ◌∙◌, arith, length-append}
+use Rattle.rx_event.specs.declared.mail.Mail.{Mail}
+use Rattle.rx_event.specs.declared.event.Event.{Event}
+use Rattle.rx_event.specs.Notes.{notes, mail_of}
+use Rattle.rx_event.proofs.Laws.Counts.{notes-push}
+use Rattle.rx_journal.specs.State.{State, Writes}
+
+-- an event whose notes were told before it was written
+pub writes_told : (old told new : State) (e : Event) → told ≡ record old { pending = told.pending; mail_room = told.mail_room } → old.mail_room ≡ told.mail_room + length (mail_of old.history e) → new.history ≡ told.history ++ e ∷ [] → new.pending ≡ [] → new.room + 1 ≡ told.room → new.limit ≡ told.limit → new.given ≡ told.given → new.mail_room ≡ told.mail_room → Writes old (e ∷ []) new
+writes_told old told new e same notes_told history pending room limit given mail_room = record {
+  history = grown;
+  limit = limit ∙ ap (λ (s : State). s.limit) same;
+  given = given ∙ ap (λ (s : State). s.given) same;
+  pending = pending;
+  room = let r = ap (λ (s : State). s.room) same in omega arith;
+  mail_room = let n = ap (λ (k : List Event). length (notes k)) grown in let p = ap (λ (m : List Mail). length m) (notes-push old.history e) in let l = length-append (notes old.history) (mail_of old.history e) in omega arith;
+}
+  where
+    grown : new.history ≡ old.history ++ e ∷ []
+    grown = history ∙ ap (λ (s : State). s.history ++ e ∷ []) same
+
+-- one that tells nothing
+pub writes_silent : (old new : State) (e : Event) → mail_of old.history e ≡ [] → new.history ≡ old.history ++ e ∷ [] → new.pending ≡ [] → new.room + 1 ≡ old.room → new.limit ≡ old.limit → new.given ≡ old.given → new.mail_room ≡ old.mail_room → Writes old (e ∷ []) new
+writes_silent old new e silent history pending room limit given mail_room = writes_told old old new e refl (let n = ap (λ (m : List Mail). length m) silent in omega arith) history pending room limit given mail_room

@@ -1,0 +1,15 @@
+use Rattle.std.proofs.Common.{◌≡◌, sym, ap, ◌∙◌, Option, Some, None, is_some, IsSome, option_map}
+use Rattle.std.proofs.lemmas.Bool.{false≢true}
+use Rattle.rx_slots.specs.Slots.{find}
+use Rattle.rx_forest.specs.declared.node.Node.{Node}
+use Rattle.rx_ground.proofs.write.mark_source.Goals as goal
+
+-- a node that is found has marks
+has_marks : (o : Option Node) → IsSome o → option_map (λ (node : Node). node.marks) o ≡ None → ⊥
+has_marks None some none = absurd (false≢true some)
+has_marks (Some x) some none = absurd (false≢true (ap is_some (sym none)))
+
+pub returns-in_default-marks-clause-marked : goal.returns-in_default-marks-clause-marked
+returns-in_default-marks-clause-marked g c =
+    let there : IsSome (find c.args.tree.now.nodes c.in-Some.key) = rw c.in-Some.is at c.requires.there in
+    absurd (has_marks (find c.args.tree.now.nodes c.in-Some.key) there (sym c.marks.ensures ∙ c.in_default-marks.is))

@@ -1,0 +1,171 @@
+-- How a tree is tied to the history beside it, and what each write asks for and changes.
+use Rattle.std.specs.Prelude.{◌≡◌, ℕ, ◌<◌, ◌≤◌, cond, map, length, Bool, true, false, Some, None, IsSome, List, []}
+use Rattle.std.specs.Prelude.{slice_get}
+use Rattle.std.specs.List.{list_all, list_any, Contains}
+use Rattle.rx_resource.specs.declared.Resource.{Ghosts}
+use Rattle.rx_resource.specs.declared.Life.TheVariants.{Live}
+use Rattle.rx_event.specs.declared.marks.Marks.{Marks}
+use Rattle.rx_event.specs.declared.event.Place.TheVariants.{Root, Source}
+use Rattle.rx_event.specs.declared.event.Kind.TheVariants.{Leaf, Pass}
+use Rattle.rx_event.specs.declared.event.Event.{Event}
+use Rattle.rx_event.specs.declared.event.Event.TheVariants.{Open, Hub, Connect, Accept, Decline}
+use Rattle.rx_event.specs.Events.{makes_resource, is_remove_of, is_take_of}
+use Rattle.rx_event.specs.Tree.{at, is_open}
+use Rattle.rx_event.specs.Resources.{uses}
+use Rattle.rx_event.specs.Marks.{marks_of, due_at, terminal_due}
+use Rattle.rx_event.specs.Notes.{mail_of}
+use Rattle.rx_event.specs.Lawful.{MayFollow}
+use Rattle.rx_event.specs.Forced.{IsSettled}
+use Rattle.rx_slots.specs.declared.Key.{Key}
+use Rattle.rx_slots.specs.Slots.{Slots, find}
+use Rattle.rx_forest.specs.declared.node.Node.{Node}
+use Rattle.rx_forest.specs.declared.node.Stowed.{Stowed}
+use Rattle.rx_forest.specs.declared.node.ResKey.{ResKey}
+use Rattle.rx_forest.specs.Below.{is_below}
+use Rattle.rx_forest.specs.Closing.{outside}
+use Rattle.rx_forest.specs.Resources.{is_held_at}
+use Rattle.rx_forest.specs.Tree.{Tree, Rewrites, is_on, with_last, with_marks}
+use Rattle.rx_journal.specs.State.{State as Register}
+use Rattle.rx_journal.specs.Paid.{IsPaid}
+use Rattle.rx_ground.specs.declared.settle.Due.{Due}
+use Rattle.rx_ground.specs.declared.base.Record.{Record}
+use Rattle.rx_ground.specs.declared.base.Wanted.{Wanted}
+use Rattle.rx_ground.specs.Shown.{Ground, label_of, label_in, waiting_in}
+
+-- nodes -------------------------------------------------------------------------------------------
+
+-- an event of what is there so far: leaves and mirroring nodes at roots and sources, and no hub
+abbrev pub is_plain : Event → Bool
+is_plain (Open Root Leaf) = true
+is_plain (Open Root Pass) = true
+is_plain (Open (Source p) Leaf) = true
+is_plain (Open (Source p) Pass) = true
+is_plain (Open place kind) = false
+is_plain (Hub mode) = false
+is_plain (Connect g) = false
+is_plain (Decline f) = false
+is_plain _ = true
+
+-- the record of an open node: its event, and its marks by the history
+pub record IsRecordOf (h : List Event) (n : ℕ) (node : Node) : Type 0 where
+  pub made : slice_get h n ≡ Some node.made
+  pub alive : is_open h n ≡ true
+  pub marks : node.marks ≡ marks_of h n
+
+-- some slot has a value under this number
+pub record HasKey {X : Type 0} (slots : Slots X) (number : ℕ) : Type 0 where
+  pub key : Key
+  pub value : X
+  pub found : find slots key ≡ Some value
+  pub numbered : key.number ≡ number
+
+-- there is a record for each open node and no other, and off the chain nothing is due
+pub record AreRecords (h : List Event) (nodes : Slots Node) (chain : List Key) : Type 0 where
+  pub each : (key : Key) (node : Node) → find nodes key ≡ Some node → IsRecordOf h key.number node
+  pub every : (n : ℕ) → is_open h n ≡ true → HasKey nodes n
+  pub quiet : (key : Key) (node : Node) → find nodes key ≡ Some node → is_on key chain ≡ false → due_at node.made node.marks key.number ≡ None
+
+-- resources ---------------------------------------------------------------------------------------
+
+module _ {T : Type 0} where
+  -- an accepted resource that is not taken: live, at its node, removed as the history says, with its tag and its uses
+  pub record IsStored (g : Ghosts T) (h : List Event) (nodes : Slots Node) (r : ℕ) (s : Stowed T) : Type 0 where
+    pub accepted : slice_get h r ≡ Some (Accept s.node.number (g.tag_of s.resource))
+    pub removed : s.removed ≡ list_any (is_remove_of r) h
+    pub untaken : list_any (is_take_of r) h ≡ false
+    pub home : is_open h s.node.number ≡ true → IsSome (find nodes s.node)
+    pub live : g.life_of s.resource ≡ Live
+    pub uses : g.uses_of s.resource ≡ uses h r
+
+  -- each stored resource is one that was accepted and not taken, and each such one is stored
+  pub record AreStored (g : Ghosts T) (h : List Event) (tree : Tree T) : Type 0 where
+    pub each : (key : Key) (s : Stowed T) → find tree.resources key ≡ Some s → IsStored g h tree.nodes key.number s
+    pub every : (r : ℕ) → at makes_resource h r ≡ true → list_any (is_take_of r) h ≡ false → HasKey tree.resources r
+
+  -- ties ------------------------------------------------------------------------------------------
+
+  -- the tree is that of this history, settled or not
+  pub record IsTied (g : Ghosts T) (h : List Event) (tree : Tree T) : Type 0 where
+    pub records : AreRecords h tree.nodes tree.chain
+    pub stored : AreStored g h tree
+    pub plain : list_all is_plain h ≡ true
+
+  -- and no rule is left undone, and what closing everything needs is reserved
+  pub record IsStanding (g : Ghosts T) (b : Ground T) : Type 0 where
+    pub tied : IsTied g b.register.history b.tree
+    pub settled : IsSettled b.register.history
+    pub paid : IsPaid b.register
+
+  -- there may be more room, and nothing else changed
+  pub record IsRoomier (old new : Ground T) : Type 0 where
+    pub register : new.register ≡ record old.register { room = new.register.room; mail_room = new.register.mail_room }
+    pub room : old.register.room ≤ new.register.room
+    pub mail_room : old.register.mail_room ≤ new.register.mail_room
+    pub nodes : new.tree.nodes ≡ record old.tree.nodes { room = new.tree.nodes.room }
+    pub resources : new.tree.resources ≡ record old.tree.resources { room = new.tree.resources.room }
+    pub chain : new.tree.chain ≡ old.tree.chain
+
+  -- there is room for what a call wants
+  pub record HasRoom (b : Ground T) (wanted : Wanted) : Type 0 where
+    pub events : wanted.events ≤ b.register.room
+    pub notes : wanted.notes ≤ b.register.mail_room
+    pub nodes : wanted.nodes ≤ b.tree.nodes.room
+    pub space : wanted.nodes ≤ b.space
+    pub resources : wanted.resources ≤ b.tree.resources.room
+
+  -- of its resources, those held now that are older than this were held
+  pub record KeepsHeld (old new : Tree T) (number : ℕ) : Type 0 where
+    pub from : (res : ResKey) → is_held_at new res ≡ true → res.number < number → is_held_at old res ≡ true
+
+  -- a resource that waits, by its number
+  pub record IsListed (g : Ghosts T) (tree : Tree T) (handed : ℕ × T) : Type 0 where
+    pub listed : Contains (map (label_in g) (waiting_in tree)) (label_of g handed.0 handed.1)
+
+  -- another chain, and nothing else changed
+  pub record WithChain (old new : Ground T) : Type 0 where
+    pub same : new ≡ record old { tree = record old.tree { chain = new.tree.chain } }
+
+  -- the node of this number and all below it are out, and nothing else changed
+  pub record Cuts (old new : Tree T) (top : ℕ) : Type 0 where
+    pub nodes : (key : Key) → find new.nodes key ≡ cond (is_below old.nodes top key.number) None (find old.nodes key)
+    pub chain : new.chain ≡ outside old.nodes top old.chain
+    pub resources : new.resources ≡ old.resources
+
+  -- the marks of this key's record change so, and its key goes on the chain
+  pub record Remarks (old new : Tree T) (key : Key) (change : Marks → Marks) : Type 0 where
+    pub nodes : Rewrites old.nodes new.nodes key (λ node. with_marks (change node.marks) node)
+    pub chain : new.chain ≡ with_last key old.chain
+    pub resources : new.resources ≡ old.resources
+
+-- no node came, and those that stay open keep their records' keys
+pub record KeepsNodes (h : List Event) (old new : Slots Node) : Type 0 where
+  pub from : (key : Key) → IsSome (find new key) → IsSome (find old key)
+  pub still : (key : Key) → IsSome (find old key) → is_open h key.number ≡ true → IsSome (find new key)
+
+-- a node came under this number, and no other
+pub record IsNewNode (old new : Slots Node) (number : ℕ) (key : Key) : Type 0 where
+  pub numbered : key.number ≡ number
+  pub found : IsSome (find new key)
+  pub from : (other : Key) → IsSome (find new other) → other.number < number → IsSome (find old other)
+
+-- nothing is due at any node
+pub record AllQuiet (nodes : Slots Node) : Type 0 where
+  pub quiet : (key : Key) (node : Node) → find nodes key ≡ Some node → terminal_due node.made node.marks ≡ None
+
+-- this is due at this node
+pub record IsDueNext (nodes : Slots Node) (next : Due) : Type 0 where
+  pub node : Node
+  pub found : find nodes next.node ≡ Some node
+  pub due : terminal_due node.made node.marks ≡ Some next.terminal
+
+-- the event may be written, and there is room for it and its notes
+pub record IsReady (s : Register) (e : Event) : Type 0 where
+  pub next : MayFollow s.history e
+  pub room : 0 < s.room
+  pub notes : length (mail_of s.history e) ≤ s.mail_room
+  pub pending : s.pending ≡ []
+  pub plain : is_plain e ≡ true
+
+-- what an open node's record says
+abbrev pub record_of : Node → Record
+record_of node = record { made = node.made; marks = node.marks }

@@ -1,0 +1,104 @@
+//! What a book stands on: the register of what happened, and the tree of what is open, held and waiting.
+
+ghost use Rattle.std.specs.Prelude.{◌≡◌, ◌+◌, ◌≤◌, length, option_map, OnOk};
+ghost use Rattle.rx_journal.specs.State.{IsPromised as IsRegisterPromised};
+ghost use Rattle.rx_forest.specs.Tree.{IsPromised as IsTreePromised};
+ghost use Rattle.rx_slots.specs.Slots.{find};
+ghost use Rattle.rx_ground.specs.Ties.{IsRoomier, HasRoom, record_of};
+
+use rx_event::{Event, Marks};
+use rx_forest::{Closed, Key, Tree};
+use rx_journal::Register;
+use rx_resource::Resource;
+use std::alloc::AllocError;
+use std::marker::Model;
+
+/// The register and the tree. Between a caller's event and the last that it forces they are of one
+/// history, in which something is still due.
+#[derive(Drop)]
+pub struct Ground<R: Resource> {
+    pub(crate) register: Register,
+    pub(crate) tree: Tree<R>,
+    // What a closing moves out, which then is done with.
+    pub(crate) closed: Vec<Closed>,
+}
+
+impl<R: Resource> Model for Ground<R> {
+    ghost use Rattle.std.specs.Prelude.{◌≡◌, ◌-◌, ◌≤◌, [], vec_capacity};
+    ghost use Rattle.rx_ground.specs.Shown.{Ground as Shown};
+
+    ghost Value = { Shown R };
+
+    ghost view = { λ b. record { register = b.register; tree = b.tree; space = vec_capacity b.closed - b.tree.nodes.count } };
+
+    ghost invariant = { λ b. (b.closed.items ≡ []) × (b.tree.nodes.count ≤ vec_capacity b.closed) };
+}
+
+/// For how much a call wants room.
+#[derive(Clone, Copy)]
+pub struct Wanted {
+    /// Events to write.
+    pub events: u64,
+    /// Notes to tell.
+    pub notes: u64,
+    /// Nodes to open.
+    pub nodes: usize,
+    /// Resources to accept.
+    pub resources: usize,
+}
+
+/// What a node's record says of it.
+#[derive(Clone, Copy)]
+pub struct Record {
+    /// The event that made the node.
+    pub made: Event,
+    /// What its operator's rule has to know of what happened below it.
+    pub marks: Marks,
+}
+
+impl<R: Resource> Ground<R> {
+    /// What its parts promise, for proofs. It does nothing.
+    pub fn promise(&self)
+        ensures register { IsRegisterPromised self.now.register }
+        ensures tree { IsTreePromised self.now.tree }
+    {
+        self.register.promise();
+        self.tree.promise();
+    }
+
+    /// Gets room for what is wanted in all, with what is kept for closing everything counted in.
+    ///
+    /// An error comes where memory is refused, and where the count of nodes would pass `usize`; then some of the
+    /// room may have been gotten, and nothing else changed.
+    pub fn reserve(&mut self, wanted: Wanted) -> Result<(), AllocError>
+        requires { length self.old.register.history + wanted.events ≤ self.old.register.limit }
+        ensures ok { OnOk result (HasRoom self.new wanted) }
+        ensures kept { IsRoomier self.old self.new }
+    {
+        let Some(space) = self.tree.len().checked_add(wanted.nodes) else {
+            return Err(AllocError);
+        };
+        self.register.reserve(wanted.events)?;
+        self.register.reserve_mail(wanted.notes as usize)?;
+        self.closed.reserve(space)?;
+        self.tree.reserve(wanted.nodes)?;
+        self.tree.reserve_resources(wanted.resources)
+    }
+
+    /// How many events there are, which is the place of the next one.
+    pub fn len(&self) -> u64
+        ensures { result ≡ length self.now.register.history }
+    {
+        self.register.len()
+    }
+
+    /// What the record of an open node says; None where the key finds none.
+    pub fn record(&self, key: Key) -> Option<Record>
+        ensures { result ≡ option_map record_of (find self.now.tree.nodes key) }
+    {
+        match (self.tree.made(key), self.tree.marks(key)) {
+            (Some(made), Some(marks)) => Some(Record { made, marks }),
+            _ => None,
+        }
+    }
+}
