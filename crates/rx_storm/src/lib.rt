@@ -31,8 +31,6 @@ ghost use Rattle.rx_storm.specs.Storms.{IsOfHistory, Tells};
 
 mod figures;
 mod numbers;
-#[cfg(test)]
-mod tests;
 mod threads;
 
 use figures::Figures;
