@@ -109,8 +109,8 @@ module _ {T : Type 0} where
       abbrev rings2 : Place → List Place
       rings2 q = without (Noted key.slot) (W.rings q)
 
-      R2 : AreRings (next_of s2) (previous_of s2) h2 rings2
-      R2 = rings_left (next_of s1) (previous_of s1) (next_of s2) (previous_of s2) h1 h2 W.rings W.ringed (Noted key.slot) L2 refl (lone_here h1 (Noted key.slot)) (λ q a. lone_other h1 (Noted key.slot) q a)
+      ringed2 : AreRings (next_of s2) (previous_of s2) h2 rings2
+      ringed2 = rings_left (next_of s1) (previous_of s1) (next_of s2) (previous_of s2) h1 h2 W.rings W.ringed (Noted key.slot) L2 refl (lone_here h1 (Noted key.slot)) (λ q a. lone_other h1 (Noted key.slot) q a)
 
       stood2 : (q e : Place) → h2 q ≡ Some e → stays q × stays e
       stood2 q e at = stood1 q e (lone_some h1 (Noted key.slot) q e at)
@@ -119,10 +119,10 @@ module _ {T : Type 0} where
       there2 q at = (λ i. stands (r2.nodes i) (r2.resources i) q) ∙ there1 q at
 
       pub sibling_before : is_there s2 (previous_of s2 (Sibling key.slot)) ≡ true
-      sibling_before = there2 _ (previous_there (next_of s2) (previous_of s2) h2 rings2 R2 stays stood2 (Sibling key.slot) here)
+      sibling_before = there2 _ (previous_there (next_of s2) (previous_of s2) h2 rings2 ringed2 stays stood2 (Sibling key.slot) here)
 
       pub sibling_after : is_there s2 (next_of s2 (Sibling key.slot)) ≡ true
-      sibling_after = there2 _ (next_there (next_of s2) (previous_of s2) h2 rings2 R2 stays stood2 (Sibling key.slot) here)
+      sibling_after = there2 _ (next_there (next_of s2) (previous_of s2) h2 rings2 ringed2 stays stood2 (Sibling key.slot) here)
 
       module _ (s3 : Store T) (L3 : Leaves (next_of s2) (previous_of s2) (next_of s3) (previous_of s3) (Sibling key.slot)) (r3 : Relinks s2 s3) where
         abbrev h3 : Place → Option Place
@@ -131,8 +131,8 @@ module _ {T : Type 0} where
         abbrev rings3 : Place → List Place
         rings3 q = without (Sibling key.slot) (rings2 q)
 
-        R3 : AreRings (next_of s3) (previous_of s3) h3 rings3
-        R3 = rings_left (next_of s2) (previous_of s2) (next_of s3) (previous_of s3) h2 h3 rings2 R2 (Sibling key.slot) L3 refl (lone_here h2 (Sibling key.slot)) (λ q a. lone_other h2 (Sibling key.slot) q a)
+        ringed3 : AreRings (next_of s3) (previous_of s3) h3 rings3
+        ringed3 = rings_left (next_of s2) (previous_of s2) (next_of s3) (previous_of s3) h2 h3 rings2 ringed2 (Sibling key.slot) L3 refl (lone_here h2 (Sibling key.slot)) (λ q a. lone_other h2 (Sibling key.slot) q a)
 
         link_alone : (q : Place) → IsLink (next_of s3) (previous_of s3) q q → link_at s3 q ≡ alone q
         link_alone q h = λ i. record { next = h.to i; previous = h.back i }
@@ -141,10 +141,10 @@ module _ {T : Type 0} where
         noted_home = lone_other h2 (Sibling key.slot) (Noted key.slot) (λ e. true≢false (sym (place_self (Sibling key.slot)) ∙ ap (is_place (Sibling key.slot)) e)) ∙ lone_here h1 (Noted key.slot)
 
         pub sibling_alone : link_at s3 (Sibling key.slot) ≡ alone (Sibling key.slot)
-        sibling_alone = link_alone (Sibling key.slot) (R3.loose (Sibling key.slot) refl (lone_here h2 (Sibling key.slot)))
+        sibling_alone = link_alone (Sibling key.slot) (ringed3.loose (Sibling key.slot) refl (lone_here h2 (Sibling key.slot)))
 
         pub noted_alone : link_at s3 (Noted key.slot) ≡ alone (Noted key.slot)
-        noted_alone = link_alone (Noted key.slot) (R3.loose (Noted key.slot) refl noted_home)
+        noted_alone = link_alone (Noted key.slot) (ringed3.loose (Noted key.slot) refl noted_home)
 
         none_at : (e : Place) → (Waiting ≡ e → ⊥) → ((q : Place) → is_among q (W.tied.rings (Held key.slot)) ≡ false → h0 q ≡ Some e → ⊥) → (q : Place) → h3 q ≢ Some e
         none_at e apart none q at = of (is_among q (W.tied.rings (Held key.slot))) refl (lone_some h1 (Noted key.slot) q e (lone_some h2 (Sibling key.slot) q e at)) where
@@ -153,10 +153,10 @@ module _ {T : Type 0} where
           of false i at = none q i at
 
         pub children_alone : link_at s3 (Children key.slot) ≡ alone (Children key.slot)
-        children_alone = link_alone (Children key.slot) (empty_ring (next_of s3) (previous_of s3) h3 rings3 R3 (Children key.slot) refl (none_at (Children key.slot) (λ e. true≢false (sym (place_self Waiting) ∙ ap (is_place Waiting) e)) (λ q i at. nothing_on (next_of s0) (previous_of s0) h0 W.tied.rings W.tied.ringed (Children key.slot) refl childless q at)))
+        children_alone = link_alone (Children key.slot) (empty_ring (next_of s3) (previous_of s3) h3 rings3 ringed3 (Children key.slot) refl (none_at (Children key.slot) (λ e. true≢false (sym (place_self Waiting) ∙ ap (is_place Waiting) e)) (λ q i at. nothing_on (next_of s0) (previous_of s0) h0 W.tied.rings W.tied.ringed (Children key.slot) refl childless q at)))
 
         pub held_alone : link_at s3 (Held key.slot) ≡ alone (Held key.slot)
-        held_alone = link_alone (Held key.slot) (empty_ring (next_of s3) (previous_of s3) h3 rings3 R3 (Held key.slot) refl (none_at (Held key.slot) (λ e. true≢false (sym (place_self Waiting) ∙ ap (is_place Waiting) e)) (λ q i at. true≢false (sym (W.tied.ringed.listed (Held key.slot) q at) ∙ i))))
+        held_alone = link_alone (Held key.slot) (empty_ring (next_of s3) (previous_of s3) h3 rings3 ringed3 (Held key.slot) refl (none_at (Held key.slot) (λ e. true≢false (sym (place_self Waiting) ∙ ap (is_place Waiting) e)) (λ q i at. true≢false (sym (W.tied.ringed.listed (Held key.slot) q at) ∙ i))))
 
         module _ (s4 : Store T) (took : Takes_out (nodes_of s3) (nodes_of s4) key) (links : KeepsLinks s3 s4) (rest : resources_of s4 ≡ resources_of s3) where
           abbrev N4 : Slots Node
@@ -274,7 +274,7 @@ module _ {T : Type 0} where
           tied4 = tied_links (next_of s3) (previous_of s3) (next_of s4) (previous_of s4) N4 K0 (λ q. ap (λ l. l.next) (links q)) (λ q. ap (λ l. l.previous) (links q)) (record {
             rings = rings3;
             noted = W.tied.noted;
-            ringed = rings_same (next_of s3) (previous_of s3) h3 h4 rings3 R3 homes;
+            ringed = rings_same (next_of s3) (previous_of s3) h3 h4 rings3 ringed3 homes;
             rises = rises4;
             sound = sound4;
             resources_apart = W.tied.resources_apart;
