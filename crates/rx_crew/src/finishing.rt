@@ -135,7 +135,7 @@ fn judge<R: Resource>(book: &Book<R>, sums: Sums, receipts: &[Receipt]) -> Resul
 ///
 /// It is called once all threads have been joined, since it takes the desk. Where the seats have all
 /// parts, the shares are the totals and only a receipt can be wrong. It takes no memory and does not
-/// wait. Boxes still in the book stay there; they are the caller's to take and release.
+/// wait. Resources that are still in the book stay there; they are the caller's to take and release.
 pub fn finish<R: Resource, I: Ledger, A: Ledger, K: Ledger>(
     desk: Desk<R, I, A, K>,
     seats: Vec<Seat<I, A, K>>,
