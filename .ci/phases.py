@@ -1,0 +1,219 @@
+"""Runs the gate, or the command that is given, and prints what each crate and each of its phases took.
+
+    .ci/phases                    runs `rt ci` at the top of the repository
+    .ci/phases rt must-fail NAME  runs that, as an example
+
+It looks twice a second at the programs that the command starts. A phase is the proof of a crate, the
+proof of its tests, its edits or its runs. The first table has a line for each crate, the second a line
+for each phase. The log of the command goes to the file gate.log, or to the one that the variable
+GATE_LOG names. An interrupt, or the signal TERM, stops the command; the tables then say what was seen.
+The exit status is the command's own. docs/GATE.md says how to read the tables. It needs Linux, for /proc.
+"""
+import os
+import re
+import resource
+import signal
+import subprocess
+import sys
+import time
+
+TICK = os.sysconf("SC_CLK_TCK")
+PAGE = os.sysconf("SC_PAGE_SIZE")
+KINDS = ("proof", "tests", "edits", "runs")
+
+
+class Process:
+    """What /proc says of a process: its parent, when it began, its memory, and the processor seconds of
+    itself and of the children that have ended."""
+
+    def __init__(self, pid):
+        with open(f"/proc/{pid}/stat", encoding="utf-8", errors="replace") as it:
+            fields = it.read().rpartition(")")[2].split()
+        self.parent, self.key = int(fields[1]), (int(pid), int(fields[19]))
+        self.seconds, self.memory = sum(map(int, fields[11:15])) / TICK, int(fields[21]) * PAGE
+
+
+def phase_of(pid):
+    """The crate and the kind of phase that a process works for, where its words tell."""
+    with open(f"/proc/{pid}/cmdline", "rb") as it:
+        words = it.read().decode(errors="replace").split("\0")
+    if "--crate-name" in words:
+        crate = words[words.index("--crate-name") + 1]
+        if os.path.basename(os.readlink(f"/proc/{pid}/cwd")).startswith("rt-edit-"):
+            return crate, "edits"
+        return crate, "tests" if "--test" in words else "proof"
+    for word in words:
+        ran = re.search(r"/rt-run-[^/]*/bin/(\w+?)(_tests)?(\.\w+)?$", word)
+        if ran:
+            return ran.group(1), "runs"
+    return None
+
+
+class Phase:
+    """A phase: when it began, how long it lasted, its most memory, and the processor seconds of each of
+    the programs that were started for it."""
+
+    def __init__(self, now):
+        self.began, self.lasted, self.memory, self.by_program = now, 0.0, 0, {}
+
+    def see(self, passed, memory, by_program):
+        """Notes what its programs have at this moment, after so many seconds more."""
+        self.lasted += passed
+        self.memory = max(self.memory, memory)
+        for key, seconds in by_program.items():
+            self.by_program[key] = max(self.by_program.get(key, 0.0), seconds)
+
+    def seconds(self):
+        return sum(self.by_program.values())
+
+
+def processes_below(top):
+    """The processes that stem from this one, by number."""
+    found = {}
+    for name in os.listdir("/proc"):
+        if name.isdigit():
+            try:
+                found[int(name)] = Process(name)
+            except (OSError, ValueError, IndexError):
+                continue
+    below, grew = {top}, True
+    while grew:
+        more = {pid for pid, it in found.items() if it.parent in below} - below
+        below, grew = below | more, bool(more)
+    return {pid: found[pid] for pid in below & found.keys() if pid != top}
+
+
+def owners_of(running):
+    """For each process the phase that it works for and the program that was started for that. A process
+    whose own words tell of no phase, or of the same one, belongs to its parent's program."""
+    owners = {}
+
+    def owner(pid):
+        if pid not in running:
+            return None
+        if pid not in owners:
+            above = owner(running[pid].parent)
+            try:
+                own = phase_of(pid)
+            except (OSError, IndexError):
+                own = None
+            owners[pid] = above if own is None or above and above[0] == own else (own, running[pid].key)
+        return owners[pid]
+
+    for pid in running:
+        owner(pid)
+    return owners
+
+
+def look(top, phases, now, since):
+    """Adds what runs now to the phases."""
+    running, seen = processes_below(top), {}
+    for pid, owner in owners_of(running).items():
+        if owner:
+            phase, program = owner
+            memory, by_program = seen.setdefault(phase, ([], {}))
+            memory.append(running[pid].memory)
+            by_program[program] = by_program.get(program, 0.0) + running[pid].seconds
+    for phase, (memory, by_program) in seen.items():
+        phases.setdefault(phase, Phase(since)).see(now - since, sum(memory), by_program)
+
+
+def counts_of(log):
+    """Of each crate its functions, its tests and its wrong bodies, by what the log says of them."""
+    counts, crate, tests = {}, None, False
+    for line in log.split("\n"):
+        heading = re.match(r"== (\w+)(: its tests)?$", line)
+        trying = re.match(r"rt: (\w+): trying its must-fail edits \((\d+)\)", line)
+        verdict = re.match(r"logic=\S+ (?:tests=(\d+) )?functions=(\d+)", line)
+        if heading:
+            crate, tests = heading.group(1), bool(heading.group(2))
+        elif trying:
+            counts.setdefault(trying.group(1), {})["edits"] = trying.group(2)
+        elif crate and verdict:
+            counts.setdefault(crate, {})["tests" if tests else "proof"] = verdict.group(1 if tests else 2) or 0
+    return counts
+
+
+def clock(seconds):
+    return f"{int(seconds + 0.5) // 60}:{int(seconds + 0.5) % 60:02}"
+
+
+def row(*cells):
+    print(f"| {' | '.join(map(str, cells))} |")
+
+
+def by_crate(phases, counts, whole, spent):
+    """A line for each crate, the dearest first: how long each phase lasted, and its processor time."""
+    row("Crate", "Functions", "Tests", "Edits", "Proof of the crate", "of its tests", "Its edits", "Its runs", "Processor time")
+    print("|---" * 9 + "|")
+    crates = {crate: [phases.get((crate, kind)) for kind in KINDS] for crate, _ in phases}
+    cost = {crate: sum(it.seconds() for it in its if it) for crate, its in crates.items()}
+    for crate in sorted(crates, key=lambda it: -cost[it]):
+        said = counts.get(crate, {})
+        cells = [f"{clock(it.lasted)} ({clock(it.seconds())})" if it else "" for it in crates[crate]]
+        row(crate, said.get("proof", ""), said.get("tests", ""), said.get("edits", ""), *cells, clock(cost[crate]))
+    spent = max(spent, sum(cost.values()))
+    row("no phase of these", *[""] * 7, clock(spent - sum(cost.values())))
+    sums = [sum(int(it.get(kind, 0)) for it in counts.values()) for kind in KINDS[:3]]
+    kinds = [clock(sum(it.seconds() for (_, at), it in phases.items() if at == kind)) for kind in KINDS]
+    row(f"in all, {clock(whole)}", *sums, *(f"({it})" for it in kinds), clock(spent))
+
+
+def by_phase(phases):
+    """A line for each phase, in the order in which they began."""
+    row("Crate", "Phase", "Began", "Lasted", "Processor", "Cores", "Memory")
+    print("|---" * 7 + "|")
+    for (crate, kind), it in sorted(phases.items(), key=lambda p: (p[1].began, KINDS.index(p[0][1]))):
+        cores = f"{it.seconds() / it.lasted:.1f}" if it.lasted else ""
+        row(crate, kind, clock(it.began), clock(it.lasted), clock(it.seconds()), cores, f"{it.memory / 2**30:.1f} GiB")
+
+
+def stop(gate):
+    """Stops the command and what it started."""
+    its = [gate.pid, *processes_below(gate.pid)]
+    for pid in its:
+        try:
+            os.kill(pid, signal.SIGTERM)
+        except OSError:
+            continue
+
+
+def watch(gate, phases, start):
+    since = 0.0
+    while gate.poll() is None:
+        time.sleep(0.5)
+        now = time.monotonic() - start
+        look(gate.pid, phases, now, since)
+        since = now
+
+
+def interrupted(*_):
+    raise KeyboardInterrupt
+
+
+def main():
+    command = sys.argv[1:] or ["rt", "ci"]
+    os.chdir(subprocess.run(["git", "rev-parse", "--show-toplevel"], capture_output=True, text=True, check=True).stdout.strip())
+    signal.signal(signal.SIGTERM, interrupted)
+    before, start, phases, name = resource.getrusage(resource.RUSAGE_CHILDREN), time.monotonic(), {}, os.environ.get("GATE_LOG", "gate.log")
+    with open(name, "w", encoding="utf-8") as log:
+        gate = subprocess.Popen(command, stdout=log, stderr=subprocess.STDOUT, stdin=subprocess.DEVNULL)
+        try:
+            watch(gate, phases, start)
+        except KeyboardInterrupt:
+            stop(gate)
+            gate.wait()
+    whole, after = time.monotonic() - start, resource.getrusage(resource.RUSAGE_CHILDREN)
+    spent = after.ru_utime + after.ru_stime - before.ru_utime - before.ru_stime
+    with open(name, encoding="utf-8", errors="replace") as it:
+        log = it.read()
+    last = (log.strip().split("\n") or [""])[-1]
+    print(f"`{' '.join(command)}`: status {gate.returncode}, {os.cpu_count()} processors, {clock(whole)} in all; its last line: {last}\n")
+    by_crate(phases, counts_of(log), whole, spent)
+    print()
+    by_phase(phases)
+    return gate.returncode
+
+
+if __name__ == "__main__":
+    sys.exit(main())
