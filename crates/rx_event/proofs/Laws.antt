@@ -28,3 +28,4 @@ pub mod Waits
 pub mod Stands
 pub mod Released
 pub mod OneEnd
+pub mod OpenAfter

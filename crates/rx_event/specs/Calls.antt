@@ -1,5 +1,5 @@
 -- The events that a call of the book adds before those that they force.
-use Rattle.std.specs.Prelude.{ℕ, ℤ, List, [], ◌∷◌, length}
+use Rattle.std.specs.Prelude.{ℕ, ℤ, List, [], ◌∷◌, length, map}
 use Rattle.rx_note.specs.declared.note.Terminal.{Terminal}
 use Rattle.rx_note.specs.declared.note.Terminal.TheVariants.{Error}
 use Rattle.rx_event.specs.declared.event.Place.{Place}
@@ -8,6 +8,7 @@ use Rattle.rx_event.specs.declared.event.Kind.TheVariants.{Pass}
 use Rattle.rx_event.specs.declared.event.Mode.{Mode}
 use Rattle.rx_event.specs.declared.event.Event.{Event}
 use Rattle.rx_event.specs.declared.event.Event.TheVariants.{Open, Hub, Connect, Accept, Use, Remove, Item, Decline, End, Close, Take}
+use Rattle.rx_event.specs.Tree.{open_connections}
 use Rattle.rx_event.specs.Lawful.{IsStep}
 
 -- what a caller asks for, with numbers in place of keys
@@ -25,7 +26,7 @@ pub data Call : Type 0 where
   Disposing : (root : ℕ) → Call
   Publishing : Mode → Call
   Connecting : (hub : ℕ) → Call
-  Disconnecting : (connection : ℕ) → Call
+  Disconnecting : (hub : ℕ) → Call
   Taking : (resource : ℕ) → Call
 
 abbrev pub outside_of : List Event → Call → List Event
@@ -42,7 +43,8 @@ outside_of h (Failing f code) = End f (Error code) ∷ []
 outside_of h (Disposing root) = Close root ∷ []
 outside_of h (Publishing mode) = Hub mode ∷ []
 outside_of h (Connecting g) = Connect g ∷ []
-outside_of h (Disconnecting c) = Close c ∷ []
+-- a hub has one open connection at most
+outside_of h (Disconnecting g) = map (λ c. Close c) (open_connections h g)
 outside_of h (Taking r) = Take r ∷ []
 
 -- the call took h to k

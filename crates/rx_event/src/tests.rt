@@ -68,3 +68,15 @@ fn what_was_reserved_is_pushed_with_no_memory_left(rt: HostRuntime) -> Result<()
     assert_eq!(rt; history.reserve(1), Err(Refusal::Full));
     Ok(())
 }
+
+#[test]
+fn a_reserve_is_met_by_just_the_memory_that_it_needs(rt: HostRuntime) -> Result<(), Fail> {
+    let mut history = History::new(rt.alloc(), 2000);
+    let block: Vec<Event> = Vec::with_capacity(rt.alloc(), 1000)?;
+    let _scarce = Scarce::new(rt.alloc())?;
+    assert_eq!(rt; history.reserve(1000), Err(Refusal::NoMemory));
+    drop(block);
+    assert_eq!(rt; history.reserve(1001), Err(Refusal::NoMemory));
+    assert_eq!(rt; history.reserve(1000), Ok(()));
+    Ok(())
+}

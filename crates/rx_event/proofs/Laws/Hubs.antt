@@ -11,8 +11,8 @@ use Rattle.rx_event.specs.declared.event.Place.TheVariants.{Root, Source, Inner,
 use Rattle.rx_event.specs.declared.event.Kind.{Kind}
 use Rattle.rx_event.specs.declared.event.Kind.TheVariants.{Sub}
 use Rattle.rx_event.specs.declared.event.Event.{Event}
-use Rattle.rx_event.specs.declared.event.Event.TheVariants.{Open, Connect, Close}
-use Rattle.rx_event.specs.Events.{makes_hub, is_auto_hub, is_connect_of, is_subscriber_of}
+use Rattle.rx_event.specs.declared.event.Event.TheVariants.{Open, Hub, Connect, Close}
+use Rattle.rx_event.specs.Events.{makes_hub, is_auto_hub, is_manual_hub, is_connect_of, is_subscriber_of}
 use Rattle.rx_event.specs.Tree.{at, places, parent, ancestors, is_within, is_open, open_subscribers, open_connections}
 use Rattle.rx_event.specs.Forced.{cut, left, connecting, due, IsDue, IsForced, IsConnectDue, IsSettled}
 use Rattle.rx_event.specs.Allowed.{opened, connected, IsAllowed, IsHubbed, IsInOrder, IsInOrderAt}
@@ -105,6 +105,38 @@ one_open_connection h law g = filter_few (λ n. at (is_connect_of g) h n && is_o
       let p : (at (is_connect_of g) h a ≡ true) × (is_open h a ≡ true) = and_parts _ _ one in
       let q : (at (is_connect_of g) h b ≡ true) × (is_open h b ≡ true) = and_parts _ _ other in
       one_connection h law g a b (record { one = p.0; one_open = p.1; other = q.0; other_open = q.1 })
+
+-- the hub of a connection ------------------------------------------------------------------------
+
+auto_made : (o : Option Event) → option_map_or is_auto_hub o false ≡ true → option_map_or makes_hub o false ≡ true
+auto_made None auto = auto
+auto_made (Some (Hub mode)) auto = refl
+auto_made (Some _) auto = absurd (false≢true auto)
+
+manual_made : (o : Option Event) → option_map_or is_manual_hub o false ≡ true → option_map_or makes_hub o false ≡ true
+manual_made None manual = manual
+manual_made (Some (Hub mode)) manual = refl
+manual_made (Some _) manual = absurd (false≢true manual)
+
+forced_hub : {h : List Event} {g : ℕ} → IsForced h (Connect g) → at makes_hub h g ≡ true
+forced_hub {h = h} {g = g} (connecting d) = auto_made (slice_get h g) d.auto
+forced_hub (due n d) = absurd (due_connect d)
+
+allowed_hub : {h : List Event} {g : ℕ} → IsAllowed h (Connect g) → at makes_hub h g ≡ true
+allowed_hub {h = h} {g = g} (connected manual unconnected few) = manual_made (slice_get h g) manual
+
+-- what is connected is a hub
+pub may_connect_hub : {h : List Event} {g : ℕ} → MayFollow h (Connect g) → at makes_hub h g ≡ true
+may_connect_hub (forced f) = forced_hub f
+may_connect_hub (allowed s a) = allowed_hub a
+
+-- so a connection has a larger number than its hub
+pub connection_hub : (h : List Event) → IsLawful h → (g c : ℕ) → slice_get h c ≡ Some (Connect g) → g < c
+connection_hub h law g c at_c =
+    let l : g < length (take c h) = at_within makes_hub (take c h) g (may_connect_hub (lawful_at h law c (Connect g) at_c)) in
+    let room = slice_get_within h c (Connect g) at_c in
+    let long : length (take c h) ≡ c = length-take-le c h (omega arith) in
+    omega arith
 
 -- settled histories -------------------------------------------------------------------------------
 

@@ -1,0 +1,69 @@
+-- The open nodes of one sort, in order, after one more event.
+use Rattle.std.proofs.Common.{◌≡◌, ℕ, zero, suc, ◌+◌, ◌<◌, Bool, true, false, List, [], ◌∷◌, ◌++◌, length, cond, refl, sym, ap, ◌∙◌, arith, filter}
+use Rattle.std.proofs.Math.Bool.{not, ◌&&◌}
+use Rattle.std.specs.List.{range_with_len}
+use Rattle.std.specs.Option.{option_map_or}
+use Rattle.std.proofs.lemmas.List.Elements.{filter-append}
+use Rattle.rx_event.specs.declared.event.Event.{Event}
+use Rattle.rx_event.specs.Events.{makes_node}
+use Rattle.rx_event.specs.Tree.{at, places, is_open}
+use Rattle.rx_event.specs.Lawful.{MayFollow}
+use Rattle.rx_event.proofs.Laws.Places.{slice_get_last, at-append}
+use Rattle.rx_event.proofs.Laws.Openness.{is_cut, is_open_cut}
+use Rattle.rx_event.proofs.Laws.Sums.{places-push}
+use Rattle.rx_event.proofs.Laws.Totals.{is_open_new}
+
+-- filters -----------------------------------------------------------------------------------------
+
+-- one filter after another
+filter_twice : {X : Type 0} (p q : X → Bool) (xs : List X) → filter p (filter q xs) ≡ filter (λ x. q x && p x) xs
+filter_twice p q [] = refl
+filter_twice {X = X} p q (x ∷ xs) = by_test (q x) (filter_twice p q xs) where
+  by_test : (b : Bool) → filter p (filter q xs) ≡ filter (λ y. q y && p y) xs →
+      filter p (cond b (x ∷ filter q xs) (filter q xs)) ≡ cond (b && p x) (x ∷ filter (λ y. q y && p y) xs) (filter (λ y. q y && p y) xs)
+  by_test true rest = ap (λ (ys : List X). cond (p x) (x ∷ ys) ys) rest
+  by_test false rest = rest
+
+-- two tests that agree at each number
+filter_below : (p q : ℕ → Bool) (s n : ℕ) → ((k : ℕ) → k < s + n → p k ≡ q k) → filter p (range_with_len s n) ≡ filter q (range_with_len s n)
+filter_below p q s zero same = refl
+filter_below p q s (suc n) same =
+    let rest = filter_below p q (s + 1) n (λ k l. same k (omega arith)) in
+    (λ i. cond (same s (omega arith) i) (s ∷ rest i) (rest i))
+
+-- open nodes --------------------------------------------------------------------------------------
+
+-- the open nodes of one sort, by rising number
+abbrev pub open_of : (Event → Bool) → List Event → List ℕ
+open_of sort h = filter (λ n. at sort h n && is_open h n) (places h)
+
+-- after one more event those that are still open, and then the node that it makes
+pub open_of-push : (sort : Event → Bool) (h : List Event) (e : Event) → MayFollow h e → (sort e ≡ true → makes_node e ≡ true) →
+    open_of sort (h ++ e ∷ []) ≡ filter (is_open (h ++ e ∷ [])) (open_of sort h) ++ cond (sort e) (length h ∷ []) []
+open_of-push sort h e next makes = ap (filter passes) (places-push h e) ∙ filter-append passes (places h) (length h ∷ []) ∙ (λ i. older i ++ last i) where
+  passes : ℕ → Bool
+  passes n = at sort (h ++ e ∷ []) n && is_open (h ++ e ∷ []) n
+
+  regrouped : (a b c : Bool) → (a && (b && c)) ≡ ((a && b) && (b && c))
+  regrouped true true c = refl
+  regrouped true false c = refl
+  regrouped false b c = refl
+
+  still : (n : ℕ) → n < 0 + length h → passes n ≡ ((at sort h n && is_open h n) && is_open (h ++ e ∷ []) n)
+  still n l =
+      let l2 : n < length h = omega (arith, l) in
+      let sorted : at sort (h ++ e ∷ []) n ≡ at sort h n = at-append sort h (e ∷ []) n l2 in
+      let cut : is_open (h ++ e ∷ []) n ≡ (is_open h n && not (is_cut h e n)) = is_open_cut h e n l2 in
+      (λ i. sorted i && cut i) ∙ regrouped (at sort h n) (is_open h n) (not (is_cut h e n)) ∙ ap (λ b. (at sort h n && is_open h n) && b) (sym cut)
+
+  older : filter passes (places h) ≡ filter (is_open (h ++ e ∷ [])) (open_of sort h)
+  older = filter_below passes (λ n. (at sort h n && is_open h n) && is_open (h ++ e ∷ []) n) 0 (length h) still ∙
+      sym (filter_twice (is_open (h ++ e ∷ [])) (λ n. at sort h n && is_open h n) (places h))
+
+  made : (a b : Bool) → (a ≡ true → b ≡ true) → (a && b) ≡ a
+  made true b yes_b = yes_b refl
+  made false b yes_b = refl
+
+  last : filter passes (length h ∷ []) ≡ cond (sort e) (length h ∷ []) []
+  last = ap (λ b. cond b (length h ∷ []) [])
+      ((λ i. option_map_or sort (slice_get_last h e i) false && is_open_new h e next i) ∙ made (sort e) (makes_node e) makes)
