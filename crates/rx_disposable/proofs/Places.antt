@@ -1,5 +1,6 @@
 -- A ticket's place among the members as they are kept.
-use Rattle.std.proofs.Common.{◌≡◌, ◌≢◌, ℕ, zero, suc, ◌+◌, ◌<◌, ◌≤◌, nat_eq, Bool, true, List, [], ◌∷◌, ◌++◌, length, map, get_or, slice_set, Some, None, IsSome, All, false, refl, sym, ap, subst, ◌∙◌, arith}
+use Rattle.std.proofs.Common.{◌≡◌, ◌≢◌, ℕ, zero, suc, ◌+◌, ◌<◌, ◌≤◌, nat_eq, Bool, true, List, [], ◌∷◌}
+use Rattle.std.proofs.Common.{◌++◌, length, map, get_or, slice_set, Some, None, IsSome, All, false, refl, sym, ap, subst, ◌∙◌, arith}
 use Rattle.std.specs.List.{remove, HoldsAt}
 use Rattle.std.specs.Map.{lookup, remove_entry, set_value}
 use Rattle.std.proofs.lemmas.Bool.Decides.{nat_tests}
@@ -24,7 +25,8 @@ module _ {T : Type 0} where
   pub filled_made : (ms : List (Member T)) (es : List (ℕ × T)) → ms ≡ map member_of es → AreFilled ms
   filled_made ms es made = rw (entries_made ms es made) made
 
-  pub kept_made : (ms : List (Member T)) (es : List (ℕ × T)) (capacity given : ℕ) (disposed : Bool) → ms ≡ map member_of es → IsSound (record { members = es; given = given; disposed = disposed }) → INLINE_LEN ≤ capacity → IsKept ms capacity given disposed
+  pub kept_made : (ms : List (Member T)) (es : List (ℕ × T)) (capacity given : ℕ) (disposed : Bool) → ms ≡ map member_of es
+      → IsSound (record { members = es; given = given; disposed = disposed }) → INLINE_LEN ≤ capacity → IsKept ms capacity given disposed
   kept_made ms es capacity given disposed made sound inline =
       record { filled = filled_made ms es made; sound = rw (entries_made ms es made) sound; inline = inline }
 
@@ -37,13 +39,15 @@ module _ {T : Type 0} where
   made-append ms es e made = rw (made, map-append) refl
 
   -- no kept ticket is below the first
-  above : (first next : ℕ) (es : List (ℕ × T)) (i : ℕ) (d : Member T) → TicketsRise first next es → i < length es → first ≤ (get_or (map member_of es) i d).ticket
+  above : (first next : ℕ) (es : List (ℕ × T)) (i : ℕ) (d : Member T)
+      → TicketsRise first next es → i < length es → first ≤ (get_or (map member_of es) i d).ticket
   above first next [] i d rise within = absurd (omega arith)
   above first next (e ∷ es) zero d rise within = rise.0
   above first next (e ∷ es) (suc i) d rise within =
       omega (arith, rise.0, above (e.0 + 1) next es i d rise.1 (omega arith))
 
-  rising : (first next : ℕ) (es : List (ℕ × T)) → TicketsRise first next es → (i j : ℕ) (d : Member T) → i < j → j < length es → (get_or (map member_of es) i d).ticket < (get_or (map member_of es) j d).ticket
+  rising : (first next : ℕ) (es : List (ℕ × T)) → TicketsRise first next es → (i j : ℕ) (d : Member T)
+      → i < j → j < length es → (get_or (map member_of es) i d).ticket < (get_or (map member_of es) j d).ticket
   rising first next [] rise i j d before within = absurd (omega arith)
   rising first next (e ∷ es) rise i zero d before within = absurd (omega arith)
   rising first next (e ∷ es) rise zero (suc j) d before within =
@@ -58,21 +62,24 @@ module _ {T : Type 0} where
 
 module _ {T : Type 0} (ticket : ℕ) (m : Member T) (has : m.ticket ≡ ticket) where
   -- the member at a place has the value that its ticket stands for
-  pub value_at_place : (first next : ℕ) (es : List (ℕ × T)) (i : ℕ) → TicketsRise first next es → i < length es → m ≡ get_or (map member_of es) i m → m.value ≡ lookup (nat_eq ticket) es
+  pub value_at_place : (first next : ℕ) (es : List (ℕ × T)) (i : ℕ) → TicketsRise first next es
+      → i < length es → m ≡ get_or (map member_of es) i m → m.value ≡ lookup (nat_eq ticket) es
   value_at_place first next [] i rise within at = absurd (omega arith)
   value_at_place first next (e ∷ es) zero rise within at = grind (arith, nat_tests, has, at)
   value_at_place first next (e ∷ es) (suc i) rise within at =
       grind (arith, nat_tests, has, at, above (e.0 + 1) next es i m rise.1 (omega arith), value_at_place (e.0 + 1) next es i rise.1 (omega arith) at)
 
   -- to take the member out there is to take its ticket's value out
-  pub remove_at_place : (first next : ℕ) (es : List (ℕ × T)) (i : ℕ) → TicketsRise first next es → i < length es → m ≡ get_or (map member_of es) i m → remove (map member_of es) i ≡ map member_of (remove_entry (nat_eq ticket) es)
+  pub remove_at_place : (first next : ℕ) (es : List (ℕ × T)) (i : ℕ) → TicketsRise first next es → i < length es
+      → m ≡ get_or (map member_of es) i m → remove (map member_of es) i ≡ map member_of (remove_entry (nat_eq ticket) es)
   remove_at_place first next [] i rise within at = absurd (omega arith)
   remove_at_place first next (e ∷ es) zero rise within at = grind (arith, nat_tests, has, at)
   remove_at_place first next (e ∷ es) (suc i) rise within at =
       grind (arith, nat_tests, has, at, above (e.0 + 1) next es i m rise.1 (omega arith), remove_at_place (e.0 + 1) next es i rise.1 (omega arith) at)
 
   -- to write the member's value there is to write its ticket's value
-  pub set_at_place : (first next : ℕ) (es : List (ℕ × T)) (i : ℕ) (w : T) → TicketsRise first next es → i < length es → m ≡ get_or (map member_of es) i m → slice_set (map member_of es) i (record m { value = Some w }) ≡ map member_of (set_value (nat_eq ticket) es w)
+  pub set_at_place : (first next : ℕ) (es : List (ℕ × T)) (i : ℕ) (w : T) → TicketsRise first next es → i < length es
+      → m ≡ get_or (map member_of es) i m → slice_set (map member_of es) i (record m { value = Some w }) ≡ map member_of (set_value (nat_eq ticket) es w)
   set_at_place first next [] i w rise within at = absurd (omega arith)
   set_at_place first next (e ∷ es) zero w rise within at = grind (arith, nat_tests, has, at)
   set_at_place first next (e ∷ es) (suc i) w rise within at =
@@ -110,7 +117,8 @@ module _ {T : Type 0} (ms : List (Member T)) (capacity given : ℕ) (disposed : 
   kept_in_order = in_order 0 given ms kept.filled kept.sound.tickets
 
   -- the next ticket's value goes in
-  pub kept_added : (value : T) (room : ℕ) → disposed ≡ false → given < MAX_TICKETS → capacity ≤ room → IsKept (ms ++ member_of (given, value) ∷ []) room (given + 1) disposed
+  pub kept_added : (value : T) (room : ℕ) → disposed ≡ false → given < MAX_TICKETS
+      → capacity ≤ room → IsKept (ms ++ member_of (given, value) ∷ []) room (given + 1) disposed
   kept_added value room usable left more =
       kept_made _ _ room (given + 1) disposed (made-append ms (entries_of ms) (given, value) kept.filled)
       (record { tickets = rise-append 0 given (entries_of ms) value kept.sound.tickets; limit = omega arith; emptied = λ over. cc })
@@ -148,12 +156,17 @@ module _ {T : Type 0} (ms : List (Member T)) (capacity given : ℕ) (disposed : 
 
     -- the member goes
     made_removed : remove ms i ≡ map member_of (remove_entry (nat_eq ticket) (entries_of ms))
-    made_removed = subst (λ xs. remove xs i ≡ map member_of (remove_entry (nat_eq ticket) (entries_of ms))) (sym kept.filled) (remove_at_place ticket m ticket_here 0 given (entries_of ms) i kept.sound.tickets within_entries entry_here)
+    made_removed = subst (λ xs. remove xs i ≡ map member_of (remove_entry (nat_eq ticket) (entries_of ms))) (sym kept.filled)
+        (remove_at_place ticket m ticket_here 0 given (entries_of ms) i kept.sound.tickets within_entries entry_here)
 
     pub kept_removed : IsKept (remove ms i) capacity given disposed
     kept_removed =
         kept_made _ _ capacity given disposed made_removed
-        (record { tickets = rise-remove_entry 0 given ticket (entries_of ms) kept.sound.tickets; limit = kept.sound.limit; emptied = λ over. rw (kept.sound.emptied over) refl })
+        (record {
+          tickets = rise-remove_entry 0 given ticket (entries_of ms) kept.sound.tickets;
+          limit = kept.sound.limit;
+          emptied = λ over. rw (kept.sound.emptied over) refl;
+        })
         kept.inline
 
     pub entries_removed : entries_of (remove ms i) ≡ remove_entry (nat_eq ticket) (entries_of ms)
@@ -161,12 +174,17 @@ module _ {T : Type 0} (ms : List (Member T)) (capacity given : ℕ) (disposed : 
 
     -- the member's value is written
     made_set : (w : T) → slice_set ms i (record m { value = Some w }) ≡ map member_of (set_value (nat_eq ticket) (entries_of ms) w)
-    made_set w = subst (λ xs. slice_set xs i (record m { value = Some w }) ≡ map member_of (set_value (nat_eq ticket) (entries_of ms) w)) (sym kept.filled) (set_at_place ticket m ticket_here 0 given (entries_of ms) i w kept.sound.tickets within_entries entry_here)
+    made_set w = subst (λ xs. slice_set xs i (record m { value = Some w }) ≡ map member_of (set_value (nat_eq ticket) (entries_of ms) w))
+        (sym kept.filled) (set_at_place ticket m ticket_here 0 given (entries_of ms) i w kept.sound.tickets within_entries entry_here)
 
     pub kept_set : (w : T) → IsKept (slice_set ms i (record m { value = Some w })) capacity given disposed
     kept_set w =
         kept_made _ _ capacity given disposed (made_set w)
-        (record { tickets = rise-set_value 0 given ticket (entries_of ms) w kept.sound.tickets; limit = kept.sound.limit; emptied = λ over. rw (kept.sound.emptied over) refl })
+        (record {
+          tickets = rise-set_value 0 given ticket (entries_of ms) w kept.sound.tickets;
+          limit = kept.sound.limit;
+          emptied = λ over. rw (kept.sound.emptied over) refl;
+        })
         kept.inline
 
     pub entries_set : (w : T) → entries_of (slice_set ms i (record m { value = Some w })) ≡ set_value (nat_eq ticket) (entries_of ms) w

@@ -20,7 +20,8 @@ module _ {T : Type 0} (ms : List (Member T)) (ordered : AreInOrder ms) (ticket :
       grind (arith, nat_tests)
 
   -- it ends at the ticket's place, or no member has the ticket
-  pub searched : (r : Result ℕ ℕ) → IsBinarySearchResult (λ m. nat_cmp m.ticket ticket) ms r → IfSome (result_ok r) (HoldsAt (λ m. m.ticket ≡ ticket) ms) × IfNone (result_ok r) (All (λ m. m.ticket ≢ ticket) ms)
+  pub searched : (r : Result ℕ ℕ) → IsBinarySearchResult (λ m. nat_cmp m.ticket ticket) ms r
+      → IfSome (result_ok r) (HoldsAt (λ m. m.ticket ≡ ticket) ms) × IfNone (result_ok r) (All (λ m. m.ticket ≢ ticket) ms)
   searched (Ok place) equal = ((λ d. ranked _ ticket _ (sym (equal d))), tt)
   searched (Err gap) parted = (
     tt,

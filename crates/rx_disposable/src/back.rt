@@ -15,7 +15,9 @@ pub enum Why {
 
 /// A value that was not taken in, handed back as it was.
 ///
-/// It may not be dropped, so that no refused value gets lost: take it apart.
+/// It lets itself go where its value does. One with a value that may not be dropped has to be taken
+/// apart, so that no such value gets lost.
+#[derive(Drop)]
 pub struct Back<T> {
     /// What stood against it.
     pub why: Why,

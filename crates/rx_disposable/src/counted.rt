@@ -41,7 +41,8 @@ impl<T> Model for Counted<T> {
 
     ghost view = { λ counted. record { value = counted.value; leases = counted.leases; disposed = counted.disposed } };
 
-    ghost invariant = { λ counted. KeepsUntilOver (record { value = counted.value; leases = counted.leases; disposed = counted.disposed }) };
+    ghost invariant = { λ counted.
+        KeepsUntilOver (record { value = counted.value; leases = counted.leases; disposed = counted.disposed }) };
 }
 
 impl<T> Counted<T> {

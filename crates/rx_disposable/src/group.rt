@@ -38,7 +38,8 @@ impl<T: Drop> Model for Group<T> {
 
     ghost use Rattle.rx_disposable.specs.Members.{entries_of, IsKept};
 
-    ghost view = { λ group. record { members = entries_of group.members.items; given = group.given; disposed = group.disposed } };
+    ghost view = { λ group.
+        record { members = entries_of group.members.items; given = group.given; disposed = group.disposed } };
 
     ghost invariant = { λ group. IsKept group.members.items group.members.capacity group.given group.disposed };
 }

@@ -4,28 +4,12 @@ use crate::{Back, Counted, Denied, Group, INLINE_LEN, NoLease, Serial, Single, W
 use rx_scarce::{MOST_BLOCKS, Scarce};
 use std::test::Fail;
 
-// A value that may not be dropped.
-struct Token(u32);
-
-fn spend(token: Token) -> u32 {
-    let Token(number) = token;
-    number
-}
-
 // The answer, with a refusal as a pair that can be compared.
 fn told<U, T>(answer: Result<U, Back<T>>) -> Result<U, (Why, T)> {
     match answer {
         Ok(taken) => Ok(taken),
         Err(Back { why, value }) => Err((why, value)),
     }
-}
-
-fn spent_value(value: Option<Token>) -> Option<u32> {
-    value.map(spend)
-}
-
-fn spent((why, token): (Why, Token)) -> (Why, u32) {
-    (why, spend(token))
 }
 
 #[test]
@@ -40,23 +24,6 @@ fn a_single_takes_one_value(rt: HostRuntime) {
 }
 
 #[test]
-fn a_single_takes_a_value_that_may_not_be_dropped(rt: HostRuntime) {
-    let mut single = Single::new();
-    assert_eq!(rt; told(single.set(Token(1))).map_err(spent), Ok(()));
-    assert_eq!(rt;
-        told(single.set(Token(2))).map_err(spent),
-        Err((Why::Already, 2))
-    );
-    assert_eq!(rt; single.dispose().map(spend), Some(1));
-    assert_eq!(rt; single.dispose().map(spend), None);
-    assert_eq!(rt;
-        told(single.set(Token(3))).map_err(spent),
-        Err((Why::Disposed, 3))
-    );
-    assert_eq!(rt; single.into_inner().map(spend), None);
-}
-
-#[test]
 fn a_serial_gives_the_previous_value(rt: HostRuntime) {
     let mut serial = Serial::new();
     assert_eq!(rt; serial.replace(1), Ok(None));
@@ -65,25 +32,6 @@ fn a_serial_gives_the_previous_value(rt: HostRuntime) {
     assert_eq!(rt; serial.replace(3), Err(3));
     assert_eq!(rt; serial.dispose(), None);
     assert_eq!(rt; serial.into_inner(), None);
-}
-
-#[test]
-fn a_serial_takes_values_that_may_not_be_dropped(rt: HostRuntime) {
-    let mut serial = Serial::new();
-    assert_eq!(rt;
-        serial.replace(Token(1)).map(spent_value).map_err(spend),
-        Ok(None)
-    );
-    assert_eq!(rt;
-        serial.replace(Token(2)).map(spent_value).map_err(spend),
-        Ok(Some(1))
-    );
-    assert_eq!(rt; serial.dispose().map(spend), Some(2));
-    assert_eq!(rt;
-        serial.replace(Token(3)).map(spent_value).map_err(spend),
-        Err(3)
-    );
-    assert_eq!(rt; serial.into_inner().map(spend), None);
 }
 
 #[test]
@@ -114,51 +62,6 @@ fn a_counted_value_comes_out_at_the_last_lease(rt: HostRuntime) {
     assert_eq!(rt; counted.give_back(), Err(NoLease));
     assert_eq!(rt; counted.dispose(), None);
     assert_eq!(rt; counted.into_inner().ok(), Some(None));
-}
-
-#[test]
-fn a_counted_value_may_be_one_that_may_not_be_dropped(rt: HostRuntime) {
-    let mut counted = Counted::new(Token(9));
-    assert_eq!(rt; counted.lease(), Ok(()));
-    assert_eq!(rt; counted.dispose().map(spend), None);
-    if let Some(token) = counted.get_mut() {
-        token.0 = 10;
-    }
-    let mut counted = match counted.into_inner() {
-        Err(counted) => counted,
-        Ok(_) => unreachable!(),
-    };
-    assert_eq!(rt; counted.give_back().map(spent_value), Ok(Some(10)));
-    assert_eq!(rt; counted.give_back().map(spent_value), Err(NoLease));
-    match counted.into_inner() {
-        Ok(value) => assert_eq!(rt; spent_value(value), None),
-        Err(_) => unreachable!(),
-    }
-}
-
-#[test]
-fn a_write_to_a_ticket_changes_that_value_alone(rt: HostRuntime) -> Result<(), Fail> {
-    let mut group = Group::new(rt.alloc());
-    for number in 0..100 {
-        assert_eq!(rt; told(group.add(number)), Ok(number));
-    }
-    for ticket in 0..50 {
-        assert_eq!(rt; group.remove(2 * ticket), Some(2 * ticket));
-    }
-    assert_eq!(rt; group.len(), 50);
-    assert!(rt; !group.is_empty());
-    assert!(rt; group.get_mut(40).is_none());
-    if let Some(value) = group.get_mut(41) {
-        *value = 1000;
-    }
-    let disposed = group.dispose();
-    assert_eq!(rt; disposed.len(), 50);
-    for (ticket, value) in disposed {
-        assert_eq!(rt; ticket % 2, 1);
-        assert_eq!(rt; value, if ticket == 41 { 1000 } else { ticket });
-    }
-    assert!(rt; group.is_empty());
-    Ok(())
 }
 
 #[test]

@@ -3,64 +3,11 @@
 ghost use Rattle.std.specs.Prelude.{◌≡◌, ◌+◌, ◌<◌, ◌^◌};
 ghost use Rattle.rx_resource.specs.declared.Life.{Life};
 
-use crate::{Handed, Life, Released, Resource, Sample};
+use crate::{Handed, Life, Released, Resource, Sample, Tracker};
 use rx_scarce::Scarce;
 use std::test::Fail;
 use std::thread;
 use std::thread::Threads;
-
-// Answers each word as it came, and each release by the fault 2; counts its releases.
-#[derive(Drop)]
-struct Faulty {
-    tag: u64,
-    uses: u64,
-    life: Life,
-    releases: u32,
-}
-
-impl Resource for Faulty {
-    ghost tag_of = { λ f. f.tag };
-
-    ghost life_of = { λ f. f.life };
-
-    ghost uses_of = { λ f. f.uses };
-
-    fn tag(&self) -> u64 {
-        self.tag
-    }
-
-    fn life(&self) -> Life {
-        self.life
-    }
-
-    fn uses(&self) -> u64 {
-        self.uses
-    }
-
-    fn apply(&mut self, word: u64) -> u64 {
-        self.uses += 1;
-        word
-    }
-
-    fn release(&mut self) -> Result<(), u32> {
-        self.life = Life::Released;
-        self.releases = self.releases.wrapping_add(1);
-        Err(2)
-    }
-}
-
-fn live_faulty(tag: u64) -> Faulty
-    ensures tag { result.tag ≡ tag }
-    ensures live { result.life ≡ Life.Live }
-    ensures unused { result.uses ≡ 0 }
-{
-    Faulty {
-        tag,
-        uses: 0,
-        life: Life::Live,
-        releases: 0,
-    }
-}
 
 // What a caller sees of a resource that it used and handed back.
 #[derive(Drop)]
@@ -98,7 +45,7 @@ fn use_and_release<R: Resource>(number: u64, resource: R, word: u64) -> Course<R
 
 #[test]
 fn a_fault_is_what_the_resource_answered(rt: HostRuntime) {
-    let handed = Handed::new(9, live_faulty(3));
+    let handed = Handed::new(9, Sample::faulty(3, 2));
     assert_eq!(rt; handed.number(), 9);
     assert_eq!(rt; handed.tag(), 3);
     assert_eq!(rt; handed.uses(), 0);
@@ -107,7 +54,31 @@ fn a_fault_is_what_the_resource_answered(rt: HostRuntime) {
     assert_eq!(rt; released.tag, 3);
     assert_eq!(rt; released.fault, Some(2));
     assert_eq!(rt; released.spent.life, Life::Released);
-    assert_eq!(rt; released.spent.releases, 1);
+}
+
+#[test]
+fn a_tracker_tells_each_word_release_and_drop(rt: HostRuntime) -> Result<(), Fail> {
+    let tracker = Tracker::new(rt.alloc())?;
+    let mut first = tracker.resource(3, Some(2))?;
+    let second = tracker.resource(4, None)?;
+    assert_eq!(rt;
+        (tracker.heard(), tracker.released(), tracker.dropped()),
+        (0, 0, 0)
+    );
+    assert_eq!(rt; first.apply(9), 9);
+    assert_eq!(rt; first.apply(u64::MAX), u64::MAX);
+    let handed = Handed::new(1, first);
+    assert_eq!(rt;
+        (tracker.heard(), tracker.released(), tracker.dropped()),
+        (u64::MAX, 0, 0)
+    );
+    let released = handed.release();
+    assert_eq!(rt; (released.tag, released.fault), (3, Some(2)));
+    assert_eq!(rt; (tracker.released(), tracker.dropped()), (1, 0));
+    drop(released);
+    drop(second);
+    assert_eq!(rt; (tracker.released(), tracker.dropped()), (1, 2));
+    Ok(())
 }
 
 #[test]
@@ -126,7 +97,8 @@ fn no_fault_is_none_and_the_words_are_kept(rt: HostRuntime) {
 
 #[test]
 fn boxes_of_two_kinds_are_resources(rt: HostRuntime) -> Result<(), Fail> {
-    let first: Box<dyn Resource> = Box::new(rt.alloc(), live_faulty(3))?;
+    let tracked = Tracker::new(rt.alloc())?.resource(3, Some(2))?;
+    let first: Box<dyn Resource> = Box::new(rt.alloc(), tracked)?;
     let second: Box<dyn Resource> = Box::new(rt.alloc(), Sample::new(5))?;
     let course = use_and_release(7, first, 12);
     assert_eq!(rt; course.answered, 12);
@@ -180,7 +152,7 @@ fn release_apart<R: Resource, T: Threads>(rt: &T, first: R, second: R) -> Apart<
 
 #[test]
 fn another_thread_releases_it(rt: HostRuntime) -> Result<(), Fail> {
-    let first: Box<dyn Resource> = Box::new(rt.alloc(), live_faulty(3))?;
+    let first: Box<dyn Resource> = Box::new(rt.alloc(), Sample::faulty(3, 2))?;
     let second: Box<dyn Resource> = Box::new(rt.alloc(), Sample::new(5))?;
     let Apart { released, left } = release_apart(&rt, first, second);
     assert!(rt; left[0].is_none() && left[1].is_none());
@@ -194,9 +166,9 @@ fn another_thread_releases_it(rt: HostRuntime) -> Result<(), Fail> {
 
 #[test]
 fn a_release_takes_no_memory(rt: HostRuntime) -> Result<(), Fail> {
-    let boxed: Box<dyn Resource> = Box::new(rt.alloc(), live_faulty(3))?;
+    let boxed: Box<dyn Resource> = Box::new(rt.alloc(), Sample::faulty(3, 2))?;
     let _scarce = Scarce::new(rt.alloc())?;
-    assert!(rt; Box::new(rt.alloc(), live_faulty(4)).is_err());
+    assert!(rt; Box::new(rt.alloc(), Sample::faulty(4, 2)).is_err());
     let course = use_and_release(7, boxed, 12);
     assert_eq!(rt; (course.answered, course.tag, course.uses), (12, 3, 1));
     assert_eq!(rt;

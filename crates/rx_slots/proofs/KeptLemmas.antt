@@ -6,7 +6,7 @@ use Rattle.std.proofs.lemmas.List.FromFn.{length-map-range_with_len, get_or-map-
 use Rattle.slab.specs.Slab.{Slab, get, slab_len, with_value, Updates}
 use Rattle.rx_slots.specs.declared.Entry.{Entry}
 use Rattle.rx_slots.specs.declared.Key.{Key}
-use Rattle.rx_slots.specs.Slots.{entry_at, with_number, find, placed, with_value as written_at, entry_of, with_value_at}
+use Rattle.rx_slots.specs.Slots.{entry_at, with_number, find, IsWithin, placed, with_value as written_at, entry_of, with_value_at}
 use Rattle.rx_slots.specs.Kept.{table, shown, IsKept}
 use Rattle.rx_slots.proofs.SlotsLemmas.{get_or-append-nothing, sum_by-same_reads, numbered_entry, with_number-same}
 use Rattle.slab.proofs.SlabLemmas.{ContainsKey-within, Updates-with_value}
@@ -63,6 +63,15 @@ module _ {T : Type 0} where
   stored_entry cells n key kept found =
       let at = numbered_entry key.number (get_or (table cells n) key.slot None) found in
       (at.0, sym (get_or-table cells n key.slot kept) ∙ at.1, at.2)
+
+  -- and stands at a slot below as many as fit
+  pub within_shown : (cells : Slab (Entry T)) (n : ℕ) → IsKept cells n → IsWithin (shown cells n)
+  within_shown cells n kept key found =
+      let at = stored_entry cells n key kept found in
+      let below = IsKept-within cells n key.slot kept (ap is_some at.1) in
+      let slots = kept.slots_fit in
+      let values = kept.values_fit in
+      omega (arith, below, slots, values)
 
   -- an update after the slab grew is one of the slab as it was before
   pub Updates-grown : (old grown new : Slab (Entry T)) (slot : ℕ) (entry : Option (Entry T)) → grown ≡ record old { capacity = grown.capacity } → Updates grown new slot entry → Updates old new slot entry

@@ -1,6 +1,6 @@
 -- What a contract sees of `Slots`: a finite map from slots to values with their numbers.
 -- A key is a slot and a number. It finds the value of its slot where that has its number.
-use Rattle.std.specs.Prelude.{◌≡◌, ◌≢◌, ℕ, ◌+◌, ◌-◌, ◌==◌, cond, List, ◌++◌, length, replicate, Option, Some, None, option_map, slice_index_or, slice_set, refl}
+use Rattle.std.specs.Prelude.{◌≡◌, ◌≢◌, ℕ, ◌+◌, ◌-◌, ◌<◌, ◌==◌, cond, List, ◌++◌, length, replicate, Option, Some, None, IsSome, option_map, slice_index_or, slice_set, refl}
 use Rattle.std.specs.Coded.{Coded, code_by, coded×, coded_ℕ, coded_list, coded_option}
 use Rattle.rx_slots.specs.declared.Entry.{Entry}
 use Rattle.rx_slots.specs.declared.Key.{Key}
@@ -66,6 +66,10 @@ module _ {T : Type 0} where
   -- what a key finds
   abbrev pub find : Slots T → Key → Option T
   find s key = with_number key.number (entry_at s key.slot)
+
+  -- each key that finds a value has a slot below as many as the values and the room are
+  abbrev pub IsWithin : Slots T → Type 0
+  IsWithin s = (key : Key) → IsSome (find s key) → key.slot < s.count + s.room
 
   -- these entries with one more at a slot, and nothing at the slots between
   abbrev pub placed : List (Option (Entry T)) → ℕ → Entry T → List (Option (Entry T))

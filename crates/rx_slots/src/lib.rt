@@ -74,7 +74,7 @@ impl<T> Model for Slots<T> {
 }
 
 impl<T> Slots<T> {
-    ghost use Rattle.rx_slots.specs.Slots.{entry_of, slot_count, placed, entry_at, number_at, value_at, key_at, find, Changes, KeepsOthers};
+    ghost use Rattle.rx_slots.specs.Slots.{entry_of, slot_count, placed, entry_at, number_at, value_at, key_at, find, IsWithin, Changes, KeepsOthers};
     ghost use Rattle.rx_slots.specs.Lends.{lends_value, lends_value_at};
 
     /// An empty store, which takes no memory until the first `reserve` or `insert`.
@@ -207,6 +207,15 @@ impl<T> Slots<T> {
         ensures { result ≡ (self.now.count == 0) }
     {
         self.cells.is_empty()
+    }
+
+    /// How many values there are and have room: each is at a slot below, also those that are put in
+    /// without a request for memory.
+    pub fn capacity(&self) -> usize
+        ensures value { result ≡ self.now.count + self.now.room }
+        ensures within { IsWithin self.now }
+    {
+        self.cells.capacity()
     }
 
     /// How many slots were ever used: each value is at a slot below.

@@ -46,7 +46,8 @@ module _ {X : Type 0} where
       let rest = lookup-past es k (All-tail (λ e. e.0 < k) e es below) in
       grind (arith, nat_tests)
 
-  pub lookup-last : (es : List (ℕ × X)) (q k : ℕ) (v : X) → All (λ e. e.0 < k) es → lookup (nat_eq q) (es ++ (k, v) ∷ []) ≡ cond (nat_eq q k) (Some v) (lookup (nat_eq q) es)
+  pub lookup-last : (es : List (ℕ × X)) (q k : ℕ) (v : X) → All (λ e. e.0 < k) es
+      → lookup (nat_eq q) (es ++ (k, v) ∷ []) ≡ cond (nat_eq q k) (Some v) (lookup (nat_eq q) es)
   lookup-last [] q k v below = refl
   lookup-last (e ∷ es) q k v below =
       let apart : e.0 < k = All-head (λ e. e.0 < k) e es below in
@@ -57,13 +58,16 @@ module _ {X : Type 0} where
   All-remove_entry P test [] all = all
   All-remove_entry P test (e ∷ es) all =
       let rest : All P es = All-tail P e es all in
-      cond_both (test e.0) es (e ∷ remove_entry test es) (All P) (λ _. rest) (λ _. All-cons P e (remove_entry test es) (All-head P e es all) (All-remove_entry P test es rest))
+      cond_both (test e.0) es (e ∷ remove_entry test es) (All P) (λ _. rest)
+      (λ _. All-cons P e (remove_entry test es) (All-head P e es all) (All-remove_entry P test es rest))
 
   -- what the others find where one entry is gone
-  pub lookup-without : (t q : ℕ) (es : List (ℕ × X)) → IsStrictlySortedBy nat_cmp (keys_of es) → lookup (nat_eq q) (remove_entry (nat_eq t) es) ≡ cond (nat_eq t q) None (lookup (nat_eq q) es)
+  pub lookup-without : (t q : ℕ) (es : List (ℕ × X)) → IsStrictlySortedBy nat_cmp (keys_of es)
+      → lookup (nat_eq q) (remove_entry (nat_eq t) es) ≡ cond (nat_eq t q) None (lookup (nat_eq q) es)
   lookup-without t q es ascending =
       let one : (x y : ℕ) → is_eq (nat_cmp t x) ≡ true → is_eq (nat_cmp t y) ≡ is_eq (nat_cmp x y) = λ x y h. grind (arith, nat_tests) in
-      let by_cmp = lookup-remove_entry (eq_by_cmp_equiv nat_cmp_total) (λ k. is_eq (nat_cmp t k)) one q es (IsDistinct-from_sorted nat_cmp (keys_of es) ascending) in
+      let by_cmp = lookup-remove_entry (eq_by_cmp_equiv nat_cmp_total)
+      (λ k. is_eq (nat_cmp t k)) one q es (IsDistinct-from_sorted nat_cmp (keys_of es) ascending) in
       rw (← remove_entry-nat_cmp t es, ← lookup-nat_cmp q (remove_entry (λ k. is_eq (nat_cmp t k)) es), ← lookup-nat_cmp q es, ← is_eq-nat_cmp t q) by_cmp
 
   -- what is found among keys that are all above a number has a key above it
@@ -71,16 +75,20 @@ module _ {X : Type 0} where
   above_from_lookup n q v [] above found = cc
   above_from_lookup n q v (e ∷ es) above found =
       let first : nat_cmp n e.0 ≡ Less = above.0 in
-      elim (nat_eq q e.0) as (λ b. nat_eq q e.0 ≡ b → n < q) [ true ↦ λ same. grind (arith, nat_tests) | false ↦ λ apart. above_from_lookup n q v es above.1 (rw apart at found) ] refl
+      elim (nat_eq q e.0) as (λ b. nat_eq q e.0 ≡ b → n < q)
+      [ true ↦ λ same. grind (arith, nat_tests) | false ↦ λ apart. above_from_lookup n q v es above.1 (rw apart at found) ] refl
 
   -- each entry is found under its key
   pub All-looked_up : (es : List (ℕ × X)) → IsStrictlySortedBy nat_cmp (keys_of es) → All (λ e. lookup (nat_eq e.0) es ≡ Some e.1) es
   All-looked_up es ascending = λ i d within.
       let e : ℕ × X = get_or es i d in
-      rw (lookup-nat_cmp e.0 es) at (lookup_from_place (eq_by_cmp_equiv nat_cmp_total) es i e.0 e.1 (IsDistinct-from_sorted nat_cmp (keys_of es) ascending) (slice_get-get_or es i d within))
+      rw (lookup-nat_cmp e.0 es) at
+      (lookup_from_place (eq_by_cmp_equiv nat_cmp_total) es i e.0 e.1
+      (IsDistinct-from_sorted nat_cmp (keys_of es) ascending) (slice_get-get_or es i d within))
 
 -- the item of an entry, and those of the others, are all items
-pub items_of-without : {T : Type 0} (t : ℕ) (w : Work T) (es : List (ℕ × Work T)) → lookup (nat_eq t) es ≡ Some w → IsPermutation (items_of es) (w.item ∷ items_of (remove_entry (nat_eq t) es))
+pub items_of-without : {T : Type 0} (t : ℕ) (w : Work T) (es : List (ℕ × Work T))
+    → lookup (nat_eq t) es ≡ Some w → IsPermutation (items_of es) (w.item ∷ items_of (remove_entry (nat_eq t) es))
 items_of-without t w [] found = cc
 items_of-without t w (e ∷ es) found =
     elim (nat_eq t e.0) as (λ b. nat_eq t e.0 ≡ b → IsPermutation (items_of (e ∷ es)) (w.item ∷ items_of (cond b es (e ∷ remove_entry (nat_eq t) es)))) [
@@ -92,5 +100,6 @@ items_of-without t w (e ∷ es) found =
           let rest = items_of (remove_entry (nat_eq t) es) in
           let later = items_of-without t w es (rw apart at found) in
           let exchange = IsPermutation-sym (w.item ∷ e.1.item ∷ rest) (e.1.item ∷ w.item ∷ rest) (IsPermutation-insert (e.1.item ∷ rest) 1 w.item) in
-          IsPermutation-trans (items_of (e ∷ es)) (e.1.item ∷ w.item ∷ rest) (w.item ∷ e.1.item ∷ rest) (IsPermutation-cons e.1.item (items_of es) (w.item ∷ rest) later) exchange
+          IsPermutation-trans (items_of (e ∷ es)) (e.1.item ∷ w.item ∷ rest) (w.item ∷ e.1.item ∷ rest)
+          (IsPermutation-cons e.1.item (items_of es) (w.item ∷ rest) later) exchange
     ] refl

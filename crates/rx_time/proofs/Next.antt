@@ -1,5 +1,6 @@
 -- Which entry comes next.
-use Rattle.std.proofs.Common.{◌≡◌, ℕ, ◌<◌, ◌≤◌, true, false, nat_eq, nat_le, List, [], ◌∷◌, Option, Some, None, IfSome, IsSomeAnd, MatchOption, All, refl, ap, inl, inr, arith}
+use Rattle.std.proofs.Common.{◌≡◌, ℕ, ◌<◌, ◌≤◌, true, false, nat_eq, nat_le, List, []}
+use Rattle.std.proofs.Common.{◌∷◌, Option, Some, None, IfSome, IsSomeAnd, MatchOption, All, refl, ap, inl, inr, arith}
 use Rattle.std.proofs.lemmas.Bool.{cases_lt, cond_both, cond-true, cond-false, le-leb, lt-leb, eqb-true}
 use Rattle.std.proofs.lemmas.List.Elements.{All-nil, All-cons, All-head, All-tail, All-weaker}
 use Rattle.std.proofs.lemmas.Map.Keys.{sorted_head, sorted_tail}
@@ -38,7 +39,8 @@ module _ {T : Type 0} where
       elim (cases_lt due e.1.due) [ inl before ↦ before | inr tie ↦ absurd (omega (arith, after.1 tie)) ]
 
   -- work that no other comes before is what comes next
-  pub next_of-first : (es : List (ℕ × Work T)) (t : ℕ) (w : Work T) → IsStrictlySortedBy nat_cmp (keys_of es) → lookup (nat_eq t) es ≡ Some w → All (IsAfter w.due t) es → next_of es ≡ Some (t, w)
+  pub next_of-first : (es : List (ℕ × Work T)) (t : ℕ) (w : Work T) → IsStrictlySortedBy nat_cmp (keys_of es)
+      → lookup (nat_eq t) es ≡ Some w → All (IsAfter w.due t) es → next_of es ≡ Some (t, w)
   next_of-first [] t w ascending found after = cc
   next_of-first (e ∷ es) t w ascending found after =
       let here : IsAfter w.due t e = All-head (IsAfter w.due t) e es after in
@@ -48,7 +50,9 @@ module _ {T : Type 0} where
             let number : t ≡ e.0 = eqb-true t e.0 same in
             let work : Some e.1 ≡ Some w = rw same at found in
             let is : e.1 ≡ w = cc in
-            let next : next_of (e ∷ es) ≡ Some e = earlier-keeps e (next_of es) (IfSome-next_of (λ f. e.1.due ≤ f.1.due) es (All-weaker (IsAfter w.due t) (λ f. e.1.due ≤ f.1.due) (λ f later. rw is later.0) es rest)) in
+            let next : next_of (e ∷ es) ≡ Some e =
+            earlier-keeps e (next_of es)
+            (IfSome-next_of (λ f. e.1.due ≤ f.1.due) es (All-weaker (IsAfter w.due t) (λ f. e.1.due ≤ f.1.due) (λ f later. rw is later.0) es rest)) in
             rw (number, ← is) next
         | false ↦ λ apart.
             let later : lookup (nat_eq t) es ≡ Some w = rw apart at found in
@@ -57,13 +61,16 @@ module _ {T : Type 0} where
             rw next (earlier-yields e (t, w) (due_before w.due t e here above))
       ] refl
 
-  least-step : (g : ℕ × Work T) (o : Option (ℕ × Work T)) (gs : List (ℕ × Work T)) → MatchOption o (gs ≡ []) (λ e. All (λ f. e.1.due ≤ f.1.due) gs) → MatchOption (earlier g o) (g ∷ gs ≡ []) (λ e. All (λ f. e.1.due ≤ f.1.due) (g ∷ gs))
+  least-step : (g : ℕ × Work T) (o : Option (ℕ × Work T)) (gs : List (ℕ × Work T)) → MatchOption o (gs ≡ []) (λ e. All (λ f. e.1.due ≤ f.1.due) gs)
+      → MatchOption (earlier g o) (g ∷ gs ≡ []) (λ e. All (λ f. e.1.due ≤ f.1.due) (g ∷ gs))
   least-step g None gs none =
       rw none (All-cons (λ f. g.1.due ≤ f.1.due) g [] (omega arith) (All-nil (λ f. g.1.due ≤ f.1.due)))
   least-step g (Some f) gs least =
       elim (cases_lt f.1.due g.1.due) [
         | inl before ↦ rw (earlier-yields g f before) (All-cons (λ h. f.1.due ≤ h.1.due) g gs (omega arith) least)
-        | inr not_before ↦ rw (earlier-keeps g (Some f) not_before) (All-cons (λ h. g.1.due ≤ h.1.due) g gs (omega arith) (All-weaker (λ h. f.1.due ≤ h.1.due) (λ h. g.1.due ≤ h.1.due) (λ h later. omega arith) gs least))
+        | inr not_before ↦ rw (earlier-keeps g (Some f) not_before)
+            (All-cons (λ h. g.1.due ≤ h.1.due) g gs (omega arith)
+            (All-weaker (λ h. f.1.due ≤ h.1.due) (λ h. g.1.due ≤ h.1.due) (λ h later. omega arith) gs least))
       ]
 
   -- no work is due before what comes next, and where nothing comes next there is no work
@@ -78,7 +85,8 @@ module _ {T : Type 0} where
     go None points = absurd points
     go (Some w) points = rw (← points.0) (rw points.1 at (next_of-least es))
 
-  IsNext-step : (g : ℕ × Work T) (o : Option (ℕ × Work T)) (gs : List (ℕ × Work T)) → MatchOption o (gs ≡ []) (λ e. All (λ f. e.1.due ≤ f.1.due) gs) → IfSome o (IsNext gs) → IfSome (earlier g o) (IsNext (g ∷ gs))
+  IsNext-step : (g : ℕ × Work T) (o : Option (ℕ × Work T)) (gs : List (ℕ × Work T))
+      → MatchOption o (gs ≡ []) (λ e. All (λ f. e.1.due ≤ f.1.due) gs) → IfSome o (IsNext gs) → IfSome (earlier g o) (IsNext (g ∷ gs))
   IsNext-step g None gs none next = record {
     before = [];
     after = gs;

@@ -21,9 +21,11 @@ module _ {T : Type 0} where
   -- the agenda has the due time and ticket of each entry, and nothing else
   pub record IsKept (s : Schedule T) (agenda : BTreeSet (ℕ × ℕ)) : Type 0 where
     pub sound : IsSound s
-    pub same : (due ticket : ℕ) → contains place_cmp agenda (due, ticket) ≡ is_due_at due (lookup (nat_eq ticket) s.work)
+    pub same : (due ticket : ℕ) → contains place_cmp agenda (due, ticket)
+        ≡ is_due_at due (lookup (nat_eq ticket) s.work)
 
   -- the place is the due time and the ticket of this entry of the work, and there is none where there is no entry
   abbrev pub PointsAt : List (ℕ × Work T) → Option (ℕ × Work T) → Option (ℕ × ℕ) → Type 0
   PointsAt work next None = next ≡ None
-  PointsAt work next (Some place) = IsSomeAnd (lookup (nat_eq place.1) work) (λ w. (w.due ≡ place.0) × (next ≡ Some (place.1, w)))
+  PointsAt work next (Some place) =
+      IsSomeAnd (lookup (nat_eq place.1) work) (λ w. (w.due ≡ place.0) × (next ≡ Some (place.1, w)))

@@ -61,6 +61,13 @@ module _ {T : Type 0} where
   abbrev pub items_of : List (ℕ × Work T) → List T
   items_of work = map (λ e. e.1.item) work
 
+  -- an entry, and a timeline, with each item seen as another
+  abbrev pub entry_seen : {U : Type 0} → (T → U) → ℕ × Work T → ℕ × Work U
+  entry_seen f e = (e.0, record { due = e.1.due; item = f e.1.item })
+
+  abbrev pub seen_as : {U : Type 0} → (T → U) → Schedule T → Schedule U
+  seen_as f s = record { clock = s.clock; tickets = s.tickets; work = map (entry_seen f) s.work }
+
   -- what holds of every timeline: the tickets of the entries rise and were given, and nothing is overdue
   pub record IsSound (s : Schedule T) : Type 0 where
     pub ascending : IsStrictlySortedBy nat_cmp (keys_of s.work)

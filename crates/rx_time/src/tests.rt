@@ -9,11 +9,6 @@ use rx_scarce::{MOST_BLOCKS, Scarce};
 use std::process::Abort;
 use std::test::Fail;
 
-// An item that has to be taken apart.
-struct Job {
-    number: u32,
-}
-
 fn reason<T: Drop>(back: Back<T>) -> Why {
     let Back { why, value: _ } = back;
     why
@@ -222,55 +217,4 @@ fn a_ticket_cancels_its_entry_once(rt: HostRuntime) -> Result<(), Fail> {
     assert!(rt; timeline.is_empty());
     assert_ne!(rt; first, last);
     Ok(())
-}
-
-#[test]
-fn the_last_tick_is_a_due_time(rt: HostRuntime) -> Result<(), Fail> {
-    let mut timeline = Timeline::new(rt.alloc());
-    scheduled(&mut timeline, u64::MAX, 'z')?;
-    assert_eq!(rt; timeline.next_until(u64::MAX - 1), None);
-    assert_eq!(rt; timeline.next_until(u64::MAX), Some((u64::MAX, 'z')));
-    scheduled(&mut timeline, 0, 'y')?;
-    assert_eq!(rt; timeline.next_until(0), None);
-    assert_eq!(rt; timeline.now(), u64::MAX);
-    assert_eq!(rt; timeline.next_until(u64::MAX), Some((u64::MAX, 'y')));
-    Ok(())
-}
-
-#[test]
-fn items_need_not_be_dropped(rt: HostRuntime) {
-    let mut timeline = Timeline::new(rt.alloc());
-    let mut trampoline = Trampoline::new(rt.alloc());
-    let ticket = match timeline.schedule(4, Job { number: 40 }) {
-        Ok(ticket) => ticket,
-        Err(_) => panic!(rt; "refused"),
-    };
-    match timeline.schedule(3, Job { number: 30 }) {
-        Ok(_) => {}
-        Err(_) => panic!(rt; "refused"),
-    }
-    match timeline.next_until(5) {
-        Some((due, Job { number })) => {
-            assert_eq!(rt; due, 3);
-            assert_eq!(rt; number, 30);
-        }
-        None => panic!(rt; "nothing came"),
-    }
-    match timeline.cancel(ticket) {
-        Some(job) => match trampoline.push(job) {
-            Ok(()) => {}
-            Err(_) => panic!(rt; "refused"),
-        },
-        None => panic!(rt; "no entry"),
-    }
-    assert!(rt; timeline.is_empty());
-    timeline.destroy_empty();
-    match trampoline.next() {
-        Some(Job { number }) => assert_eq!(rt; number, 40),
-        None => panic!(rt; "nothing came"),
-    }
-    match trampoline.next() {
-        Some(_) => panic!(rt; "one too many"),
-        None => trampoline.destroy_empty(),
-    }
 }

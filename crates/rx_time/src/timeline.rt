@@ -1,4 +1,5 @@
-ghost use Rattle.std.specs.Prelude.{◌≡◌, ◌+◌, ◌<◌, ◌≤◌, ◌↔◌, [], ◌∷◌, ◌++◌, length, max, nat_eq, All, IsTrue, Err, IfOk, IfErr, OnOk, OnErr, OnSome, IfSome, IfNone};
+ghost use Rattle.std.specs.Prelude.{◌≡◌, ◌+◌, ◌<◌, ◌≤◌, ◌↔◌, [], ◌∷◌, ◌++◌, length, max, nat_eq, All, IsTrue, Err};
+ghost use Rattle.std.specs.Prelude.{IfOk, IfErr, OnOk, OnErr, OnSome, IfSome, IfNone};
 ghost use Rattle.std.specs.Map.{lookup};
 ghost use Rattle.std.specs.List.Sorted.{IsPermutation};
 
@@ -257,29 +258,5 @@ impl<T> Timeline<T> {
         ensures { self.new ≡ record self.old { clock = max self.old.clock to } }
     {
         self.clock = self.clock.max(to);
-    }
-}
-
-#[cfg(test)]
-mod tests {
-    use super::*;
-
-    #[test]
-    fn the_last_ticket_was_given(rt: HostRuntime) {
-        let mut timeline = Timeline {
-            clock: 7,
-            tickets: MAX_TICKETS,
-            entries: BTreeMap::new(rt.alloc()),
-            agenda: BTreeSet::new(rt.alloc()),
-        };
-        match timeline.schedule(9, 'x') {
-            Ok(_) => panic!(rt; "one too many"),
-            Err(Back { why, value }) => {
-                assert_eq!(rt; why, Why::TooMany);
-                assert_eq!(rt; value, 'x');
-            }
-        }
-        assert!(rt; timeline.is_empty());
-        assert_eq!(rt; timeline.now(), 7);
     }
 }

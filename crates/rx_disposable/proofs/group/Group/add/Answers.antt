@@ -5,7 +5,8 @@ use Rattle.rx_disposable.proofs.group.Group.add.Goals as goal
 
 pub invariant_of-self : goal.invariant_of-self
 invariant_of-self g c =
-    rw (c.in-Ok.ensures.ok, c.new.ensures, c.from-ticket.ensures) (kept_added _ _ _ _ c.self.invariant c.args.value _ c.if-self.false (omega (arith, c.if-self-2.false, c.self.ranges)) c.push.ensures.capacity)
+    rw (c.in-Ok.ensures.ok, c.new.ensures, c.from-ticket.ensures)
+    (kept_added _ _ _ _ c.self.invariant c.args.value _ c.if-self.false (omega (arith, c.if-self-2.false, c.self.ranges)) c.push.ensures.capacity)
 
 pub returns-in-Ok-clause-added : goal.returns-in-Ok-clause-added
 returns-in-Ok-clause-added g c =
@@ -22,4 +23,5 @@ returns-in-Ok-clause-fresh g c =
 
 pub returns-in-Ok-clause-updates : goal.returns-in-Ok-clause-updates
 returns-in-Ok-clause-updates g c =
-    rw (c.in-Ok.ensures.ok, c.new.ensures, c.from-ticket.ensures, entries_added _ _ _ _ c.self.invariant c.args.value, ← c.self.view_is) (updates_added _ c.args.value c.self.invariant.sound)
+    rw (c.in-Ok.ensures.ok, c.new.ensures, c.from-ticket.ensures, entries_added _ _ _ _ c.self.invariant c.args.value, ← c.self.view_is)
+    (updates_added _ c.args.value c.self.invariant.sound)

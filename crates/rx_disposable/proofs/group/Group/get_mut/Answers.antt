@@ -11,7 +11,11 @@ place_of-requires g c = rw c.as_slice.ensures (kept_in_order _ _ _ _ c.self.inva
 pub returns-in_err-place : goal.returns-in_err-place
 returns-in_err-place g c = (
   rw (c.from_residual.ensures, ← c.self.view_is) refl,
-  record { writes_back = tt; value = rw (c.from_residual.ensures, ← c.self.view_is) (sym (kept_absent _ _ _ _ c.self.invariant c.args.ticket (rw c.as_slice.ensures at c.in_err-place.ensures.absent))) },
+  record {
+    writes_back = tt;
+    value = rw (c.from_residual.ensures, ← c.self.view_is)
+        (sym (kept_absent _ _ _ _ c.self.invariant c.args.ticket (rw c.as_slice.ensures at c.in_err-place.ensures.absent)));
+  },
 )
 
 pub invariant_of-self-lent : goal.invariant_of-self-lent
@@ -34,5 +38,9 @@ returns g c =
       λ t. read_of (ghost_name_of c.as_mut.result)
           (λ (w : g.row.T.Denot). record { members = written w t; given = c.self.inside.given; disposed = c.self.inside.disposed })
           (record { members = entries_of (same t); given = c.self.inside.given; disposed = c.self.inside.disposed }),
-      record { writes_back = tt; value = c.as_mut.ensures.value ∙ kept_value _ _ _ _ c.self.invariant c.args.ticket c.in_ok-place.place m found c.in_ok-member.ensures.value has },
+      record {
+        writes_back = tt;
+        value = c.as_mut.ensures.value
+            ∙ kept_value _ _ _ _ c.self.invariant c.args.ticket c.in_ok-place.place m found c.in_ok-member.ensures.value has;
+      },
     )

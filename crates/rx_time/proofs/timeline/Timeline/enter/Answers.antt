@@ -9,7 +9,8 @@ invariant_of-self-in-Ok-None g c =
     let s = schedule c.self.inside.clock c.self.inside.tickets c.self.inside.entries.entries in
     let last = c.in-Ok-None.ensures.entries ∙ insert_entry-last s.work s.tickets c.args.work c.self.invariant.sound.given in
     let ahead : s.clock ≤ c.args.work.due = omega (arith, ap (λ (t : Schedule g.row.T.Denot). t.clock) c.self.view_is, c.requires.ahead) in
-    rw last (IsKept-push s c.args.work c.self.inside.agenda c.insert.new.self c.self.invariant ahead c.in-Ok.ensures.updates (rw last at c.in-Ok-None.ensures.ordered))
+    rw last (IsKept-push s c.args.work c.self.inside.agenda c.insert.new.self
+    c.self.invariant ahead c.in-Ok.ensures.updates (rw last at c.in-Ok-None.ensures.ordered))
 
 pub unreachable-requires : goal.unreachable-requires
 unreachable-requires g c =
@@ -21,7 +22,9 @@ unreachable-requires g c =
 pub invariant_of-self-in-Err : goal.invariant_of-self-in-Err
 invariant_of-self-in-Err g c =
     let s = schedule c.self.inside.clock c.self.inside.tickets c.self.inside.entries.entries in
-    rw c.in-Err.ensures.err (IsKept-undone s c.args.work.due c.self.inside.agenda c.insert.new.self c.remove.new.self c.self.invariant c.in-Ok.ensures.updates c.remove.ensures.updates)
+    rw c.in-Err.ensures.err
+    (IsKept-undone s c.args.work.due c.self.inside.agenda c.insert.new.self
+    c.remove.new.self c.self.invariant c.in-Ok.ensures.updates c.remove.ensures.updates)
 
 pub returns-in-Ok-None-clause-added : goal.returns-in-Ok-None-clause-added
 returns-in-Ok-None-clause-added g c =

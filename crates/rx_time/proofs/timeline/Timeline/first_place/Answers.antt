@@ -18,5 +18,6 @@ returns-in-Some-clause-ahead g c =
 pub returns-in-None-clause-next : goal.returns-in-None-clause-next
 returns-in-None-clause-next g c =
     let s = schedule c.self.inside.clock c.self.inside.tickets c.self.inside.entries.entries in
-    let empty : btree_set_len c.self.inside.agenda ≡ 0 = elim (cases_lt 0 (btree_set_len c.self.inside.agenda)) [ inl some ↦ absurd (false≢true (c.in-None.ensures.variant.1 some)) | inr none ↦ omega arith ] in
+    let empty : btree_set_len c.self.inside.agenda ≡ 0 =
+    elim (cases_lt 0 (btree_set_len c.self.inside.agenda)) [ inl some ↦ absurd (false≢true (c.in-None.ensures.variant.1 some)) | inr none ↦ omega arith ] in
     rw (← c.self.view_is, work-none s c.self.inside.agenda c.self.invariant empty) refl

@@ -1,0 +1,2 @@
+-- What proofs above may use.
+pub mod Stocks
