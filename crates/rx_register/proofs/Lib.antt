@@ -1,14 +1,3 @@
-pub mod Plain
-pub mod Climbs
-pub mod Tallies
-pub mod Empty
-pub mod Clear
-pub mod After
-pub mod Openings
-pub mod Holdings
-pub mod Uses
-pub mod Items
-pub mod Shut
-pub mod Tops
-pub mod Closings
-pub mod Letters
+mod Written
+mod Examples
+pub mod Laws

@@ -1,130 +1,246 @@
--- Which causes stand against a call.
-use Rattle.std.specs.Prelude.{ℕ, ◌+◌, Bool, true, false, ◌||◌, nat_lt, List, length}
+-- Which causes stand against a call: the table of refusals, a row for each call. In each row the causes stand in the order of refusal.
+use Rattle.std.specs.Prelude.{ℕ, ℤ, ◌+◌, ◌*◌, Bool, true, false, ◌||◌, ◌&&◌, ◌==◌, nat_lt, List, length, count_by, if◌then◌else◌}
 use Rattle.std.proofs.Math.Bool.{not}
 use Rattle.std.specs.List.{list_any}
+use Rattle.std.specs.Option.{option_map_or}
 use Rattle.rx_event.specs.declared.event.Place.{Place}
 use Rattle.rx_event.specs.declared.event.Place.TheVariants.{Root, Source, Inner, Notifier}
 use Rattle.rx_event.specs.declared.event.Kind.{Kind}
-use Rattle.rx_event.specs.declared.event.Kind.TheVariants.{Leaf, Pass, Flat, Switch, Until, Sub}
+use Rattle.rx_event.specs.declared.event.Kind.TheVariants.{Sub}
+use Rattle.rx_event.specs.declared.event.Mode.{Mode}
 use Rattle.rx_event.specs.declared.event.Event.{Event}
+use Rattle.rx_event.specs.declared.event.Event.TheVariants.{Connect}
 use Rattle.rx_event.specs.declared.refusal.Refusal.{Refusal}
-use Rattle.rx_event.specs.declared.refusal.Refusal.TheVariants.{Full, Gone, WrongKind, PlaceTaken, NotRoot, NotFresh, NotHeld, HasChild, TooMany}
-use Rattle.rx_event.specs.Events.{has_source, is_leaf, is_root, is_source_of}
-use Rattle.rx_event.specs.Tree.{at, is_open, has_open_child}
+use Rattle.rx_event.specs.declared.refusal.Refusal.TheVariants.{Full, Gone, WrongKind, PlaceTaken, NothingOwed, NotRoot, NoHub, HubOrder, Connected, NotConnected, NotFresh, NotHeld, HasChild, TooMany}
+use Rattle.rx_event.specs.Events.{makes_hub, named_by, has_source, is_leaf, is_merging, is_until, is_root, is_auto_hub, is_manual_hub, is_source_of, is_notifier_of}
+use Rattle.rx_event.specs.Tree.{at, ancestors, hubs, is_open, has_open_child, open_connections}
 use Rattle.rx_event.specs.Resources.{is_held}
-use Rattle.rx_event.specs.Climb.{visits, most_visits}
-use Rattle.rx_event.specs.Allowed.{most_nodes, may_abort}
+use Rattle.rx_event.specs.Climb.{stops, visits, most_visits}
+use Rattle.rx_event.specs.Moments.{is_projection, owed}
+use Rattle.rx_event.specs.Allowed.{most_hubs, most_nodes, may_abort}
 use Rattle.rx_event.specs.Totals.{debt, open_count}
-use Rattle.rx_event.specs.Calls.{Call, Opening, OpeningUsing, Holding, Applying, Removing, Emitting, Ending, Aborting, Disposing}
+use Rattle.rx_event.specs.Calls.{Call, Opening, OpeningUsing, Holding, Applying, Removing, Emitting, Ending, Aborting, Declining, Failing, Disposing, Publishing, Connecting, Disconnecting, Taking}
 
--- what is there so far: sources and mirroring nodes
-abbrev pub is_built : Kind → Bool
-is_built Leaf = true
-is_built Pass = true
-is_built Flat = false
-is_built Switch = false
-is_built Until = false
-is_built (Sub hub) = false
+-- what is there so far --------------------------------------------------------------------------------------------------------
 
--- the node that the place names, if there is one, is not open
+-- all kinds but the subscribers of hubs
+abbrev pub is_built_kind : Kind → Bool
+is_built_kind (Sub g) = false
+is_built_kind _ = true
+
+-- hubs are not there yet; what is not there is of the wrong kind
+abbrev pub is_built : Call → Bool
+is_built (Opening place kind) = is_built_kind kind
+is_built (Publishing mode) = false
+is_built _ = true
+
+-- hubs ------------------------------------------------------------------------------------------------------------------------
+
+-- the hub has an open connection
+abbrev pub has_connection : List Event → ℕ → Bool
+has_connection h g = nat_lt 0 (length (open_connections h g))
+
+-- the kind is that of a subscriber of a hub that is not there
+abbrev pub is_without_hub : List Event → Kind → Bool
+is_without_hub h (Sub g) = not (at makes_hub h g)
+is_without_hub h _ = false
+
+-- opening such a node forces a connection: it subscribes to a RefCount hub that has none
+abbrev pub forces_connect : List Event → Kind → Bool
+forces_connect h (Sub g) = at is_auto_hub h g && not (has_connection h g)
+forces_connect h _ = false
+
+-- it connects the hub of this number or of a lesser one
+abbrev pub connects_up_to : ℕ → Event → Bool
+connects_up_to g (Connect k) = not (nat_lt g k)
+connects_up_to g _ = false
+
+-- a subscriber at this place would stand inside a connection of its own hub or of an earlier one
+abbrev pub is_out_of_order : List Event → Place → Kind → Bool
+is_out_of_order h place (Sub g) = option_map_or (λ p. list_any (at (connects_up_to g) h) (ancestors h p)) (named_by place) false
+is_out_of_order h place _ = false
+
+-- places ----------------------------------------------------------------------------------------------------------------------
+
+-- the node that the place names, if it names one, is not open
 abbrev pub is_gone : List Event → Place → Bool
-is_gone h Root = false
-is_gone h (Source p) = not (is_open h p)
-is_gone h (Inner p) = not (is_open h p)
-is_gone h (Notifier p) = not (is_open h p)
+is_gone h place = option_map_or (λ p. not (is_open h p)) (named_by place) false
 
--- that node has no such place; inners and notifiers are not there yet
+-- that node has no such place
 abbrev pub is_wrong_place : List Event → Place → Bool
 is_wrong_place h Root = false
 is_wrong_place h (Source p) = not (at has_source h p)
-is_wrong_place h (Inner p) = true
-is_wrong_place h (Notifier p) = true
+is_wrong_place h (Inner p) = not (at is_merging h p)
+is_wrong_place h (Notifier p) = not (at is_until h p)
 
--- a source was opened there before
+-- a source or a notifier was opened there before
 abbrev pub is_taken_place : List Event → Place → Bool
 is_taken_place h Root = false
 is_taken_place h (Source p) = list_any (is_source_of p) h
 is_taken_place h (Inner p) = false
-is_taken_place h (Notifier p) = false
+is_taken_place h (Notifier p) = list_any (is_notifier_of p) h
 
--- one node more would be too many
-abbrev pub is_crowded : List Event → Bool
-is_crowded h = nat_lt most_nodes (open_count h + 1)
+-- no projected item waits for an inner there
+abbrev pub is_unowed_place : List Event → Place → Bool
+is_unowed_place h (Inner p) = owed h p == 0
+is_unowed_place h _ = false
+
+-- limits ----------------------------------------------------------------------------------------------------------------------
+
+-- so many open nodes more would be too many
+abbrev pub is_crowded : List Event → ℕ → Bool
+is_crowded h more = nat_lt most_nodes (open_count h + more)
 
 -- so many events and reservations more would pass the limit, with what closing everything needs counted in
 abbrev pub is_over : List Event → ℕ → ℕ → Bool
 is_over h limit more = nat_lt limit (length h + debt h + more)
 
--- one event, and room for its closing
+-- the nodes that an opening makes: its own, and a connection where it forces one
+abbrev pub nodes_opened : List Event → Kind → ℕ
+nodes_opened h kind = 1 + (if forces_connect h kind then 1 else 0)
+
+-- the reservation for the end of a node at this place: the item that was projected there made an inner's
+abbrev pub end_at : Place → ℕ
+end_at (Inner f) = 0
+end_at _ = 1
+
+-- the events that a call adds, and with them the reservations: one for the end of each node, two for each resource (its removal
+-- and its taking), one for each item that is projected
+abbrev pub added_by : List Event → Call → ℕ
+added_by h (Opening place kind) = 1 + end_at place + 2 * (if forces_connect h kind then 1 else 0)
+added_by h (OpeningUsing place tag) = 2 + end_at place + 2
+added_by h (Holding node tag) = 1 + 2
+added_by h (Applying resource) = 1
+added_by h (Emitting leaf value) = 1 + count_by is_projection (stops h leaf)
+added_by h (Publishing mode) = 1
+added_by h (Connecting hub) = 1 + 1
+added_by h _ = 0
+
+-- the rows --------------------------------------------------------------------------------------------------------------------
+
 abbrev pub opening_causes : List Event → ℕ → Place → Kind → Refusal → Bool
+opening_causes h limit place kind NoHub = is_without_hub h kind
 opening_causes h limit place kind Gone = is_gone h place
-opening_causes h limit place kind WrongKind = is_wrong_place h place || not (is_built kind)
+opening_causes h limit place kind WrongKind = is_wrong_place h place || not (is_built (Opening place kind))
 opening_causes h limit place kind PlaceTaken = is_taken_place h place
-opening_causes h limit place kind TooMany = is_crowded h
-opening_causes h limit place kind Full = is_over h limit 2
+opening_causes h limit place kind NothingOwed = is_unowed_place h place
+opening_causes h limit place kind HubOrder = is_out_of_order h place kind
+opening_causes h limit place kind TooMany = is_crowded h (nodes_opened h kind)
+opening_causes h limit place kind Full = is_over h limit (added_by h (Opening place kind))
 opening_causes h limit place kind _ = false
 
--- two events, and room for the closing, the removal and the taking
-abbrev pub using_causes : List Event → ℕ → Bool → Place → Refusal → Bool
-using_causes h limit is_fresh place Gone = is_gone h place
-using_causes h limit is_fresh place WrongKind = is_wrong_place h place
-using_causes h limit is_fresh place PlaceTaken = is_taken_place h place
-using_causes h limit is_fresh place NotFresh = not is_fresh
-using_causes h limit is_fresh place TooMany = is_crowded h
-using_causes h limit is_fresh place Full = is_over h limit 5
-using_causes h limit is_fresh place _ = false
+abbrev pub using_causes : List Event → ℕ → Bool → Place → (tag : ℕ) → Refusal → Bool
+using_causes h limit is_fresh place tag Gone = is_gone h place
+using_causes h limit is_fresh place tag WrongKind = is_wrong_place h place
+using_causes h limit is_fresh place tag PlaceTaken = is_taken_place h place
+using_causes h limit is_fresh place tag NothingOwed = is_unowed_place h place
+using_causes h limit is_fresh place tag NotFresh = not is_fresh
+using_causes h limit is_fresh place tag TooMany = is_crowded h 1
+using_causes h limit is_fresh place tag Full = is_over h limit (added_by h (OpeningUsing place tag))
+using_causes h limit is_fresh place tag _ = false
 
--- one event, and room for the removal and the taking
-abbrev pub holding_causes : List Event → ℕ → Bool → ℕ → Refusal → Bool
-holding_causes h limit is_fresh node Gone = not (is_open h node)
-holding_causes h limit is_fresh node NotFresh = not is_fresh
-holding_causes h limit is_fresh node Full = is_over h limit 3
-holding_causes h limit is_fresh node _ = false
+abbrev pub holding_causes : List Event → ℕ → Bool → (node tag : ℕ) → Refusal → Bool
+holding_causes h limit is_fresh node tag Gone = not (is_open h node)
+holding_causes h limit is_fresh node tag NotFresh = not is_fresh
+holding_causes h limit is_fresh node tag Full = is_over h limit (added_by h (Holding node tag))
+holding_causes h limit is_fresh node tag _ = false
 
--- one event
-abbrev pub applying_causes : List Event → ℕ → ℕ → Refusal → Bool
+abbrev pub applying_causes : List Event → ℕ → (resource : ℕ) → Refusal → Bool
 applying_causes h limit resource NotHeld = not (is_held h resource)
-applying_causes h limit resource Full = is_over h limit 1
+applying_causes h limit resource Full = is_over h limit (added_by h (Applying resource))
 applying_causes h limit resource _ = false
 
-abbrev pub removing_causes : List Event → ℕ → Refusal → Bool
+abbrev pub removing_causes : List Event → (resource : ℕ) → Refusal → Bool
 removing_causes h resource NotHeld = not (is_held h resource)
 removing_causes h resource _ = false
 
--- one event
-abbrev pub emitting_causes : List Event → ℕ → ℕ → Refusal → Bool
-emitting_causes h limit leaf Gone = not (is_open h leaf)
-emitting_causes h limit leaf WrongKind = not (at is_leaf h leaf)
-emitting_causes h limit leaf TooMany = nat_lt most_visits (visits h leaf)
-emitting_causes h limit leaf Full = is_over h limit 1
-emitting_causes h limit leaf _ = false
+abbrev pub emitting_causes : List Event → ℕ → (leaf : ℕ) → ℤ → Refusal → Bool
+emitting_causes h limit leaf value Gone = not (is_open h leaf)
+emitting_causes h limit leaf value WrongKind = not (at is_leaf h leaf)
+emitting_causes h limit leaf value TooMany = nat_lt most_visits (visits h leaf)
+emitting_causes h limit leaf value Full = is_over h limit (added_by h (Emitting leaf value))
+emitting_causes h limit leaf value _ = false
 
-abbrev pub ending_causes : List Event → ℕ → Refusal → Bool
+abbrev pub ending_causes : List Event → (leaf : ℕ) → Refusal → Bool
 ending_causes h leaf Gone = not (is_open h leaf)
 ending_causes h leaf WrongKind = not (at is_leaf h leaf)
 ending_causes h leaf _ = false
 
 -- a leaf is ended and not aborted; and what is open below would be cut off
-abbrev pub aborting_causes : List Event → ℕ → Refusal → Bool
+abbrev pub aborting_causes : List Event → (node : ℕ) → Refusal → Bool
 aborting_causes h node Gone = not (is_open h node)
 aborting_causes h node WrongKind = not (at may_abort h node)
 aborting_causes h node HasChild = has_open_child h node
 aborting_causes h node _ = false
 
-abbrev pub disposing_causes : List Event → ℕ → Refusal → Bool
+-- declining a projected item, and failing at one
+abbrev pub projecting_causes : List Event → (merging : ℕ) → Refusal → Bool
+projecting_causes h merging Gone = not (is_open h merging)
+projecting_causes h merging WrongKind = not (at is_merging h merging)
+projecting_causes h merging NothingOwed = owed h merging == 0
+projecting_causes h merging _ = false
+
+abbrev pub disposing_causes : List Event → (root : ℕ) → Refusal → Bool
 disposing_causes h root Gone = not (is_open h root)
 disposing_causes h root NotRoot = not (at is_root h root)
 disposing_causes h root _ = false
 
+abbrev pub publishing_causes : List Event → ℕ → Mode → Refusal → Bool
+publishing_causes h limit mode WrongKind = not (is_built (Publishing mode))
+publishing_causes h limit mode TooMany = nat_lt most_hubs (length (hubs h) + 1)
+publishing_causes h limit mode Full = is_over h limit (added_by h (Publishing mode))
+publishing_causes h limit mode _ = false
+
+abbrev pub connecting_causes : List Event → ℕ → (hub : ℕ) → Refusal → Bool
+connecting_causes h limit hub NoHub = not (at makes_hub h hub)
+connecting_causes h limit hub WrongKind = not (at is_manual_hub h hub)
+connecting_causes h limit hub Connected = has_connection h hub
+connecting_causes h limit hub TooMany = is_crowded h 1
+connecting_causes h limit hub Full = is_over h limit (added_by h (Connecting hub))
+connecting_causes h limit hub _ = false
+
+abbrev pub disconnecting_causes : List Event → (hub : ℕ) → Refusal → Bool
+disconnecting_causes h hub NoHub = not (at makes_hub h hub)
+disconnecting_causes h hub WrongKind = not (at is_manual_hub h hub)
+disconnecting_causes h hub NotConnected = not (has_connection h hub)
+disconnecting_causes h hub _ = false
+
 -- the causes against a call, where a resource that is handed in with it is fresh (Live, and never used) or not
 abbrev pub causes : List Event → ℕ → Bool → Call → Refusal → Bool
 causes h limit is_fresh (Opening place kind) why = opening_causes h limit place kind why
-causes h limit is_fresh (OpeningUsing place tag) why = using_causes h limit is_fresh place why
-causes h limit is_fresh (Holding node tag) why = holding_causes h limit is_fresh node why
+causes h limit is_fresh (OpeningUsing place tag) why = using_causes h limit is_fresh place tag why
+causes h limit is_fresh (Holding node tag) why = holding_causes h limit is_fresh node tag why
 causes h limit is_fresh (Applying resource) why = applying_causes h limit resource why
 causes h limit is_fresh (Removing resource) why = removing_causes h resource why
-causes h limit is_fresh (Emitting leaf value) why = emitting_causes h limit leaf why
+causes h limit is_fresh (Emitting leaf value) why = emitting_causes h limit leaf value why
 causes h limit is_fresh (Ending leaf t) why = ending_causes h leaf why
 causes h limit is_fresh (Aborting node code) why = aborting_causes h node why
+causes h limit is_fresh (Declining merging) why = projecting_causes h merging why
+causes h limit is_fresh (Failing merging code) why = projecting_causes h merging why
 causes h limit is_fresh (Disposing root) why = disposing_causes h root why
-causes h limit is_fresh _ why = false
+causes h limit is_fresh (Publishing mode) why = publishing_causes h limit mode why
+causes h limit is_fresh (Connecting hub) why = connecting_causes h limit hub why
+causes h limit is_fresh (Disconnecting hub) why = disconnecting_causes h hub why
+-- one that waits is taken: none is refused
+causes h limit is_fresh (Taking resource) why = false
+
+-- where a key is unknown --------------------------------------------------------------------------------------------------------
+
+-- where a node's key is no open node's: that the node is gone, and of the rest an unknown hub alone
+abbrev pub by_key : Bool → (Refusal → Bool) → Refusal → Bool
+by_key true stand why = stand why
+by_key false stand NoHub = stand NoHub
+by_key false stand Gone = true
+by_key false stand _ = false
+
+-- where a resource's key is no held resource's: that the resource is not held
+abbrev pub by_res_key : Bool → (Refusal → Bool) → Refusal → Bool
+by_res_key true stand why = stand why
+by_res_key false stand NotHeld = true
+by_res_key false stand _ = false
+
+-- the same, by the kind of key that the call has
+abbrev pub by_key_of : Call → Bool → (Refusal → Bool) → Refusal → Bool
+by_key_of (Applying r) = by_res_key
+by_key_of (Removing r) = by_res_key
+by_key_of _ = by_key

@@ -1,4 +1,5 @@
 pub mod Causes
-pub mod Plain
-pub mod Kept
+pub mod State
+pub mod Paid
+pub mod Claims
 pub mod Ties

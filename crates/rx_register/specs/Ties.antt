@@ -1,26 +1,32 @@
--- How what a register keeps beside its history is tied to it. No public clause cites this module.
-use Rattle.std.specs.Prelude.{◌≡◌, ℕ, ◌≤◌, List, [], length, take, slice_get}
-use Rattle.std.specs.Option.{option_map_or}
-use Rattle.rx_event.specs.declared.event.Event.{Event}
-use Rattle.rx_event.specs.Notes.{notes, mail_of}
-use Rattle.rx_event.specs.declared.mail.Mail.{Mail}
+-- How what a register keeps is tied to its history. No public clause cites this module.
+use Rattle.std.specs.Prelude.{◌≡◌, ◌-◌, ◌≤◌, length, take, drop}
+use Rattle.std.specs.VecDeque.{deque_len, deque_capacity}
+use Rattle.rx_event.specs.Notes.{notes}
 use Rattle.rx_event.specs.Totals.{item_count, accepted_count, taken_count}
+use Rattle.rx_event.specs.Lawful.{IsLawful}
 use Rattle.rx_register.specs.declared.register.Register.TheInside.{Inside}
-use Rattle.rx_register.specs.Kept.{Kept, IsUpheld}
+use Rattle.rx_register.specs.State.{State}
 
 -- what callers see
-abbrev pub kept_of : Inside → Kept
-kept_of a = record { history = a.history.events; limit = a.history.limit; given = a.given; room = a.history.room }
+abbrev pub state_of : Inside → State
+state_of a = record {
+  history = a.history.events;
+  limit = a.history.limit;
+  room = a.history.room;
+  given = length (notes a.history.events) - a.told;
+  pending = drop a.told a.mail.items;
+  mail_room = deque_capacity a.mail - deque_len a.mail;
+}
 
-pub record IsRegistered (a : Inside) : Type 0 where
-  pub upheld : IsUpheld (kept_of a)
+pub record IsTied (a : Inside) : Type 0 where
+  pub lawful : IsLawful a.history.events
+  pub limited : a.history.limit ≤ 4294967295
+  pub within : length a.history.events ≤ a.history.limit
   pub limit : a.limit ≡ a.history.limit
   pub item_total : a.item_total ≡ item_count a.history.events
   pub accepted_total : a.accepted_total ≡ accepted_count a.history.events
   pub taken_total : a.taken_total ≡ taken_count a.history.events
-  pub reached : a.cursor ≤ length a.history.events
-  pub cursor : length (notes (take a.cursor a.history.events)) ≡ a.given
-
--- what the event at a place tells
-abbrev pub told_at : List Event → ℕ → List Mail
-told_at h i = option_map_or (mail_of (take i h)) (slice_get h i) []
+  -- the queue begins with the notes of written events that were not handed out
+  pub some_told : a.told ≤ length (notes a.history.events)
+  pub queued : a.told ≤ length a.mail.items
+  pub mail : take a.told a.mail.items ≡ drop (length (notes a.history.events) - a.told) (notes a.history.events)

@@ -1,25 +1,29 @@
 //! The register: what happened in a book of subscriptions, by numbers alone.
 //!
-//! It keeps the history, counts items, acceptances and takings, says which cause of refusal stands
-//! first against a call, writes an accepted call down with all that it forces, and hands out the
-//! notes that the history gives. It knows no resource: which nodes are open and which resources are
-//! held its caller knows from records of its own, and tells it.
+//! It keeps the history, counts items, acceptances and takings, writes one event at a time, and
+//! hands out the notes that the events give. It knows no resource and reads no stored event: which
+//! nodes are open, what is due and which notes an event gives its caller knows from records of its
+//! own, and tells it.
+//!
+//! Vocabulary: a `Register` shows a `State`; [`Register::tell`] queues a note of the event that
+//! comes next, [`Register::write`] writes that event, [`Register::take_mail`] hands the oldest note
+//! out. `specs/Causes` is the table of refusals: which causes stand against each call.
 //!
 //! # Promised, and not
 //!
-//! - At each moment the history is lawful, no operator's rule is left undone in it, and closing
-//!   everything fits in the limit and in the memory that is there (`IsUpheld`, which
-//!   [`Register::promise`] states).
-//! - A call that writes is made where no cause stands against it, and after [`Register::reserve`]; it
-//!   takes no memory. `Closes` of `specs/` says what an end or a closing closes.
-//! - No call searches the history. `take_mail` goes over the events since the last note once in all.
-//! - There are leaves and mirroring nodes so far, at roots and sources.
+//! - At each moment the history is lawful and within its limit (`IsPromised`, which
+//!   [`Register::promise`] states). Not promised: that no operator's rule is left undone, nor that
+//!   closing everything fits; that is for whoever keeps one, by the laws in `proofs/Laws`.
+//! - Writing takes no memory: room for events and notes is reserved before. No call goes over the
+//!   history.
 #![tactic(auto)]
 
 mod load;
-mod mail;
 mod register;
+#[cfg(test)]
+mod tests;
+mod theorems;
 
 pub use load::Load;
-pub use mail::Mail;
 pub use register::Register;
+pub use theorems::{calls_without_cause_follow, room_is_kept};

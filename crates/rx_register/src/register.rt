@@ -1,24 +1,19 @@
 //! What happened, by numbers alone, and what is counted of it, so that no call has to search for it.
 
-mod causes;
-mod close;
-mod emit;
-mod hold;
+mod limits;
 mod mail;
-mod nodes;
-mod open;
-mod take;
-mod uses;
+mod write;
 
 ghost use Rattle.std.specs.Prelude.{◌≡◌, ◌+◌, ◌<◌, ◌≤◌, [], length, slice_get, OnOk, OnErr};
 ghost use Rattle.rx_event.specs.Totals.{item_count, accepted_count, taken_count};
-ghost use Rattle.rx_register.specs.Kept.{IsUpheld};
+ghost use Rattle.rx_register.specs.State.{IsPromised};
 
-use rx_event::{Event, History};
+use rx_event::{Event, History, Mail};
 use std::alloc::{AllocError, Global};
+use std::collections::VecDeque;
 use std::marker::Model;
 
-/// The stored history, the counts, and how far the notes were handed out.
+/// The stored history, what is counted of it, and the notes that were not handed out.
 #[derive(Drop)]
 pub struct Register {
     history: History,
@@ -26,20 +21,21 @@ pub struct Register {
     item_total: u64,
     accepted_total: u64,
     taken_total: u64,
-    given: u64,
-    cursor: u64,
+    mail: VecDeque<Mail>,
+    // How many notes at the front are of written events; those behind are of the next event.
+    told: usize,
 }
 
 impl Model for Register {
-    ghost use Rattle.rx_register.specs.Kept.{Kept};
+    ghost use Rattle.rx_register.specs.State.{State};
 
-    ghost Value = { Kept };
+    ghost Value = { State };
 
-    ghost use Rattle.rx_register.specs.Ties.{kept_of, IsRegistered};
+    ghost use Rattle.rx_register.specs.Ties.{state_of, IsTied};
 
-    ghost view = { kept_of };
+    ghost view = { state_of };
 
-    ghost invariant = { IsRegistered };
+    ghost invariant = { IsTied };
 }
 
 impl Register {
@@ -48,7 +44,9 @@ impl Register {
         requires { limit ≤ 4294967295 }
         ensures history { result.history ≡ [] }
         ensures limit { result.limit ≡ limit }
+        ensures room { result.room ≡ 0 }
         ensures given { result.given ≡ 0 }
+        ensures pending { result.pending ≡ [] }
     {
         Register {
             history: History::new(alloc, limit),
@@ -56,16 +54,16 @@ impl Register {
             item_total: 0,
             accepted_total: 0,
             taken_total: 0,
-            given: 0,
-            cursor: 0,
+            mail: VecDeque::new(alloc),
+            told: 0,
         }
     }
 
-    /// What every register keeps, for proofs. It does nothing.
+    /// What a register promises at every moment, for proofs. It does nothing.
     pub fn promise(&self)
-        ensures { IsUpheld self.now }
+        ensures { IsPromised self.now }
     {
-        let _given = &self.given;
+        let _count = self.history.len();
     }
 
     /// Gets room for so many events in all beyond those that are there, so that writing as many takes
@@ -77,11 +75,26 @@ impl Register {
         ensures err { OnErr result (self.old.room < events) }
         ensures kept { self.new ≡ record self.old { room = self.new.room } }
         ensures room { self.old.room ≤ self.new.room }
+        ensures refused { OnErr result (self.new ≡ self.old) }
     {
         match self.history.reserve(events) {
             Ok(()) => Ok(()),
             Err(_) => Err(AllocError),
         }
+    }
+
+    /// How many events there are.
+    pub fn len(&self) -> u64
+        ensures { result ≡ length self.now.history }
+    {
+        self.history.len()
+    }
+
+    /// The event at a place, if there is one.
+    pub fn event(&self, place: u64) -> Option<Event>
+        ensures { result ≡ slice_get self.now.history place }
+    {
+        self.history.get(place)
     }
 
     /// How many items were emitted.
@@ -103,19 +116,5 @@ impl Register {
         ensures { result ≡ taken_count self.now.history }
     {
         self.taken_total
-    }
-
-    /// How many events there are.
-    pub fn len(&self) -> u64
-        ensures { result ≡ length self.now.history }
-    {
-        self.history.len()
-    }
-
-    /// The event at a place, if there is one.
-    pub fn event(&self, place: u64) -> Option<Event>
-        ensures { result ≡ slice_get self.now.history place }
-    {
-        self.history.get(place)
     }
 }

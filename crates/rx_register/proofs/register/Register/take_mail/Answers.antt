@@ -1,19 +1,18 @@
-use Rattle.std.proofs.Common.{◌≡◌, ◌+◌, ℕ, Bool, sym, ap, ◌∙◌, arith, length, take, is_some, true, cond}
+use Rattle.std.proofs.Common.{◌≡◌, ◌<◌, ℕ, refl, arith}
 use Rattle.rx_event.specs.Notes.{notes}
-use Rattle.rx_register.proofs.Letters.{mailed, notes-le}
+use Rattle.rx_register.proofs.Written.{IsPopped, popped_first, popped_inside}
 use Rattle.rx_register.proofs.register.Register.take_mail.Goals as goal
 
-pub overflow_add-self : goal.overflow_add-self
-overflow_add-self c =
+some : (n : ℕ) → (n ≡ 0 → ⊥) → 0 < n
+some n nonzero = omega arith
+
+first : (c : goal.After-pop_front) → IsPopped (notes c.self.inside.history.events) c.self.inside.mail.items c.pop_front.new.self.items c.self.inside.told c.pop_front.result
+first c =
     let r = c.self.invariant in
-    let few = notes-le c.self.inside.history.events r.upheld.lawful r.upheld.plain c.self.inside.cursor r.reached in
-    let counted = r.cursor in
-    let reached = r.reached in
-    let within = r.upheld.within in
-    let limited = r.upheld.limited in
-    omega arith
+    popped_first (notes c.self.inside.history.events) c.self.inside.mail.items c.pop_front.new.self.items c.self.inside.told c.pop_front.result c.pop_front.ensures.items c.pop_front.ensures.rest (some c.self.inside.told c.if-self-eq0.false) r.queued r.some_told r.mail
 
 pub invariant_of-self : goal.invariant_of-self
-invariant_of-self c =
-    let some : is_some c.walk_on-mail.result ≡ true = sym c.is_some.ensures ∙ c.if-is_some.true in
-    mailed c.self.inside (c.self.inside.given + 1) c.walk_on-mail.new.cursor c.self.invariant c.walk_on-mail.ensures.within (c.walk_on-mail.ensures.cursor ∙ ap (λ (b : Bool). length (notes (take c.self.inside.cursor c.self.inside.history.events)) + cond b 1 0) some ∙ ap (λ (n : ℕ). n + 1) c.self.invariant.cursor)
+invariant_of-self c = popped_inside c.self.inside _ c.pop_front.result c.self.invariant (first c) (some c.self.inside.told c.if-self-eq0.false) refl refl refl refl refl refl
+
+pub returns-clause-value : goal.returns-clause-value
+returns-clause-value c = rw (← c.self.view_is) (first c).value

@@ -1,3 +1,0 @@
-mod Written
-mod Examples
-pub mod Laws

@@ -1,9 +1,0 @@
-use Rattle.std.proofs.Common.{refl, sym, arith}
-use Rattle.rx_journal.proofs.Written.{tied_empty, no_notes}
-use Rattle.rx_journal.proofs.register.Register.new.Goals as goal
-
-pub invariant_of-result : goal.invariant_of-result
-invariant_of-result c = tied_empty _ (let l = c.new.ensures.limit in let r = c.requires in omega arith) (sym c.new.ensures.limit) c.new.ensures.events refl refl refl refl
-
-pub returns-clause-given : goal.returns-clause-given
-returns-clause-given c = rw c.new.ensures.events (let n = no_notes in omega arith)

@@ -1,6 +1,0 @@
-use Rattle.rx_journal.proofs.Laws.Calls.{called_paid}
-use Rattle.rx_journal.proofs.Laws.Paid.{forced_pays}
-use Rattle.rx_journal.proofs.theorems.room_is_kept.Goals as goal
-
-pub returns : goal.returns
-returns c = record { called = called_paid; forced = forced_pays }

@@ -1,5 +1,0 @@
-pub mod Causes
-pub mod State
-pub mod Paid
-pub mod Claims
-pub mod Ties

@@ -1,0 +1,45 @@
+-- A register with no events: nothing is left undone, and nothing has to be paid.
+use Rattle.std.proofs.Common.{◌≡◌, ℕ, true, [], refl, arith}
+use Rattle.std.proofs.lemmas.Bool.{both_ways}
+use Rattle.rx_event.specs.declared.event.Event.{Event}
+use Rattle.rx_event.specs.Tree.{is_open}
+use Rattle.rx_event.specs.Totals.{debt}
+use Rattle.rx_event.specs.Forced.{IsConnected, IsForced, IsDue, IsSettled, connecting, due, none_waits, mirrored, fired, failed, completed, cut, left}
+use Rattle.rx_event.proofs.Laws.Openness.{is_open_past}
+use Rattle.rx_register.specs.State.{State}
+use Rattle.rx_register.specs.Paid.{IsPaid}
+
+none_open : (n : ℕ) → is_open [] n ≡ true → ⊥
+none_open n o = both_ways _ (is_open_past [] n (omega arith)) o
+
+none_due : {e : Event} → IsDue [] e → ⊥
+none_due (mirrored {p = n} o k e) = none_open n o
+none_due (fired {u = n} o k e) = none_open n o
+none_due (failed {f = n} o k e) = none_open n o
+none_due (completed {f = n} o k n_failed s e c w) = none_open n o
+none_due (cut {s = n} o e) = none_open n o
+none_due (left {c = n} o at_c a w) = none_open n o
+
+pub connected_empty : IsConnected []
+connected_empty g d = none_open d.subscriber d.subscribed
+
+none_forced : {e : Event} → IsForced [] e → ⊥
+none_forced (connecting {g = g} d) = connected_empty g d
+none_forced (due w d) = none_due d
+
+pub settled_empty : IsSettled []
+settled_empty = record { none = λ e f. none_forced f }
+
+pub debt_empty : debt [] ≡ 0
+unfolding debt
+debt_empty = refl
+
+-- a new register is paid for
+pub paid_empty : (s : State) → s.history ≡ [] → s.pending ≡ [] → IsPaid s
+paid_empty s empty none = record {
+  waits = 0;
+  may_wait = rw empty (none_waits connected_empty);
+  events = rw empty (let d = debt_empty in omega arith);
+  notes = rw empty (omega arith);
+  pending = none;
+}

@@ -1,0 +1,149 @@
+-- A register after one more event, and after a note that was handed out.
+use Rattle.std.proofs.Common.{◌≡◌, ℕ, zero, suc, ◌+◌, ◌-◌, ◌<◌, ◌≤◌, List, [], ◌∷◌, ◌++◌, length, take, drop, Option, Some, None, cond, refl, sym, ap, ◌∙◌, arith, slice_get, length-append, length-drop, take-append-drop}
+use Rattle.std.specs.Option.{option_to_list}
+use Rattle.std.proofs.lemmas.List.{drop-append-le, drop_all, take_all}
+use Rattle.rx_event.specs.declared.event.Event.{Event}
+use Rattle.rx_event.specs.Events.{makes_resource, is_item, is_take}
+use Rattle.rx_event.specs.declared.mail.Mail.{Mail}
+use Rattle.rx_event.specs.Notes.{notes, mail_of}
+use Rattle.rx_event.specs.Moments.{moments}
+use Rattle.rx_event.specs.Lawful.{MayFollow}
+use Rattle.rx_event.proofs.Laws.Counts.{notes-push}
+use Rattle.rx_event.proofs.Laws.Lawful.{IsLawful-push, IsLawful_empty}
+use Rattle.rx_event.proofs.Laws.Totals.{item_count-push, accepted_count-push, taken_count-push}
+use Rattle.rx_register.specs.declared.register.Register.TheInside.{Inside}
+use Rattle.rx_register.specs.Ties.{IsTied}
+
+-- so many notes are behind those that were told
+pub told_length : (items : List Mail) (told : ℕ) (ms : List Mail) → told ≤ length items → drop told items ≡ ms → length items ≡ told + length ms
+told_length items told ms l same =
+    let d = length-drop told items in
+    let e = ap (length {A = Mail}) same in
+    omega arith
+
+-- the queue is of the notes that were not handed out
+queue_after : (ns ms items : List Mail) (told : ℕ) → told ≤ length ns → take told items ≡ drop (length ns - told) ns → drop told items ≡ ms → items ≡ drop (length ns - told) (ns ++ ms)
+queue_after ns ms items told l front behind =
+    sym (take-append-drop told items) ∙ ap (λ (x : List Mail). x ++ drop told items) front ∙ ap (λ (x : List Mail). drop (length ns - told) ns ++ x) behind ∙ sym (drop-append-le (length ns - told) ns ms (omega arith))
+
+-- how many were handed out stays
+pub given_after : (ns ms : List Mail) (told items : ℕ) → told ≤ length ns → items ≡ told + length ms → length (ns ++ ms) - items ≡ length ns - told
+given_after ns ms told items l is = omega (arith, length-append ns ms)
+
+-- b is a after the event
+pub record IsWritten (a b : Inside) (e : Event) : Type 0 where
+  pub next : MayFollow a.history.events e
+  pub told : drop a.told a.mail.items ≡ mail_of a.history.events e
+  pub events : b.history.events ≡ a.history.events ++ e ∷ []
+  pub limit : b.history.limit ≡ a.history.limit
+  pub own_limit : b.limit ≡ a.limit
+  pub within : length b.history.events ≤ b.history.limit
+  pub items : b.item_total ≡ a.item_total + cond (is_item e) 1 0
+  pub accepted : b.accepted_total ≡ a.accepted_total + cond (makes_resource e) 1 0
+  pub taken : b.taken_total ≡ a.taken_total + cond (is_take e) 1 0
+  pub mail : b.mail.items ≡ a.mail.items
+  pub all_told : b.told ≡ length a.mail.items
+
+pub written : (a b : Inside) (e : Event) → IsTied a → IsWritten a b e → IsTied b
+written a b e r w = record {
+  lawful = rw w.events (IsLawful-push h e r.lawful w.next);
+  limited = rw w.limit r.limited;
+  limit = w.own_limit ∙ r.limit ∙ sym w.limit;
+  within = w.within;
+  item_total = rw w.events (w.items ∙ ap (λ (n : ℕ). n + cond (is_item e) 1 0) r.item_total ∙ sym (item_count-push h e));
+  accepted_total = rw w.events (w.accepted ∙ ap (λ (n : ℕ). n + cond (makes_resource e) 1 0) r.accepted_total ∙ sym (accepted_count-push h e));
+  taken_total = rw w.events (w.taken ∙ ap (λ (n : ℕ). n + cond (is_take e) 1 0) r.taken_total ∙ sym (taken_count-push h e));
+  some_told = rw (w.events, w.all_told, notes-push h e) (let s = r.some_told in let n = count in omega (arith, length-append (notes h) (mail_of h e)));
+  queued = rw (w.all_told, w.mail) (omega arith);
+  mail = rw (w.mail, w.all_told, take_all (length a.mail.items) a.mail.items (omega arith), w.events, notes-push h e, given_after (notes h) (mail_of h e) a.told (length a.mail.items) r.some_told count) (queue_after (notes h) (mail_of h e) a.mail.items a.told r.some_told r.mail w.told);
+}
+  where
+    h : List Event
+    h = a.history.events
+
+    count : length a.mail.items ≡ a.told + length (mail_of h e)
+    count = told_length a.mail.items a.told (mail_of h e) r.queued w.told
+
+-- handed out ----------------------------------------------------------------------------------------
+
+pub at_drop : {X : Type 0} (xs : List X) (i : ℕ) → i < length xs → (x : X) × (slice_get xs i ≡ Some x) × (drop i xs ≡ x ∷ drop (suc i) xs)
+at_drop [] i l = absurd (omega arith)
+at_drop (x ∷ xs) zero l = (x, refl, refl)
+at_drop (x ∷ xs) (suc i) l = at_drop xs i (omega arith)
+
+same_parts : {X : Type 0} (x y : X) (xs ys : List X) → x ∷ xs ≡ y ∷ ys → (x ≡ y) × (xs ≡ ys)
+same_parts x y xs ys e = (cc, cc)
+
+-- what the first of the queue is
+pub record IsPopped (ns items rest : List Mail) (told : ℕ) (o : Option Mail) : Type 0 where
+  pub value : o ≡ slice_get ns (length ns - told)
+  pub given : length ns - (told - 1) ≡ (length ns - told) + 1
+  pub queued : told - 1 ≤ length rest
+  pub mail : take (told - 1) rest ≡ drop (length ns - (told - 1)) ns
+  pub pending : drop (told - 1) rest ≡ drop told items
+
+pub popped : (ns items rest : List Mail) (told : ℕ) (x : Mail) → items ≡ x ∷ rest → 0 < told → told ≤ length items → told ≤ length ns → take told items ≡ drop (length ns - told) ns → IsPopped ns items rest told (Some x)
+popped ns items rest zero x is some l m same = absurd (omega arith)
+popped ns items rest (suc t) x is some l m same = record {
+  value = ap (λ (y : Mail). Some y) first ∙ sym here.1;
+  given = omega arith;
+  queued = let k = ap (length {A = Mail}) is in omega arith;
+  mail = rw less (behind ∙ ap (λ (g : ℕ). drop g ns) next);
+  pending = rw less (ap (drop (suc t)) (sym is));
+}
+  where
+    less : suc t - 1 ≡ t
+    less = omega arith
+
+    here : (y : Mail) × (slice_get ns (length ns - suc t) ≡ Some y) × (drop (length ns - suc t) ns ≡ y ∷ drop (suc (length ns - suc t)) ns)
+    here = at_drop ns (length ns - suc t) (omega arith)
+
+    both : x ∷ take t rest ≡ here.0 ∷ drop (suc (length ns - suc t)) ns
+    both = ap (take (suc t)) (sym is) ∙ same ∙ here.2
+
+    first : x ≡ here.0
+    first = (same_parts _ _ _ _ both).0
+
+    behind : take t rest ≡ drop (suc (length ns - suc t)) ns
+    behind = (same_parts _ _ _ _ both).1
+
+    next : suc (length ns - suc t) ≡ length ns - t
+    next = omega arith
+
+-- the same, of what a queue answers
+pub popped_first : (ns items rest : List Mail) (told : ℕ) (o : Option Mail) → items ≡ option_to_list o ++ rest → rest ≡ drop 1 items → 0 < told → told ≤ length items → told ≤ length ns → take told items ≡ drop (length ns - told) ns → IsPopped ns items rest told o
+popped_first ns items rest told (Some x) is next some l m same = popped ns items rest told x is some l m same
+popped_first ns items rest told None is next some l m same = absurd (let d = length-drop 1 items in let a = ap (length {A = Mail}) is in let b = ap (length {A = Mail}) next in omega arith)
+
+pub popped_inside : (a b : Inside) (o : Option Mail) → IsTied a → IsPopped (notes a.history.events) a.mail.items b.mail.items a.told o → 0 < a.told → b.history ≡ a.history → b.item_total ≡ a.item_total → b.accepted_total ≡ a.accepted_total → b.taken_total ≡ a.taken_total → b.limit ≡ a.limit → b.told ≡ a.told - 1 → IsTied b
+popped_inside a b o r p some same items accepted taken own told = record {
+  lawful = rw same r.lawful;
+  limited = rw same r.limited;
+  within = rw same r.within;
+  limit = rw same (own ∙ r.limit);
+  item_total = rw same (items ∙ r.item_total);
+  accepted_total = rw same (accepted ∙ r.accepted_total);
+  taken_total = rw same (taken ∙ r.taken_total);
+  some_told = rw (same, told) (let s = r.some_told in omega arith);
+  queued = rw told p.queued;
+  mail = rw (same, told) p.mail;
+}
+
+-- with no events
+pub tied_empty : (a : Inside) → a.history.limit ≤ 4294967295 → a.limit ≡ a.history.limit → a.history.events ≡ [] → a.item_total ≡ 0 → a.accepted_total ≡ 0 → a.taken_total ≡ 0 → a.told ≡ 0 → IsTied a
+tied_empty a few own events i r t told = record {
+  lawful = rw events IsLawful_empty;
+  limited = few;
+  within = rw events (omega arith);
+  limit = own;
+  item_total = rw events i;
+  accepted_total = rw events r;
+  taken_total = rw events t;
+  some_told = rw told (omega arith);
+  queued = rw told (omega arith);
+  mail = rw told (sym (drop_all (length (notes a.history.events) - 0) (notes a.history.events) (omega arith)));
+}
+
+pub no_notes : length (notes []) ≡ 0
+unfolding notes moments
+no_notes = refl

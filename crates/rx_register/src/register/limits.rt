@@ -1,0 +1,32 @@
+//! What of a call's causes needs numbers alone.
+
+ghost use Rattle.std.specs.Prelude.{◌≡◌};
+ghost use Rattle.rx_register.specs.Causes.{is_crowded as is_crowded_in, is_over as is_over_in};
+ghost use Rattle.rx_register.specs.State.{IsLoadOf};
+
+use super::Register;
+use crate::load::Load;
+
+/// The greatest number of nodes that are open at once.
+const MOST_NODES: u64 = 1_048_576;
+
+impl Register {
+    /// Whether so many open nodes more would be too many.
+    pub fn is_crowded(&self, load: Load, more: u64) -> bool
+        requires { IsLoadOf self.now.history load }
+        ensures { result ≡ is_crowded_in self.now.history more }
+    {
+        let _told = &self.told;
+        MOST_NODES < more || MOST_NODES - more < load.open
+    }
+
+    /// Whether so many events and reservations more would pass the limit, with what closing everything
+    /// needs counted in.
+    pub fn is_over(&self, load: Load, more: u64) -> bool
+        requires { IsLoadOf self.now.history load }
+        ensures { result ≡ is_over_in self.now.history self.now.limit more }
+    {
+        let left = self.limit - self.history.len();
+        left < load.debt || left - load.debt < more
+    }
+}
