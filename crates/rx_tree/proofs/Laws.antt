@@ -3,3 +3,9 @@ pub mod Written
 pub mod Rewritten
 pub mod Parents
 pub mod Below
+pub mod Newest
+pub mod Owed
+pub mod Places
+pub mod Links
+pub mod Rings
+pub mod Relinked

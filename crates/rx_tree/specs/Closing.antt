@@ -1,18 +1,23 @@
 -- What a closing moves out of a tree.
 use Rattle.std.specs.Prelude.{◌≡◌, ◌≢◌, ◌↔◌, ℕ, List, Some, IsTrue, Contains}
-use Rattle.std.specs.List.{AllPairs}
-use Rattle.rx_slots.specs.Slots.{find}
+use Rattle.std.specs.List.{AllPairs, filter}
+use Rattle.std.proofs.Math.Bool.{not}
+use Rattle.rx_slots.specs.declared.Key.{Key}
+use Rattle.rx_slots.specs.Slots.{Slots, find}
+use Rattle.rx_tree.specs.declared.node.Node.{Node}
 use Rattle.rx_tree.specs.declared.node.Closed.{Closed}
-use Rattle.rx_tree.specs.Tree.{Tree}
 use Rattle.rx_tree.specs.Below.{is_below}
 
-module _ {T : Type 0} where
-  -- a record of the tree with its key, at the top or below it
-  pub record IsInside (tree : Tree T) (top : ℕ) (closed : Closed T) : Type 0 where
-    pub found : find tree closed.key ≡ Some closed.node
-    pub below : IsTrue (is_below tree top closed.key.number)
+-- a record of the tree with its key, at the top or below it
+pub record IsInside (nodes : Slots Node) (top : ℕ) (closed : Closed) : Type 0 where
+  pub found : find nodes closed.key ≡ Some closed.node
+  pub below : IsTrue (is_below nodes top closed.key.number)
 
-  -- the list has the records of the whole subtree with their keys, and each once
-  pub record IsSubtree (tree : Tree T) (top : ℕ) (moved : List (Closed T)) : Type 0 where
-    pub exactly : (closed : Closed T) → Contains moved closed ↔ IsInside tree top closed
-    pub once : AllPairs (λ a b. a.key ≢ b.key) moved
+-- the list has the records of the whole subtree with their keys, and each once
+pub record IsSubtree (nodes : Slots Node) (top : ℕ) (moved : List Closed) : Type 0 where
+  pub exactly : (closed : Closed) → Contains moved closed ↔ IsInside nodes top closed
+  pub once : AllPairs (λ a b. a.key ≢ b.key) moved
+
+-- the keys of a chain that stay on it: those outside the subtree
+abbrev pub outside : Slots Node → ℕ → List Key → List Key
+outside nodes top chain = filter (λ key. not (is_below nodes top key.number)) chain

@@ -1,8 +1,10 @@
-pub mod Marks
-pub mod Boxes
 pub mod Tree
 pub mod Below
 pub mod Closing
-pub mod Lends
 pub mod Cuts
-pub mod Kept
+pub mod Owed
+pub mod Resources
+pub mod Rings
+pub mod Places
+pub mod Store
+pub mod Ties

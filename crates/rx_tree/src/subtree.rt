@@ -1,77 +1,131 @@
-//! How a subtree is found and moved out, over the slots themselves.
+//! How a node is closed with all below it: one childless node after another.
 
-ghost use Rattle.std.specs.Prelude.{◌≡◌, ℕ, ◌+◌, ◌<◌, ◌≤◌, ◌∷◌, [], ◌++◌, IsSome, IsTrue, Some, None, vec_len, vec_capacity, true, false};
-ghost use Rattle.rx_slots.specs.declared.Key.{Key};
-ghost use Rattle.rx_slots.specs.Slots.{find, slot_count, Changes};
-ghost use Rattle.rx_tree.specs.Cuts.{orphan_at, slot_of, Cuts};
+ghost use Rattle.std.specs.Prelude.{◌≡◌, ◌+◌, ◌<◌, ◌≤◌, ◌^◌, IsSome, IfSome, IsTrue, None, is_some, true, vec_len, vec_capacity};
+ghost use Rattle.rx_slots.specs.Slots.{find, entry_at};
+ghost use Rattle.rx_tree.specs.Cuts.{Descends, LetsWait, CutsLeaf, still_open};
+ghost use Rattle.rx_tree.specs.Rings.{Leaves};
+ghost use Rattle.rx_tree.specs.Places.{places};
+ghost use Rattle.rx_tree.specs.Store.{nodes_of, resources_of, next_of, previous_of, is_there, shown, Relinks, Takes_out};
+ghost use Rattle.rx_tree.specs.Ties.{IsTied, IsCounted};
+ghost use Rattle.rx_tree.specs.declared.links.Place.TheVariants.{Children, Noted};
 
+use crate::links::Place;
 use crate::node::{Closed, Node};
-use rx_slots::{Key, Slots};
+use crate::store::Store;
+use rx_slots::Key;
 
-// Moves one record out.
-pub(crate) fn move_out<R: Drop>(nodes: &mut Slots<Node<R>>, key: Key, closed: &mut Vec<Closed<R>>)
-    requires open { IsSome (find nodes.old key) }
-    requires room { vec_len closed.old + nodes.old.count ≤ vec_capacity closed.old }
-    ensures found { (node : Node R) → find nodes.old key ≡ Some node → closed.new.items ≡ closed.old.items ++ record { key = key; node = node } ∷ [] }
-    ensures len { vec_len closed.new ≡ vec_len closed.old + 1 }
-    ensures gone { Changes nodes.old nodes.new key.slot None }
-    ensures slots { slot_count nodes.new ≡ slot_count nodes.old }
-    ensures count { nodes.new.count + 1 ≡ nodes.old.count }
-    ensures room { nodes.new.room ≡ nodes.old.room + 1 }
-    ensures capacity { vec_capacity closed.new ≡ vec_capacity closed.old }
+// The number of a key, which is bounded.
+fn number_of(key: Key) -> u64
+    ensures value { result ≡ key.number }
+    ensures bounded { result < 2 ^ 64 }
 {
-    match nodes.take(key) {
-        Some(node) => closed.push_reserved(Closed { key, node }),
-        None => unreachable!(),
-    }
+    key.number
 }
 
-// The key of a slot's node, where that stands below a key that finds none.
-fn orphan<R: Drop>(nodes: &Slots<Node<R>>, slot: usize) -> Option<Key>
-    ensures { result ≡ orphan_at nodes.now slot }
-{
-    let entry = nodes.entry_at(slot)?;
-    let above = entry.value.above?;
-    if nodes.contains(above) {
-        None
-    } else {
-        Some(Key {
-            slot,
-            number: entry.number,
-        })
-    }
-}
-
-// The slot of a step on the way over so many slots, from the first or back from the last.
-fn slot_on_way(back: bool, slots: usize, step: usize) -> usize
-    requires within { step < slots }
-    ensures { result ≡ slot_of back slots step }
-{
-    if back { slots - 1 - step } else { step }
-}
-
-// Goes over the slots once, from the first or back from the last, and moves out each orphan that it
-// meets; true where it met one.
-pub(crate) fn sweep<R: Drop>(
-    nodes: &mut Slots<Node<R>>,
-    closed: &mut Vec<Closed<R>>,
-    back: bool,
-) -> bool
-    requires room { vec_len closed.old + nodes.old.count ≤ vec_capacity closed.old }
-    ensures cuts { Cuts nodes.old closed.old.items nodes.new closed.new.items }
-    ensures none { result ≡ false → (slot : ℕ) → orphan_at nodes.new slot ≡ None }
-    ensures fewer { result ≡ true → nodes.new.count < nodes.old.count }
-    ensures count { vec_len closed.new + nodes.new.count ≡ vec_len closed.old + nodes.old.count }
-    ensures room { nodes.new.room + nodes.new.count ≡ nodes.old.room + nodes.old.count }
-    ensures capacity { vec_capacity closed.new ≡ vec_capacity closed.old }
-{
-    let slots = nodes.slot_count();
-    let mut met = false;
-    for step in 0..slots {
-        if let Some(key) = orphan(nodes, slot_on_way(back, slots, step)) {
-            move_out(nodes, key, closed);
-            met = true;
+impl<R: Drop> Store<R> {
+    // The key of a node's first child.
+    fn child(&self, key: Key) -> Option<Key>
+        requires tied { IsTied self.now }
+        requires open { IsSome (find (nodes_of self.now) key) }
+        ensures below { IfSome result (λ child. Descends (nodes_of self.now) key child) }
+        ensures there { IfSome result (λ child. IsSome (find (nodes_of self.now) child)) }
+        ensures later { IfSome result (λ child. key.number < child.number) }
+        ensures none { result ≡ None → next_of self.now (Children key.slot) ≡ Children key.slot }
+    {
+        match self.link(Place::Children(key.slot)).next {
+            Place::Sibling(slot) => self.node_at(slot),
+            _ => None,
         }
     }
-    met
+
+    // The key of a node without children: this one, or one below it.
+    fn leaf_below(&self, key: Key) -> Key
+        requires tied { IsTied self.now }
+        requires open { IsSome (find (nodes_of self.now) key) }
+        ensures below { Descends (nodes_of self.now) key result }
+        ensures there { IsSome (find (nodes_of self.now) result) }
+        ensures childless { next_of self.now (Children result.slot) ≡ Children result.slot }
+    {
+        let mut leaf = key;
+        while let Some(child) = self.child(leaf) {
+            let _bounded = number_of(leaf);
+            leaf = child;
+        }
+        leaf
+    }
+
+    // Lets the resources wait that are held at a slot's node.
+    fn let_wait(&mut self, slot: usize)
+        requires tied { IsTied self.old }
+        requires there { is_some (entry_at (nodes_of self.old) slot) ≡ true }
+        ensures waits { LetsWait self.old self.new slot }
+        ensures rest { Relinks self.old self.new }
+    {
+        if let Place::Stored(_) = self.link(Place::Held(slot)).next {
+            self.merge(Place::Held(slot), Place::Waiting);
+        }
+    }
+
+    // Takes a slot's node off the chain of what may be due, where it stands there.
+    fn unnote(&mut self, slot: usize)
+        requires there { IsTrue (is_there self.old (Noted slot)) }
+        requires before { IsTrue (is_there self.old (previous_of self.old (Noted slot))) }
+        requires after { IsTrue (is_there self.old (next_of self.old (Noted slot))) }
+        requires alone { next_of self.old (Noted slot) ≡ Noted slot → previous_of self.old (Noted slot) ≡ Noted slot }
+        ensures leaves { Leaves places (next_of self.old) (previous_of self.old)
+            (next_of self.new) (previous_of self.new) (Noted slot) }
+        ensures rest { Relinks self.old self.new }
+    {
+        if self.is_noted(slot) {
+            self.leave(Place::Noted(slot));
+        }
+    }
+
+    // Takes out the record of a node without children.
+    fn take_leaf(&mut self, key: Key) -> Option<Node>
+        requires tied { IsTied self.old }
+        requires open { IsSome (find (nodes_of self.old) key) }
+        requires counted { IsCounted self.old }
+        requires childless { next_of self.old (Children key.slot) ≡ Children key.slot }
+        ensures value { result ≡ find (nodes_of self.old) key }
+        ensures taken { Takes_out (nodes_of self.old) (nodes_of self.new) key }
+        ensures tied { IsTied self.new }
+        ensures counted { IsCounted self.new }
+        ensures chain { (shown self.new).chain ≡ still_open (nodes_of self.new) (shown self.old).chain }
+        ensures resources { resources_of self.new ≡ resources_of self.old }
+    {
+        self.let_wait(key.slot);
+        self.unnote(key.slot);
+        self.pass_by(Place::Sibling(key.slot));
+        self.take_node(key)
+    }
+
+    // Moves out a node without children that is this one or stands below it, and gives the key of its
+    // parent; None once the top is out.
+    pub(crate) fn close_leaf(
+        &mut self,
+        top: Key,
+        from: Key,
+        closed: &mut Vec<Closed>,
+    ) -> Option<Key>
+        requires tied { IsTied self.old }
+        requires counted { IsCounted self.old }
+        requires open { IsSome (find (nodes_of self.old) from) }
+        requires room { vec_len closed.old + self.old.nodes.count ≤ vec_capacity closed.old }
+        ensures cuts { CutsLeaf self.old self.new closed.old.items closed.new.items top from result }
+        ensures tied { IsTied self.new }
+        ensures counted { IsCounted self.new }
+        ensures len { vec_len closed.new ≡ vec_len closed.old + 1 }
+        ensures fewer { self.new.nodes.count + 1 ≡ self.old.nodes.count }
+        ensures list_room { vec_capacity closed.new ≡ vec_capacity closed.old }
+    {
+        let key = self.leaf_below(from);
+        let node = self.take_leaf(key)?;
+        closed.push_reserved(Closed { key, node });
+        if key.number == top.number {
+            None
+        } else {
+            node.above
+        }
+    }
 }

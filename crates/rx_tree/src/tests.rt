@@ -1,616 +1,326 @@
-//! Trees at work: what their callers see, refused memory, and boxes of resources.
+//! Trees at work: just the memory that is needed, slots used again, and closings of many nodes and resources.
 
-ghost use Rattle.std.specs.Prelude.{◌≡◌, ◌+◌, ◌<◌, ◌^◌, IsSome, IfSome, IfOk, IfErr, OnErr};
-ghost use Rattle.rx_resource.specs.declared.Life.{Life};
-ghost use Rattle.rx_slots.specs.Slots.{find, KeepsOthers};
-ghost use Rattle.rx_tree.specs.declared.node.ResKey.{ResKey};
-ghost use Rattle.rx_tree.specs.Tree.{blank_node, resource_at};
+ghost use Rattle.std.specs.Prelude.{◌≡◌, IfErr};
+ghost use Rattle.rx_tree.specs.Tree.{IsPlaced};
 
 use super::*;
-use rx_event::{Event, Kind, Mode, Place};
-use rx_resource::{Life, Resource};
-use rx_scarce::{MOST_BLOCKS, Scarce};
+use crate::store::{Linked, Stored};
+use rx_event::{Event, Kind, Marks, Place};
+use rx_resource::{Resource, Sample};
+use rx_scarce::Scarce;
+use rx_slots::Slots;
 use std::alloc::Global;
+use std::marker::Model;
 use std::test::Fail;
 
-// Keeps the exclusive or of its words and answers it.
+// A tree with the number of its next node or resource.
 #[derive(Drop)]
-struct Tally {
-    tag: u64,
-    uses: u64,
-    life: Life,
-    kept: u64,
+struct Grown<R: Resource> {
+    tree: Tree<R>,
+    next: u64,
 }
 
-impl Resource for Tally {
-    ghost tag_of = { λ t. t.tag };
+impl<R: Resource> Model for Grown<R> {
+    ghost use Rattle.std.specs.Prelude.{ℕ};
+    ghost use Rattle.rx_tree.specs.Tree.{Tree as Shown, IsNewest, IsPast};
 
-    ghost life_of = { λ t. t.life };
+    ghost Value = { Shown R × ℕ };
 
-    ghost uses_of = { λ t. t.uses };
+    ghost view = { λ g. (g.tree, g.next) };
 
-    fn tag(&self) -> u64 {
-        self.tag
+    ghost invariant = { λ g. IsNewest g.tree g.next × IsPast g.tree.resources g.next };
+}
+
+impl<R: Resource> Grown<R> {
+    fn new(alloc: Global) -> Self {
+        Grown {
+            tree: Tree::new(alloc),
+            next: 0,
+        }
     }
 
-    fn life(&self) -> Life {
-        self.life
+    // Adds a node under the next number, where there is memory.
+    fn add(&mut self, made: Event, above: Option<Key>) -> Option<Key>
+        requires placed { IsPlaced self.old.0.nodes self.old.1 made above }
+    {
+        let next = self.next.checked_add(1)?;
+        let key = self.tree.open(self.next, made, above).ok()?;
+        self.next = next;
+        Some(key)
     }
 
-    fn uses(&self) -> u64 {
-        self.uses
+    // Opens a root.
+    fn open_root(&mut self) -> Option<Key> {
+        self.add(pass_at(Place::Root), None)
     }
 
-    fn apply(&mut self, word: u64) -> u64 {
-        self.uses += 1;
-        self.kept ^= word;
-        self.kept
+    // Opens a node at the source of another.
+    fn open_below(&mut self, above: Key) -> Option<Key> {
+        if !self.tree.contains(above) {
+            return None;
+        }
+        self.add(pass_at(Place::Source(above.number)), Some(above))
     }
 
-    fn release(&mut self) -> Result<(), u32> {
-        self.life = Life::Released;
-        Ok(())
+    // Lets a node hold a resource under the next number, or gives it back.
+    fn hold(&mut self, key: Key, resource: R) -> Result<ResKey, R>
+        ensures { IfErr result (λ back. back ≡ resource) }
+    {
+        if !self.tree.contains(key) || self.next == u64::MAX {
+            return Err(resource);
+        }
+        let number = self.next;
+        let next = self.next.wrapping_add(1);
+        match self.tree.hold(key, number, resource) {
+            Ok(res) => {
+                self.next = next;
+                Ok(res)
+            }
+            Err(back) => Err(back),
+        }
+    }
+
+    // Sets a node's marks where what all nodes owe can still be counted.
+    fn set_marks(&mut self, key: Key, marks: Marks) {
+        if self.tree.owed().checked_add(marks.owed).is_some() {
+            self.tree.set_marks(key, marks);
+        }
+    }
+
+    fn unchain(&mut self) {
+        self.tree.unchain();
+    }
+
+    // Closes a node where it is open and the list has room.
+    fn close(&mut self, key: Key, closed: &mut Vec<Closed>) {
+        let Some(room) = closed.capacity().checked_sub(closed.len()) else {
+            return;
+        };
+        if self.tree.contains(key) && self.tree.len() <= room {
+            self.tree.close_below(key, closed);
+        }
+    }
+
+    // Removes a resource where it is held.
+    fn remove(&mut self, res: ResKey) {
+        if self.tree.holds(res) {
+            self.tree.unhold(res);
+        }
+    }
+
+    fn take(&mut self) -> Option<(u64, R)> {
+        self.tree.take_waiting()
     }
 }
 
-fn fresh_tally(tag: u64) -> Tally {
-    Tally {
-        tag,
-        uses: 0,
-        life: Life::Live,
-        kept: 0,
-    }
-}
-
-fn pass_at(place: Place) -> Event {
+fn pass_at(place: Place) -> Event
+    ensures { result ≡ Event.Open place Kind.Pass }
+{
     Event::Open {
         place,
         kind: Kind::Pass,
     }
 }
 
-// Opens a node where its number and place may be and there is memory.
-fn open_there<R: Resource>(
-    tree: &mut Tree<R>,
-    number: u64,
-    made: Event,
-    above: Option<Key>,
-) -> Option<Key>
-    ensures opened { IfSome result (λ key. find tree.new key ≡ Some (blank_node made above)) }
-    ensures kept { IfSome result (λ key. KeepsOthers tree.old tree.new key) }
-{
-    if !tree.is_unused(number) || !tree.is_placed(number, made, above) {
-        return None;
-    }
-    tree.open(number, made, above).ok()
-}
-
-fn opened<R: Resource>(
-    tree: &mut Tree<R>,
-    number: u64,
-    made: Event,
-    above: Option<Key>,
-) -> Result<Key, Fail> {
-    Ok(open_there(tree, number, made, above).ok_or("it is not opened")?)
-}
-
-// Opens a node that holds a resource, where its number and place may be, or gives the resource back.
-fn open_with<R: Resource>(
-    tree: &mut Tree<R>,
-    number: u64,
-    made: Event,
-    above: Option<Key>,
-    resource_number: u64,
-    resource: R,
-) -> Result<Key, R>
-    ensures { IfErr result (λ back. back ≡ resource) }
-{
-    if !tree.is_unused(number) || !tree.is_placed(number, made, above) {
-        return Err(resource);
-    }
-    tree.open_using(number, made, above, resource_number, resource)
-}
-
-// Holds a resource where that may be, or gives it back.
-fn held<R: Resource>(tree: &mut Tree<R>, key: Key, number: u64, resource: R) -> Result<ResKey, R>
-    ensures { IfErr result (λ back. back ≡ resource) }
-{
-    let res = ResKey {
-        slot: key.slot,
-        number,
-    };
-    if !tree.contains(key) || tree.holds(res) {
-        return Err(resource);
-    }
-    tree.hold(key, number, resource)
-}
-
-// Applies a held resource that is live to a word.
-fn applied<R: Resource>(tree: &mut Tree<R>, res: ResKey, word: u64) -> Option<u64>
-    requires live { IfSome (resource_at tree.old res) (λ r. R.life_of r ≡ Life.Live) }
-    requires countable { IfSome (resource_at tree.old res) (λ r. R.uses_of r + 1 < 2 ^ 64) }
-{
-    let resource = tree.box_mut(res)?;
-    Some(resource.apply(word))
-}
-
-// The tags of what is left of a closed node's resources, in order.
-fn tags_of<R: Resource>(alloc: Global, closed: Closed<R>) -> Result<Vec<u64>, Fail> {
-    let mut tags = Vec::new(alloc);
-    let mut boxes = closed.node.boxes;
-    let mut out = Vec::new(alloc);
-    out.reserve(boxes.len())?;
-    boxes.move_all(&mut out);
-    if !boxes.is_empty() {
-        return Err(Fail::from("a resource is left"));
-    }
-    for held in out.iter() {
-        tags.push(held.resource.tag())?;
-    }
-    Ok(tags)
-}
-
-#[test]
-fn a_record_is_as_it_was_opened(rt: HostRuntime) -> Result<(), Fail> {
-    let mut tree: Tree<Tally> = Tree::new(rt.alloc());
-    assert_eq!(rt; tree.reserve(7), Ok(()));
-    let until = Event::Open {
-        place: Place::Root,
-        kind: Kind::Until,
-    };
-    let flat = Event::Open {
-        place: Place::Source(3),
-        kind: Kind::Flat,
-    };
-    let switch = Event::Open {
-        place: Place::Inner(4),
-        kind: Kind::Switch,
-    };
-    let sub = Event::Open {
-        place: Place::Notifier(3),
-        kind: Kind::Sub(1),
-    };
-    let leaf = Event::Open {
-        place: Place::Inner(4),
-        kind: Kind::Leaf,
-    };
-    let top = opened(&mut tree, 3, until, None)?;
-    let source = opened(&mut tree, 4, flat, Some(top))?;
-    let inner = opened(&mut tree, 6, switch, Some(source))?;
-    let notifier = opened(&mut tree, 7, sub, Some(top))?;
-    let connection = opened(&mut tree, 8, Event::Connect(1), None)?;
-    let other = opened(&mut tree, 9, leaf, Some(source))?;
-    let below = opened(&mut tree, 11, pass_at(Place::Source(8)), Some(connection))?;
-    assert_eq!(rt; tree.len(), 7);
-    let records = [
-        (top, until, None),
-        (source, flat, Some(top)),
-        (inner, switch, Some(source)),
-        (notifier, sub, Some(top)),
-        (connection, Event::Connect(1), None),
-        (other, leaf, Some(source)),
-        (below, pass_at(Place::Source(8)), Some(connection)),
-    ];
-    for (key, made, parent) in records {
-        assert_eq!(rt; tree.made(key), Some(made));
-        assert_eq!(rt; tree.marks(key), Some(Marks::blank()));
-        assert_eq!(rt; tree.parent(key), parent);
-        assert_eq!(rt; tree.key_at(key.slot), Some(key));
-        assert!(rt; tree.contains(key) && !tree.is_unused(key.number));
-    }
-    assert_eq!(rt; tree.children(top, 0), Some(source));
-    assert_eq!(rt;
-        tree.children(top, source.slot.wrapping_add(1)),
-        Some(notifier)
-    );
-    assert_eq!(rt; tree.children(top, notifier.slot.wrapping_add(1)), None);
-    assert_eq!(rt; tree.children(source, 0), Some(inner));
-    assert_eq!(rt;
-        tree.children(source, inner.slot.wrapping_add(1)),
-        Some(other)
-    );
-    assert_eq!(rt; tree.children(inner, 0), None);
-    assert_eq!(rt; tree.children(connection, 0), Some(below));
-    Ok(())
-}
-
-#[test]
-fn a_node_stands_only_where_its_event_says(rt: HostRuntime) -> Result<(), Fail> {
-    let mut tree: Tree<Tally> = Tree::new(rt.alloc());
-    let root = opened(&mut tree, 5, pass_at(Place::Root), None)?;
-    assert!(rt; tree.is_placed(6, pass_at(Place::Source(5)), Some(root)));
-    assert!(rt; !tree.is_placed(6, pass_at(Place::Source(5)), None));
-    assert!(rt; !tree.is_placed(6, pass_at(Place::Source(4)), Some(root)));
-    assert!(rt; !tree.is_placed(6, pass_at(Place::Root), Some(root)));
-    assert!(rt; !tree.is_placed(5, pass_at(Place::Source(5)), Some(root)));
-    assert!(rt; !tree.is_placed(6, Event::Hub(Mode::Auto), None));
-    assert!(rt; !tree.is_placed(6, Event::Connect(0), Some(root)));
-    assert!(rt; tree.is_unused(6) && !tree.is_unused(5));
-    Ok(())
-}
-
-#[test]
-fn marks_change_at_one_node(rt: HostRuntime) -> Result<(), Fail> {
-    let mut tree: Tree<Tally> = Tree::new(rt.alloc());
-    let first = opened(&mut tree, 0, pass_at(Place::Root), None)?;
-    let second = opened(&mut tree, 1, pass_at(Place::Source(0)), Some(first))?;
-    let marks = Marks {
-        source_opened: true,
-        notifier_opened: true,
+fn fired() -> Marks {
+    Marks {
         fired: true,
-        source_completed: true,
-        child_terminal: Some(rx_event::Terminal::Error(4)),
-        owed: 2,
-        open_children: 1,
-    };
-    tree.set_marks(first, marks);
-    assert_eq!(rt; tree.marks(first), Some(marks));
-    assert_eq!(rt; tree.marks(second), Some(Marks::blank()));
-    tree.set_marks(Key { slot: 0, number: 9 }, Marks::blank());
-    assert_eq!(rt; tree.marks(first), Some(marks));
-    assert_eq!(rt; tree.marks(Key { slot: 0, number: 9 }), None);
-    Ok(())
+        ..Marks::blank()
+    }
 }
 
-#[test]
-fn a_resource_is_used_and_taken_out_by_its_number(rt: HostRuntime) -> Result<(), Fail> {
-    let mut tree = Tree::new(rt.alloc());
-    let node = opened(&mut tree, 0, pass_at(Place::Root), None)?;
-    let mut keys = Vec::new(rt.alloc());
-    for number in [1u64, 2, 5, 6, 8, 9] {
-        match held(
-            &mut tree,
-            node,
-            number,
-            fresh_tally(number.wrapping_mul(10)),
-        ) {
-            Ok(res) => keys.push(res)?,
-            Err(back) => {
-                let _tag = back.tag;
-                return Err(Fail::from("no memory"));
-            }
-        }
-    }
-    let second = *keys.get(1).ok_or("a key is lost")?;
-    assert_eq!(rt;
-        second,
-        ResKey {
-            slot: node.slot,
-            number: 2
-        }
-    );
-    for (word, answer) in [(5, 5), (3, 6)] {
-        match tree.box_mut(second) {
-            Some(resource) => {
-                resource.kept ^= word;
-                assert_eq!(rt; resource.kept, answer);
-            }
-            None => return Err(Fail::from("it is not held")),
-        }
-    }
-    assert!(rt; tree.holds(second));
-    match tree.unhold(second) {
-        Some(resource) => assert_eq!(rt; (resource.tag, resource.kept), (20, 6)),
-        None => return Err(Fail::from("it is not held")),
-    }
-    assert!(rt; !tree.holds(second) && tree.unhold(second).is_none());
-    assert!(rt; tree.box_mut(second).is_none());
-    let mut closed = Vec::with_capacity(rt.alloc(), 1)?;
-    if tree.len() <= closed.capacity() && tree.contains(node) {
-        tree.close_below(node, &mut closed);
-    }
-    let record = closed.pop().ok_or("nothing was closed")?;
-    assert_eq!(rt; record.key, node);
-    let tags = tags_of(rt.alloc(), record)?;
-    assert_eq!(rt; *tags.as_slice(), *[10, 50, 60, 80, 90].as_slice());
-    Ok(())
-}
-
-#[test]
-fn an_old_key_finds_nothing_at_a_slot_used_again(rt: HostRuntime) -> Result<(), Fail> {
-    let mut tree = Tree::new(rt.alloc());
-    let mut closed = Vec::with_capacity(rt.alloc(), 1)?;
-    let old = opened(&mut tree, 0, pass_at(Place::Root), None)?;
-    let old_res = match held(&mut tree, old, 1, fresh_tally(7)) {
-        Ok(res) => res,
-        Err(_) => return Err(Fail::from("no memory")),
-    };
-    if tree.len() <= closed.capacity() && tree.contains(old) {
-        tree.close_below(old, &mut closed);
-    }
-    let new = opened(&mut tree, 3, pass_at(Place::Root), None)?;
-    assert_eq!(rt; (new.slot, old.slot), (0, 0));
-    match held(&mut tree, new, 4, fresh_tally(8)) {
-        Ok(res) => assert_eq!(rt; res, ResKey { slot: 0, number: 4 }),
-        Err(_) => return Err(Fail::from("no memory")),
-    }
-    tree.set_marks(
-        old,
-        Marks {
-            fired: true,
-            ..Marks::blank()
-        },
-    );
-    assert_eq!(rt;
-        (tree.made(old), tree.marks(old), tree.parent(old)),
-        (None, None, None)
-    );
-    assert!(rt; !tree.contains(old) && !tree.holds(old_res) && tree.unhold(old_res).is_none());
-    assert_eq!(rt; tree.marks(new), Some(Marks::blank()));
-    assert!(rt; tree.holds(ResKey { slot: 0, number: 4 }));
-    Ok(())
-}
-
-// Opens a chain of Pass nodes, one below the other, with a resource at each but the first, under
-// rising numbers.
-fn chain_from(tree: &mut Tree<Tally>, first: u64, count: u64) -> Result<Key, Fail> {
-    let top = opened(tree, first, pass_at(Place::Root), None)?;
+// A chain of nodes, each at the source of the one before, and all of them as what may be due.
+fn chain(grown: &mut Grown<Sample>, count: usize) -> Result<Key, Fail> {
+    let top = grown.open_root().ok_or("no memory")?;
     let mut above = top;
-    for step in 1..count {
-        let number = first.wrapping_add(step.wrapping_mul(2));
-        above = opened(
-            tree,
-            number,
-            pass_at(Place::Source(above.number)),
-            Some(above),
-        )?;
-        if held(tree, above, number.wrapping_add(1), fresh_tally(step)).is_err() {
-            return Err(Fail::from("no memory"));
-        }
+    grown.set_marks(top, fired());
+    for _ in 1..count {
+        above = grown.open_below(above).ok_or("no memory")?;
+        grown.set_marks(above, fired());
     }
     Ok(top)
 }
 
-// A tree with such a chain alone.
-fn chain(alloc: Global, count: u64) -> Result<(Tree<Tally>, Key), Fail> {
-    let mut tree = Tree::new(alloc);
-    let top = chain_from(&mut tree, 0, count)?;
-    Ok((tree, top))
-}
-
 #[test]
-fn a_thousand_nodes_are_closed_with_no_memory_left(rt: HostRuntime) -> Result<(), Fail> {
-    let (mut tree, top) = chain(rt.alloc(), 1000)?;
-    let other = opened(&mut tree, 5000, pass_at(Place::Root), None)?;
-    let mut closed = Vec::with_capacity(rt.alloc(), 1001)?;
-    assert_eq!(rt; tree.len(), 1001);
+fn a_hundred_thousand_nodes_are_closed_with_no_memory_left(rt: HostRuntime) -> Result<(), Fail> {
+    let mut grown = Grown::new(rt.alloc());
+    let top = chain(&mut grown, 100_000)?;
+    let other = grown.open_root().ok_or("no memory")?;
+    grown.set_marks(other, fired());
+    let mut closed = Vec::with_capacity(rt.alloc(), 100_001)?;
     {
         let _scarce = Scarce::new(rt.alloc())?;
-        if tree.len() <= closed.capacity() && tree.contains(top) {
-            tree.close_below(top, &mut closed);
-        }
+        grown.close(top, &mut closed);
     }
-    assert_eq!(rt; (tree.len(), closed.len()), (1, 1000));
-    assert!(rt; tree.contains(other));
-    let mut numbers = 0u64;
-    let mut tags = 0u64;
+    assert_eq!(rt; (grown.tree.len(), closed.len()), (1, 100_000));
+    assert_eq!(rt; grown.tree.pending(), Some(other));
+    assert_eq!(rt; grown.tree.first_root(), Some(other));
+    // The youngest comes out first, and each has the one before above it.
+    let mut number = 100_000u64;
     for record in closed {
-        numbers = numbers.wrapping_add(record.key.number);
-        for tag in tags_of(rt.alloc(), record)? {
-            tags = tags.wrapping_add(tag);
-        }
+        number = number.wrapping_sub(1);
+        assert_eq!(rt; record.key.number, number);
+        assert_eq!(rt; record.node.marks, fired());
+        assert!(rt; !grown.tree.contains(record.key));
     }
-    assert_eq!(rt; (numbers, tags), (999_000, 499_500));
-    Ok(())
-}
-
-// Opens a chain of 3,000 nodes in an empty tree and closes it: the slot of the first node, and
-// whether all came out, each once and after the one that it stood below.
-fn closed_chain(alloc: Global, tree: &mut Tree<Tally>, first: u64) -> Result<(usize, bool), Fail> {
-    let top = chain_from(tree, first, 3000)?;
-    let mut closed = Vec::with_capacity(alloc, 3000)?;
-    if tree.len() <= closed.capacity() && tree.contains(top) {
-        tree.close_below(top, &mut closed);
-    }
-    let mut whole = tree.len() == 0 && closed.len() == 3000;
-    let mut number = first;
-    for record in closed {
-        whole = whole && record.key.number == number;
-        number = number.wrapping_add(2);
-    }
-    Ok((top.slot, whole))
-}
-
-#[test]
-fn a_chain_is_closed_whole_whether_its_slots_rise_or_fall(rt: HostRuntime) -> Result<(), Fail> {
-    let mut tree = Tree::new(rt.alloc());
-    assert_eq!(rt; closed_chain(rt.alloc(), &mut tree, 0)?, (0, true));
-    // The second chain takes the slots of the first, the one that came free last first.
-    assert_eq!(rt; closed_chain(rt.alloc(), &mut tree, 6000)?, (2999, true));
+    assert_eq!(rt; number, 0);
     Ok(())
 }
 
 #[test]
-fn children_at_lower_slots_are_closed_too(rt: HostRuntime) -> Result<(), Fail> {
-    let mut tree: Tree<Tally> = Tree::new(rt.alloc());
-    let mut closed = Vec::with_capacity(rt.alloc(), 16)?;
-    let mut first = Vec::with_capacity(rt.alloc(), 4)?;
-    for number in 0..4u64 {
-        first.push(opened(&mut tree, number, pass_at(Place::Root), None)?)?;
-    }
-    // Slots are used again in the order opposite to the one in which they came free.
-    for key in first {
-        if tree.len() <= closed.capacity() && tree.contains(key) {
-            closed.clear();
-            tree.close_below(key, &mut closed);
+fn ten_thousand_resources_are_taken_once_each(rt: HostRuntime) -> Result<(), Fail> {
+    let mut grown = Grown::new(rt.alloc());
+    let node = grown.open_root().ok_or("no memory")?;
+    let mut keys = Vec::with_capacity(rt.alloc(), 10_000)?;
+    for tag in 0..10_000u64 {
+        match grown.hold(node, Sample::new(tag)) {
+            Ok(res) => keys.push(res)?,
+            Err(_) => return Err(Fail::from("no memory")),
         }
     }
-    let top = opened(&mut tree, 10, pass_at(Place::Root), None)?;
-    let middle = opened(&mut tree, 11, pass_at(Place::Source(10)), Some(top))?;
-    let other = opened(&mut tree, 12, pass_at(Place::Root), None)?;
-    let lowest = opened(&mut tree, 13, pass_at(Place::Source(11)), Some(middle))?;
-    assert_eq!(rt;
-        (top.slot, middle.slot, other.slot, lowest.slot),
-        (3, 2, 1, 0)
-    );
-    closed.clear();
-    if tree.len() <= closed.capacity() && tree.contains(top) {
-        tree.close_below(top, &mut closed);
-    }
-    assert_eq!(rt; (tree.len(), closed.len()), (1, 3));
-    assert!(rt; tree.contains(other) && !tree.contains(middle) && !tree.contains(lowest));
-    Ok(())
-}
-
-#[test]
-fn a_refused_open_changes_no_record(rt: HostRuntime) -> Result<(), Fail> {
-    let mut tree: Tree<Tally> = Tree::new(rt.alloc());
-    for number in 0..4u64 {
-        opened(&mut tree, number, pass_at(Place::Root), None)?;
-    }
-    let mut scarce = Scarce::new(rt.alloc())?;
-    let mut refused = 0u32;
-    for _ in 0..MOST_BLOCKS {
-        let number = tree.len() as u64;
-        match open_there(&mut tree, number, pass_at(Place::Root), None) {
-            Some(key) => {
-                assert_eq!(rt; key.number, number);
-                if refused > 0 {
-                    break;
-                }
-            }
-            None => {
-                refused = refused.wrapping_add(1);
-                assert_eq!(rt; tree.len() as u64, number);
-                assert!(rt; scarce.give_back_one());
-            }
-        }
-        for slot in 0..tree.slot_count() {
-            let key = Key {
-                slot,
-                number: slot as u64,
-            };
-            assert_eq!(rt; tree.key_at(slot), Some(key));
-            assert_eq!(rt; tree.made(key), Some(pass_at(Place::Root)));
-            assert_eq!(rt; tree.marks(key), Some(Marks::blank()));
-        }
-    }
-    assert!(rt; refused > 1, "refused {refused}");
-    Ok(())
-}
-
-#[test]
-fn opens_after_a_reserve_take_no_memory(rt: HostRuntime) -> Result<(), Fail> {
-    let mut tree: Tree<Tally> = Tree::new(rt.alloc());
-    tree.reserve(1000)?;
+    assert_eq!(rt; grown.tree.waiting(), 0);
+    let mut closed = Vec::with_capacity(rt.alloc(), 1)?;
+    let mut taken = vec![in rt.alloc(); false; 10_000]?;
     let _scarce = Scarce::new(rt.alloc())?;
-    for number in 0..1000u64 {
-        let key = opened(&mut tree, number, pass_at(Place::Root), None)?;
-        assert_eq!(rt; key.number, number);
+    let mut is_even = true;
+    for res in keys.iter() {
+        if is_even {
+            grown.remove(*res);
+        }
+        is_even = !is_even;
     }
-    assert_eq!(rt; tree.len(), 1000);
+    assert_eq!(rt; grown.tree.waiting(), 5000);
+    grown.close(node, &mut closed);
+    assert_eq!(rt; (closed.len(), grown.tree.waiting()), (1, 10_000));
+    for left in (0..10_000u64).rev() {
+        let (number, resource) = grown.take().ok_or("none waits")?;
+        assert_eq!(rt; grown.tree.waiting(), left);
+        // The node has the number 0, and the resources those after it.
+        assert_eq!(rt; number, resource.tag.wrapping_add(1));
+        let Ok(place) = usize::try_from(resource.tag) else {
+            return Err(Fail::from("a tag is past the last"));
+        };
+        let seen = taken.get_mut(place).ok_or("a tag is past the last")?;
+        assert!(rt; !*seen);
+        *seen = true;
+    }
+    assert!(rt; grown.take().is_none());
+    Ok(())
+}
+
+const SLOTS: usize = 4;
+
+// Four numbers below four, of which the first changes with `order` last; Err where two are equal.
+fn places(order: usize) -> Option<[usize; SLOTS]> {
+    let places = [order % 4, order / 4 % 4, order / 16 % 4, order / 64 % 4];
+    for one in 0..SLOTS {
+        for other in 0..one {
+            if places.get(one) == places.get(other) {
+                return None;
+            }
+        }
+    }
+    Some(places)
+}
+
+#[test]
+fn slots_are_used_again_in_every_order(rt: HostRuntime) -> Result<(), Fail> {
+    let mut grown = Grown::new(rt.alloc());
+    let mut closed = Vec::with_capacity(rt.alloc(), SLOTS)?;
+    let mut orders = 0u32;
+    for order in 0..256 {
+        let Some(places) = places(order) else {
+            continue;
+        };
+        orders = orders.wrapping_add(1);
+        let mut nodes = Vec::with_capacity(rt.alloc(), SLOTS)?;
+        let mut resources = Vec::with_capacity(rt.alloc(), SLOTS)?;
+        for tag in 0..SLOTS as u64 {
+            let node = grown.open_root().ok_or("no memory")?;
+            assert!(rt; node.slot < SLOTS);
+            nodes.push(node)?;
+            match grown.hold(node, Sample::new(tag)) {
+                Ok(res) => {
+                    assert!(rt; res.slot < SLOTS);
+                    resources.push(res)?;
+                }
+                Err(_) => return Err(Fail::from("no memory")),
+            }
+        }
+        for place in places {
+            let node = *nodes.get(place).ok_or("a key is lost")?;
+            let res = *resources.get(place).ok_or("a key is lost")?;
+            assert!(rt; grown.tree.contains(node) && grown.tree.holds(res));
+            closed.clear();
+            grown.close(node, &mut closed);
+            assert!(rt; !grown.tree.contains(node) && !grown.tree.holds(res));
+            let (number, resource) = grown.take().ok_or("none waits")?;
+            assert_eq!(rt; (number, resource.tag), (res.number, place as u64));
+        }
+        assert_eq!(rt; (grown.tree.len(), grown.tree.waiting()), (0, 0));
+    }
+    assert_eq!(rt; orders, 24);
+    Ok(())
+}
+
+// Slots that just so many records fit in.
+fn slots_of<T: Drop>(alloc: Global, count: usize) -> Result<Slots<T>, std::alloc::AllocError> {
+    let mut slots = Slots::new(alloc);
+    slots.reserve(count)?;
+    Ok(slots)
+}
+
+#[test]
+fn a_reserve_is_met_by_just_the_memory_that_it_needs(rt: HostRuntime) -> Result<(), Fail> {
+    let mut tree: Tree<Sample> = Tree::new(rt.alloc());
+    let nodes: Slots<Linked> = slots_of(rt.alloc(), 100)?;
+    let resources: Slots<Stored<Sample>> = slots_of(rt.alloc(), 100)?;
+    let _scarce = Scarce::new(rt.alloc())?;
+    assert!(rt; tree.reserve(100).is_err());
+    drop(nodes);
+    assert!(rt; tree.reserve(101).is_err());
+    assert!(rt; tree.reserve(100).is_ok());
+    assert!(rt; tree.reserve_resources(100).is_err());
+    drop(resources);
+    assert!(rt; tree.reserve_resources(101).is_err());
+    assert!(rt; tree.reserve_resources(100).is_ok());
+    Ok(())
+}
+
+// A store with no room gets room for four.
+#[test]
+fn an_opening_is_met_by_just_the_memory_that_it_needs(rt: HostRuntime) -> Result<(), Fail> {
+    let mut grown = Grown::new(rt.alloc());
+    let nodes: Slots<Linked> = slots_of(rt.alloc(), 4)?;
+    let resources: Slots<Stored<Sample>> = slots_of(rt.alloc(), 4)?;
+    let _scarce = Scarce::new(rt.alloc())?;
+    assert_eq!(rt; grown.open_root(), None);
+    drop(nodes);
+    let node = grown.open_root().ok_or("no memory")?;
+    assert!(rt; grown.hold(node, Sample::new(7)).is_err());
+    drop(resources);
+    assert!(rt; grown.hold(node, Sample::new(7)).is_ok());
     Ok(())
 }
 
 #[test]
-fn a_refused_hold_gives_the_resource_back(rt: HostRuntime) -> Result<(), Fail> {
+fn a_resource_is_used_where_it_is_held(rt: HostRuntime) -> Result<(), Fail> {
     let mut tree = Tree::new(rt.alloc());
-    let node = opened(&mut tree, 0, pass_at(Place::Root), None)?;
-    let mut scarce = Scarce::new(rt.alloc())?;
-    let mut refused = 0u32;
-    let mut holds = 0u64;
-    for _ in 0..MOST_BLOCKS {
-        if holds == 10 {
-            break;
-        }
-        let number = holds.wrapping_add(1);
-        match held(&mut tree, node, number, fresh_tally(number.wrapping_mul(3))) {
-            Ok(res) => {
-                assert_eq!(rt;
-                    res,
-                    ResKey {
-                        slot: node.slot,
-                        number
-                    }
-                );
-                holds = number;
-            }
-            Err(back) => {
-                refused = refused.wrapping_add(1);
-                assert_eq!(rt;
-                    (back.tag, back.uses, back.life),
-                    (number.wrapping_mul(3), 0, Life::Live)
-                );
-                assert!(rt; scarce.give_back_one());
-            }
-        }
-        assert!(rt;
-            !tree.holds(ResKey {
-                slot: node.slot,
-                number: holds.wrapping_add(1)
-            })
-        );
-        for number in 1..=holds {
-            match tree.box_mut(ResKey {
-                slot: node.slot,
-                number,
-            }) {
-                Some(resource) => assert_eq!(rt; resource.tag, number.wrapping_mul(3)),
-                None => return Err(Fail::from("a resource is lost")),
-            }
-        }
-    }
-    assert_eq!(rt; holds, 10);
-    assert!(rt; refused > 1, "refused {refused}");
-    Ok(())
-}
-
-#[test]
-fn a_node_is_opened_with_its_resource(rt: HostRuntime) -> Result<(), Fail> {
-    let mut tree = Tree::new(rt.alloc());
-    let made = pass_at(Place::Root);
-    let mut scarce = Scarce::new(rt.alloc())?;
-    let mut resource = fresh_tally(8);
-    let mut node = None;
-    let mut refused = 0_u64;
-    for _ in 0..MOST_BLOCKS {
-        match open_with(&mut tree, 3, made, None, 5, resource) {
-            Ok(key) => {
-                node = Some(key);
-                break;
-            }
-            Err(back) => {
-                resource = back;
-                refused = refused.wrapping_add(1);
-                assert_eq!(rt; tree.len(), 0);
-                assert!(rt; scarce.give_back_one());
-            }
-        }
-    }
-    let key = node.ok_or("it is not opened")?;
-    assert!(rt; refused > 1, "refused {refused}");
-    assert_eq!(rt; key.number, 3);
-    assert_eq!(rt; tree.made(key), Some(made));
-    let res = ResKey {
-        slot: key.slot,
-        number: 5,
+    let Ok(node) = tree.open(0, pass_at(Place::Root), None) else {
+        return Err(Fail::from("no memory"));
     };
-    match tree.unhold(res) {
-        Some(back) => assert_eq!(rt; back.tag, 8),
-        None => return Err(Fail::from("the resource is lost")),
-    }
-    Ok(())
-}
-
-// A resource through a node, whatever kind it is: its answers, and its tag once it came out.
-fn through<R: Resource>(alloc: Global, resource: R) -> Result<(bool, Option<u64>), Fail> {
-    let mut tree = Tree::new(alloc);
-    let node = opened(&mut tree, 0, pass_at(Place::Root), None)?;
-    match held(&mut tree, node, 1, resource) {
-        Ok(res) => {
-            let lent = tree.box_mut(res).is_some();
-            match tree.unhold(res) {
-                Some(back) => Ok((lent, Some(back.tag()))),
-                None => Ok((lent, None)),
-            }
-        }
-        Err(_) => Err(Fail::from("no memory")),
-    }
-}
-
-#[test]
-fn a_box_of_a_resource_is_one(rt: HostRuntime) -> Result<(), Fail> {
-    let boxed: Box<dyn Resource> = Box::new(rt.alloc(), fresh_tally(6))?;
-    assert_eq!(rt; through(rt.alloc(), boxed)?, (true, Some(6)));
+    let Ok(res) = tree.hold(node, 1, Sample::new(7)) else {
+        return Err(Fail::from("no memory"));
+    };
+    assert_eq!(rt; tree.apply(res, 5), 5);
+    assert_eq!(rt; tree.apply(res, 3), 6);
+    assert!(rt; tree.holds(res) && tree.take_waiting().is_none());
+    tree.unhold(res);
+    assert!(rt; !tree.holds(res));
+    let (number, resource) = tree.take_waiting().ok_or("none waits")?;
+    assert_eq!(rt;
+        (number, resource.tag, resource.uses, resource.sum),
+        (1, 7, 2, 6)
+    );
     Ok(())
 }

@@ -1,351 +1,438 @@
 //! The tree, and the calls on its records.
 
-ghost use Rattle.std.specs.Prelude.{◌≡◌, ℕ, ◌+◌, ◌<◌, ◌≤◌, ◌↔◌, [], ◌++◌, IsOk, IsSome, IsTrue, IfOk, IfErr, IfSome, IfNone, OnOk, OnErr, OnSome, Some, None, option_map, vec_len, vec_capacity, take, drop, length, cond, is_some, count_by};
-ghost use Rattle.std.specs.Option.{option_and_then, option_copied_mut};
-ghost use Rattle.std.specs.Borrow.{sem};
+ghost use Rattle.std.specs.Prelude.{◌≡◌, ◌+◌, ◌<◌, ◌≤◌, ◌^◌, ◌↔◌, [], IsOk, IsSome, IsTrue, IfOk, IfErr};
+ghost use Rattle.std.specs.Prelude.{IfSome, IfNone, OnOk, OnErr, Some, None, option_map, vec_len};
+ghost use Rattle.std.specs.Prelude.{vec_capacity, take, drop, length, cond, is_some, count_by};
+ghost use Rattle.rx_resource.specs.declared.Life.{Life};
 ghost use Rattle.rx_slots.specs.declared.Key.{Key};
-ghost use Rattle.rx_slots.specs.Slots.{find, entry_at, key_at, slot_count, KeepsOthers};
-ghost use Rattle.rx_event.specs.Events.{named_by};
-ghost use Rattle.rx_tree.specs.declared.node.ResKey.{ResKey};
+ghost use Rattle.rx_slots.specs.Slots.{find, entry_at, IsWithin, KeepsOthers};
+ghost use Rattle.rx_tree.specs.Ties.{sibling_ring};
 
-use crate::boxes::Boxes;
-use crate::marks::Marks;
-use crate::node::{Closed, Node, ResKey};
-use crate::subtree;
-use rx_event::{Event, Place};
+use crate::links::Place;
+use crate::node::{Closed, Node, ResKey, Stowed};
+use crate::store::Store;
+use rx_event::{Event, Marks};
 use rx_resource::Resource;
-use rx_slots::{Key, Slots};
+use rx_slots::Key;
 use std::alloc::{AllocError, Global};
 use std::marker::Model;
 
-// Whether a place is below the node of this number.
-fn names(place: Place, number: u64) -> bool
-    ensures { IsTrue result ↔ (named_by place ≡ Some number) }
+// The ring that a node stands on among its siblings; a connection stands on none.
+fn sibling_ring(node: Node) -> Option<Place>
+    ensures { result ≡ sibling_ring node }
 {
-    match place {
-        Place::Root => false,
-        Place::Source(parent) | Place::Inner(parent) | Place::Notifier(parent) => parent == number,
+    match (node.above, node.made) {
+        (Some(above), _) => Some(Place::Children(above.slot)),
+        (
+            None,
+            Event::Open {
+                place: rx_event::Place::Root,
+                ..
+            },
+        ) => Some(Place::Roots),
+        _ => None,
     }
 }
 
-/// The records of the open nodes, with their resources.
+/// The open nodes with the resources that came to them.
 ///
 /// What stands below a node is closed with it (Observable Contract: an end and an unsubscription stop
-/// the observable, and so all that it subscribed to), and what is held at it comes out then, as the
-/// resource of Using does.
+/// the observable, and so all that it subscribed to), and what is held at it then waits for its
+/// release, as the resource of Using does.
 #[derive(Drop)]
 pub struct Tree<R: Resource> {
-    nodes: Slots<Node<R>>,
-    alloc: Global,
+    store: Store<R>,
 }
 
 impl<R: Resource> Model for Tree<R> {
-    ghost use Rattle.rx_slots.specs.Slots.{Slots as Entries};
-    ghost use Rattle.rx_tree.specs.declared.node.Node.{Node};
+    ghost use Rattle.rx_tree.specs.Tree.{Tree as Shown};
 
-    ghost Value = { Entries (Node R) };
+    ghost Value = { Shown R };
 
-    ghost use Rattle.rx_tree.specs.Tree.{IsSound};
+    ghost use Rattle.rx_tree.specs.Store.{shown};
+    ghost use Rattle.rx_tree.specs.Ties.{IsKept};
 
-    ghost view = { λ t. t.nodes };
+    ghost view = { λ t. shown t.store };
 
-    ghost invariant = { λ t. IsSound t.nodes };
+    ghost invariant = { λ t. IsKept t.store };
 }
 
 impl<R: Resource> Tree<R> {
-    ghost use Rattle.rx_tree.specs.Tree.{IsSound, IsUnused, IsPlaced, IsChild, Rewrites, blank_node, parent_number, resource_at, with_marks, on_boxes};
+    ghost use Rattle.rx_tree.specs.Tree.{IsPromised, IsNewest, IsPast, IsPlaced, IsChild, IsRoot, IsFirst, HasNone};
+    ghost use Rattle.rx_tree.specs.Tree.{Rewrites, blank_node, parent_number, with_marks, with_last, first_of};
     ghost use Rattle.rx_tree.specs.Below.{is_below};
-    ghost use Rattle.rx_tree.specs.Closing.{IsSubtree};
-    ghost use Rattle.rx_tree.specs.Boxes.{box_of, with_box, without_box};
-    ghost use Rattle.rx_tree.specs.Lends.{LendsResource};
+    ghost use Rattle.rx_tree.specs.Closing.{IsSubtree, outside};
+    ghost use Rattle.rx_tree.specs.Owed.{owed_in};
+    ghost use Rattle.rx_tree.specs.declared.node.Stowed.{Stowed};
+    ghost use Rattle.rx_tree.specs.Resources.{is_held, is_held_at, store_key, stowed_at, stowed_of, removed, waiting_count, Takes, Uses};
 
-    /// A tree with no node, which takes no memory until the first `reserve`, `open` or `hold`.
+    /// A tree with no node and no resource, which takes no memory until the first reservation.
     pub fn new(alloc: Global) -> Self
-        ensures empty { result.entries ≡ [] }
-        ensures count { result.count ≡ 0 }
-        ensures room { result.room ≡ 0 }
+        ensures nodes { result.nodes.entries ≡ [] }
+        ensures count { result.nodes.count ≡ 0 }
+        ensures room { result.nodes.room ≡ 0 }
+        ensures resources { result.resources.entries ≡ [] }
+        ensures resource_count { result.resources.count ≡ 0 }
+        ensures resource_room { result.resources.room ≡ 0 }
+        ensures chain { result.chain ≡ [] }
     {
         Tree {
-            nodes: Slots::new(alloc),
-            alloc,
+            store: Store::new(alloc),
         }
     }
 
-    /// Makes room for `additional` nodes more, so that as many calls of `open` succeed and take no
-    /// memory. Refused only where there was less room and memory was refused. No record changes
-    /// either way.
-    pub fn reserve(&mut self, additional: usize) -> Result<(), AllocError>
-        ensures ok { OnOk result (additional ≤ self.new.room) }
-        ensures succeeds { additional ≤ self.old.room → IsOk result }
-        ensures had_room { additional ≤ self.old.room → self.new ≡ self.old }
-        ensures kept { self.new ≡ record self.old { room = self.new.room } }
-        ensures room { self.old.room ≤ self.new.room }
+    /// What holds of every tree, for proofs: no two nodes and no two resources have one number, each
+    /// node stands where its event says, and what may be due is open. It does nothing.
+    pub fn promise(&self)
+        ensures { IsPromised self.now }
     {
-        self.nodes.reserve(additional)
+        let _store = &self.store;
     }
 
-    /// How many nodes there are.
-    pub fn len(&self) -> usize
-        ensures value { result ≡ self.now.count }
-        ensures counted { result ≡ count_by is_some self.now.entries }
-        ensures sound { IsSound self.now }
+    /// Makes room for `additional` nodes more, so that as many calls of `open` succeed and take no
+    /// memory. Refused only where there was less room and memory was refused. Nothing else changes
+    /// either way.
+    pub fn reserve(&mut self, additional: usize) -> Result<(), AllocError>
+        ensures ok { OnOk result (additional ≤ self.new.nodes.room) }
+        ensures succeeds { additional ≤ self.old.nodes.room → IsOk result }
+        ensures had_room { additional ≤ self.old.nodes.room → self.new ≡ self.old }
+        ensures kept { self.new ≡ record self.old { nodes = record self.old.nodes { room = self.new.nodes.room } } }
+        ensures room { self.old.nodes.room ≤ self.new.nodes.room }
     {
-        self.nodes.len()
+        self.store.nodes.reserve(additional)
+    }
+
+    /// Makes room for `additional` resources more, so that as many calls of `hold` succeed and take no
+    /// memory. Refused only where there was less room and memory was refused. Nothing else changes
+    /// either way.
+    pub fn reserve_resources(&mut self, additional: usize) -> Result<(), AllocError>
+        ensures ok { OnOk result (additional ≤ self.new.resources.room) }
+        ensures succeeds { additional ≤ self.old.resources.room → IsOk result }
+        ensures had_room { additional ≤ self.old.resources.room → self.new ≡ self.old }
+        ensures kept { self.new ≡ record self.old
+            { resources = record self.old.resources { room = self.new.resources.room } } }
+        ensures room { self.old.resources.room ≤ self.new.resources.room }
+    {
+        self.store.resources.reserve(additional)
+    }
+
+    /// How many nodes are open.
+    pub fn len(&self) -> usize
+        ensures value { result ≡ self.now.nodes.count }
+        ensures counted { result ≡ count_by is_some self.now.nodes.entries }
+    {
+        self.store.nodes.len()
+    }
+
+    /// How many nodes are open and have room: each stands at a slot below, also those that `open` adds
+    /// without a request for memory.
+    pub fn slots(&self) -> usize
+        ensures value { result ≡ self.now.nodes.count + self.now.nodes.room }
+        ensures within { IsWithin self.now.nodes }
+    {
+        self.store.nodes.capacity()
+    }
+
+    /// How many projected items the marks of all open nodes owe together.
+    pub fn owed(&self) -> u64
+        ensures { result ≡ owed_in self.now.nodes }
+    {
+        self.store.owed
     }
 
     /// Whether a key finds a node.
     pub fn contains(&self, key: Key) -> bool
-        ensures value { IsTrue result ↔ IsSome (find self.now key) }
-        ensures sound { IsSound self.now }
+        ensures { IsTrue result ↔ IsSome (find self.now.nodes key) }
     {
-        self.nodes.contains(key)
-    }
-
-    /// How many slots were ever used: each node is at a slot below.
-    pub fn slot_count(&self) -> usize
-        ensures value { result ≡ slot_count self.now }
-        ensures at_most { result ≤ self.now.count + self.now.room }
-    {
-        self.nodes.slot_count()
-    }
-
-    /// The key of the node at a slot, if one stands there.
-    pub fn key_at(&self, slot: usize) -> Option<Key>
-        ensures { result ≡ key_at self.now slot }
-    {
-        self.nodes.key_at(slot)
-    }
-
-    /// Whether no node has this number, as `open` requires. It goes over all slots; who gives each
-    /// node a number that rises need not ask.
-    pub fn is_unused(&self, number: u64) -> bool
-        ensures { IsTrue result ↔ IsUnused self.now number }
-    {
-        for slot in 0..self.nodes.slot_count() {
-            if self.nodes.number_at(slot) == Some(number) {
-                return false;
-            }
-        }
-        true
-    }
-
-    /// Whether a node of this number and event may stand below that of the key, as `open` requires:
-    /// the event is an Open or a Connect, and the key is that of the node which its place names,
-    /// whose number is less.
-    pub fn is_placed(&self, number: u64, made: Event, above: Option<Key>) -> bool
-        ensures { IsTrue result ↔ IsPlaced self.now number made above }
-    {
-        match (made, above) {
-            (Event::Open { place, .. }, None) => place == Place::Root,
-            (Event::Open { place, .. }, Some(key)) => {
-                names(place, key.number) && key.number < number && self.nodes.contains(key)
-            }
-            (Event::Connect(_), None) => true,
-            _ => false,
-        }
-    }
-
-    /// Adds a record with blank marks and no resources, and gives its key.
-    ///
-    /// The event is the Open or Connect that makes the node, and `above` the key of the node that its
-    /// place names, None for a root or a connection; with the key the parent needs no search.
-    /// Refused only where there was no room and memory was refused; then no record changes.
-    pub fn open(&mut self, number: u64, made: Event, above: Option<Key>) -> Result<Key, AllocError>
-        requires unused { IsUnused self.old number }
-        requires placed { IsPlaced self.old number made above }
-
-        // The record goes to a slot that was free, and no other changes.
-        ensures numbered { IfOk result (λ key. key.number ≡ number) }
-        ensures was_free { IfOk result (λ key. entry_at self.old key.slot ≡ None) }
-        ensures opened { IfOk result (λ key. find self.new key ≡ Some (blank_node made above)) }
-        ensures kept { IfOk result (λ key. KeepsOthers self.old self.new key) }
-        ensures count { OnOk result (self.new.count ≡ self.old.count + 1) }
-
-        // One place of the room is used, where there was room.
-        ensures succeeds { 0 < self.old.room → IsOk result }
-        ensures had_room { 0 < self.old.room → self.new.room + 1 ≡ self.old.room }
-
-        ensures err { OnErr result (self.new ≡ record self.old { room = self.new.room }) }
-        ensures room { OnErr result (self.old.room ≤ self.new.room) }
-    {
-        let node = Node::blank(made, above, Boxes::new(self.alloc));
-        match self.nodes.insert(number, node) {
-            Ok(key) => Ok(key),
-            Err(_) => Err(AllocError),
-        }
-    }
-
-    /// Adds a record with blank marks that holds a resource, and gives its key.
-    ///
-    /// The event and the key above are as `open` has them. Refused only where memory was refused: the
-    /// resource then comes back, and no record changes.
-    pub fn open_using(
-        &mut self,
-        number: u64,
-        made: Event,
-        above: Option<Key>,
-        resource_number: u64,
-        resource: R,
-    ) -> Result<Key, R>
-        requires unused { IsUnused self.old number }
-        requires placed { IsPlaced self.old number made above }
-
-        // The record goes to a slot that was free, and no other changes.
-        ensures numbered { IfOk result (λ key. key.number ≡ number) }
-        ensures was_free { IfOk result (λ key. entry_at self.old key.slot ≡ None) }
-        ensures opened { IfOk result (λ key. find self.new key ≡ Some (on_boxes (with_box resource_number resource) (blank_node made above))) }
-        ensures kept { IfOk result (λ key. KeepsOthers self.old self.new key) }
-        ensures count { OnOk result (self.new.count ≡ self.old.count + 1) }
-
-        // One place of the room is used, where there was room.
-        ensures had_room { OnOk result (0 < self.old.room → self.new.room + 1 ≡ self.old.room) }
-
-        ensures given_back { IfErr result (λ back. back ≡ resource) }
-        ensures err { OnErr result (self.new ≡ record self.old { room = self.new.room }) }
-        ensures room { OnErr result (self.old.room ≤ self.new.room) }
-    {
-        if self.nodes.reserve(1).is_err() {
-            return Err(resource);
-        }
-        let mut boxes = Boxes::new(self.alloc);
-        boxes.add(resource_number, resource)?;
-        let holder = Node::blank(made, above, boxes);
-        match self.nodes.insert(number, holder) {
-            Ok(key) => Ok(key),
-            Err(_) => unreachable!(),
-        }
+        self.store.node(key).is_some()
     }
 
     /// The Open or Connect that made the node; None where the key finds none.
     pub fn made(&self, key: Key) -> Option<Event>
-        ensures { result ≡ option_map (λ node. node.made) (find self.now key) }
+        ensures { result ≡ option_map (λ node. node.made) (find self.now.nodes key) }
     {
-        Some(self.nodes.get(key)?.made)
+        Some(self.store.node(key)?.made)
     }
 
     /// The node's marks; None where the key finds none.
     pub fn marks(&self, key: Key) -> Option<Marks>
-        ensures { result ≡ option_map (λ node. node.marks) (find self.now key) }
+        ensures { result ≡ option_map (λ node. node.marks) (find self.now.nodes key) }
     {
-        Some(self.nodes.get(key)?.marks)
-    }
-
-    /// Gives the node these marks; nothing changes where the key finds none.
-    pub fn set_marks(&mut self, key: Key, marks: Marks)
-        ensures { Rewrites self.old self.new key (with_marks marks) }
-    {
-        if let Some(node) = self.nodes.get_mut(key) {
-            node.marks = marks;
-        }
+        Some(self.store.node(key)?.marks)
     }
 
     /// The key of the node that this one stands below; None for a root, for a connection, and where
     /// the key finds none.
     pub fn parent(&self, key: Key) -> Option<Key>
-        ensures number { option_map (λ parent. parent.number) result ≡ parent_number self.now key }
-        ensures found { IfSome result (λ parent. IsSome (find self.now parent)) }
+        ensures number { option_map (λ parent. parent.number) result ≡ parent_number self.now.nodes key }
+        ensures found { IfSome result (λ parent. IsSome (find self.now.nodes parent)) }
     {
-        self.nodes.get(key)?.above
+        self.store.node(key)?.above
     }
 
-    /// The key of the first node directly below this one whose slot is `from` or a later one; None
-    /// where there is none.
-    ///
-    /// A walk over all children asks from 0 on, and then from the slot past the last answer. It takes
-    /// no memory, and time that grows with the slots.
-    pub fn children(&self, key: Key, from: usize) -> Option<Key>
-        ensures child { IfSome result (λ child. IsChild self.now key child) }
-        ensures from { IfSome result (λ child. from ≤ child.slot) }
-        ensures first { IfSome result (λ child. (other : Key) →
-            from ≤ other.slot → other.slot < child.slot → ¬ IsChild self.now key other) }
-        ensures end { IfNone result ((other : Key) → from ≤ other.slot → ¬ IsChild self.now key other) }
+    /// The key of the oldest node directly below this one; None where there is none.
+    pub fn first_child(&self, key: Key) -> Option<Key>
+        ensures some { IfSome result (IsFirst (IsChild self.now.nodes key) 0) }
+        ensures none { IfNone result (HasNone (IsChild self.now.nodes key) 0) }
     {
-        for slot in from..self.nodes.slot_count() {
-            if let Some(child) = self.nodes.key_at(slot) {
-                if self.parent(child) == Some(key) {
-                    return Some(child);
-                }
+        let _node = self.store.node(key)?;
+        match self.store.link(Place::Children(key.slot)).next {
+            Place::Sibling(slot) => self.store.node_at(slot),
+            _ => None,
+        }
+    }
+
+    /// The key of the next younger node directly below the same one; None for the youngest, for a node
+    /// that stands below none, and where the key finds none.
+    pub fn next_sibling(&self, key: Key) -> Option<Key>
+        ensures some { IfSome result (λ next. (parent : Key) → IsChild self.now.nodes parent key →
+            IsFirst (IsChild self.now.nodes parent) (key.number + 1) next) }
+        ensures none { IfNone result ((parent : Key) → IsChild self.now.nodes parent key →
+            HasNone (IsChild self.now.nodes parent) (key.number + 1)) }
+        ensures alone { parent_number self.now.nodes key ≡ None → result ≡ None }
+    {
+        let _parent = self.store.node(key)?.above?;
+        match self.store.link(Place::Sibling(key.slot)).next {
+            Place::Sibling(slot) => self.store.node_at(slot),
+            _ => None,
+        }
+    }
+
+    /// The key of the oldest open root; None where no root is open. A connection is no root.
+    pub fn first_root(&self) -> Option<Key>
+        ensures some { IfSome result (IsFirst (IsRoot self.now.nodes) 0) }
+        ensures none { IfNone result (HasNone (IsRoot self.now.nodes) 0) }
+    {
+        match self.store.link(Place::Roots).next {
+            Place::Sibling(slot) => self.store.node_at(slot),
+            _ => None,
+        }
+    }
+
+    /// Adds a record with blank marks, and gives its key.
+    ///
+    /// The event is the Open or Connect that makes the node, and `above` the key of the node that its
+    /// place names, None for a root or a connection; with the key the parent needs no search.
+    /// Refused only where there was no room and memory was refused; then nothing else changes.
+    pub fn open(&mut self, number: u64, made: Event, above: Option<Key>) -> Result<Key, AllocError>
+        requires newest { IsNewest self.old number }
+        requires placed { IsPlaced self.old.nodes number made above }
+
+        // The record goes to a slot that was free, and no other changes.
+        ensures numbered { IfOk result (λ key. key.number ≡ number) }
+        ensures was_free { IfOk result (λ key. entry_at self.old.nodes key.slot ≡ None) }
+        ensures opened { IfOk result (λ key. find self.new.nodes key ≡ Some (blank_node made above)) }
+        ensures kept { IfOk result (λ key. KeepsOthers self.old.nodes self.new.nodes key) }
+        ensures count { OnOk result (self.new.nodes.count ≡ self.old.nodes.count + 1) }
+        ensures owed { OnOk result (owed_in self.new.nodes ≡ owed_in self.old.nodes) }
+        ensures resources { self.new.resources ≡ self.old.resources }
+        ensures chain { self.new.chain ≡ self.old.chain }
+
+        // One place of the room is used, where there was room.
+        ensures succeeds { 0 < self.old.nodes.room → IsOk result }
+        ensures had_room { 0 < self.old.nodes.room → self.new.nodes.room + 1 ≡ self.old.nodes.room }
+
+        ensures err { OnErr result (self.new ≡ record self.old
+            { nodes = record self.old.nodes { room = self.new.nodes.room } }) }
+        ensures room { OnErr result (self.old.nodes.room ≤ self.new.nodes.room) }
+    {
+        let node = Node {
+            made,
+            above,
+            marks: Marks::blank(),
+        };
+        let key = match self.store.add_node(number, node) {
+            Ok(key) => key,
+            Err(refused) => return Err(refused),
+        };
+        if let Some(ring) = sibling_ring(node) {
+            self.store.join(ring, Place::Sibling(key.slot));
+        }
+        Ok(key)
+    }
+
+    /// Gives the node these marks, and puts it last on the chain of what may be due where it is not
+    /// there. Nothing changes where the key finds none. It takes no memory.
+    ///
+    /// What all nodes owe is counted as a `u64`, which the caller keeps from its end.
+    pub fn set_marks(&mut self, key: Key, marks: Marks)
+        requires countable { owed_in self.old.nodes + marks.owed < 18446744073709551616 }
+        ensures nodes { Rewrites self.old.nodes self.new.nodes key (with_marks marks) }
+        ensures chain { self.new.chain ≡ cond (is_some (find self.old.nodes key)) (with_last key self.old.chain)
+            self.old.chain }
+        ensures resources { self.new.resources ≡ self.old.resources }
+    {
+        if let Some(_node) = self.store.node(key) {
+            self.store.write_marks(key, marks);
+            if !self.store.is_noted(key.slot) {
+                self.store.join(Place::Due, Place::Noted(key.slot));
             }
         }
-        None
+    }
+
+    /// The key of the node that is first on the chain of what may be due; None where it is empty.
+    pub fn pending(&self) -> Option<Key>
+        ensures { result ≡ first_of self.now.chain }
+    {
+        match self.store.link(Place::Due).next {
+            Place::Noted(slot) => self.store.node_at(slot),
+            _ => None,
+        }
+    }
+
+    /// Drops the first of the chain of what may be due; nothing changes where it is empty. It takes no
+    /// memory.
+    pub fn unchain(&mut self)
+        ensures { self.new ≡ record self.old { chain = drop 1 self.old.chain } }
+    {
+        if let Place::Noted(slot) = self.store.link(Place::Due).next {
+            self.store.leave(Place::Noted(slot));
+        }
+    }
+
+    /// Moves the node and all below it out into the caller's list. The resources that were held there
+    /// wait from then on, since their node is open no more.
+    ///
+    /// The caller keeps room in the list for as many records as the tree has. It takes no memory, and
+    /// time that grows with what it moves out alone; the slots are free again.
+    pub fn close_below(&mut self, key: Key, closed: &mut Vec<Closed>)
+        requires open { IsSome (find self.old.nodes key) }
+        requires room { vec_len closed.old + self.old.nodes.count ≤ vec_capacity closed.old }
+
+        // The list begins as it did, and goes on with the subtree.
+        ensures before { take (length closed.old.items) closed.new.items ≡ closed.old.items }
+        ensures moved { IsSubtree self.old.nodes key.number (drop (length closed.old.items) closed.new.items) }
+        ensures kept { (other : Key) → find self.new.nodes other ≡
+            cond (is_below self.old.nodes key.number other.number) None (find self.old.nodes other) }
+        ensures count { vec_len closed.new + self.new.nodes.count ≡ vec_len closed.old + self.old.nodes.count }
+        ensures owed { owed_in self.new.nodes ≤ owed_in self.old.nodes }
+        ensures room { self.new.nodes.room + self.new.nodes.count ≡ self.old.nodes.room + self.old.nodes.count }
+        ensures list_room { vec_capacity closed.new ≡ vec_capacity closed.old }
+        ensures chain { self.new.chain ≡ outside self.old.nodes key.number self.old.chain }
+        ensures resources { self.new.resources ≡ self.old.resources }
+    {
+        let mut at = key;
+        while let Some(above) = self.store.close_leaf(key, at, closed) {
+            at = above;
+        }
+    }
+
+    /// Adds a resource that is held at the node, and gives its key.
+    ///
+    /// Refused only where there was no room and memory was refused: the resource then comes back, and
+    /// nothing else changes.
+    pub fn hold(&mut self, key: Key, number: u64, resource: R) -> Result<ResKey, R>
+        requires open { IsSome (find self.old.nodes key) }
+        requires newest { IsPast self.old.resources number }
+
+        // The resource goes to a slot that was free, and no other changes.
+        ensures numbered { IfOk result (λ res. res.number ≡ number) }
+        ensures was_free { IfOk result (λ res. entry_at self.old.resources res.slot ≡ None) }
+        ensures held { IfOk result (λ res. stowed_of self.new res ≡ Some (stowed_at key resource)) }
+        ensures kept { IfOk result (λ res. KeepsOthers self.old.resources self.new.resources (store_key res)) }
+        ensures count { OnOk result (self.new.resources.count ≡ self.old.resources.count + 1) }
+        ensures nodes { self.new.nodes ≡ self.old.nodes }
+        ensures chain { self.new.chain ≡ self.old.chain }
+
+        // One place of the room is used, where there was room.
+        ensures succeeds { 0 < self.old.resources.room → IsOk result }
+        ensures had_room { 0 < self.old.resources.room → self.new.resources.room + 1 ≡ self.old.resources.room }
+
+        ensures given_back { IfErr result (λ back. back ≡ resource) }
+        ensures err { OnErr result (self.new ≡ record self.old
+            { resources = record self.old.resources { room = self.new.resources.room } }) }
+        ensures room { OnErr result (self.old.resources.room ≤ self.new.resources.room) }
+    {
+        let stowed = Stowed {
+            node: key,
+            removed: false,
+            resource,
+        };
+        match self.store.add_resource(number, stowed) {
+            Ok(stored) => {
+                self.store
+                    .join(Place::Held(key.slot), Place::Stored(stored.slot));
+                Ok(ResKey {
+                    slot: stored.slot,
+                    number: stored.number,
+                })
+            }
+            Err(back) => Err(back),
+        }
     }
 
     /// Whether a resource is held under this key.
     pub fn holds(&self, res: ResKey) -> bool
-        ensures { IsTrue result ↔ IsSome (resource_at self.now res) }
+        ensures { result ≡ is_held_at self.now res }
     {
-        match self.nodes.value_at(res.slot) {
-            Some(node) => node.boxes.contains(res.number),
-            None => false,
-        }
-    }
-
-    /// Adds a resource to a node, last among those that are held there, and gives its key.
-    ///
-    /// Refused where memory was refused: the resource then comes back, and nothing changes. So it is
-    /// after 4,294,967,295 resources at one node, more than a history has acceptances.
-    pub fn hold(&mut self, key: Key, number: u64, resource: R) -> Result<ResKey, R>
-        requires open { IsSome (find self.old key) }
-        requires unused { resource_at self.old (record { slot = key.slot; number = number }) ≡ None }
-
-        ensures ok { IfOk result (λ res. res ≡ record { slot = key.slot; number = number }) }
-        ensures held { OnOk result (Rewrites self.old self.new key (on_boxes (with_box number resource))) }
-        ensures given_back { IfErr result (λ back. back ≡ resource) }
-        ensures err { OnErr result (self.new ≡ self.old) }
-    {
-        match self.nodes.get_mut(key) {
-            Some(node) => node.boxes.add(number, resource)?,
-            None => unreachable!(),
-        }
-        Ok(ResKey {
-            slot: key.slot,
-            number,
+        self.store.holds(Key {
+            slot: res.slot,
+            number: res.number,
         })
     }
 
-    /// Takes a resource out; None, and nothing changed, where it is not held.
-    pub fn unhold(&mut self, res: ResKey) -> Option<R>
-        ensures value { result ≡ resource_at self.old res }
-        ensures rest { OnSome result (IfSome (key_at self.old res.slot)
-            (λ key. Rewrites self.old self.new key (on_boxes (without_box res.number)))) }
-        ensures gone { resource_at self.new res ≡ None }
-        ensures absent { IfNone result (self.new ≡ self.old) }
+    /// Uses a held resource on a word, and answers its word.
+    pub fn apply(&mut self, res: ResKey, word: u64) -> u64
+        requires held { IsTrue (is_held_at self.old res) }
+        requires live { IfSome (stowed_of self.old res) (λ stowed. R.life_of stowed.resource ≡ Life.Live) }
+        requires countable { IfSome (stowed_of self.old res) (λ stowed. R.uses_of stowed.resource + 1 < 2 ^ 64) }
+        ensures { IfSome (stowed_of self.old res) (Uses R.Resource self.old self.new res) }
     {
-        self.nodes.value_at_mut(res.slot)?.boxes.remove(res.number)
+        let key = Key {
+            slot: res.slot,
+            number: res.number,
+        };
+        match self.store.resources.get_mut(key) {
+            Some(stored) => stored.stowed.resource.apply(word),
+            None => unreachable!(),
+        }
     }
 
-    /// The resource of the key for writing; None where it is not held.
-    pub fn box_mut(&mut self, res: ResKey) -> Option<&mut R>
-        ensures* writes_back { sem 𝓛 (LendsResource R.row R.Resource self.entry res result) }
-        ensures value { option_copied_mut result ≡ resource_at self.old res }
+    /// Takes a held resource away from its node: it then waits. It takes no memory.
+    pub fn unhold(&mut self, res: ResKey)
+        requires held { IsTrue (is_held_at self.old res) }
+        ensures resources { Rewrites self.old.resources self.new.resources (store_key res) removed }
+        ensures nodes { self.new.nodes ≡ self.old.nodes }
+        ensures chain { self.new.chain ≡ self.old.chain }
     {
-        let node = self.nodes.value_at_mut(res.slot)?;
-        node.boxes.get_mut(res.number)
+        let key = Key {
+            slot: res.slot,
+            number: res.number,
+        };
+        let place = Place::Stored(res.slot);
+        self.store.leave(place);
+        self.store.mark_removed(key);
+        self.store.join(Place::Waiting, place);
     }
 
-    /// Moves the node and all below it out into the caller's list, with their resources.
-    ///
-    /// The caller keeps room in the list for as many records as the tree has. It takes no memory; the
-    /// slots are free again. It goes over all slots, forward and back by turns, until nothing below is
-    /// left: twice for a chain whose slots rise, three times for one whose slots fall, and at most
-    /// once more for each turn of direction on a way down; never more often than the subtree has
-    /// levels, the node's own counted.
-    pub fn close_below(&mut self, key: Key, closed: &mut Vec<Closed<R>>)
-        requires open { IsSome (find self.old key) }
-        requires room { vec_len closed.old + self.old.count ≤ vec_capacity closed.old }
-
-        // The list begins as it did, and goes on with the subtree.
-        ensures before { take (length closed.old.items) closed.new.items ≡ closed.old.items }
-        ensures moved { IsSubtree self.old key.number (drop (length closed.old.items) closed.new.items) }
-        ensures kept { (other : Key) → find self.new other ≡ cond (is_below self.old key.number other.number) None (find self.old other) }
-        ensures count { vec_len closed.new + self.new.count ≡ vec_len closed.old + self.old.count }
-        ensures room { self.new.room + self.new.count ≡ self.old.room + self.old.count }
-        ensures list_room { vec_capacity closed.new ≡ vec_capacity closed.old }
+    /// How many resources wait.
+    pub fn waiting(&self) -> u64
+        ensures { result ≡ waiting_count self.now }
     {
-        subtree::move_out(&mut self.nodes, key, closed);
-        let mut back = false;
-        while subtree::sweep(&mut self.nodes, closed, back) {
-            back = !back;
+        self.store.waiting_count
+    }
+
+    /// Takes out a resource that waits, with its number; None where none waits. It takes no memory.
+    pub fn take_waiting(&mut self) -> Option<(u64, R)>
+        ensures some { IfSome result (λ taken. Takes self.old self.new taken.0 taken.1) }
+        ensures none { IfNone result ((key : Key) (stowed : Stowed R) → find self.old.resources key ≡ Some stowed →
+            IsTrue (is_held self.old.nodes stowed)) }
+        ensures kept { IfNone result (self.new ≡ self.old) }
+        ensures nodes { self.new.nodes ≡ self.old.nodes }
+        ensures chain { self.new.chain ≡ self.old.chain }
+    {
+        match self.store.link(Place::Waiting).next {
+            Place::Stored(slot) => {
+                let Some(key) = self.store.resource_at(slot) else {
+                    unreachable!()
+                };
+                self.store.leave(Place::Stored(key.slot));
+                let Some(stowed) = self.store.take_resource(key) else {
+                    unreachable!()
+                };
+                Some((key.number, stowed.resource))
+            }
+            _ => None,
         }
     }
 }

@@ -1,10 +1,14 @@
 -- Keys, and what they find or do not.
-use Rattle.std.proofs.Common.{◌≡◌, ◌≢◌, Option, Some, None, is_some, IsSome, refl, sym, ap, ◌∙◌, inl, inr, ◌⊎◌, true≢false}
-use Rattle.std.proofs.lemmas.Bool.{cases_eq}
+use Rattle.std.proofs.Common.{◌≡◌, ◌≢◌, true, Option, Some, None, is_some, IsSome, refl, sym, ap, ◌∙◌, inl, inr, ◌⊎◌, true≢false}
+use Rattle.std.proofs.lemmas.Bool.{cases_eq, and_parts, eqb-true}
 use Rattle.rx_slots.specs.declared.Key.{Key}
+use Rattle.rx_tree.specs.Tree.{is_key}
 
 pub same_key : (a b : Key) → a.slot ≡ b.slot → a.number ≡ b.number → a ≡ b
 same_key a b slot number = λ i. record { slot = slot i; number = number i }
+
+pub key_is : (a b : Key) → is_key a b ≡ true → a ≡ b
+key_is a b same = let parts = and_parts _ _ same in same_key a b (eqb-true a.slot b.slot parts.0) (eqb-true a.number b.number parts.1)
 
 -- two keys are one, or they differ
 pub cases_key : (a b : Key) → (a ≡ b) ⊎ (a ≢ b)

@@ -4,31 +4,32 @@ use Rattle.std.specs.Option.{option_and_then}
 use Rattle.std.proofs.lemmas.Bool.Decides.{nat_tests}
 use Rattle.rx_event.specs.Tree.{if_less}
 use Rattle.rx_slots.specs.declared.Key.{Key}
-use Rattle.rx_slots.specs.Slots.{find}
+use Rattle.rx_slots.specs.Slots.{Slots, find}
 use Rattle.rx_tree.specs.declared.node.Node.{Node}
-use Rattle.rx_tree.specs.Tree.{Tree, IsSound, IsChild, named_above, parent_number}
+use Rattle.rx_tree.specs.Tree.{IsSound, IsChild, named_above, parent_number}
 
-module _ {T : Type 0} where
-  -- the number of the parent's key is that which the place names
-  pub named_parent : (s : Tree T) (key : Key) (node : Node T) → find s key ≡ Some node → IsSound s → option_map (λ p. p.number) node.above ≡ parent_number s key
-  named_parent s key node found sound =
-      let placed = sound.placed key node found in
-      sym (ap (option_and_then (named_above key.number)) found ∙ ap (option_and_then (if_less key.number)) placed.named ∙ less node.above placed.lower) where
-        less : (above : Option Key) → IfSome above (λ p. p.number < key.number) → option_and_then (if_less key.number) (option_map (λ p. p.number) above) ≡ option_map (λ p. p.number) above
-        less None lower = refl
-        less (Some p) lower = grind (arith, nat_tests, lower)
+-- the number of the parent's key is that which the place names
+pub named_parent : (s : Slots Node) (key : Key) (node : Node) → find s key ≡ Some node → IsSound s → option_map (λ p. p.number) node.above ≡ parent_number s key
+named_parent s key node found sound =
+    let placed = sound.placed key node found in
+    sym (ap (option_and_then (named_above key.number)) found ∙ ap (option_and_then (if_less key.number)) placed.named ∙ less node.above placed.lower) where
+      less : (above : Option Key) → IfSome above (λ p. p.number < key.number) → option_and_then (if_less key.number) (option_map (λ p. p.number) above) ≡
+          option_map (λ p. p.number) above
+      less None lower = refl
+      less (Some p) lower = grind (arith, nat_tests, lower)
 
-  -- a key that stands below one finds a record
-  pub child_found : (s : Tree T) (key : Key) (n : ℕ) → parent_number s key ≡ Some n → IsSome (find s key)
-  child_found s key n named = of (find s key) named where
-    of : (o : Option (Node T)) → option_and_then (named_above key.number) o ≡ Some n → IsSome o
-    of None e = absurd (true≢false (ap is_some (sym e)))
-    of (Some node) e = refl
+-- a key that stands below one finds a record
+pub child_found : (s : Slots Node) (key : Key) (n : ℕ) → parent_number s key ≡ Some n → IsSome (find s key)
+child_found s key n named = of (find s key) named where
+  of : (o : Option Node) → option_and_then (named_above key.number) o ≡ Some n → IsSome o
+  of None e = absurd (true≢false (ap is_some (sym e)))
+  of (Some node) e = refl
 
-  -- the key of a parent is the only one of its number
-  pub parent_key : (s : Tree T) (parent child : Key) (o : Option Key) → IsSound s → IsChild s parent child → option_map (λ p. p.number) o ≡ parent_number s child → IfSome o (λ p. IsSome (find s p)) → o ≡ Some parent
-  parent_key s parent child None sound is numbers found = absurd (let e = is.named in true≢false (ap is_some (sym (numbers ∙ e))))
-  parent_key s parent child (Some p) sound is numbers found =
-      let e : Some p.number ≡ Some parent.number = numbers ∙ is.named in
-      let same : p.number ≡ parent.number = cc in
-      ap (λ k. Some k) (sound.apart p parent found is.there same)
+-- the key of a parent is the only one of its number
+pub parent_key : (s : Slots Node) (parent child : Key) (o : Option Key) → IsSound s → IsChild s parent child →
+    option_map (λ p. p.number) o ≡ parent_number s child → IfSome o (λ p. IsSome (find s p)) → o ≡ Some parent
+parent_key s parent child None sound is numbers found = absurd (let e = is.named in true≢false (ap is_some (sym (numbers ∙ e))))
+parent_key s parent child (Some p) sound is numbers found =
+    let e : Some p.number ≡ Some parent.number = numbers ∙ is.named in
+    let same : p.number ≡ parent.number = cc in
+    ap (λ k. Some k) (sound.apart p parent found is.there same)

@@ -1,5 +1,6 @@
 -- What slots find after a write of one record.
-use Rattle.std.proofs.Common.{◌≡◌, ◌≢◌, ℕ, ◌<◌, length, get_or, set, Option, Some, None, is_some, IsSome, option_map, refl, sym, ap, ◌∙◌, inl, inr, rules, true≢false}
+use Rattle.std.proofs.Common.{◌≡◌, ◌≢◌, ℕ, ◌<◌, length, get_or, set, Option, Some, None, is_some, IsSome, option_map, refl, sym, ap, ◌∙◌, inl, inr, rules}
+use Rattle.std.proofs.Common.{true≢false}
 use Rattle.std.proofs.lemmas.Bool.{cases_eq, cases_lt}
 use Rattle.std.proofs.lemmas.List.{get_or_past, get_or-set_same, get_or-set_other, set-get_or}
 use Rattle.rx_slots.specs.declared.Entry.{Entry}
@@ -52,7 +53,8 @@ module _ {X : Type 0} where
       (same_key a b slot (ap (λ z. z.number) same), ap (λ z. z.value) same)
 
   -- where a slot's entry is written, its key finds what was written, and every other what it found
-  module _ (s t : Slots X) (key : Key) (before after : X) (found : find s key ≡ Some before) (written : t.entries ≡ set s.entries key.slot (Some (entry_of key.number after))) where
+  module _ (s t : Slots X) (key : Key) (before after : X) (found : find s key ≡ Some before)
+      (written : t.entries ≡ set s.entries key.slot (Some (entry_of key.number after))) where
     within : key.slot < length s.entries
     within = slot_within s key.slot (entry_of key.number before) (entry_found s key before found)
 
@@ -71,31 +73,41 @@ module _ {X : Type 0} where
               let other : key.number ≢ k.number = λ n. differs (same_key k key same (sym n)) in
               let now = ap (entry_at t) same ∙ entry_found t key after find-written in
               let was = ap (entry_at s) same ∙ entry_found s key before found in
-              (ap (with_number k.number) now ∙ with_number-other k.number (entry_of key.number after) other) ∙ sym (ap (with_number k.number) was ∙ with_number-other k.number (entry_of key.number before) other)
+              (ap (with_number k.number) now ∙ with_number-other k.number (entry_of key.number after) other) ∙
+              sym (ap (with_number k.number) was ∙ with_number-other k.number (entry_of key.number before) other)
           | inr apart ↦ ap (with_number k.number) (elsewhere k.slot apart)
         ]
 
   -- a value at a slot is that of a key
-  pub key_of_value : (s : Slots X) (slot : ℕ) (x : X) → value_at s slot ≡ Some x → (key : Key) × (key.slot ≡ slot) × (key_at s slot ≡ Some key) × (find s key ≡ Some x)
+  pub key_of_value : (s : Slots X) (slot : ℕ) (x : X) → value_at s slot ≡ Some x → (key : Key) × (key.slot ≡ slot) × (key_at s slot ≡ Some key) ×
+      (find s key ≡ Some x)
   key_of_value s slot x value = of (entry_at s slot) refl value where
-    of : (o : Option (Entry X)) → entry_at s slot ≡ o → option_map (λ e. e.value) o ≡ Some x → (key : Key) × (key.slot ≡ slot) × (key_at s slot ≡ Some key) × (find s key ≡ Some x)
+    of : (o : Option (Entry X)) → entry_at s slot ≡ o → option_map (λ e. e.value) o ≡ Some x → (key : Key) × (key.slot ≡ slot) × (key_at s slot ≡ Some key) ×
+        (find s key ≡ Some x)
     of None at value = absurd (true≢false (ap is_some (sym value)))
     of (Some e) at value =
-        let key : Key = record { slot = slot; number = e.number } in
-        (key, refl, ap (option_map (λ y. record { slot = slot; number = y.number })) at, ap (with_number e.number) at ∙ with_number-same e.number e refl ∙ value)
+        let key : Key = record { slot = slot; number = e.number } in (
+          key,
+          refl,
+          ap (option_map (λ y. record { slot = slot; number = y.number })) at,
+          ap (with_number e.number) at ∙ with_number-same e.number e refl ∙
+              value,
+        )
 
   -- and to write at the slot is to write at the key
   pub with_value_at-key : (s : Slots X) (slot : ℕ) (key : Key) (x y : X) → key.slot ≡ slot → find s key ≡ Some x → with_value_at s slot y ≡ with_value s key y
   with_value_at-key s slot key x y same found =
       let at : entry_at s slot ≡ Some (entry_of key.number x) = ap (entry_at s) (sym same) ∙ entry_found s key x found in
-      let put : option_map (λ number. entry_of number y) (number_at s slot) ≡ Some (entry_of key.number y) = ap (λ o. option_map (λ number. entry_of number y) (option_map (λ e. e.number) o)) at in
+      let put : option_map (λ number. entry_of number y) (number_at s slot) ≡ Some (entry_of key.number y) =
+      ap (λ o. option_map (λ number. entry_of number y) (option_map (λ e. e.number) o)) at in
       let back = sym same in
       λ i. record s { entries = set s.entries (back i) (put i) }
 
   -- to write what stands there changes nothing
   pub with_value-same : (s : Slots X) (key : Key) (x : X) → find s key ≡ Some x → with_value s key x ≡ s
   with_value-same s key x found =
-      let kept : set s.entries key.slot (Some (entry_of key.number x)) ≡ s.entries = ap (λ o. set s.entries key.slot o) (sym (entry_found s key x found)) ∙ set-get_or s.entries key.slot None in
+      let kept : set s.entries key.slot (Some (entry_of key.number x)) ≡ s.entries =
+      ap (λ o. set s.entries key.slot o) (sym (entry_found s key x found)) ∙ set-get_or s.entries key.slot None in
       λ i. record s { entries = kept i }
 
   -- a number at a slot is found there

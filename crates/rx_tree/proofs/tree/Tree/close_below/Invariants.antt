@@ -1,14 +1,19 @@
-use Rattle.std.proofs.Common.{◌≡◌, ◌+◌, vec_len, vec_capacity}
-use Rattle.rx_tree.specs.Cuts.{Cuts}
+use Rattle.std.proofs.Common.{◌≡◌, ◌+◌, IsSome, vec_len, vec_capacity}
+use Rattle.rx_slots.specs.Slots.{find}
+use Rattle.rx_tree.specs.Cuts.{Descends, IsCutting}
+use Rattle.rx_tree.specs.Store.{nodes_of}
+use Rattle.rx_tree.specs.Ties.{IsCounted}
 use Rattle.rx_tree.proofs.tree.Tree.close_below.Given as goal
 
-abbrev pub invariant-loop-self : goal.invariant-loop-self
-invariant-loop-self g l = record {
-  cuts : Cuts l.initial.self-inside.nodes l.initial.closed.items l.self-inside.nodes l.closed.items;
-  count : vec_len l.closed + l.self-inside.nodes.count ≡ vec_len l.fn.closed + l.fn.self.count;
-  room : l.self-inside.nodes.room + l.self-inside.nodes.count ≡ l.fn.self.room + l.fn.self.count;
+abbrev pub invariant-loop-above : goal.invariant-loop-above
+invariant-loop-above g l = record {
+  cutting : IsCutting l.initial.self-inside.store l.self-inside.store l.fn.key l.fn.closed.items l.closed.items;
+  down : Descends (nodes_of l.initial.self-inside.store) l.fn.key l.at;
+  there : IsSome (find (nodes_of l.self-inside.store) l.at);
+  count : vec_len l.closed + l.self-inside.store.nodes.count ≡ vec_len l.fn.closed + l.initial.self-inside.store.nodes.count;
+  counted : IsCounted l.self-inside.store;
   capacity : vec_capacity l.closed ≡ vec_capacity l.fn.closed;
 }
 
-abbrev pub decreases-loop-self : goal.decreases-loop-self
-decreases-loop-self g l = l.self-inside.nodes.count
+abbrev pub decreases-loop-above : goal.decreases-loop-above
+decreases-loop-above g l = l.self-inside.store.nodes.count

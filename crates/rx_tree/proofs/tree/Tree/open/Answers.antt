@@ -1,6 +1,78 @@
-use Rattle.rx_tree.proofs.Sound.{IsSound-inserted}
+use Rattle.std.proofs.Common.{refl, sym, ap, subst, ◌∙◌}
+use Rattle.rx_tree.specs.Store.{project, nodes_of, resources_of}
+use Rattle.rx_tree.specs.Ties.{IsKept}
+use Rattle.rx_tree.specs.Owed.{owed_in}
+use Rattle.rx_tree.specs.Tree.{Tree}
+use Rattle.rx_tree.proofs.RecordSteps.{room_nodes, opened_last, ring_stands, opened_on_tied, opened_on_chain, opened_off_tied, opened_off_chain}
+use Rattle.rx_tree.proofs.CountSteps.{counted_room_nodes, counted_relinked, owed_opened}
+use Rattle.rx_event.specs.declared.marks.Marks.{Marks}
 use Rattle.rx_tree.proofs.tree.Tree.open.Goals as goal
 
 pub invariant_of-self : goal.invariant_of-self
 invariant_of-self g c =
-    IsSound-inserted c.self.inside.nodes c.insert.new.self c.insert.result c.args.number c.blank-node.result c.insert.ensures.numbered c.insert.ensures.was_free c.insert.ensures.found c.insert.ensures.kept c.insert.ensures.err (rw (← c.self.view_is) at c.requires.unused) (rw c.blank-node.ensures (rw (← c.self.view_is) at c.requires.placed)) c.self.invariant
+    let s = c.self.inside.store in
+    let room = record c.self.inside.store.nodes { room = c.add_node.new.self.nodes.room } in
+    subst (λ s. IsKept s) (sym c.in-Err.ensures.err)
+    (record { tied = room_nodes s room refl c.self.invariant.tied; counted = counted_room_nodes s c.self.invariant.counted room refl })
+
+pub join-requires-clause-last : goal.join-requires-clause-last
+join-requires-clause-last g c =
+    let s = c.self.inside.store in
+    opened_last s c.add_node.new.self c.in-Ok.key c.args.number (record { made = c.args.made; above = c.args.above; marks = c.blank.result })
+    c.self.invariant.tied c.in-Ok.ensures.ok c.add_node.ensures.links (ap (project (λ r. r.stowed)) c.add_node.ensures.resources) c.in-Some.ring
+    (ring_stands (nodes_of s) (resources_of s) c.args.number (record { made = c.args.made; above = c.args.above; marks = c.blank.result }) c.in-Some.ring
+    (rw (← c.self.view_is) at c.requires.placed) (sym c.sibling_ring.ensures ∙ c.in-Some.is))
+
+pub invariant_of-self-in-Some : goal.invariant_of-self-in-Some
+invariant_of-self-in-Some g c =
+    record {
+      tied = opened_on_tied c.self.inside.store c.add_node.new.self c.in-Ok.key c.args.number
+          (record { made = c.args.made; above = c.args.above; marks = c.blank.result }) c.self.invariant.tied c.in-Ok.ensures.ok
+          (rw (← c.self.view_is) at c.requires.newest.past) (rw (← c.self.view_is) at c.requires.newest.homes) (rw (← c.self.view_is) at c.requires.placed)
+          c.add_node.ensures.links (ap (project (λ r. r.stowed)) c.add_node.ensures.resources) c.join.new.self c.in-Some.ring
+          (sym c.sibling_ring.ensures ∙ c.in-Some.is) c.join.ensures.joins c.join.ensures.rest;
+      counted =
+          counted_relinked c.add_node.new.self c.join.new.self c.join.ensures.rest c.in-Ok.ensures.counted;
+    }
+
+pub invariant_of-self-in_default : goal.invariant_of-self-in_default
+invariant_of-self-in_default g c =
+    record {
+      tied = opened_off_tied c.self.inside.store c.add_node.new.self c.in-Ok.key c.args.number
+          (record { made = c.args.made; above = c.args.above; marks = c.blank.result }) c.self.invariant.tied c.in-Ok.ensures.ok
+          (rw (← c.self.view_is) at c.requires.newest.past) (rw (← c.self.view_is) at c.requires.newest.homes) (rw (← c.self.view_is) at c.requires.placed)
+          c.add_node.ensures.links (ap (project (λ r. r.stowed)) c.add_node.ensures.resources) (sym c.sibling_ring.ensures ∙ c.in_default.is);
+      counted =
+          c.in-Ok.ensures.counted;
+    }
+
+pub returns-in-Some-clause-chain : goal.returns-in-Some-clause-chain
+returns-in-Some-clause-chain g c = rw (← c.self.view_is)
+    (opened_on_chain c.self.inside.store c.add_node.new.self c.in-Ok.key c.args.number
+    (record { made = c.args.made; above = c.args.above; marks = c.blank.result }) c.self.invariant.tied c.in-Ok.ensures.ok
+    (rw (← c.self.view_is) at c.requires.newest.past) (rw (← c.self.view_is) at c.requires.newest.homes) (rw (← c.self.view_is) at c.requires.placed)
+    c.add_node.ensures.links (ap (project (λ r. r.stowed)) c.add_node.ensures.resources) c.join.new.self c.in-Some.ring
+    (sym c.sibling_ring.ensures ∙ c.in-Some.is) c.join.ensures.joins c.join.ensures.rest)
+
+pub returns-in_default-clause-chain : goal.returns-in_default-clause-chain
+returns-in_default-clause-chain g c = rw (← c.self.view_is)
+    (opened_off_chain c.self.inside.store c.add_node.new.self c.in-Ok.key c.args.number
+    (record { made = c.args.made; above = c.args.above; marks = c.blank.result }) c.self.invariant.tied c.in-Ok.ensures.ok
+    (rw (← c.self.view_is) at c.requires.newest.past) (rw (← c.self.view_is) at c.requires.newest.homes) (rw (← c.self.view_is) at c.requires.placed)
+    c.add_node.ensures.links (ap (project (λ r. r.stowed)) c.add_node.ensures.resources) (sym c.sibling_ring.ensures ∙ c.in_default.is))
+
+pub add_node-requires-clause-homes : goal.add_node-requires-clause-homes
+add_node-requires-clause-homes g c = rw (← c.self.view_is) at c.requires.newest.homes
+
+pub add_node-requires-clause-owes_nothing : goal.add_node-requires-clause-owes_nothing
+add_node-requires-clause-owes_nothing g c = ap (λ (m : Marks). m.owed) c.blank.ensures
+
+pub returns-in-Some-clause-owed : goal.returns-in-Some-clause-owed
+returns-in-Some-clause-owed g c = ap owed_in c.join.ensures.rest.nodes ∙ owed_opened c.self.inside.store c.add_node.new.self c.in-Ok.key c.args.number
+    (record { made = c.args.made; above = c.args.above; marks = c.blank.result }) c.in-Ok.ensures.ok (ap (λ (m : Marks). m.owed) c.blank.ensures) ∙
+    ap (λ (x : Tree g.row.R.Denot). owed_in x.nodes) c.self.view_is
+
+pub returns-in_default-clause-owed : goal.returns-in_default-clause-owed
+returns-in_default-clause-owed g c = owed_opened c.self.inside.store c.add_node.new.self c.in-Ok.key c.args.number
+    (record { made = c.args.made; above = c.args.above; marks = c.blank.result }) c.in-Ok.ensures.ok (ap (λ (m : Marks). m.owed) c.blank.ensures) ∙
+    ap (λ (x : Tree g.row.R.Denot). owed_in x.nodes) c.self.view_is

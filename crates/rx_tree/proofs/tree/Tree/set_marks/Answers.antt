@@ -1,11 +1,60 @@
-use Rattle.std.proofs.Common.{refl, sym}
-use Rattle.rx_tree.proofs.Nodes.{sound_written}
+use Rattle.std.proofs.Common.{◌≡◌, Bool, true, false, refl, sym, ap, ◌∙◌, true≢false}
+use Rattle.std.proofs.Math.Bool.{not}
+use Rattle.rx_tree.specs.Store.{project, nodes_of, resources_of}
+use Rattle.rx_tree.specs.Store.{next_of, previous_of}
+use Rattle.rx_tree.specs.declared.links.Place.TheVariants.{Due}
+use Rattle.rx_tree.proofs.There.{previous_stands}
+use Rattle.rx_tree.proofs.MarkSteps.{marked_tied, marked_on, joined_tied, joined_chain}
+use Rattle.rx_tree.proofs.CountSteps.{counted_relinked}
 use Rattle.rx_tree.proofs.tree.Tree.set_marks.Goals as goal
-use Rattle.rx_tree.proofs.tree.Tree.set_marks.Goals.{in-Some, in_default}
+
+not_false : (b : Bool) → false ≡ not b → b ≡ true
+not_false true e = refl
+not_false false e = absurd (true≢false (sym e))
+
+not_true : (b : Bool) → true ≡ not b → b ≡ false
+not_true false e = refl
+not_true true e = absurd (true≢false e)
+
+pub join-requires-clause-last : goal.join-requires-clause-last
+join-requires-clause-last g c =
+    let m = c.write_marks.new.self in
+    previous_stands (nodes_of m) (resources_of m) (next_of m) (previous_of m)
+    (marked_tied c.self.inside.store c.write_marks.new.self c.args.key c.in-Some._node c.args.marks c.self.invariant.tied
+    (sym c.node.ensures ∙ c.in-Some.is) (c.write_marks.ensures.changes c.in-Some._node (sym c.node.ensures ∙ c.in-Some.is))
+    c.write_marks.ensures.rewrites.others c.write_marks.ensures.links (ap (project (λ r. r.stowed)) c.write_marks.ensures.resources)) Due refl
 
 pub invariant_of-self : goal.invariant_of-self
 invariant_of-self g c =
-    elim c.match-get_mut.branch [
-      | in-Some w ↦ rw w.self-inside-is (sound_written c.self.inside.nodes c.args.key w.in-Some.node.now _ (sym w.in-Some.ensures.value) refl refl c.self.invariant)
-      | in_default w ↦ rw w.self-inside-is c.self.invariant
-    ]
+    record {
+      tied = joined_tied c.self.inside.store c.write_marks.new.self c.args.key c.in-Some._node c.args.marks c.self.invariant.tied
+          (sym c.node.ensures ∙ c.in-Some.is) (c.write_marks.ensures.changes c.in-Some._node (sym c.node.ensures ∙ c.in-Some.is))
+          c.write_marks.ensures.rewrites.others c.write_marks.ensures.links (ap (project (λ r. r.stowed)) c.write_marks.ensures.resources) c.join.new.self
+          (not_false _ (sym c.if-not-is_noted.true ∙ c.is_noted.ensures)) c.join.ensures.joins c.join.ensures.rest;
+      counted =
+          counted_relinked c.write_marks.new.self c.join.new.self c.join.ensures.rest c.write_marks.ensures.counted;
+    }
+
+pub invariant_of-self-else-not-is_noted : goal.invariant_of-self-else-not-is_noted
+invariant_of-self-else-not-is_noted g c =
+    record {
+      tied = marked_tied c.self.inside.store c.write_marks.new.self c.args.key c.in-Some._node c.args.marks c.self.invariant.tied
+          (sym c.node.ensures ∙ c.in-Some.is) (c.write_marks.ensures.changes c.in-Some._node (sym c.node.ensures ∙ c.in-Some.is))
+          c.write_marks.ensures.rewrites.others c.write_marks.ensures.links (ap (project (λ r. r.stowed)) c.write_marks.ensures.resources);
+      counted =
+          c.write_marks.ensures.counted;
+    }
+
+pub returns-then-not-is_noted-clause-chain : goal.returns-then-not-is_noted-clause-chain
+returns-then-not-is_noted-clause-chain g c = rw (← c.self.view_is)
+    (joined_chain c.self.inside.store c.write_marks.new.self c.args.key c.in-Some._node c.args.marks c.self.invariant.tied (sym c.node.ensures ∙ c.in-Some.is)
+    (c.write_marks.ensures.changes c.in-Some._node (sym c.node.ensures ∙ c.in-Some.is)) c.write_marks.ensures.rewrites.others c.write_marks.ensures.links
+    (ap (project (λ r. r.stowed)) c.write_marks.ensures.resources) c.join.new.self (not_false _ (sym c.if-not-is_noted.true ∙ c.is_noted.ensures))
+    c.join.ensures.joins c.join.ensures.rest)
+
+pub returns-else-not-is_noted-clause-chain : goal.returns-else-not-is_noted-clause-chain
+returns-else-not-is_noted-clause-chain g c =
+    rw (← c.self.view_is) (marked_on c.self.inside.store c.write_marks.new.self c.args.key c.in-Some._node c.args.marks c.self.invariant.tied
+    (sym c.node.ensures ∙ c.in-Some.is) (c.write_marks.ensures.changes c.in-Some._node (sym c.node.ensures ∙ c.in-Some.is))
+    c.write_marks.ensures.rewrites.others c.write_marks.ensures.links (ap (project (λ r. r.stowed)) c.write_marks.ensures.resources)
+    (not_true _ (sym c.if-not-is_noted.false ∙ c.is_noted.ensures)))

@@ -1,5 +1,0 @@
-pub mod Keys
-pub mod Written
-pub mod Rewritten
-pub mod Parents
-pub mod Below

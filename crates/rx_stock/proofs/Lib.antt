@@ -1,4 +1,0 @@
-pub mod Noted
-pub mod Spilled
-pub mod Used
-pub mod Few

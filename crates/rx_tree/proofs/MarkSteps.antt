@@ -1,0 +1,180 @@
+-- What calls on the chain leave of a tree.
+use Rattle.std.proofs.Common.{◌≡◌, ◌≢◌, ℕ, ◌&&◌, cond, map, drop, Bool, true, false, List, [], ◌∷◌, ◌++◌, Option, Some, None, option_map, is_some, refl, sym}
+use Rattle.std.proofs.Common.{ap, subst, ◌∙◌}
+use Rattle.std.specs.Option.{option_map_or}
+use Rattle.std.proofs.Math.Bool.{not}
+use Rattle.std.proofs.lemmas.Bool.{false≢true, false_from_ne_true}
+use Rattle.rx_event.specs.declared.marks.Marks.{Marks}
+use Rattle.rx_slots.specs.declared.Key.{Key}
+use Rattle.rx_slots.specs.declared.Entry.{Entry}
+use Rattle.rx_slots.specs.Slots.{Slots, entry_of, entry_at, find, key_at, Changes, KeepsOthers}
+use Rattle.rx_tree.specs.declared.links.Place.{Place}
+use Rattle.rx_tree.specs.declared.links.Place.TheVariants.{Due, Noted}
+use Rattle.rx_tree.specs.declared.node.Node.{Node}
+use Rattle.rx_tree.specs.declared.node.Stowed.{Stowed}
+use Rattle.rx_tree.specs.declared.store.Store.{Store}
+use Rattle.rx_tree.specs.Rings.{is_among, without, Steps, Leads, AreDifferent, Joins, Leaves}
+use Rattle.rx_tree.specs.Places.{is_place, is_end, slot_of, places}
+use Rattle.rx_tree.proofs.Places.{tells}
+use Rattle.rx_tree.proofs.Laws.Places.{place_differs, among_here, without_none}
+use Rattle.rx_tree.proofs.Laws.Links.{no_loop, first_among}
+use Rattle.rx_tree.proofs.Laws.Rings.{some_none}
+use Rattle.rx_tree.specs.Store.{key_on, nodes_of, resources_of, next_of, previous_of, KeepsLinks, Relinks, shown}
+use Rattle.rx_tree.specs.Ties.{home_of, IsTiedAt, IsTied}
+use Rattle.rx_tree.specs.Tree.{is_on, with_last, with_marks, first_of}
+use Rattle.rx_tree.proofs.TieSteps.{tied_links, tied_noted, tied_unnoted}
+use Rattle.rx_tree.proofs.TieRecords.{tied_marked, by_entry, home_stands}
+use Rattle.rx_tree.proofs.Chain.{chain_is, retie, due_is, on_places, places_on, key_on_found}
+use Rattle.rx_tree.proofs.Laws.Keys.{same_key}
+
+map_append : {X Y : Type 0} (f : X → Y) (xs ys : List X) → map f (xs ++ ys) ≡ map f xs ++ map f ys
+map_append f [] ys = refl
+map_append f (x ∷ xs) ys = ap (λ zs. f x ∷ zs) (map_append f xs ys)
+
+map_same : {X Y : Type 0} (f g : X → Y) (xs : List X) → ((x : X) → f x ≡ g x) → map f xs ≡ map g xs
+map_same f g [] same = refl
+map_same f g (x ∷ xs) same = (λ i. same x i ∷ map_same f g xs same i)
+
+module _ {T : Type 0} where
+  -- a node that its link shows on the chain is on it, and another is not
+  pub off_chain : (n p : Steps Place) (nodes : Slots Node) (resources : Slots (Stowed T)) (tied : IsTiedAt n p nodes resources) (slot : ℕ) →
+      is_place (n (Noted slot)) (Noted slot) ≡ true → home_of nodes resources tied.noted (Noted slot) ≡ None
+  off_chain n p nodes resources tied slot loop = of (tied.noted slot && is_some (entry_at nodes slot)) refl where
+    of : (b : Bool) → (tied.noted slot && is_some (entry_at nodes slot)) ≡ b → cond b (Some Due) None ≡ None
+    of false e = refl
+    of true e =
+        let home : home_of nodes resources tied.noted (Noted slot) ≡ Some Due = ap (λ b. cond b (Some Due) None) e in
+        absurd (no_loop tells n p Due (tied.rings Due) Due (Noted slot) (tied.ringed.leads Due refl) (tied.ringed.differ Due) (λ s. false≢true (ap is_end s))
+        (tied.ringed.listed Due (Noted slot) home) (tells.same (n (Noted slot)) (Noted slot) loop))
+
+  pub on_chain : (n p : Steps Place) (nodes : Slots Node) (resources : Slots (Stowed T)) (tied : IsTiedAt n p nodes resources) (slot : ℕ) →
+      is_place (n (Noted slot)) (Noted slot) ≡ false → is_among places (Noted slot) (tied.rings Due) ≡ true
+  on_chain n p nodes resources tied slot other = tied.ringed.listed Due (Noted slot) (of (tied.noted slot && is_some (entry_at nodes slot)) refl) where
+    of : (b : Bool) → (tied.noted slot && is_some (entry_at nodes slot)) ≡ b → cond b (Some Due) None ≡ Some Due
+    of true e = refl
+    of false e =
+        let home : home_of nodes resources tied.noted (Noted slot) ≡ None = ap (λ b. cond b (Some Due) None) e in
+        absurd (place_differs tells (n (Noted slot)) (Noted slot) other (tied.ringed.loose (Noted slot) refl home).to)
+
+  -- marks are set
+  module _ (s m : Store T) (key : Key) (node : Node) (marks : Marks) (tied : IsTied s) (found : find (nodes_of s) key ≡ Some node)
+      (change : Changes (nodes_of s) (nodes_of m) key.slot (Some (entry_of key.number (with_marks marks node))))
+      (kept : KeepsOthers (nodes_of s) (nodes_of m) key) (links : KeepsLinks s m) (rest : resources_of m ≡ resources_of s) where
+    abbrev pub marked : IsTiedAt (next_of m) (previous_of m) (nodes_of m) (resources_of s)
+    marked = tied_links (next_of s) (previous_of s) (next_of m) (previous_of m) (nodes_of m) (resources_of s) (λ q. ap (λ l. l.next) (links q))
+        (λ q. ap (λ l. l.previous) (links q))
+        (tied_marked (nodes_of s) (nodes_of m) (resources_of s) key node marks found change kept (next_of s) (previous_of s) tied)
+
+    pub marked_tied : IsTied m
+    marked_tied = retie m (nodes_of m) (resources_of s) refl rest marked
+
+    same_keys : (q : Place) → key_on (nodes_of m) q ≡ key_on (nodes_of s) q
+    same_keys q = same_key (key_on (nodes_of m) q) (key_on (nodes_of s) q) refl
+        (by_entry {T = T} (nodes_of s) (nodes_of m) (resources_of s) key node marks found change kept
+        (λ o. option_map_or (λ n. n) (option_map (λ e. e.number) o) 0) refl (slot_of q))
+
+    chain_before : (shown s).chain ≡ map (key_on (nodes_of s)) (tied.rings Due)
+    chain_before = chain_is s (nodes_of s) (resources_of s) refl tied
+
+    there : is_some (find (nodes_of s) key) ≡ true
+    there = ap is_some found
+
+    -- it was on the chain
+    pub marked_on : is_place (next_of m (Noted key.slot)) (Noted key.slot) ≡ false →
+        (shown m).chain ≡ cond (is_some (find (nodes_of s) key)) (with_last key (shown s).chain) (shown s).chain
+    marked_on other =
+        let among = on_chain (next_of m) (previous_of m) (nodes_of m) (resources_of s) marked key.slot other in
+        let on : is_on key (shown s).chain ≡ true =
+        ap (is_on key) chain_before ∙ subst (λ k. is_on k (map (key_on (nodes_of s)) (tied.rings Due)) ≡ true)
+        (key_on_found (nodes_of s) key node (Noted key.slot) refl found) (places_on (nodes_of s) (tied.rings Due) (Noted key.slot) among) in
+        chain_is m (nodes_of m) (resources_of s) refl marked ∙ map_same (key_on (nodes_of m)) (key_on (nodes_of s)) (tied.rings Due) same_keys ∙
+        sym chain_before ∙ sym (ap (λ b. cond b (with_last key (shown s).chain) (shown s).chain) there ∙
+        ap (λ b. cond b (shown s).chain ((shown s).chain ++ key ∷ [])) on)
+
+    -- it was not, and is put there
+    module _ (t : Store T) (off : is_place (next_of m (Noted key.slot)) (Noted key.slot) ≡ true)
+        (joins : Joins places (next_of m) (previous_of m) (next_of t) (previous_of t) Due (Noted key.slot)) (relinks : Relinks m t) where
+      home_none : home_of (nodes_of m) (resources_of s) marked.noted (Noted key.slot) ≡ None
+      home_none = off_chain (next_of m) (previous_of m) (nodes_of m) (resources_of s) marked key.slot off
+
+      abbrev joined : IsTiedAt (next_of t) (previous_of t) (nodes_of m) (resources_of s)
+      joined = tied_noted (nodes_of m) (resources_of s) (next_of m) (previous_of m) (next_of t) (previous_of t) key.slot marked home_none
+          (ap is_some change.changed) joins
+
+      pub joined_tied : IsTied t
+      joined_tied = retie t (nodes_of m) (resources_of s) relinks.nodes (relinks.resources ∙ rest) joined
+
+      pub joined_chain : (shown t).chain ≡ cond (is_some (find (nodes_of s) key)) (with_last key (shown s).chain) (shown s).chain
+      joined_chain =
+          let off_it : is_on key (shown s).chain ≡ false = false_from_ne_true (is_on key (shown s).chain)
+          (λ on. let h = on_places (nodes_of s) (tied.rings Due) key (subst (λ c. is_on key c ≡ true) chain_before on) in let home =
+          tied.ringed.members Due h.place h.among in let is : h.place ≡ Noted key.slot = due_is (nodes_of s) (resources_of s) tied.noted h.place home ∙
+          ap (λ j. Noted j) (sym h.slot) in some_none (home_of (nodes_of m) (resources_of s) marked.noted (Noted key.slot)) Due
+          (marked.ringed.members Due (Noted key.slot) (subst (λ z. is_among places z (tied.rings Due) ≡ true) is h.among)) home_none) in
+          let last : key_on (nodes_of m) (Noted key.slot) ≡ key = same_keys (Noted key.slot) ∙ key_on_found (nodes_of s) key node (Noted key.slot) refl found in
+          chain_is t (nodes_of m) (resources_of s) relinks.nodes joined ∙ map_append (key_on (nodes_of m)) (tied.rings Due) (Noted key.slot ∷ []) ∙
+          (λ i. map_same (key_on (nodes_of m)) (key_on (nodes_of s)) (tied.rings Due) same_keys i ++ last i ∷ []) ∙
+          ap (λ c. c ++ key ∷ []) (sym chain_before) ∙ sym
+          (ap (λ b. cond b (with_last key (shown s).chain) (shown s).chain) there ∙ ap (λ b. cond b (shown s).chain ((shown s).chain ++ key ∷ [])) off_it)
+
+  -- the first of the chain
+  module _ (s : Store T) (tied : IsTied s) where
+    chain_now : (shown s).chain ≡ map (key_on (nodes_of s)) (tied.rings Due)
+    chain_now = chain_is s (nodes_of s) (resources_of s) refl tied
+
+    first_is : (ps : List Place) → Leads (next_of s) (previous_of s) Due ps Due → AreDifferent places ps →
+        ((q : Place) → is_among places q ps ≡ true → q ≡ Noted (slot_of q)) → (slot : ℕ) → next_of s Due ≡ Noted slot →
+        (map (key_on (nodes_of s)) (without places (Noted slot) ps) ≡ drop 1 (map (key_on (nodes_of s)) ps)) ×
+        (first_of (map (key_on (nodes_of s)) ps) ≡ Some (key_on (nodes_of s) (Noted slot)))
+    first_is [] h d all slot at = absurd (false≢true (ap is_end (sym at ∙ h.to)))
+    first_is (x ∷ ps) h d all slot at =
+        let same : Noted slot ≡ x = sym at ∙ h.0.to in (
+          ap (map (key_on (nodes_of s)))
+              (ap (λ b. cond (not b) (x ∷ without places (Noted slot) ps) (without places (Noted slot) ps))
+              (subst (λ z. is_place (Noted slot) z ≡ true) same (tells.self (Noted slot))) ∙
+              without_none tells (Noted slot) ps (subst (λ z. is_among places z ps ≡ false) (sym same) d.0)),
+          ap (λ z. Some (key_on (nodes_of s) z)) (sym same),
+        )
+
+    noted_all : (q : Place) → is_among places q (tied.rings Due) ≡ true → q ≡ Noted (slot_of q)
+    noted_all q i = due_is (nodes_of s) (resources_of s) tied.noted q (tied.ringed.members Due q i)
+
+    none_is : (ps : List Place) → Leads (next_of s) (previous_of s) Due ps Due → ((q : Place) → is_among places q ps ≡ true → q ≡ Noted (slot_of q)) →
+        ((slot : ℕ) → next_of s Due ≢ Noted slot) → ps ≡ []
+    none_is [] h all no_note = refl
+    none_is (x ∷ ps) h all no_note = absurd (no_note (slot_of x) (h.0.to ∙ all x (among_here tells x ps)))
+
+    -- where the links show no node, the chain is empty
+    pub chain_none : ((slot : ℕ) → next_of s Due ≢ Noted slot) → (shown s).chain ≡ []
+    chain_none no_note = chain_now ∙ ap (map (key_on (nodes_of s))) (none_is (tied.rings Due) (tied.ringed.leads Due refl) noted_all no_note)
+
+    module _ (slot : ℕ) (at : next_of s Due ≡ Noted slot) where
+      among_first : is_among places (Noted slot) (tied.rings Due) ≡ true
+      among_first = subst (λ z. is_among places z (tied.rings Due) ≡ true) at
+          (first_among tells (next_of s) (previous_of s) Due (tied.rings Due) Due (tied.ringed.leads Due refl) (λ e. false≢true (ap is_end (sym at ∙ e))))
+
+      pub first_stands : is_some (entry_at (nodes_of s) slot) ≡ true
+      first_stands = home_stands (nodes_of s) (resources_of s) tied.noted (Noted slot) Due (tied.ringed.members Due (Noted slot) among_first)
+
+      pub chain_first : key_at (nodes_of s) slot ≡ first_of (shown s).chain
+      chain_first = at_key (entry_at (nodes_of s) slot) refl first_stands ∙ sym
+          (ap first_of chain_now ∙ (first_is (tied.rings Due) (tied.ringed.leads Due refl) (tied.ringed.differ Due) noted_all slot at).1) where
+            at_key : (o : Option (Entry Node)) → entry_at (nodes_of s) slot ≡ o → is_some o ≡ true →
+                option_map (λ e. record { slot = slot; number = e.number }) (entry_at (nodes_of s) slot) ≡ Some (key_on (nodes_of s) (Noted slot))
+            at_key None read there = absurd (false≢true there)
+            at_key (Some e) read _ = ap (option_map (λ e. record { slot = slot; number = e.number })) read ∙
+                ap (λ o. Some (record { slot = slot; number = option_map_or (λ n. n) (option_map (λ e. e.number) o) 0 })) (sym read)
+
+      module _ (t : Store T) (leaves : Leaves places (next_of s) (previous_of s) (next_of t) (previous_of t) (Noted slot)) (relinks : Relinks s t) where
+        abbrev dropped : IsTiedAt (next_of t) (previous_of t) (nodes_of s) (resources_of s)
+        dropped = tied_unnoted (nodes_of s) (resources_of s) (next_of s) (previous_of s) (next_of t) (previous_of t) slot tied leaves
+
+        pub dropped_tied : IsTied t
+        dropped_tied = retie t (nodes_of s) (resources_of s) relinks.nodes relinks.resources dropped
+
+        pub dropped_chain : (shown t).chain ≡ drop 1 (shown s).chain
+        dropped_chain = chain_is t (nodes_of s) (resources_of s) relinks.nodes dropped ∙
+            (first_is (tied.rings Due) (tied.ringed.leads Due refl) (tied.ringed.differ Due) noted_all slot at).0 ∙ sym (ap (drop 1) chain_now)
+
+        pub dropped_shown : shown t ≡ record (shown s) { chain = drop 1 (shown s).chain }
+        dropped_shown = λ i. record { nodes = relinks.nodes i; resources = relinks.resources i; chain = dropped_chain i }

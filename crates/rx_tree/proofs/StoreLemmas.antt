@@ -1,0 +1,373 @@
+-- Slots that are seen through a function, and what a write of one link changes.
+use Rattle.std.proofs.Common.{◌≡◌, ℕ, ◌+◌, ◌==◌, ◌<◌, cond, length, get_or, set, Bool, true, false, Option, Some, None, option_map, is_some, refl, sym, ap}
+use Rattle.std.proofs.Common.{subst, ◌∙◌, inl, inr, arith, true≢false}
+use Rattle.std.specs.Option.{option_map_or}
+use Rattle.std.proofs.Math.ListN.{get_or-map}
+use Rattle.std.proofs.Math.Seq.{map-set_same}
+use Rattle.std.proofs.lemmas.Bool.{cases_eq, cases_lt}
+use Rattle.std.proofs.lemmas.Bool.Decides.{nat_tests}
+use Rattle.std.proofs.lemmas.List.{get_or_past, get_or-set_same, get_or-set_other}
+use Rattle.rx_slots.specs.declared.Entry.{Entry}
+use Rattle.rx_slots.specs.declared.Key.{Key}
+use Rattle.rx_slots.specs.Slots.{Slots, entry_of, entry_at, value_at, number_at, with_number, find, IsWithin, with_value, with_value_at, Changes, KeepsOthers}
+use Rattle.rx_tree.specs.declared.links.Link.{Link}
+use Rattle.rx_tree.specs.declared.links.Place.{Place}
+use Rattle.rx_tree.specs.declared.links.Place.TheVariants.{Roots, Due, Waiting, Children, Held, Sibling, Noted, Stored}
+use Rattle.rx_tree.specs.declared.store.Linked.{Linked}
+use Rattle.rx_tree.specs.declared.store.Stored.{Stored as Kept}
+use Rattle.rx_tree.specs.declared.store.Store.{Store}
+use Rattle.rx_tree.specs.Store.{on_entry, project, alone, link_at, set_link_at, Relinks, KeepsLinks, Inserts, Takes_out}
+use Rattle.rx_tree.specs.Tree.{Rewrites}
+use Rattle.rx_tree.proofs.Laws.Written.{find-written, KeepsOthers-written, entry_found, slot_within}
+
+module _ {X Y : Type 0} (f : X → Y) where
+  pub entry_at-project : (s : Slots X) (i : ℕ) → entry_at (project f s) i ≡ option_map (on_entry f) (entry_at s i)
+  entry_at-project s i = get_or-map (option_map (on_entry f)) s.entries i None
+
+  pub value_at-project : (s : Slots X) (i : ℕ) → value_at (project f s) i ≡ option_map f (value_at s i)
+  value_at-project s i = ap (option_map (λ e. e.value)) (entry_at-project s i) ∙ of (entry_at s i) where
+    of : (o : Option (Entry X)) → option_map (λ e. e.value) (option_map (on_entry f) o) ≡ option_map f (option_map (λ e. e.value) o)
+    of None = refl
+    of (Some e) = refl
+
+  pub number_at-project : (s : Slots X) (i : ℕ) → number_at (project f s) i ≡ number_at s i
+  number_at-project s i = ap (option_map (λ e. e.number)) (entry_at-project s i) ∙ of (entry_at s i) where
+    of : (o : Option (Entry X)) → option_map (λ e. e.number) (option_map (on_entry f) o) ≡ option_map (λ e. e.number) o
+    of None = refl
+    of (Some e) = refl
+
+  pub find-project : (s : Slots X) (key : Key) → find (project f s) key ≡ option_map f (find s key)
+  find-project s key = ap (with_number key.number) (entry_at-project s key.slot) ∙ of (entry_at s key.slot) where
+    of : (o : Option (Entry X)) → with_number key.number (option_map (on_entry f) o) ≡ option_map f (with_number key.number o)
+    of None = refl
+    of (Some e) = by_test (e.number == key.number) where
+      by_test : (b : Bool) → cond b (Some (f e.value)) None ≡ option_map f (cond b (Some e.value) None)
+      by_test true = refl
+      by_test false = refl
+
+  pub within-project : (s : Slots X) → IsWithin s → IsWithin (project f s)
+  within-project s within key found = within key (of (find s key) (sym (ap is_some (find-project s key)) ∙ found)) where
+    of : (o : Option X) → is_some (option_map f o) ≡ true → is_some o ≡ true
+    of None e = e
+    of (Some x) e = refl
+
+  -- a write that the function does not see
+  pub project-written : (s : Slots X) (slot : ℕ) (before after : X) → value_at s slot ≡ Some before → f after ≡ f before →
+      project f (with_value_at s slot after) ≡ project f s
+  project-written s slot before after at same =
+      let entries = map-set_same (option_map (on_entry f)) s.entries slot (option_map (λ number. entry_of number after) (number_at s slot)) None
+      (of (entry_at s slot) at) in
+      (λ i. record (project f s) { entries = entries i }) where
+        of : (o : Option (Entry X)) → option_map (λ e. e.value) o ≡ Some before →
+            option_map (on_entry f) (option_map (λ number. entry_of number after) (option_map (λ e. e.number) o)) ≡ option_map (on_entry f) o
+        of None e = refl
+        of (Some x) e = let v : x.value ≡ before =
+            cc in let w : f after ≡ f x.value = same ∙ ap f (sym v) in (λ i. Some (record { number = x.number; value = w i }))
+
+module _ {X : Type 0} where
+  -- what stands at a slot after a write
+  pub value_at-written : (s : Slots X) (slot : ℕ) (before after : X) (j : ℕ) → value_at s slot ≡ Some before →
+      value_at (with_value_at s slot after) j ≡ cond (slot == j) (Some after) (value_at s j)
+  value_at-written s slot before after j at =
+      let put = option_map (λ number. entry_of number after) (number_at s slot) in
+      elim (cases_eq slot j) [
+        | inl same ↦
+            let here : (slot == j) ≡ true = grind (arith, nat_tests, same) in
+            let read : get_or (set s.entries slot put) j None ≡ put =
+            ap (λ k. get_or (set s.entries slot put) k None) (sym same) ∙ get_or-set_same s.entries slot put None (within (entry_at s slot) refl at) in
+            ap (option_map (λ e. e.value)) read ∙ of (entry_at s slot) at ∙ ap (λ b. cond b (Some after) (value_at s j)) (sym here)
+        | inr other ↦
+            let there : (slot == j) ≡ false = grind (arith, nat_tests, other) in
+            ap (option_map (λ e. e.value)) (get_or-set_other s.entries slot j put None (λ e. other (sym e))) ∙
+            ap (λ b. cond b (Some after) (value_at s j)) (sym there)
+      ] where
+        of : (o : Option (Entry X)) → option_map (λ e. e.value) o ≡ Some before →
+            option_map (λ e. e.value) (option_map (λ number. entry_of number after) (option_map (λ e. e.number) o)) ≡ Some after
+        of None e = absurd (true≢false (ap is_some (sym e)))
+        of (Some x) e = refl
+
+        within : (o : Option (Entry X)) → entry_at s slot ≡ o → option_map (λ e. e.value) o ≡ Some before → slot < length s.entries
+        within None read e = absurd (true≢false (ap is_some (sym e)))
+        within (Some x) read e = elim (cases_lt slot (length s.entries)) [
+          | inl below ↦ below
+          | inr past ↦ absurd (true≢false (ap is_some (sym read ∙ get_or_past s.entries slot None past)))
+        ]
+
+  -- a part of what stands at a slot
+  pub part-written : {Z : Type 0} (g : X → Z) (d : Z) (s : Slots X) (slot : ℕ) (before after : X) (j : ℕ) → value_at s slot ≡ Some before →
+      option_map_or g (value_at (with_value_at s slot after) j) d ≡ cond (slot == j) (g after) (option_map_or g (value_at s j) d)
+  part-written g d s slot before after j at = ap (λ o. option_map_or g o d) (value_at-written s slot before after j at) ∙ of (slot == j) where
+    of : (b : Bool) → option_map_or g (cond b (Some after) (value_at s j)) d ≡ cond b (g after) (option_map_or g (value_at s j) d)
+    of true = refl
+    of false = refl
+
+  pub part-kept : {Z : Type 0} (g : X → Z) (d : Z) (s : Slots X) (slot : ℕ) (before after : X) (j : ℕ) → value_at s slot ≡ Some before → g after ≡ g before →
+      option_map_or g (value_at (with_value_at s slot after) j) d ≡ option_map_or g (value_at s j) d
+  part-kept g d s slot before after j at same = part-written g d s slot before after j at ∙ of (slot == j) refl where
+    of : (b : Bool) → (slot == j) ≡ b → cond b (g after) (option_map_or g (value_at s j) d) ≡ option_map_or g (value_at s j) d
+    of true e = let s_is : slot ≡ j = grind (arith, nat_tests, e) in same ∙ ap (λ o. option_map_or g o d) (sym at ∙ ap (value_at s) s_is)
+    of false e = refl
+
+module _ {T : Type 0} (s : Store T) (slot : ℕ) (link : Link) where
+  pub linked-Children : (l : Linked) → value_at s.nodes slot ≡ Some l → (q : Place) →
+      link_at (record s { nodes = with_value_at s.nodes slot (record l { children = link }) }) q ≡ set_link_at (Children slot) link s q
+  linked-Children l at Roots = refl
+  linked-Children l at Due = refl
+  linked-Children l at Waiting = refl
+  linked-Children l at (Children j) =
+      part-written (λ x. x.children) (record { next = Children j; previous = Children j }) s.nodes slot l (record l { children = link }) j at
+  linked-Children l at (Held j) = part-kept (λ x. x.held) (record { next = Held j; previous = Held j }) s.nodes slot l (record l { children = link }) j at refl
+  linked-Children l at (Sibling j) =
+      part-kept (λ x. x.sibling) (record { next = Sibling j; previous = Sibling j }) s.nodes slot l (record l { children = link }) j at refl
+  linked-Children l at (Noted j) =
+      part-kept (λ x. x.noted) (record { next = Noted j; previous = Noted j }) s.nodes slot l (record l { children = link }) j at refl
+  linked-Children l at (Stored j) = refl
+
+  pub relinks-Children : (l : Linked) → value_at s.nodes slot ≡ Some l → Relinks s
+      (record s { nodes = with_value_at s.nodes slot (record l { children = link }) })
+  relinks-Children l at = record {
+    nodes = project-written (λ x. x.node) s.nodes slot l (record l { children = link }) at refl;
+    resources = refl;
+    waiting_count = refl;
+    owed = refl;
+    held_count = λ j. part-kept (λ x. x.held_count) 0 s.nodes slot l (record l { children = link }) j at refl;
+  }
+
+  pub linked-Held : (l : Linked) → value_at s.nodes slot ≡ Some l → (q : Place) →
+      link_at (record s { nodes = with_value_at s.nodes slot (record l { held = link }) }) q ≡ set_link_at (Held slot) link s q
+  linked-Held l at Roots = refl
+  linked-Held l at Due = refl
+  linked-Held l at Waiting = refl
+  linked-Held l at (Children j) =
+      part-kept (λ x. x.children) (record { next = Children j; previous = Children j }) s.nodes slot l (record l { held = link }) j at refl
+  linked-Held l at (Held j) = part-written (λ x. x.held) (record { next = Held j; previous = Held j }) s.nodes slot l (record l { held = link }) j at
+  linked-Held l at (Sibling j) = part-kept (λ x. x.sibling) (record { next = Sibling j; previous = Sibling j }) s.nodes slot l (record l { held = link }) j at
+      refl
+  linked-Held l at (Noted j) = part-kept (λ x. x.noted) (record { next = Noted j; previous = Noted j }) s.nodes slot l (record l { held = link }) j at refl
+  linked-Held l at (Stored j) = refl
+
+  pub relinks-Held : (l : Linked) → value_at s.nodes slot ≡ Some l → Relinks s (record s { nodes = with_value_at s.nodes slot (record l { held = link }) })
+  relinks-Held l at = record {
+    nodes = project-written (λ x. x.node) s.nodes slot l (record l { held = link }) at refl;
+    resources = refl;
+    waiting_count = refl;
+    owed = refl;
+    held_count = λ j. part-kept (λ x. x.held_count) 0 s.nodes slot l (record l { held = link }) j at refl;
+  }
+
+  pub linked-Sibling : (l : Linked) → value_at s.nodes slot ≡ Some l → (q : Place) →
+      link_at (record s { nodes = with_value_at s.nodes slot (record l { sibling = link }) }) q ≡ set_link_at (Sibling slot) link s q
+  linked-Sibling l at Roots = refl
+  linked-Sibling l at Due = refl
+  linked-Sibling l at Waiting = refl
+  linked-Sibling l at (Children j) =
+      part-kept (λ x. x.children) (record { next = Children j; previous = Children j }) s.nodes slot l (record l { sibling = link }) j at refl
+  linked-Sibling l at (Held j) = part-kept (λ x. x.held) (record { next = Held j; previous = Held j }) s.nodes slot l (record l { sibling = link }) j at refl
+  linked-Sibling l at (Sibling j) =
+      part-written (λ x. x.sibling) (record { next = Sibling j; previous = Sibling j }) s.nodes slot l (record l { sibling = link }) j at
+  linked-Sibling l at (Noted j) =
+      part-kept (λ x. x.noted) (record { next = Noted j; previous = Noted j }) s.nodes slot l (record l { sibling = link }) j at refl
+  linked-Sibling l at (Stored j) = refl
+
+  pub relinks-Sibling : (l : Linked) → value_at s.nodes slot ≡ Some l → Relinks s
+      (record s { nodes = with_value_at s.nodes slot (record l { sibling = link }) })
+  relinks-Sibling l at = record {
+    nodes = project-written (λ x. x.node) s.nodes slot l (record l { sibling = link }) at refl;
+    resources = refl;
+    waiting_count = refl;
+    owed = refl;
+    held_count = λ j. part-kept (λ x. x.held_count) 0 s.nodes slot l (record l { sibling = link }) j at refl;
+  }
+
+  pub linked-Noted : (l : Linked) → value_at s.nodes slot ≡ Some l → (q : Place) →
+      link_at (record s { nodes = with_value_at s.nodes slot (record l { noted = link }) }) q ≡ set_link_at (Noted slot) link s q
+  linked-Noted l at Roots = refl
+  linked-Noted l at Due = refl
+  linked-Noted l at Waiting = refl
+  linked-Noted l at (Children j) =
+      part-kept (λ x. x.children) (record { next = Children j; previous = Children j }) s.nodes slot l (record l { noted = link }) j at refl
+  linked-Noted l at (Held j) = part-kept (λ x. x.held) (record { next = Held j; previous = Held j }) s.nodes slot l (record l { noted = link }) j at refl
+  linked-Noted l at (Sibling j) =
+      part-kept (λ x. x.sibling) (record { next = Sibling j; previous = Sibling j }) s.nodes slot l (record l { noted = link }) j at refl
+  linked-Noted l at (Noted j) = part-written (λ x. x.noted) (record { next = Noted j; previous = Noted j }) s.nodes slot l (record l { noted = link }) j at
+  linked-Noted l at (Stored j) = refl
+
+  pub relinks-Noted : (l : Linked) → value_at s.nodes slot ≡ Some l → Relinks s (record s { nodes = with_value_at s.nodes slot (record l { noted = link }) })
+  relinks-Noted l at = record {
+    nodes = project-written (λ x. x.node) s.nodes slot l (record l { noted = link }) at refl;
+    resources = refl;
+    waiting_count = refl;
+    owed = refl;
+    held_count = λ j. part-kept (λ x. x.held_count) 0 s.nodes slot l (record l { noted = link }) j at refl;
+  }
+
+  pub linked-Stored : (r : Kept T) → value_at s.resources slot ≡ Some r → (q : Place) →
+      link_at (record s { resources = with_value_at s.resources slot (record r { link = link }) }) q ≡ set_link_at (Stored slot) link s q
+  linked-Stored r at Roots = refl
+  linked-Stored r at Due = refl
+  linked-Stored r at Waiting = refl
+  linked-Stored r at (Children j) = refl
+  linked-Stored r at (Held j) = refl
+  linked-Stored r at (Sibling j) = refl
+  linked-Stored r at (Noted j) = refl
+  linked-Stored r at (Stored j) =
+      part-written (λ x. x.link) (record { next = Stored j; previous = Stored j }) s.resources slot r (record r { link = link }) j at
+
+  pub relinks-Stored : (r : Kept T) → value_at s.resources slot ≡ Some r → Relinks s
+      (record s { resources = with_value_at s.resources slot (record r { link = link }) })
+  relinks-Stored r at = record {
+    nodes = refl;
+    resources = project-written (λ x. x.stowed) s.resources slot r (record r { link = link }) at refl;
+    waiting_count = refl;
+    owed = refl;
+    held_count = λ j. refl;
+  }
+
+module _ {X Y : Type 0} (f : X → Y) where
+  pub keeps-project : (old new : Slots X) (key : Key) → KeepsOthers old new key → KeepsOthers (project f old) (project f new) key
+  keeps-project old new key kept other apart = find-project f new other ∙ ap (option_map f) (kept other apart) ∙ sym (find-project f old other)
+
+  pub changes-project : (old new : Slots X) (slot : ℕ) (entry : Option (Entry X)) → Changes old new slot entry →
+      Changes (project f old) (project f new) slot (option_map (on_entry f) entry)
+  changes-project old new slot entry c = record {
+    changed = entry_at-project f new slot ∙ ap (option_map (on_entry f)) c.changed;
+    others = λ other apart. entry_at-project f new other ∙ ap (option_map (on_entry f)) (c.others other apart) ∙ sym (entry_at-project f old other);
+  }
+
+  pub inserts-project : (old new : Slots X) (key : Key) (number : ℕ) (value : X) → key.number ≡ number → entry_at old key.slot ≡ None →
+      Changes old new key.slot (Some (entry_of number value)) → find new key ≡ Some value → KeepsOthers old new key → new.count ≡ old.count + 1 →
+      Inserts (project f old) (project f new) key number (f value)
+  inserts-project old new key number value numbered free changes found kept count = record {
+    numbered = numbered;
+    was_free = entry_at-project f old key.slot ∙ ap (option_map (on_entry f)) free;
+    changes = changes-project old new key.slot (Some (entry_of number value)) changes;
+    found = find-project f new key ∙ ap (option_map f) found;
+    kept = keeps-project old new key kept;
+    count = count;
+  }
+
+  pub takes-project : (old new : Slots X) (key : Key) → Changes old new key.slot None → find new key ≡ None → KeepsOthers old new key →
+      new.count + 1 ≡ old.count → new.room ≡ old.room + 1 → Takes_out (project f old) (project f new) key
+  takes-project old new key changes gone kept count room = record {
+    changes = changes-project old new key.slot None changes;
+    gone = find-project f new key ∙ ap (option_map f) gone;
+    kept = keeps-project old new key kept;
+    count = count;
+    room = room;
+  }
+
+  pub rewrites-project : (s : Slots X) (key : Key) (before after : X) (change : Y → Y) → find s key ≡ Some before → f after ≡ change (f before) →
+      Rewrites (project f s) (project f (with_value s key after)) key change
+  rewrites-project s key before after change found same =
+      let t = with_value s key after in
+      record {
+        changed = find-project f t key ∙ ap (option_map f) (find-written s t key before after found refl) ∙ ap (λ y. Some y) same ∙
+            ap (option_map change) (sym (find-project f s key ∙ ap (option_map f) found));
+        others = keeps-project s t key (KeepsOthers-written s t key before after found refl);
+        rest = refl;
+      }
+
+  pub changes-written : (s : Slots X) (key : Key) (before after : X) (seen : Y) (change : Y → Y) → find s key ≡ Some before → f after ≡ change (f before) →
+      find (project f s) key ≡ Some seen → Changes (project f s) (project f (with_value s key after)) key.slot (Some (entry_of key.number (change seen)))
+  changes-written s key before after seen change found same at =
+      let t = with_value s key after in
+      let e = Some (entry_of key.number after) in
+      let within = slot_within s key.slot (entry_of key.number before) (entry_found s key before found) in
+      let seen_is : f before ≡ seen = let h : Some (f before) ≡ Some seen = sym (ap (option_map f) found) ∙ sym (find-project f s key) ∙ at in cc in
+      let now : Some (entry_of key.number (f after)) ≡ Some (entry_of key.number (change seen)) =
+      ap (λ y. Some (entry_of key.number y)) (same ∙ ap change seen_is) in
+      record {
+        changed = entry_at-project f t key.slot ∙ ap (option_map (on_entry f)) (get_or-set_same s.entries key.slot e None within) ∙ now;
+        others = λ other apart. entry_at-project f t other ∙ ap (option_map (on_entry f)) (get_or-set_other s.entries key.slot other e None apart) ∙
+            sym (entry_at-project f s other);
+      }
+
+module _ {X Z : Type 0} (g : X → Z) (d : ℕ → Z) (old new : Slots X) (slot : ℕ) where
+  -- a part that an added value has as if nothing stood there
+  pub part-added : (number : ℕ) (value : X) → entry_at old slot ≡ None → Changes old new slot (Some (entry_of number value)) → g value ≡ d slot → (j : ℕ) →
+      option_map_or g (value_at new j) (d j) ≡ option_map_or g (value_at old j) (d j)
+  part-added number value free c same j =
+      elim (cases_eq slot j) [
+        | inl here ↦
+            let now = ap (λ o. option_map_or g (option_map (λ e. e.value) o) (d slot)) c.changed in
+            let was = ap (λ o. option_map_or g (option_map (λ e. e.value) o) (d slot)) free in
+            subst (λ k. option_map_or g (value_at new k) (d k) ≡ option_map_or g (value_at old k) (d k)) here (now ∙ same ∙ sym was)
+        | inr apart ↦ ap (λ o. option_map_or g (option_map (λ e. e.value) o) (d j)) (c.others j (λ e. apart (sym e)))
+      ]
+
+  -- a part that a value had as if nothing stood there, once it is taken out
+  pub part-taken : Changes old new slot None → option_map_or g (value_at old slot) (d slot) ≡ d slot → (j : ℕ) →
+      option_map_or g (value_at new j) (d j) ≡ option_map_or g (value_at old j) (d j)
+  part-taken c same j =
+      elim (cases_eq slot j) [
+        | inl here ↦
+            let now = ap (λ o. option_map_or g (option_map (λ e. e.value) o) (d slot)) c.changed in
+            subst (λ k. option_map_or g (value_at new k) (d k) ≡ option_map_or g (value_at old k) (d k)) here (now ∙ sym same)
+        | inr apart ↦ ap (λ o. option_map_or g (option_map (λ e. e.value) o) (d j)) (c.others j (λ e. apart (sym e)))
+      ]
+
+  -- a part of what is taken out is then as if nothing stood there
+  pub part-gone : Changes old new slot None → (j : ℕ) →
+      option_map_or g (value_at new j) (d j) ≡ cond (slot == j) (d slot) (option_map_or g (value_at old j) (d j))
+  part-gone c j =
+      elim (cases_eq slot j) [
+        | inl here ↦
+            let now = ap (λ o. option_map_or g (option_map (λ e. e.value) o) (d slot)) c.changed in
+            let on : (slot == j) ≡ true = grind (arith, nat_tests, here) in
+            subst (λ k. option_map_or g (value_at new k) (d k) ≡ d slot) here now ∙
+            sym (ap (λ b. cond b (d slot) (option_map_or g (value_at old j) (d j))) on)
+        | inr apart ↦
+            let off : (slot == j) ≡ false = grind (arith, nat_tests, apart) in
+            ap (λ o. option_map_or g (option_map (λ e. e.value) o) (d j)) (c.others j (λ e. apart (sym e))) ∙
+            sym (ap (λ b. cond b (d slot) (option_map_or g (value_at old j) (d j))) off)
+      ]
+
+  -- a part that a write at a key leaves
+  pub part-rewritten : (number : ℕ) (before after : X) → find old (record { slot = slot; number = number }) ≡ Some before →
+      new ≡ with_value old (record { slot = slot; number = number }) after → g after ≡ g before → (j : ℕ) →
+      option_map_or g (value_at new j) (d j) ≡ option_map_or g (value_at old j) (d j)
+  part-rewritten number before after found is same j =
+      let key : Key = record { slot = slot; number = number } in
+      let at = entry_found old key before found in
+      let within = slot_within old slot (entry_of number before) at in
+      elim (cases_eq slot j) [
+        | inl here ↦
+            let now = ap (λ (t : Slots X). option_map_or g (value_at t slot) (d slot)) is ∙
+            ap (λ o. option_map_or g (option_map (λ e. e.value) o) (d slot))
+            (get_or-set_same old.entries slot (Some (entry_of number after)) None within) in
+            let was = ap (λ o. option_map_or g (option_map (λ e. e.value) o) (d slot)) at in
+            subst (λ k. option_map_or g (value_at new k) (d k) ≡ option_map_or g (value_at old k) (d k)) here (now ∙ same ∙ sym was)
+        | inr apart ↦
+            ap (λ (t : Slots X). option_map_or g (value_at t j) (d j)) is ∙ ap (λ o. option_map_or g (option_map (λ e. e.value) o) (d j))
+            (get_or-set_other old.entries slot j (Some (entry_of number after)) None (λ e. apart (sym e)))
+      ]
+
+module _ {T : Type 0} where
+  -- links stay where each part of the records does, but for that of a record among its siblings, which goes with it
+  pub links_taken : (old new : Store T) (slot : ℕ) → new.roots ≡ old.roots → new.due ≡ old.due → new.waiting ≡ old.waiting →
+      ((j : ℕ) → link_at new (Children j) ≡ link_at old (Children j)) → ((j : ℕ) → link_at new (Held j) ≡ link_at old (Held j)) →
+      ((j : ℕ) → link_at new (Sibling j) ≡ set_link_at (Sibling slot) (alone (Sibling slot)) old (Sibling j)) →
+      ((j : ℕ) → link_at new (Noted j) ≡ link_at old (Noted j)) → ((j : ℕ) → link_at new (Stored j) ≡ link_at old (Stored j)) → (q : Place) →
+      link_at new q ≡ set_link_at (Sibling slot) (alone (Sibling slot)) old q
+  links_taken old new slot r d w c h s n t Roots = r
+  links_taken old new slot r d w c h s n t Due = d
+  links_taken old new slot r d w c h s n t Waiting = w
+  links_taken old new slot r d w c h s n t (Children j) = c j
+  links_taken old new slot r d w c h s n t (Held j) = h j
+  links_taken old new slot r d w c h s n t (Sibling j) = s j
+  links_taken old new slot r d w c h s n t (Noted j) = n j
+  links_taken old new slot r d w c h s n t (Stored j) = t j
+
+  -- links stay where each part of the records does
+  pub keeps_links : (old new : Store T) → new.roots ≡ old.roots → new.due ≡ old.due → new.waiting ≡ old.waiting →
+      ((j : ℕ) → link_at new (Children j) ≡ link_at old (Children j)) → ((j : ℕ) → link_at new (Held j) ≡ link_at old (Held j)) →
+      ((j : ℕ) → link_at new (Sibling j) ≡ link_at old (Sibling j)) → ((j : ℕ) → link_at new (Noted j) ≡ link_at old (Noted j)) →
+      ((j : ℕ) → link_at new (Stored j) ≡ link_at old (Stored j)) → KeepsLinks old new
+  keeps_links old new r d w c h s n t Roots = r
+  keeps_links old new r d w c h s n t Due = d
+  keeps_links old new r d w c h s n t Waiting = w
+  keeps_links old new r d w c h s n t (Children j) = c j
+  keeps_links old new r d w c h s n t (Held j) = h j
+  keeps_links old new r d w c h s n t (Sibling j) = s j
+  keeps_links old new r d w c h s n t (Noted j) = n j
+  keeps_links old new r d w c h s n t (Stored j) = t j

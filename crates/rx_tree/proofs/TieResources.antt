@@ -1,0 +1,113 @@
+-- How a tree stays tied when a resource is removed from its node or taken out.
+use Rattle.std.proofs.Common.{◌≡◌, ◌≢◌, ℕ, ◌&&◌, cond, Bool, true, false, [], ◌∷◌, ◌++◌, Option, Some, None, option_map, is_some, IsSome, refl, sym, ap, ◌∙◌}
+use Rattle.std.proofs.Common.{inl, inr, true≢false}
+use Rattle.std.proofs.lemmas.Bool.{false≢true}
+use Rattle.rx_slots.specs.declared.Entry.{Entry}
+use Rattle.rx_slots.specs.declared.Key.{Key}
+use Rattle.rx_slots.specs.Slots.{Slots, entry_of, find, Changes}
+use Rattle.rx_tree.specs.declared.links.Place.{Place}
+use Rattle.rx_tree.specs.declared.links.Place.TheVariants.{Waiting, Held, Stored}
+use Rattle.rx_tree.specs.declared.node.Node.{Node}
+use Rattle.rx_tree.specs.declared.node.Stowed.{Stowed}
+use Rattle.rx_tree.specs.Resources.{removed}
+use Rattle.rx_tree.specs.Rings.{without, Steps, AreRings, Joins, Leaves}
+use Rattle.rx_tree.specs.Places.{is_place, places}
+use Rattle.rx_tree.proofs.Places.{tells}
+use Rattle.rx_tree.proofs.Laws.Places.{place_apart}
+use Rattle.rx_tree.proofs.Laws.Rings.{put_ring, by_ring, rings_joined, rings_left}
+use Rattle.rx_tree.specs.Store.{Takes_out}
+use Rattle.rx_tree.specs.Ties.{resource_ring, Rises, is_by_age, home_of, IsTiedAt}
+use Rattle.rx_tree.specs.Tree.{Rewrites}
+use Rattle.rx_tree.proofs.Laws.Keys.{cases_key}
+use Rattle.rx_tree.proofs.TieRecords.{home_by}
+use Rattle.rx_tree.proofs.TieSteps.{rises_without}
+
+module _ {T : Type 0} (nodes : Slots Node) (resources resources' : Slots (Stowed T)) where
+  -- as it was, but for one place that has no home
+  abbrev pub without_home : (Place → Option Place) → Place → Place → Option Place
+  without_home home item q = cond (is_place item q) None (home q)
+
+  pub homeless_here : (home : Place → Option Place) (item : Place) → without_home home item item ≡ None
+  homeless_here home item = ap (λ b. cond b None (home item)) (tells.self item)
+
+  pub homeless_others : (home : Place → Option Place) (item q : Place) → item ≢ q → without_home home item q ≡ home q
+  homeless_others home item q apart = ap (λ b. cond b None (home q)) (place_apart tells item q apart)
+
+  pub stored_others : (noted : ℕ → Bool) (slot : ℕ) (entry : Option (Entry (Stowed T))) → Changes resources resources' slot entry → (q : Place) →
+      Stored slot ≢ q → home_of nodes resources' noted q ≡ home_of nodes resources noted q
+  stored_others noted slot entry change q apart =
+      home_by (λ q. Stored slot ≢ q) nodes nodes resources resources' noted noted (λ j c. refl) (λ j c. refl)
+      (λ r c. ap (option_map (λ e. resource_ring nodes e.value)) (change.others r (λ s. c (ap (λ k. Stored k) (sym s))))) q apart
+
+  -- a resource is removed: it leaves its node's ring and waits
+  module _ (n p n1 p1 n2 p2 : Steps Place) (tied : IsTiedAt n p nodes resources) (key : Key) (stowed : Stowed T) (found : find resources key ≡ Some stowed)
+      (change : Changes resources resources' key.slot (Some (entry_of key.number (removed stowed)))) (rewrites : Rewrites resources resources' key removed)
+      (leaves : Leaves places n p n1 p1 (Stored key.slot)) (joins : Joins places n1 p1 n2 p2 Waiting (Stored key.slot)) where
+    between : Place → Option Place
+    between = without_home (home_of nodes resources tied.noted) (Stored key.slot)
+
+    waits_now : home_of nodes resources' tied.noted (Stored key.slot) ≡ Some Waiting
+    waits_now = ap (option_map (λ e. resource_ring nodes e.value)) change.changed ∙ of (is_some (find nodes stowed.node)) where
+      of : (b : Bool) → Some (cond (b && false) (Held stowed.node.slot) Waiting) ≡ Some Waiting
+      of true = refl
+      of false = refl
+
+    pub some_still : (k : Key) → is_some (find resources' k) ≡ is_some (find resources k)
+    some_still k = elim (cases_key k key) [
+      | inl same ↦ ap (λ z. is_some (find resources' z)) same ∙ ap is_some (rewrites.changed ∙ ap (option_map removed) found) ∙ sym (ap is_some found) ∙
+          ap (λ z. is_some (find resources z)) (sym same)
+      | inr other ↦ ap is_some (rewrites.others k other)
+    ]
+
+    pub removed_rings : AreRings places n2 p2 (home_of nodes resources' tied.noted)
+        (put_ring places Waiting (without places (Stored key.slot) (tied.rings Waiting) ++ Stored key.slot ∷ [])
+        (λ q. without places (Stored key.slot) (tied.rings q)))
+    unfolding between
+    removed_rings =
+        let left : AreRings places n1 p1 between (λ q. without places (Stored key.slot) (tied.rings q)) =
+        rings_left tells n p n1 p1 (home_of nodes resources tied.noted) between tied.rings tied.ringed (Stored key.slot) leaves refl
+        (homeless_here (home_of nodes resources tied.noted) (Stored key.slot))
+        (λ q apart. homeless_others (home_of nodes resources tied.noted) (Stored key.slot) q apart) in
+        rings_joined tells n1 p1 n2 p2 between (home_of nodes resources' tied.noted)
+        (λ q. without places (Stored key.slot) (tied.rings q)) left Waiting (Stored key.slot)
+        joins refl refl (homeless_here (home_of nodes resources tied.noted) (Stored key.slot)) waits_now
+        (λ q apart. stored_others tied.noted key.slot (Some (entry_of key.number (removed stowed))) change q apart ∙
+        sym (homeless_others (home_of nodes resources tied.noted) (Stored key.slot) q apart))
+
+    abbrev pub tied_removed : IsTiedAt n2 p2 nodes resources'
+    tied_removed = record {
+      rings = put_ring places Waiting (without places (Stored key.slot) (tied.rings Waiting) ++ Stored key.slot ∷ [])
+          (λ q. without places (Stored key.slot) (tied.rings q));
+      noted = tied.noted;
+      ringed = removed_rings;
+      rises = λ e. by_ring tells (λ q ps. is_by_age q ≡ true → Rises nodes ps) Waiting
+          (without places (Stored key.slot) (tied.rings Waiting) ++ Stored key.slot ∷ [])
+          (λ q. without places (Stored key.slot) (tied.rings q)) (λ age. absurd (false≢true age))
+          (λ q apart age. rises_without nodes (Stored key.slot) (tied.rings q) (tied.rises q age)) e;
+      sound = tied.sound;
+      resources_apart = λ a b found_a found_b numbers. tied.resources_apart a b (sym (some_still a) ∙ found_a) (sym (some_still b) ∙ found_b) numbers;
+    }
+
+  -- a resource is taken out
+  module _ (n p n1 p1 : Steps Place) (tied : IsTiedAt n p nodes resources) (key : Key) (taken : Takes_out resources resources' key)
+      (leaves : Leaves places n p n1 p1 (Stored key.slot)) where
+    pub none_now : home_of nodes resources' tied.noted (Stored key.slot) ≡ None
+    none_now = ap (option_map (λ e. resource_ring nodes e.value)) taken.changes.changed
+
+    pub was_there : (k : Key) → IsSome (find resources' k) → IsSome (find resources k)
+    was_there k there = elim (cases_key k key) [
+      | inl same ↦ absurd (true≢false (sym there ∙ ap is_some (ap (find resources') same ∙ taken.gone)))
+      | inr other ↦ ap is_some (sym (taken.kept k other)) ∙ there
+    ]
+
+    abbrev pub tied_taken : IsTiedAt n1 p1 nodes resources'
+    tied_taken = record {
+      rings = λ q. without places (Stored key.slot) (tied.rings q);
+      noted = tied.noted;
+      ringed = rings_left tells n p n1 p1 (home_of nodes resources tied.noted) (home_of nodes resources' tied.noted) tied.rings tied.ringed
+          (Stored key.slot) leaves
+          refl none_now (stored_others tied.noted key.slot None taken.changes);
+      rises = λ e age. rises_without nodes (Stored key.slot) (tied.rings e) (tied.rises e age);
+      sound = tied.sound;
+      resources_apart = λ a b found_a found_b numbers. tied.resources_apart a b (was_there a found_a) (was_there b found_b) numbers;
+    }

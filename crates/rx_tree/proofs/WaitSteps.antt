@@ -1,0 +1,165 @@
+-- What the ring of those that wait tells, and what a taking leaves of a tree.
+use Rattle.std.proofs.Common.{◌≡◌, ◌≢◌, ℕ, cond, map, Bool, true, false, List, [], ◌∷◌, Option, Some, None, option_map, is_some, IsTrue, ◌&&◌, refl, sym, ap}
+use Rattle.std.proofs.Common.{subst, ◌∙◌, true≢false}
+use Rattle.std.specs.Option.{option_map_or, option_and_then}
+use Rattle.std.proofs.lemmas.Bool.{false≢true, false_from_ne_true}
+use Rattle.rx_event.specs.Events.{is_root}
+use Rattle.rx_slots.specs.declared.Entry.{Entry}
+use Rattle.rx_slots.specs.declared.Key.{Key}
+use Rattle.rx_slots.specs.Slots.{Slots, entry_at, key_at, find}
+use Rattle.rx_tree.specs.declared.links.Place.{Place}
+use Rattle.rx_tree.specs.declared.links.Place.TheVariants.{Roots, Due, Waiting, Children, Held, Sibling, Noted, Stored}
+use Rattle.rx_tree.specs.declared.node.Node.{Node}
+use Rattle.rx_tree.specs.declared.node.Stowed.{Stowed}
+use Rattle.rx_tree.specs.declared.store.Store.{Store}
+use Rattle.rx_tree.specs.Resources.{is_held, Takes}
+use Rattle.rx_tree.specs.Rings.{is_among, set_step, Leads, Leaves}
+use Rattle.rx_tree.specs.Places.{is_place, is_end, slot_of, places}
+use Rattle.rx_tree.proofs.Places.{tells}
+use Rattle.rx_tree.proofs.Laws.Places.{among_here, without_none}
+use Rattle.rx_tree.proofs.Laws.Links.{set_same, first_among}
+use Rattle.rx_tree.proofs.Laws.Rings.{some_same}
+use Rattle.rx_tree.specs.Store.{alone, link_at, key_on, nodes_of, resources_of, next_of, previous_of, KeepsLinks, Relinks, Takes_out, shown}
+use Rattle.rx_tree.specs.Ties.{home_of, sibling_ring, resource_ring, IsTiedAt, IsTied}
+use Rattle.rx_tree.proofs.Chain.{chain_is, retie}
+use Rattle.rx_tree.proofs.Laws.Written.{entry_found, found_entry}
+use Rattle.rx_tree.proofs.TieRecords.{home_stands}
+use Rattle.rx_tree.proofs.TieResources.{tied_taken}
+use Rattle.rx_tree.proofs.TieSteps.{tied_links}
+
+module _ {T : Type 0} where
+  -- a place that waits is that of a resource
+  pub waits_is : (nodes : Slots Node) (resources : Slots (Stowed T)) (noted : ℕ → Bool) (q : Place) →
+      home_of nodes resources noted q ≡ Some Waiting → q ≡ Stored (slot_of q)
+  waits_is nodes resources noted (Stored r) at = refl
+  waits_is nodes resources noted (Noted j) at = absurd (of (noted j && is_some (entry_at nodes j)) at) where
+    of : (b : Bool) → cond b (Some Due) None ≡ Some Waiting → ⊥
+    of true e = true≢false (sym (tells.self Due) ∙ ap (is_place Due) (some_same Due Waiting e))
+    of false e = true≢false (ap is_some (sym e))
+  waits_is nodes resources noted (Sibling j) at = absurd (of (entry_at nodes j) at) where
+    root : (b : Bool) → cond b (Some Roots) None ≡ Some Waiting → ⊥
+    root true e = true≢false (sym (tells.self Roots) ∙ ap (is_place Roots) (some_same Roots Waiting e))
+    root false e = true≢false (ap is_some (sym e))
+
+    by : (o : Option Key) (b : Bool) → option_map_or (λ key. Some (Children key.slot)) o (cond b (Some Roots) None) ≡ Some Waiting → ⊥
+    by None b e = root b e
+    by (Some k) b e = true≢false (sym (tells.self (Children k.slot)) ∙ ap (is_place (Children k.slot)) (some_same (Children k.slot) Waiting e))
+
+    of : (o : Option (Entry Node)) → option_and_then (λ e. sibling_ring e.value) o ≡ Some Waiting → ⊥
+    of None e = true≢false (ap is_some (sym e))
+    of (Some x) e = by x.value.above (is_root x.value.made) e
+  waits_is nodes resources noted Roots at = absurd (true≢false (ap is_some (sym at)))
+  waits_is nodes resources noted Due at = absurd (true≢false (ap is_some (sym at)))
+  waits_is nodes resources noted Waiting at = absurd (true≢false (ap is_some (sym at)))
+  waits_is nodes resources noted (Children j) at = absurd (true≢false (ap is_some (sym at)))
+  waits_is nodes resources noted (Held j) at = absurd (true≢false (ap is_some (sym at)))
+
+-- the key of a place that waits, and what it finds
+pub record IsWaiting {T : Type 0} (s : Store T) (slot : ℕ) (key : Key) : Type 0 where
+  pub stowed : Stowed T
+  pub found : find (resources_of s) key ≡ Some stowed
+  pub slot_is : key.slot ≡ slot
+  pub waits : is_held (nodes_of s) stowed ≡ false
+
+module _ {T : Type 0} (s : Store T) (tied : IsTied s) where
+  wait_home : (key : Key) (stowed : Stowed T) → find (resources_of s) key ≡ Some stowed → is_held (nodes_of s) stowed ≡ false → home_of (nodes_of s)
+      (resources_of s) tied.noted (Stored key.slot) ≡ Some Waiting
+  wait_home key stowed found off = ap (option_map (λ e. resource_ring (nodes_of s) e.value)) (entry_found (resources_of s) key stowed found) ∙ ap
+      (λ b. Some (cond b (Held stowed.node.slot) Waiting)) off
+
+  waiting_all : (q : Place) → is_among places q (tied.rings Waiting) ≡ true → q ≡ Stored (slot_of q)
+  waiting_all q i = waits_is (nodes_of s) (resources_of s) tied.noted q (tied.ringed.members Waiting q i)
+
+  none_is : (ps : List Place) → Leads (next_of s) (previous_of s) Waiting ps Waiting → ((q : Place) → is_among places q ps ≡ true → q ≡ Stored
+      (slot_of q)) → ((slot : ℕ) → next_of s Waiting ≢ Stored slot) → ps ≡ []
+  none_is [] h all none = refl
+  none_is (x ∷ ps) h all none = absurd (none (slot_of x) (h.0.to ∙ all x (among_here tells x ps)))
+
+  -- where the links show no resource that waits, each is held
+  pub all_held : ((slot : ℕ) → next_of s Waiting ≢ Stored slot) → (key : Key) (stowed : Stowed T) → find (resources_of s) key ≡ Some stowed → IsTrue
+      (is_held (nodes_of s) stowed)
+  all_held none key stowed found = of (is_held (nodes_of s) stowed) refl where
+    of : (b : Bool) → is_held (nodes_of s) stowed ≡ b → b ≡ true
+    of true e = refl
+    of false e = absurd (false≢true (sym (ap (is_among places (Stored key.slot)) (none_is (tied.rings Waiting)
+        (tied.ringed.leads Waiting refl) waiting_all none)) ∙ tied.ringed.listed Waiting (Stored key.slot) (wait_home key stowed found e)))
+
+  module _ (slot : ℕ) (at : next_of s Waiting ≡ Stored slot) where
+    first_home : home_of (nodes_of s) (resources_of s) tied.noted (Stored slot) ≡ Some Waiting
+    first_home = tied.ringed.members Waiting (Stored slot) (subst (λ z. is_among places z (tied.rings Waiting) ≡ true) at (first_among tells (next_of s)
+        (previous_of s) Waiting (tied.rings Waiting) Waiting (tied.ringed.leads Waiting refl) (λ e. false≢true (ap is_end (sym at ∙ e)))))
+
+    -- a resource stands where the links show one that waits
+    pub first_there : is_some (key_at (resources_of s) slot) ≡ true
+    first_there = of (entry_at (resources_of s) slot) (home_stands (nodes_of s) (resources_of s) tied.noted (Stored slot) Waiting first_home) where
+      of : (o : Option (Entry (Stowed T))) → is_some o ≡ true → is_some {T = Key} (option_map (λ e. record { slot = slot; number = e.number }) o) ≡ true
+      of None there = there
+      of (Some e) there = refl
+
+    pub first_waits : (key : Key) → key_at (resources_of s) slot ≡ Some key → IsWaiting s slot key
+    first_waits key key_is = of (entry_at (resources_of s) slot) refl first_home key_is where
+      waits : (b : Bool) (j : ℕ) → Some (cond b (Held j) Waiting) ≡ Some Waiting → b ≡ false
+      waits true j e = absurd (true≢false (sym (tells.self (Held j)) ∙ ap (is_place (Held j)) (some_same (Held j) Waiting e)))
+      waits false j e = refl
+
+      of : (o : Option (Entry (Stowed T))) → entry_at (resources_of s) slot ≡ o → option_map (λ e. resource_ring
+          (nodes_of s) e.value) o ≡ Some Waiting → option_map (λ e. record { slot = slot; number = e.number }) o ≡ Some key → IsWaiting s slot key
+      of None read home k = absurd (true≢false (ap is_some (sym home)))
+      of (Some e) read home k =
+          let here : Key = record { slot = slot; number = e.number } in
+          let same : here ≡ key = cc in
+          record {
+            stowed = e.value;
+            found = subst (λ z. find (resources_of s) z ≡ Some e.value) same (found_entry (resources_of s) here e.value read);
+            slot_is = ap (λ z. z.slot) (sym same);
+            waits = waits (is_held (nodes_of s) e.value) e.value.node.slot home;
+          }
+
+  pub waits_of : (slot : ℕ) (key : Key) → IsWaiting s slot key → (stowed : Stowed T) → find (resources_of s) key ≡ Some stowed → is_held
+      (nodes_of s) stowed ≡ false
+  waits_of slot key w stowed found = ap (λ o. option_map_or (is_held (nodes_of s)) o false) (sym found ∙ w.found) ∙ w.waits
+
+  -- a resource that waits left its ring and is taken out
+  module _ (key : Key) (stowed : Stowed T) (found : find (resources_of s) key ≡ Some stowed) (waits : is_held (nodes_of s) stowed ≡ false)
+      (l : Store T) (leaves : Leaves places (next_of s) (previous_of s) (next_of l) (previous_of l) (Stored key.slot)) (relinks : Relinks s l) where
+    pub left_alone : link_at l (Stored key.slot) ≡ alone (Stored key.slot)
+    left_alone =
+        let next : next_of l (Stored key.slot) ≡ Stored key.slot = leaves.to (Stored key.slot) ∙ set_same tells (Stored key.slot) (Stored key.slot)
+        (set_step places (previous_of s (Stored key.slot)) (next_of s (Stored key.slot)) (next_of s)) in
+        let previous : previous_of l (Stored key.slot) ≡ Stored key.slot = leaves.back (Stored key.slot) ∙ set_same tells (Stored key.slot)
+        (Stored key.slot) (set_step places (next_of s (Stored key.slot)) (previous_of s (Stored key.slot)) (previous_of s)) in
+        λ i. record { next = next i; previous = previous i }
+
+    module _ (t : Store T) (taken : Takes_out (resources_of l) (resources_of t) key) (links : KeepsLinks l t) (rest : nodes_of t ≡ nodes_of l) where
+      pub taken_s : Takes_out (resources_of s) (resources_of t) key
+      taken_s = subst (λ r. Takes_out r (resources_of t) key) relinks.resources taken
+
+      abbrev now_taken : IsTiedAt (next_of t) (previous_of t) (nodes_of s) (resources_of t)
+      now_taken = tied_links (next_of l) (previous_of l) (next_of t) (previous_of t) (nodes_of s) (resources_of t) (λ q. ap (λ k. k.next) (links q))
+          (λ q. ap (λ k. k.previous) (links q)) (tied_taken (nodes_of s) (resources_of s) (resources_of t) (next_of s) (previous_of s) (next_of l)
+          (previous_of l) tied key taken_s leaves)
+
+      pub taken_tied : IsTied t
+      taken_tied = retie t (nodes_of s) (resources_of t) (rest ∙ relinks.nodes) refl now_taken
+
+      not_due : is_among places (Stored key.slot) (tied.rings Due) ≡ false
+      not_due = false_from_ne_true (is_among places (Stored key.slot) (tied.rings Due)) (λ i. true≢false (sym (tells.self Waiting) ∙ ap (is_place Waiting)
+          (some_same Waiting Due (sym (wait_home key stowed found waits) ∙ tied.ringed.members Due (Stored key.slot) i))))
+
+      pub taken_chain : (shown t).chain ≡ (shown s).chain
+      taken_chain = chain_is t (nodes_of s) (resources_of t) (rest ∙ relinks.nodes) now_taken ∙ ap (map (key_on (nodes_of s))) (without_none tells
+          (Stored key.slot) (tied.rings Due) not_due) ∙ sym (chain_is s (nodes_of s) (resources_of s) refl tied)
+
+      pub takes : Takes (shown s) (shown t) key.number stowed.resource
+      takes = record {
+        key = key;
+        stowed = stowed;
+        found = found;
+        numbered = refl;
+        handed = refl;
+        waited = waits;
+        gone = taken_s.gone;
+        others = taken_s.kept;
+        count = taken_s.count;
+        room = taken_s.room;
+      }

@@ -1,0 +1,46 @@
+use Rattle.std.proofs.Common.{◌<◌, is_some, IsSome, IfSome, sym, ap, subst, ◌∙◌, true≢false}
+use Rattle.rx_slots.specs.Slots.{find}
+use Rattle.rx_tree.specs.Cuts.{Descends, from_top, one_down}
+use Rattle.rx_tree.specs.Store.{nodes_of, resources_of, next_of, previous_of}
+use Rattle.rx_tree.proofs.LeafRings.{first_child_at, no_child}
+use Rattle.rx_tree.proofs.store.Store.child.Goals as goal
+
+pub returns-in-Sibling-clause-below : goal.returns-in-Sibling-clause-below
+returns-in-Sibling-clause-below g c =
+    let s = c.args.self.now in
+    let h = first_child_at (nodes_of s) (resources_of s) (next_of s) (previous_of s) c.requires.tied c.args.key c.requires.open c.in-Sibling.slot
+    (ap (λ l. l.next) (sym c.link.ensures) ∙ c.in-Sibling.is) in
+    subst (λ o. IfSome o (λ child. Descends (nodes_of s) c.args.key child)) (sym (c.node_at.ensures ∙ h.at))
+    (one_down c.args.key h.child h.node from_top h.found h.above)
+
+pub returns-in-Sibling-clause-there : goal.returns-in-Sibling-clause-there
+returns-in-Sibling-clause-there g c =
+    let s = c.args.self.now in
+    let h = first_child_at (nodes_of s) (resources_of s) (next_of s) (previous_of s) c.requires.tied c.args.key c.requires.open c.in-Sibling.slot
+    (ap (λ l. l.next) (sym c.link.ensures) ∙ c.in-Sibling.is) in
+    subst (λ o. IfSome o (λ child. IsSome (find (nodes_of s) child))) (sym (c.node_at.ensures ∙ h.at)) (ap is_some h.found)
+
+pub returns-in-Sibling-clause-later : goal.returns-in-Sibling-clause-later
+returns-in-Sibling-clause-later g c =
+    let s = c.args.self.now in
+    let h = first_child_at (nodes_of s) (resources_of s) (next_of s) (previous_of s) c.requires.tied c.args.key c.requires.open c.in-Sibling.slot
+    (ap (λ l. l.next) (sym c.link.ensures) ∙ c.in-Sibling.is) in
+    subst (λ o. IfSome o (λ child. c.args.key.number < child.number)) (sym (c.node_at.ensures ∙ h.at)) h.later
+
+pub returns-in-Sibling-clause-none : goal.returns-in-Sibling-clause-none
+returns-in-Sibling-clause-none g c none =
+    let s = c.args.self.now in
+    let h = first_child_at (nodes_of s) (resources_of s) (next_of s) (previous_of s) c.requires.tied c.args.key c.requires.open c.in-Sibling.slot
+    (ap (λ l. l.next) (sym c.link.ensures) ∙ c.in-Sibling.is) in
+    absurd (true≢false (ap is_some (sym (c.node_at.ensures ∙ h.at) ∙ none)))
+
+pub returns-in_default : goal.returns-in_default
+returns-in_default g c =
+    let s = c.args.self.now in
+    record {
+      below = tt;
+      there = tt;
+      later = tt;
+      none = λ _. no_child (nodes_of s) (resources_of s) (next_of s) (previous_of s) c.requires.tied
+          c.args.key.slot (λ j e. c.in_default.not-Sibling j (ap (λ l. l.next) c.link.ensures ∙ e));
+    }

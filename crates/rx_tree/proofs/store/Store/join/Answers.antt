@@ -1,0 +1,21 @@
+use Rattle.std.proofs.Common.{cond, refl, ap, ◌∙◌}
+use Rattle.rx_tree.specs.declared.links.Link.{Link}
+use Rattle.rx_tree.specs.Places.{is_place, places}
+use Rattle.rx_tree.proofs.Laws.Relinked.{joins_of}
+use Rattle.rx_tree.specs.Store.{link_at, next_of, previous_of}
+use Rattle.rx_tree.proofs.TieLemmas.{wrote_next, wrote_previous, relinks_both}
+use Rattle.rx_tree.proofs.store.Store.join.Goals as goal
+
+pub returns-clause-joins : goal.returns-clause-joins
+returns-clause-joins g c =
+    let link : Link = record { next = c.args.end; previous = c.link-last.result.previous } in
+    joins_of places _ _ (next_of c.set_next.new.self) (previous_of c.set_link.new.self) _ _ c.args.end c.args.place c.link-last.result.previous
+    (ap (λ k. k.previous) c.link-last.ensures) c.set_next.ensures.next
+    (λ q. wrote_previous (link_at c.set_next.new.self) (link_at c.set_link.new.self) c.args.place link c.set_link.ensures.linked c.link-last.result.previous
+    refl q ∙ ap (λ p. cond (is_place c.args.place q) c.link-last.result.previous p) (c.set_next.ensures.previous q))
+    (λ q. c.set_previous.ensures.next q ∙ wrote_next (link_at c.set_next.new.self) (link_at c.set_link.new.self) c.args.place link
+    c.set_link.ensures.linked c.args.end refl q)
+    c.set_previous.ensures.previous
+
+pub returns-clause-rest : goal.returns-clause-rest
+returns-clause-rest g c = relinks_both _ _ _ (relinks_both _ _ _ c.set_next.ensures.rest c.set_link.ensures.rest) c.set_previous.ensures.rest

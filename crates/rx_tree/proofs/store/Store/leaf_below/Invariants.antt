@@ -1,0 +1,14 @@
+use Rattle.std.proofs.Common.{◌-◌, ◌^◌, IsSome}
+use Rattle.rx_slots.specs.Slots.{find}
+use Rattle.rx_tree.specs.Cuts.{Descends}
+use Rattle.rx_tree.specs.Store.{nodes_of}
+use Rattle.rx_tree.proofs.store.Store.leaf_below.Given as goal
+
+abbrev pub invariant-loop-child : goal.invariant-loop-child
+invariant-loop-child g l = record {
+  below : Descends (nodes_of l.fn.self) l.fn.key l.leaf;
+  there : IsSome (find (nodes_of l.fn.self) l.leaf);
+}
+
+abbrev pub decreases-loop-child : goal.decreases-loop-child
+decreases-loop-child g l = 2 ^ 64 - l.leaf.number

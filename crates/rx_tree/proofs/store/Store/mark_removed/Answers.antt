@@ -1,0 +1,82 @@
+use Rattle.std.proofs.Common.{◌+◌, ◌-◌, ◌==◌, cond, option_map, Some, IfSome, IsTrue, refl, sym, ap, subst, ◌∙◌, arith}
+use Rattle.std.specs.Option.{option_copied_mut}
+use Rattle.rx_tree.specs.declared.links.Place.TheVariants.{Stored}
+use Rattle.rx_slots.specs.Slots.{with_value, entry_of, Changes}
+use Rattle.rx_tree.specs.Store.{alone, project, nodes_of, resources_of, held_count_at}
+use Rattle.rx_tree.specs.Resources.{is_held, removed}
+use Rattle.rx_tree.specs.Tree.{Rewrites}
+use Rattle.rx_tree.proofs.StoreLemmas.{find-project, changes-written, rewrites-project, part-rewritten, keeps_links}
+use Rattle.rx_tree.proofs.CountSteps.{some_held, waiting_fits, counted_removed}
+use Rattle.rx_tree.proofs.store.Store.mark_removed.Goals as goal
+
+pub overflow_sub-count : goal.overflow_sub-count
+overflow_sub-count g c =
+    let a = c.args.self.now in
+    let at = sym c.get_mut.ensures.value ∙ ap option_copied_mut c.in-Some.is in
+    let found = find-project (λ r. r.stowed) a.resources c.args.key ∙ ap (option_map (λ r. r.stowed)) at in
+    let b = record c.args.self.now {
+      resources = with_value c.args.self.now.resources c.args.key
+          (record c.in-Some.stored.now { stowed = removed c.in-Some.stored.now.stowed });
+    } in
+    let held = subst (λ o. IfSome o (λ stowed. IsTrue (is_held (nodes_of a) stowed))) found c.requires.held in
+    let some = some_held a b c.requires.counted c.args.key c.in-Some.stored.now.stowed found held
+    (changes-written (λ r. r.stowed) a.resources c.args.key c.in-Some.stored.now _ c.in-Some.stored.now.stowed removed at refl found) in
+    let count = c.held_count-count.ensures in
+    omega (arith, some, count)
+
+pub overflow_add-self : goal.overflow_add-self
+overflow_add-self g c =
+    let a = c.args.self.now in
+    let at = sym c.get_mut.ensures.value ∙ ap option_copied_mut c.in-Some.is in
+    let found = find-project (λ r. r.stowed) a.resources c.args.key ∙ ap (option_map (λ r. r.stowed)) at in
+    let held = subst (λ o. IfSome o (λ stowed. IsTrue (is_held (nodes_of a) stowed))) found c.requires.held in
+    let few = waiting_fits a c.set_held_count.new.self c.requires.counted c.args.key c.in-Some.stored.now.stowed found held
+    (subst (λ r. Changes (resources_of a) (project (λ r. r.stowed) r) c.args.key.slot (Some (entry_of c.args.key.number (removed c.in-Some.stored.now.stowed))))
+    (sym c.set_held_count.ensures.resources)
+    (changes-written (λ r. r.stowed) a.resources c.args.key c.in-Some.stored.now _ c.in-Some.stored.now.stowed removed at refl found)) in
+    let same = c.set_held_count.ensures.waiting in
+    let slots = c.slot_count-slots.ensures.value in
+    let fits = c.slot_count-slots.type_inv in
+    omega (arith, few, same, slots, fits)
+
+pub returns-in-Some-clause-rewrites : goal.returns-in-Some-clause-rewrites
+returns-in-Some-clause-rewrites g c = subst (λ r. Rewrites (resources_of c.args.self.now) (project (λ r. r.stowed) r) c.args.key removed)
+    (sym c.set_held_count.ensures.resources)
+    (rewrites-project (λ r. r.stowed) c.args.self.now.resources c.args.key c.in-Some.stored.now
+    (record c.in-Some.stored.now { stowed = removed c.in-Some.stored.now.stowed }) removed
+    (sym c.get_mut.ensures.value ∙ ap option_copied_mut c.in-Some.is) refl)
+
+pub returns-in-Some-clause-links : goal.returns-in-Some-clause-links
+returns-in-Some-clause-links g c p = c.set_held_count.ensures.links p ∙ keeps_links c.args.self.now
+    (record c.args.self.now {
+      resources = with_value c.args.self.now.resources c.args.key
+          (record c.in-Some.stored.now { stowed = removed c.in-Some.stored.now.stowed });
+    })
+    refl refl refl (λ j. refl) (λ j. refl) (λ j. refl) (λ j. refl)
+    (part-rewritten (λ r. r.link) (λ j. alone (Stored j)) c.args.self.now.resources _ c.args.key.slot c.args.key.number c.in-Some.stored.now _
+    (sym c.get_mut.ensures.value ∙ ap option_copied_mut c.in-Some.is) refl refl) p
+
+pub returns-in-Some-clause-changes : goal.returns-in-Some-clause-changes
+returns-in-Some-clause-changes g c stowed found =
+    subst (λ r. Changes (resources_of c.args.self.now) (project (λ r. r.stowed) r) c.args.key.slot (Some (entry_of c.args.key.number (removed stowed))))
+    (sym c.set_held_count.ensures.resources)
+    (changes-written (λ r. r.stowed) c.args.self.now.resources c.args.key c.in-Some.stored.now
+    (record c.in-Some.stored.now { stowed = removed c.in-Some.stored.now.stowed }) stowed removed
+    (sym c.get_mut.ensures.value ∙ ap option_copied_mut c.in-Some.is) refl found)
+
+pub returns-in-Some-clause-counted : goal.returns-in-Some-clause-counted
+returns-in-Some-clause-counted g c =
+    let a = c.args.self.now in
+    let h = c.set_held_count.ensures in
+    let b = record c.set_held_count.new.self { waiting_count = c.set_held_count.new.self.waiting_count + 1 } in
+    let at = sym c.get_mut.ensures.value ∙ ap option_copied_mut c.in-Some.is in
+    let found = find-project (λ r. r.stowed) a.resources c.args.key ∙ ap (option_map (λ r. r.stowed)) at in
+    let held = subst (λ o. IfSome o (λ stowed. IsTrue (is_held (nodes_of a) stowed))) found c.requires.held in
+    let home = c.in-Some.stored.now.stowed.node.slot in
+    counted_removed a b c.requires.counted c.args.key c.in-Some.stored.now.stowed found held
+    (subst (λ r. Changes (resources_of a) (project (λ r. r.stowed) r) c.args.key.slot (Some (entry_of c.args.key.number (removed c.in-Some.stored.now.stowed))))
+    (sym h.resources)
+    (changes-written (λ r. r.stowed) a.resources c.args.key c.in-Some.stored.now
+    (record c.in-Some.stored.now { stowed = removed c.in-Some.stored.now.stowed }) c.in-Some.stored.now.stowed removed at refl found))
+    h.nodes (ap (λ n. n + 1) h.waiting)
+    (λ j. h.held j ∙ ap (λ n. cond (home == j) (n - 1) (held_count_at a j)) c.held_count-count.ensures) h.owed

@@ -1,0 +1,92 @@
+use Rattle.std.proofs.Common.{ap}
+use Rattle.rx_slots.specs.Slots.{find}
+use Rattle.rx_tree.specs.Store.{project, nodes_of}
+use Rattle.rx_tree.proofs.Laws.Keys.{some_of}
+use Rattle.rx_tree.proofs.LeafSteps.{noted_before, noted_after, noted_loop, sibling_before, sibling_after, noted_alone, children_alone, held_alone}
+use Rattle.rx_tree.proofs.LeafSteps.{taken, leaf_tied, leaf_chain, took_of}
+use Rattle.rx_tree.proofs.CountSteps.{counted_relinked}
+use Rattle.rx_tree.proofs.store.Store.take_leaf.Goals as goal
+
+pub unnote-requires-clause-before : goal.unnote-requires-clause-before
+unnote-requires-clause-before g c =
+    let h = some_of (find (nodes_of c.args.self.now) c.args.key) c.requires.«open» in
+    noted_before c.args.self.now c.let_wait.new.self c.args.key h.0 h.1 c.let_wait.ensures.waits c.let_wait.ensures.rest c.requires.childless
+
+pub unnote-requires-clause-after : goal.unnote-requires-clause-after
+unnote-requires-clause-after g c =
+    let h = some_of (find (nodes_of c.args.self.now) c.args.key) c.requires.«open» in
+    noted_after c.args.self.now c.let_wait.new.self c.args.key h.0 h.1 c.let_wait.ensures.waits c.let_wait.ensures.rest c.requires.childless
+
+pub unnote-requires-clause-alone : goal.unnote-requires-clause-alone
+unnote-requires-clause-alone g c =
+    let h = some_of (find (nodes_of c.args.self.now) c.args.key) c.requires.«open» in
+    noted_loop c.args.self.now c.let_wait.new.self c.args.key h.0 h.1 c.let_wait.ensures.waits c.let_wait.ensures.rest c.requires.childless
+
+pub pass_by-requires-clause-before : goal.pass_by-requires-clause-before
+pass_by-requires-clause-before g c =
+    let h = some_of (find (nodes_of c.args.self.now) c.args.key) c.requires.«open» in
+    sibling_before c.args.self.now c.let_wait.new.self c.args.key h.0 h.1 c.let_wait.ensures.waits c.let_wait.ensures.rest c.requires.childless
+    c.unnote.new.self c.unnote.ensures.leaves c.unnote.ensures.rest
+
+pub pass_by-requires-clause-after : goal.pass_by-requires-clause-after
+pass_by-requires-clause-after g c =
+    let h = some_of (find (nodes_of c.args.self.now) c.args.key) c.requires.«open» in
+    sibling_after c.args.self.now c.let_wait.new.self c.args.key h.0 h.1 c.let_wait.ensures.waits c.let_wait.ensures.rest c.requires.childless
+    c.unnote.new.self c.unnote.ensures.leaves c.unnote.ensures.rest
+
+pub take_node-requires-clause-noted : goal.take_node-requires-clause-noted
+take_node-requires-clause-noted g c =
+    let h = some_of (find (nodes_of c.args.self.now) c.args.key) c.requires.«open» in
+    noted_alone c.args.self.now c.let_wait.new.self c.args.key h.0 h.1 c.let_wait.ensures.waits c.let_wait.ensures.rest c.requires.childless c.unnote.new.self
+    c.unnote.ensures.leaves c.unnote.ensures.rest c.pass_by.new.self c.pass_by.ensures.passes c.pass_by.ensures.rest
+
+pub take_node-requires-clause-children : goal.take_node-requires-clause-children
+take_node-requires-clause-children g c =
+    let h = some_of (find (nodes_of c.args.self.now) c.args.key) c.requires.«open» in
+    children_alone c.args.self.now c.let_wait.new.self c.args.key h.0 h.1 c.let_wait.ensures.waits c.let_wait.ensures.rest c.requires.childless
+    c.unnote.new.self c.unnote.ensures.leaves c.unnote.ensures.rest c.pass_by.new.self c.pass_by.ensures.passes c.pass_by.ensures.rest
+
+pub take_node-requires-clause-held : goal.take_node-requires-clause-held
+take_node-requires-clause-held g c =
+    let h = some_of (find (nodes_of c.args.self.now) c.args.key) c.requires.«open» in
+    held_alone c.args.self.now c.let_wait.new.self c.args.key h.0 h.1 c.let_wait.ensures.waits c.let_wait.ensures.rest c.requires.childless c.unnote.new.self
+    c.unnote.ensures.leaves c.unnote.ensures.rest c.pass_by.new.self c.pass_by.ensures.passes c.pass_by.ensures.rest
+
+pub returns-clause-tied : goal.returns-clause-tied
+returns-clause-tied g c =
+    let h = some_of (find (nodes_of c.args.self.now) c.args.key) c.requires.«open» in
+    leaf_tied c.args.self.now c.let_wait.new.self c.args.key h.0 h.1 c.let_wait.ensures.waits c.let_wait.ensures.rest c.requires.childless c.unnote.new.self
+    c.unnote.ensures.leaves c.unnote.ensures.rest c.pass_by.new.self c.pass_by.ensures.passes c.pass_by.ensures.rest c.take_node.new.self
+    (took_of c.args.self.now c.let_wait.new.self c.unnote.new.self c.pass_by.new.self c.args.key h.0 h.1 c.let_wait.ensures.rest
+    c.unnote.ensures.rest c.pass_by.ensures.rest c.take_node.result c.take_node.ensures.value _ c.take_node.ensures.taken)
+    (took_of c.args.self.now c.let_wait.new.self c.unnote.new.self c.pass_by.new.self c.args.key h.0 h.1 c.let_wait.ensures.rest
+    c.unnote.ensures.rest c.pass_by.ensures.rest c.take_node.result c.take_node.ensures.value _ c.take_node.ensures.links)
+    (ap (project (λ r. r.stowed)) c.take_node.ensures.resources)
+
+pub returns-clause-chain : goal.returns-clause-chain
+returns-clause-chain g c =
+    let h = some_of (find (nodes_of c.args.self.now) c.args.key) c.requires.«open» in
+    leaf_chain c.args.self.now c.let_wait.new.self c.args.key h.0 h.1 c.let_wait.ensures.waits c.let_wait.ensures.rest c.requires.childless c.unnote.new.self
+    c.unnote.ensures.leaves c.unnote.ensures.rest c.pass_by.new.self c.pass_by.ensures.passes c.pass_by.ensures.rest c.take_node.new.self
+    (took_of c.args.self.now c.let_wait.new.self c.unnote.new.self c.pass_by.new.self c.args.key h.0 h.1 c.let_wait.ensures.rest
+    c.unnote.ensures.rest c.pass_by.ensures.rest c.take_node.result c.take_node.ensures.value _ c.take_node.ensures.taken)
+    (took_of c.args.self.now c.let_wait.new.self c.unnote.new.self c.pass_by.new.self c.args.key h.0 h.1 c.let_wait.ensures.rest
+    c.unnote.ensures.rest c.pass_by.ensures.rest c.take_node.result c.take_node.ensures.value _ c.take_node.ensures.links)
+    (ap (project (λ r. r.stowed)) c.take_node.ensures.resources)
+
+pub returns-clause-taken : goal.returns-clause-taken
+returns-clause-taken g c =
+    let h = some_of (find (nodes_of c.args.self.now) c.args.key) c.requires.«open» in
+    taken c.args.self.now c.let_wait.new.self c.args.key h.0 h.1 c.let_wait.ensures.waits c.let_wait.ensures.rest c.requires.childless c.unnote.new.self
+    c.unnote.ensures.leaves c.unnote.ensures.rest c.pass_by.new.self c.pass_by.ensures.passes c.pass_by.ensures.rest c.take_node.new.self
+    (took_of c.args.self.now c.let_wait.new.self c.unnote.new.self c.pass_by.new.self c.args.key h.0 h.1 c.let_wait.ensures.rest
+    c.unnote.ensures.rest c.pass_by.ensures.rest c.take_node.result c.take_node.ensures.value _ c.take_node.ensures.taken)
+    (took_of c.args.self.now c.let_wait.new.self c.unnote.new.self c.pass_by.new.self c.args.key h.0 h.1 c.let_wait.ensures.rest
+    c.unnote.ensures.rest c.pass_by.ensures.rest c.take_node.result c.take_node.ensures.value _ c.take_node.ensures.links)
+    (ap (project (λ r. r.stowed)) c.take_node.ensures.resources)
+
+pub take_node-requires-clause-counted : goal.take_node-requires-clause-counted
+take_node-requires-clause-counted g c =
+    let waiting = counted_relinked c.args.self.now c.let_wait.new.self c.let_wait.ensures.rest c.requires.counted in
+    let off = counted_relinked c.let_wait.new.self c.unnote.new.self c.unnote.ensures.rest waiting in
+    counted_relinked c.unnote.new.self c.pass_by.new.self c.pass_by.ensures.rest off

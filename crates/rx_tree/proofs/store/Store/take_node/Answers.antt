@@ -1,0 +1,50 @@
+use Rattle.std.proofs.Common.{◌+◌, ◌-◌, option_map, refl, sym, ap, ◌∙◌, arith}
+use Rattle.rx_tree.specs.declared.links.Place.TheVariants.{Children, Held, Sibling, Noted}
+use Rattle.rx_tree.specs.Store.{alone}
+use Rattle.rx_tree.proofs.StoreLemmas.{find-project, takes-project, changes-project, part-taken, part-gone, links_taken}
+use Rattle.rx_tree.proofs.CountSteps.{out_fits, some_owed, counted_out}
+use Rattle.rx_tree.proofs.store.Store.take_node.Goals as goal
+
+pub returns-clause-taken : goal.returns-clause-taken
+returns-clause-taken g c = let e =
+    c.in_ok-linked.ensures in takes-project (λ l. l.node) c.args.self.now.nodes c.take.new.self c.args.key e.changes e.gone e.kept e.count e.room
+
+pub returns-clause-links : goal.returns-clause-links
+returns-clause-links g c = links_taken c.args.self.now (record c.args.self.now { nodes = c.take.new.self }) c.args.key.slot refl refl refl
+    (part-taken (λ l. l.children) (λ j. alone (Children j)) _ _ c.args.key.slot c.in_ok-linked.ensures.changes c.requires.children)
+    (part-taken (λ l. l.held) (λ j. alone (Held j)) _ _ c.args.key.slot c.in_ok-linked.ensures.changes c.requires.held)
+    (part-gone (λ l. l.sibling) (λ j. alone (Sibling j)) _ _ c.args.key.slot c.in_ok-linked.ensures.changes)
+    (part-taken (λ l. l.noted) (λ j. alone (Noted j)) _ _ c.args.key.slot c.in_ok-linked.ensures.changes c.requires.noted)
+    (λ j. refl)
+
+pub overflow_add-self : goal.overflow_add-self
+overflow_add-self g c =
+    let a = c.args.self.now in
+    let b = record c.args.self.now { nodes = c.take.new.self } in
+    let few = out_fits a b c.requires.counted c.args.key c.in_ok-linked.linked (sym c.take.ensures.value ∙ c.in_ok-linked.was)
+    (changes-project (λ l. l.node) _ _ c.args.key.slot _ c.in_ok-linked.ensures.changes) in
+    let slots = c.slot_count-slots.ensures.value in
+    let fits = c.slot_count-slots.type_inv in
+    omega (arith, few, slots, fits)
+
+pub overflow_sub-self : goal.overflow_sub-self
+overflow_sub-self g c =
+    let a = c.args.self.now in
+    let b = record c.args.self.now { nodes = c.take.new.self } in
+    some_owed a b c.requires.counted c.args.key c.in_ok-linked.linked (sym c.take.ensures.value ∙ c.in_ok-linked.was)
+    (changes-project (λ l. l.node) _ _ c.args.key.slot _ c.in_ok-linked.ensures.changes)
+
+pub returns-clause-counted : goal.returns-clause-counted
+returns-clause-counted g c =
+    let a = c.args.self.now in
+    let b = record c.args.self.now {
+      nodes = c.take.new.self;
+      waiting_count = c.args.self.now.waiting_count + c.in_ok-linked.linked.held_count;
+      owed = c.args.self.now.owed - c.in_ok-linked.linked.node.marks.owed;
+    } in
+    counted_out a b c.requires.counted c.args.key c.in_ok-linked.linked (sym c.take.ensures.value ∙ c.in_ok-linked.was)
+    (changes-project (λ l. l.node) _ _ c.args.key.slot _ c.in_ok-linked.ensures.changes) refl refl c.in_ok-linked.ensures.changes refl
+
+pub returns-clause-value : goal.returns-clause-value
+returns-clause-value g c = sym (find-project (λ l. l.node) c.args.self.now.nodes c.args.key ∙
+    ap (option_map (λ l. l.node)) (sym c.take.ensures.value ∙ c.in_ok-linked.was))

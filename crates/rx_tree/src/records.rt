@@ -1,0 +1,226 @@
+//! The records of a store as they come, change and go, and how many resources wait and are held.
+
+ghost use Rattle.std.specs.Prelude.{◌≡◌, ◌+◌, ◌<◌, ◌≤◌, IsTrue, ◌==◌, cond, IsOk, IfOk, IfSome, IfErr, OnOk};
+ghost use Rattle.std.specs.Prelude.{OnErr, OnSome, Some, false};
+ghost use Rattle.rx_slots.specs.declared.Key.{Key};
+ghost use Rattle.rx_tree.specs.declared.node.Stowed.{Stowed};
+ghost use Rattle.rx_slots.specs.Slots.{find, key_at, Changes, entry_of};
+ghost use Rattle.rx_tree.specs.Tree.{Rewrites, with_marks};
+ghost use Rattle.rx_tree.specs.Owed.{owed_in};
+ghost use Rattle.rx_tree.specs.Resources.{is_held, removed};
+ghost use Rattle.rx_tree.specs.Places.{is_place};
+ghost use Rattle.rx_tree.specs.Store.{alone, link_at, set_link_at, next_of, nodes_of, resources_of};
+ghost use Rattle.rx_tree.specs.Store.{is_there, held_count_at, KeepsLinks, Inserts, Takes_out};
+ghost use Rattle.rx_tree.specs.Ties.{IsCounted};
+ghost use Rattle.std.proofs.Math.Bool.{not};
+ghost use Rattle.std.specs.Option.{option_map_or};
+ghost use Rattle.rx_tree.specs.declared.links.Place.TheVariants.{Children, Held, Sibling, Noted, Stored as At};
+
+use crate::links::{Link, Place};
+use crate::node::{Node, Stowed};
+use crate::store::{Linked, Store, Stored};
+use rx_event::Marks;
+use rx_slots::Key;
+use std::alloc::AllocError;
+
+impl<R: Drop> Store<R> {
+    // The record of a key.
+    pub(crate) fn node(&self, key: Key) -> Option<Node>
+        ensures { result ≡ find (nodes_of self.now) key }
+    {
+        Some(self.nodes.get(key)?.node)
+    }
+
+    // The key of the node at a slot.
+    pub(crate) fn node_at(&self, slot: usize) -> Option<Key>
+        ensures { result ≡ key_at (nodes_of self.now) slot }
+    {
+        self.nodes.key_at(slot)
+    }
+
+    // The key of the resource at a slot.
+    pub(crate) fn resource_at(&self, slot: usize) -> Option<Key>
+        ensures { result ≡ key_at (resources_of self.now) slot }
+    {
+        self.resources.key_at(slot)
+    }
+
+    // Whether a slot's node stands among those that may be due.
+    pub(crate) fn is_noted(&self, slot: usize) -> bool
+        ensures { result ≡ not (is_place (next_of self.now (Noted slot)) (Noted slot)) }
+    {
+        match self.link(Place::Noted(slot)).next {
+            Place::Noted(next) => next != slot,
+            _ => true,
+        }
+    }
+
+    // Adds a record that stands on no ring and owes nothing.
+    pub(crate) fn add_node(&mut self, number: u64, node: Node) -> Result<Key, AllocError>
+        requires counted { IsCounted self.old }
+        requires homes { (key : Key) (stowed : Stowed R) → find (resources_of self.old) key ≡ Some stowed →
+            stowed.node.number < number }
+        requires owes_nothing { node.marks.owed ≡ 0 }
+        ensures ok { IfOk result (λ key. Inserts (nodes_of self.old) (nodes_of self.new) key number node) }
+        ensures counted { OnOk result (IsCounted self.new) }
+        ensures links { KeepsLinks self.old self.new }
+        ensures resources { self.new.resources ≡ self.old.resources }
+        ensures succeeds { 0 < self.old.nodes.room → IsOk result }
+        ensures had_room { 0 < self.old.nodes.room → self.new.nodes.room + 1 ≡ self.old.nodes.room }
+        ensures err { OnErr result (self.new ≡ record self.old
+            { nodes = record self.old.nodes { room = self.new.nodes.room } }) }
+        ensures room { OnErr result (self.old.nodes.room ≤ self.new.nodes.room) }
+    {
+        let linked = Linked::alone(node, self.nodes.next_slot());
+        match self.nodes.insert(number, linked) {
+            Ok(key) => Ok(key),
+            Err(_) => Err(AllocError),
+        }
+    }
+
+    // Writes a record's marks.
+    pub(crate) fn write_marks(&mut self, key: Key, marks: Marks)
+        requires counted { IsCounted self.old }
+        requires countable { owed_in (nodes_of self.old) + marks.owed < 18446744073709551616 }
+        ensures counted { IsCounted self.new }
+        ensures rewrites { Rewrites (nodes_of self.old) (nodes_of self.new) key (with_marks marks) }
+        ensures changes { (node : Node) → find (nodes_of self.old) key ≡ Some node →
+            Changes (nodes_of self.old) (nodes_of self.new) key.slot
+            (Some (entry_of key.number (with_marks marks node))) }
+        ensures links { KeepsLinks self.old self.new }
+        ensures resources { self.new.resources ≡ self.old.resources }
+    {
+        if let Some(linked) = self.nodes.get_mut(key) {
+            let before = linked.node.marks.owed;
+            linked.node.marks = marks;
+            self.owed = self.owed + marks.owed - before;
+        }
+    }
+
+    // Takes out a record that its siblings pass by, which is on no chain and on whose rings nothing
+    // stands. What was held there waits from then on.
+    pub(crate) fn take_node(&mut self, key: Key) -> Option<Node>
+        requires counted { IsCounted self.old }
+        requires noted { link_at self.old (Noted key.slot) ≡ alone (Noted key.slot) }
+        requires children { link_at self.old (Children key.slot) ≡ alone (Children key.slot) }
+        requires held { link_at self.old (Held key.slot) ≡ alone (Held key.slot) }
+        ensures value { result ≡ find (nodes_of self.old) key }
+        ensures taken { OnSome result (Takes_out (nodes_of self.old) (nodes_of self.new) key) }
+        ensures counted { OnSome result (IsCounted self.new) }
+        ensures links { OnSome result ((q : _) → link_at self.new q ≡
+            set_link_at (Sibling key.slot) (alone (Sibling key.slot)) self.old q) }
+        ensures resources { self.new.resources ≡ self.old.resources }
+    {
+        // No more resources are held and wait than there are slots, so their count fits.
+        let _slots = self.resources.slot_count();
+        let linked = self.nodes.take(key)?;
+        self.waiting_count += linked.held_count;
+        self.owed -= linked.node.marks.owed;
+        Some(linked.node)
+    }
+
+    // How many resources are held at a slot's node.
+    fn held_count(&self, slot: usize) -> u64
+        ensures { result ≡ held_count_at self.now slot }
+    {
+        match self.nodes.value_at(slot) {
+            Some(linked) => linked.held_count,
+            None => 0,
+        }
+    }
+
+    // Writes how many resources are held at a slot's node.
+    fn set_held_count(&mut self, slot: usize, count: u64)
+        requires there { IsTrue (is_there self.old (Held slot)) }
+        ensures held { (q : _) → held_count_at self.new q ≡ cond (slot == q) count (held_count_at self.old q) }
+        ensures waiting { self.new.waiting_count ≡ self.old.waiting_count }
+        ensures owed { self.new.owed ≡ self.old.owed }
+        ensures links { KeepsLinks self.old self.new }
+        ensures nodes { nodes_of self.new ≡ nodes_of self.old }
+        ensures resources { self.new.resources ≡ self.old.resources }
+    {
+        if let Some(linked) = self.nodes.value_at_mut(slot) {
+            linked.held_count = count;
+        }
+    }
+
+    // Adds a resource that is held at its node, and stands on no ring yet.
+    pub(crate) fn add_resource(&mut self, number: u64, stowed: Stowed<R>) -> Result<Key, R>
+        requires counted { IsCounted self.old }
+        requires held { IsTrue (is_held (nodes_of self.old) stowed) }
+        ensures ok { IfOk result (λ key. Inserts (resources_of self.old) (resources_of self.new) key number stowed) }
+        ensures counted { OnOk result (IsCounted self.new) }
+        ensures links { KeepsLinks self.old self.new }
+        ensures nodes { nodes_of self.new ≡ nodes_of self.old }
+        ensures succeeds { 0 < self.old.resources.room → IsOk result }
+        ensures had_room { 0 < self.old.resources.room → self.new.resources.room + 1 ≡ self.old.resources.room }
+        ensures given_back { IfErr result (λ back. back ≡ stowed.resource) }
+        ensures err { OnErr result (self.new ≡ record self.old
+            { resources = record self.old.resources { room = self.new.resources.room } }) }
+        ensures room { OnErr result (self.old.resources.room ≤ self.new.resources.room) }
+    {
+        let home = stowed.node.slot;
+        let link = Link::alone(Place::Stored(self.resources.next_slot()));
+        match self.resources.insert(number, Stored { stowed, link }) {
+            Ok(key) => {
+                // No more are held than there are slots, so their count fits.
+                let _slots = self.resources.slot_count();
+                let count = self.held_count(home);
+                self.set_held_count(home, count + 1);
+                Ok(key)
+            }
+            Err(back) => Err(back.stowed.resource),
+        }
+    }
+
+    // Marks a held resource as removed from its node: it waits from then on.
+    pub(crate) fn mark_removed(&mut self, key: Key)
+        requires counted { IsCounted self.old }
+        requires held { IfSome (find (resources_of self.old) key)
+            (λ stowed. IsTrue (is_held (nodes_of self.old) stowed)) }
+        ensures counted { IsCounted self.new }
+        ensures rewrites { Rewrites (resources_of self.old) (resources_of self.new) key removed }
+        ensures changes { (stowed : Stowed R) → find (resources_of self.old) key ≡ Some stowed →
+            Changes (resources_of self.old) (resources_of self.new) key.slot
+            (Some (entry_of key.number (removed stowed))) }
+        ensures links { KeepsLinks self.old self.new }
+        ensures nodes { nodes_of self.new ≡ nodes_of self.old }
+    {
+        if let Some(stored) = self.resources.get_mut(key) {
+            let home = stored.stowed.node.slot;
+            stored.stowed.removed = true;
+            let count = self.held_count(home);
+            self.set_held_count(home, count - 1);
+            // No more wait than there are slots, so their count fits.
+            let _slots = self.resources.slot_count();
+            self.waiting_count += 1;
+        }
+    }
+
+    // Takes out a resource that waits and stands on no ring.
+    pub(crate) fn take_resource(&mut self, key: Key) -> Option<Stowed<R>>
+        requires counted { IsCounted self.old }
+        requires waits { IfSome (find (resources_of self.old) key)
+            (λ stowed. is_held (nodes_of self.old) stowed ≡ false) }
+        requires link { link_at self.old (At key.slot) ≡ alone (At key.slot) }
+        ensures value { result ≡ find (resources_of self.old) key }
+        ensures taken { OnSome result (Takes_out (resources_of self.old) (resources_of self.new) key) }
+        ensures counted { OnSome result (IsCounted self.new) }
+        ensures links { KeepsLinks self.old self.new }
+        ensures nodes { self.new.nodes ≡ self.old.nodes }
+    {
+        let stored = self.resources.take(key)?;
+        self.waiting_count -= 1;
+        Some(stored.stowed)
+    }
+
+    // Whether the resource of a key is held.
+    pub(crate) fn holds(&self, key: Key) -> bool
+        ensures { result ≡ option_map_or (is_held (nodes_of self.now)) (find (resources_of self.now) key) false }
+    {
+        match self.resources.get(key) {
+            Some(stored) => !stored.stowed.removed && self.node(stored.stowed.node).is_some(),
+            None => false,
+        }
+    }
+}

@@ -1,0 +1,323 @@
+//! The records of the nodes and the resources, each with its links, and the rings that the links make.
+
+ghost use Rattle.std.specs.Prelude.{◌≡◌, [], IsTrue};
+ghost use Rattle.rx_tree.specs.Rings.{set_step, Joins, PassesBy, Leaves, Merges};
+ghost use Rattle.rx_tree.specs.Places.{places};
+ghost use Rattle.rx_tree.specs.Store.{alone, link_at, set_link_at, next_of, previous_of};
+ghost use Rattle.rx_tree.specs.Store.{is_there, Relinks};
+ghost use Rattle.rx_tree.specs.declared.links.Place.TheVariants.{Roots, Due, Waiting, Children, Held, Sibling, Noted};
+
+use crate::links::{Link, Place};
+use crate::node::{Node, Stowed};
+use rx_slots::Slots;
+use std::alloc::Global;
+
+/// The record of a node with its links.
+#[derive(Clone, Copy, Debug)]
+pub(crate) struct Linked {
+    pub(crate) node: Node,
+    /// Among its siblings.
+    pub(crate) sibling: Link,
+    /// Among the nodes that may be due.
+    pub(crate) noted: Link,
+    /// To its first and last child.
+    pub(crate) children: Link,
+    /// To the first and last resource that is held at it.
+    pub(crate) held: Link,
+    /// How many resources are held at it.
+    pub(crate) held_count: u64,
+}
+
+impl Linked {
+    // A record at a slot that stands on no ring.
+    pub(crate) fn alone(node: Node, slot: usize) -> Self
+        ensures node { result.node ≡ node }
+        ensures sibling { result.sibling ≡ alone (Sibling slot) }
+        ensures noted { result.noted ≡ alone (Noted slot) }
+        ensures children { result.children ≡ alone (Children slot) }
+        ensures held { result.held ≡ alone (Held slot) }
+        ensures held_count { result.held_count ≡ 0 }
+    {
+        Linked {
+            node,
+            sibling: Link::alone(Place::Sibling(slot)),
+            noted: Link::alone(Place::Noted(slot)),
+            children: Link::alone(Place::Children(slot)),
+            held: Link::alone(Place::Held(slot)),
+            held_count: 0,
+        }
+    }
+}
+
+/// A resource with its links.
+#[derive(Drop)]
+pub(crate) struct Stored<R: Drop> {
+    pub(crate) stowed: Stowed<R>,
+    /// Among those that are held with it or wait.
+    pub(crate) link: Link,
+}
+
+/// The records and the resources, and where the rings begin that belong to no node.
+#[derive(Drop)]
+pub(crate) struct Store<R: Drop> {
+    pub(crate) nodes: Slots<Linked>,
+    pub(crate) resources: Slots<Stored<R>>,
+    pub(crate) roots: Link,
+    pub(crate) due: Link,
+    pub(crate) waiting: Link,
+    /// How many resources wait.
+    pub(crate) waiting_count: u64,
+    /// How many projected items the marks of the nodes owe together.
+    pub(crate) owed: u64,
+}
+
+impl<R: Drop> Store<R> {
+    // A store with nothing in it, which takes no memory.
+    pub(crate) fn new(alloc: Global) -> Self
+        ensures nodes { result.nodes.entries ≡ [] }
+        ensures count { result.nodes.count ≡ 0 }
+        ensures room { result.nodes.room ≡ 0 }
+        ensures resources { result.resources.entries ≡ [] }
+        ensures resource_count { result.resources.count ≡ 0 }
+        ensures resource_room { result.resources.room ≡ 0 }
+        ensures roots { result.roots ≡ alone Roots }
+        ensures due { result.due ≡ alone Due }
+        ensures waiting { result.waiting ≡ alone Waiting }
+        ensures waiting_count { result.waiting_count ≡ 0 }
+        ensures owed { result.owed ≡ 0 }
+    {
+        Store {
+            nodes: Slots::new(alloc),
+            resources: Slots::new(alloc),
+            roots: Link::alone(Place::Roots),
+            due: Link::alone(Place::Due),
+            waiting: Link::alone(Place::Waiting),
+            waiting_count: 0,
+            owed: 0,
+        }
+    }
+
+    // What comes after a place and before it: itself where nothing stands there.
+    pub(crate) fn link(&self, place: Place) -> Link
+        ensures { result ≡ link_at self.now place }
+    {
+        let alone = Link::alone(place);
+        match place {
+            Place::Roots => self.roots,
+            Place::Due => self.due,
+            Place::Waiting => self.waiting,
+            Place::Children(slot) => match self.nodes.value_at(slot) {
+                Some(linked) => linked.children,
+                None => alone,
+            },
+            Place::Held(slot) => match self.nodes.value_at(slot) {
+                Some(linked) => linked.held,
+                None => alone,
+            },
+            Place::Sibling(slot) => match self.nodes.value_at(slot) {
+                Some(linked) => linked.sibling,
+                None => alone,
+            },
+            Place::Noted(slot) => match self.nodes.value_at(slot) {
+                Some(linked) => linked.noted,
+                None => alone,
+            },
+            Place::Stored(slot) => match self.resources.value_at(slot) {
+                Some(stored) => stored.link,
+                None => alone,
+            },
+        }
+    }
+
+    // Writes what comes after a place and before it.
+    fn set_link(&mut self, place: Place, link: Link)
+        requires there { IsTrue (is_there self.old place) }
+        ensures linked { (q : _) → link_at self.new q ≡ set_link_at place link self.old q }
+        ensures rest { Relinks self.old self.new }
+    {
+        match place {
+            Place::Roots => self.roots = link,
+            Place::Due => self.due = link,
+            Place::Waiting => self.waiting = link,
+            Place::Children(slot) => {
+                if let Some(linked) = self.nodes.value_at_mut(slot) {
+                    linked.children = link;
+                }
+            }
+            Place::Held(slot) => {
+                if let Some(linked) = self.nodes.value_at_mut(slot) {
+                    linked.held = link;
+                }
+            }
+            Place::Sibling(slot) => {
+                if let Some(linked) = self.nodes.value_at_mut(slot) {
+                    linked.sibling = link;
+                }
+            }
+            Place::Noted(slot) => {
+                if let Some(linked) = self.nodes.value_at_mut(slot) {
+                    linked.noted = link;
+                }
+            }
+            Place::Stored(slot) => {
+                if let Some(stored) = self.resources.value_at_mut(slot) {
+                    stored.link = link;
+                }
+            }
+        }
+    }
+
+    // Writes what comes after a place.
+    fn set_next(&mut self, place: Place, to: Place)
+        requires there { IsTrue (is_there self.old place) }
+        ensures next { (q : _) → next_of self.new q ≡ set_step places place to (next_of self.old) q }
+        ensures previous { (q : _) → previous_of self.new q ≡ previous_of self.old q }
+        ensures rest { Relinks self.old self.new }
+    {
+        match place {
+            Place::Roots => self.roots.next = to,
+            Place::Due => self.due.next = to,
+            Place::Waiting => self.waiting.next = to,
+            Place::Children(slot) => {
+                if let Some(linked) = self.nodes.value_at_mut(slot) {
+                    linked.children.next = to;
+                }
+            }
+            Place::Held(slot) => {
+                if let Some(linked) = self.nodes.value_at_mut(slot) {
+                    linked.held.next = to;
+                }
+            }
+            Place::Sibling(slot) => {
+                if let Some(linked) = self.nodes.value_at_mut(slot) {
+                    linked.sibling.next = to;
+                }
+            }
+            Place::Noted(slot) => {
+                if let Some(linked) = self.nodes.value_at_mut(slot) {
+                    linked.noted.next = to;
+                }
+            }
+            Place::Stored(slot) => {
+                if let Some(stored) = self.resources.value_at_mut(slot) {
+                    stored.link.next = to;
+                }
+            }
+        }
+    }
+
+    // Writes what comes before a place.
+    fn set_previous(&mut self, place: Place, to: Place)
+        requires there { IsTrue (is_there self.old place) }
+        ensures next { (q : _) → next_of self.new q ≡ next_of self.old q }
+        ensures previous { (q : _) → previous_of self.new q ≡ set_step places place to (previous_of self.old) q }
+        ensures rest { Relinks self.old self.new }
+    {
+        match place {
+            Place::Roots => self.roots.previous = to,
+            Place::Due => self.due.previous = to,
+            Place::Waiting => self.waiting.previous = to,
+            Place::Children(slot) => {
+                if let Some(linked) = self.nodes.value_at_mut(slot) {
+                    linked.children.previous = to;
+                }
+            }
+            Place::Held(slot) => {
+                if let Some(linked) = self.nodes.value_at_mut(slot) {
+                    linked.held.previous = to;
+                }
+            }
+            Place::Sibling(slot) => {
+                if let Some(linked) = self.nodes.value_at_mut(slot) {
+                    linked.sibling.previous = to;
+                }
+            }
+            Place::Noted(slot) => {
+                if let Some(linked) = self.nodes.value_at_mut(slot) {
+                    linked.noted.previous = to;
+                }
+            }
+            Place::Stored(slot) => {
+                if let Some(stored) = self.resources.value_at_mut(slot) {
+                    stored.link.previous = to;
+                }
+            }
+        }
+    }
+
+    // Lets one place come directly before another.
+    fn tie(&mut self, one: Place, other: Place)
+        requires one { IsTrue (is_there self.old one) }
+        requires other { IsTrue (is_there self.old other) }
+        ensures next { (q : _) → next_of self.new q ≡ set_step places one other (next_of self.old) q }
+        ensures previous { (q : _) → previous_of self.new q ≡ set_step places other one (previous_of self.old) q }
+        ensures rest { Relinks self.old self.new }
+    {
+        self.set_next(one, other);
+        self.set_previous(other, one);
+    }
+
+    // Puts a place last on a ring.
+    pub(crate) fn join(&mut self, end: Place, place: Place)
+        requires end { IsTrue (is_there self.old end) }
+        requires place { IsTrue (is_there self.old place) }
+        requires last { IsTrue (is_there self.old (previous_of self.old end)) }
+        ensures joins { Joins places (next_of self.old) (previous_of self.old)
+            (next_of self.new) (previous_of self.new) end place }
+        ensures rest { Relinks self.old self.new }
+    {
+        let last = self.link(end).previous;
+        self.set_next(last, place);
+        self.set_link(
+            place,
+            Link {
+                next: end,
+                previous: last,
+            },
+        );
+        self.set_previous(end, place);
+    }
+
+    // Lets its ring pass a place by, whose own link stays as it was.
+    pub(crate) fn pass_by(&mut self, place: Place)
+        requires before { IsTrue (is_there self.old (previous_of self.old place)) }
+        requires after { IsTrue (is_there self.old (next_of self.old place)) }
+        ensures passes { PassesBy places (next_of self.old) (previous_of self.old)
+            (next_of self.new) (previous_of self.new) place }
+        ensures rest { Relinks self.old self.new }
+    {
+        let link = self.link(place);
+        self.tie(link.previous, link.next);
+    }
+
+    // Takes a place off its ring.
+    pub(crate) fn leave(&mut self, place: Place)
+        requires place { IsTrue (is_there self.old place) }
+        requires before { IsTrue (is_there self.old (previous_of self.old place)) }
+        requires after { IsTrue (is_there self.old (next_of self.old place)) }
+        ensures leaves { Leaves places (next_of self.old) (previous_of self.old)
+            (next_of self.new) (previous_of self.new) place }
+        ensures rest { Relinks self.old self.new }
+    {
+        self.pass_by(place);
+        self.set_link(place, Link::alone(place));
+    }
+
+    // Puts what a ring goes over at the end of another ring.
+    pub(crate) fn merge(&mut self, from: Place, into: Place)
+        requires from { IsTrue (is_there self.old from) }
+        requires into { IsTrue (is_there self.old into) }
+        requires last { IsTrue (is_there self.old (previous_of self.old into)) }
+        requires from_first { IsTrue (is_there self.old (next_of self.old from)) }
+        requires from_last { IsTrue (is_there self.old (previous_of self.old from)) }
+        ensures merges { Merges places (next_of self.old) (previous_of self.old)
+            (next_of self.new) (previous_of self.new) from into }
+        ensures rest { Relinks self.old self.new }
+    {
+        let link = self.link(from);
+        let last = self.link(into).previous;
+        self.tie(last, link.next);
+        self.tie(link.previous, into);
+        self.set_link(from, Link::alone(from));
+    }
+}
