@@ -6,9 +6,9 @@ use Rattle.std.proofs.lemmas.Option.{same_Some, none-some}
 use Rattle.rx_event.specs.declared.event.Event.{Event}
 use Rattle.rx_slots.specs.declared.Key.{Key}
 use Rattle.rx_slots.specs.Slots.{Slots}
-use Rattle.rx_forest.specs.declared.node.Node.{Node}
-use Rattle.rx_forest.specs.Tree.{Tree, is_key, is_on, first_of}
-use Rattle.rx_forest.proofs.Laws.Keys.{same_key}
+use Rattle.rx_tree.specs.declared.node.Node.{Node}
+use Rattle.rx_tree.specs.Tree.{Tree, is_key, is_on, first_of}
+use Rattle.rx_tree.proofs.Laws.Keys.{same_key}
 use Rattle.rx_flow.specs.Due.{due_of, from_due, IsDueIn, IsQuiet, IsChained}
 
 first_is : (chain : List Key) (key : Key) → first_of chain ≡ Some key → (rest : List Key) × (chain ≡ key ∷ rest)
@@ -20,7 +20,9 @@ none_is [] none = refl
 none_is (k ∷ rest) some = absurd (none-some k (sym some))
 
 key_same : (a b : Key) → is_key a b ≡ true → a ≡ b
-key_same a b same = let both = and_parts (a.slot == b.slot) (a.number == b.number) same in same_key a b (eqb-true a.slot b.slot both.0) (eqb-true a.number b.number both.1)
+key_same a b same =
+    let both = and_parts (a.slot == b.slot) (a.number == b.number) same in
+    same_key a b (eqb-true a.slot b.slot both.0) (eqb-true a.number b.number both.1)
 
 -- off the rest is what is off the whole, and the first
 still_chained : (nodes : Slots Node) (key : Key) (rest : List Key) → IsChained nodes (key ∷ rest) → due_of nodes key ≡ None → IsChained nodes rest
@@ -48,7 +50,8 @@ module _ {T : Type 0} where
   same_nodes : (old now : Tree T) → IsSearched old now → now.nodes ≡ old.nodes
   same_nodes old now s = ap (λ (t : Tree T). t.nodes) s.kept
 
-  pub one_dropped : (old now new : Tree T) (key : Key) → IsSearched old now → first_of now.chain ≡ Some key → due_of now.nodes key ≡ None → new ≡ record now { chain = drop 1 now.chain } → IsSearched old new
+  pub one_dropped : (old now new : Tree T) (key : Key) → IsSearched old now → first_of now.chain ≡ Some key →
+      due_of now.nodes key ≡ None → new ≡ record now { chain = drop 1 now.chain } → IsSearched old new
   one_dropped old now new key s first quiet unchained = record {
     kept = unchained ∙ ap (λ (t : Tree T). record t { chain = drop 1 now.chain }) s.kept ∙ ap (λ (ks : List Key). record old { chain = ks }) (sym chain);
     drops = s.drops ∙ ap (from_due old.nodes) split.1 ∙ quiet_first old.nodes key split.0 quiet_old ∙ ap (from_due old.nodes) (sym rest);
@@ -67,7 +70,8 @@ module _ {T : Type 0} where
       quiet_old : due_of old.nodes key ≡ None
       quiet_old = ap (λ (ns : Slots Node). due_of ns key) (sym (same_nodes old now s)) ∙ quiet
 
-  pub shorter : (now new : Tree T) (key : Key) → first_of now.chain ≡ Some key → new ≡ record now { chain = drop 1 now.chain } → length new.chain < length now.chain
+  pub shorter : (now new : Tree T) (key : Key) → first_of now.chain ≡ Some key → new ≡ record now { chain = drop 1 now.chain } →
+      length new.chain < length now.chain
   shorter now new key first unchained =
       let split = first_is now.chain key first in
       let before = ap (length {A = Key}) split.1 in
@@ -78,9 +82,10 @@ module _ {T : Type 0} where
   still old now s k off = ap (λ (ns : Slots Node). due_of ns k) (same_nodes old now s) ∙ s.chained k off
 
   -- something is due at the first
-  pub found_first : (old now : Tree T) (key : Key) (e : Event) → IsSearched old now → first_of now.chain ≡ Some key → due_of now.nodes key ≡ Some e → (now ≡ record old { chain = from_due old.nodes old.chain }) × IsDueIn old.nodes e
+  pub found_first : (old now : Tree T) (key : Key) (e : Event) → IsSearched old now → first_of now.chain ≡ Some key → due_of now.nodes key ≡ Some e →
+      (now ≡ record old { chain = from_due old.nodes old.chain }) × IsDueIn old.nodes e
   found_first old now key e s first gives =
-      (s.kept ∙ ap (λ (ks : List Key). record old { chain = ks }) (sym (s.drops ∙ ap (from_due old.nodes) split.1 ∙ due_first old.nodes key split.0 e gives_old ∙ sym split.1)), record { key = key; gives = gives_old })
+      (s.kept ∙ ap (λ (ks : List Key). record old { chain = ks }) (sym chain), record { key = key; gives = gives_old })
     where
       split : (rest : List Key) × (now.chain ≡ key ∷ rest)
       split = first_is now.chain key first
@@ -88,11 +93,16 @@ module _ {T : Type 0} where
       gives_old : due_of old.nodes key ≡ Some e
       gives_old = ap (λ (ns : Slots Node). due_of ns key) (sym (same_nodes old now s)) ∙ gives
 
+      chain : from_due old.nodes old.chain ≡ now.chain
+      chain = s.drops ∙ ap (from_due old.nodes) split.1 ∙ due_first old.nodes key split.0 e gives_old ∙ sym split.1
+
   -- the chain is empty
-  pub none_left : (old now : Tree T) → IsSearched old now → first_of now.chain ≡ None → (now ≡ record old { chain = from_due old.nodes old.chain }) × IsQuiet old.nodes
+  pub none_left : (old now : Tree T) → IsSearched old now → first_of now.chain ≡ None →
+      (now ≡ record old { chain = from_due old.nodes old.chain }) × IsQuiet old.nodes
   none_left old now s none =
       let empty = none_is now.chain none in
-      (s.kept ∙ ap (λ (ks : List Key). record old { chain = ks }) (sym (s.drops ∙ ap (from_due old.nodes) empty ∙ sym empty)), λ k. s.chained k (ap (is_on k) empty))
+      let chain = s.drops ∙ ap (from_due old.nodes) empty ∙ sym empty in
+      (s.kept ∙ ap (λ (ks : List Key). record old { chain = ks }) (sym chain), λ k. s.chained k (ap (is_on k) empty))
 
 -- what a test says of what was found --------------------------------------------------------------
 

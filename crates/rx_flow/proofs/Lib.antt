@@ -1,3 +1,4 @@
 pub mod Laws
 mod Walked
 mod Chained
+mod Marked

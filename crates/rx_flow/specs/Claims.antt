@@ -7,13 +7,14 @@ use Rattle.rx_event.specs.declared.event.Event.{Event}
 use Rattle.rx_event.specs.declared.event.Event.TheVariants.{Connect, Close}
 use Rattle.rx_event.specs.Events.{makes_hub}
 use Rattle.rx_event.specs.Tree.{is_open, open_subscribers}
-use Rattle.rx_event.specs.Climb.{Stop as NumberedStop, Delivery as DeliveryTo, Projection as ProjectionTo, Firing as FiringOf, stop_at, visited, most_visits, climb, stops}
+use Rattle.rx_event.specs.Climb.{Stop as NumberedStop, Delivery as DeliveryTo, Projection as ProjectionTo, Firing as FiringOf}
+use Rattle.rx_event.specs.Climb.{stop_at, visited, most_visits, climb, stops}
 use Rattle.rx_event.specs.Forced.{IsForced, IsSettled, IsConnected, IsDue, SourceEnded}
 use Rattle.rx_event.specs.Lawful.{IsLawful}
 use Rattle.rx_slots.specs.declared.Key.{Key}
 use Rattle.rx_slots.specs.Slots.{Slots, find}
-use Rattle.rx_forest.specs.declared.node.Node.{Node}
-use Rattle.rx_forest.specs.Tree.{IsSound}
+use Rattle.rx_tree.specs.declared.node.Node.{Node}
+use Rattle.rx_tree.specs.Tree.{IsSound}
 use Rattle.rx_flow.specs.declared.stop.Stop.{Stop}
 use Rattle.rx_flow.specs.declared.stop.Stop.TheVariants.{Delivery, Projection, Firing, Connection}
 use Rattle.rx_flow.specs.Way.{made_of, way, end_of}

@@ -5,7 +5,7 @@ use Rattle.rx_event.specs.Tree.{is_open}
 use Rattle.rx_event.specs.Marks.{marks_of}
 use Rattle.rx_slots.specs.declared.Key.{Key}
 use Rattle.rx_slots.specs.Slots.{Slots, find}
-use Rattle.rx_forest.specs.declared.node.Node.{Node}
+use Rattle.rx_tree.specs.declared.node.Node.{Node}
 
 -- the record of an open node: the event that made it, and its marks
 pub record IsRecordOf (h : List Event) (n : ℕ) (node : Node) : Type 0 where

@@ -10,7 +10,7 @@ use Rattle.rx_event.specs.Climb.{most_visits}
 use Rattle.rx_event.specs.Marks.{first_some}
 use Rattle.rx_slots.specs.declared.Key.{Key}
 use Rattle.rx_slots.specs.Slots.{Slots, find}
-use Rattle.rx_forest.specs.declared.node.Node.{Node}
+use Rattle.rx_tree.specs.declared.node.Node.{Node}
 use Rattle.rx_flow.specs.declared.stop.Stop.{Stop}
 use Rattle.rx_flow.specs.declared.stop.Stop.TheVariants.{Delivery, Projection, Firing, Connection}
 

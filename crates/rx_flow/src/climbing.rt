@@ -6,8 +6,8 @@ ghost use Rattle.rx_flow.specs.Way.{above_of, stop_of, way, end_of};
 
 use crate::stop::{Reached, Stop};
 use rx_event::{Event, Place};
-use rx_forest::{Key, Tree};
 use rx_resource::Resource;
+use rx_tree::{Key, Tree};
 
 // How many visits one item may make.
 const MOST_VISITS: u64 = 1_048_576;

@@ -4,8 +4,8 @@ ghost use Rattle.std.specs.Prelude.{◌≡◌, IfSome, IfNone};
 ghost use Rattle.rx_flow.specs.Due.{IsChained, IsDueIn, IsQuiet, due_of, from_due};
 
 use rx_event::Event;
-use rx_forest::{Key, Tree};
 use rx_resource::Resource;
+use rx_tree::{Key, Tree};
 
 /// What the marks of the key's record give.
 fn due_of<R: Resource>(tree: &Tree<R>, key: Key) -> Option<Event>

@@ -2,7 +2,7 @@
 //!
 //! # Vocabulary
 //!
-//! A contract sees a tree as rx_forest says. The `way` of an item (`specs/Way.antt`) is the nodes that
+//! A contract sees a tree as rx_tree says. The `way` of an item (`specs/Way.antt`) is the nodes that
 //! it visits from one on, up to where it stops (`stop_of`): at a root, at a FlatMap or Switch that
 //! projects it, at a TakeUntil that it fires, or at a connection, from which it goes on in other
 //! trees. `due_of` (`specs/Due.antt`) is what the marks of a record give, and `IsChained` says that

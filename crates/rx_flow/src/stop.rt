@@ -1,6 +1,6 @@
 //! Where an item stops.
 
-use rx_forest::Key;
+use rx_tree::Key;
 
 /// Where an item stops inside one tree, with the key of the node (Observable Contract; FlatMap,
 /// Switch, TakeUntil; Publish).

@@ -4,9 +4,9 @@ use Rattle.std.specs.Option.{option_and_then}
 use Rattle.std.proofs.lemmas.Option.{same_Some, none-some}
 use Rattle.rx_slots.specs.declared.Key.{Key}
 use Rattle.rx_slots.specs.Slots.{Slots, find}
-use Rattle.rx_forest.specs.declared.node.Node.{Node}
-use Rattle.rx_forest.specs.Tree.{IsSound, named_above, parent_number}
-use Rattle.rx_forest.proofs.Laws.Parents.{named_parent}
+use Rattle.rx_tree.specs.declared.node.Node.{Node}
+use Rattle.rx_tree.specs.Tree.{IsSound, named_above, parent_number}
+use Rattle.rx_tree.proofs.Laws.Parents.{named_parent}
 use Rattle.rx_flow.specs.Way.{above_of}
 
 same_number : (nodes : Slots Node) → IsSound nodes → (r above : Option Key) → IfSome r (λ k. IsSome (find nodes k)) →
@@ -25,4 +25,5 @@ parent_above nodes sound key r numbered there = by_node (find nodes key) refl wh
     by_answer : (a : Option Key) → option_map (λ k. k.number) a ≡ None → a ≡ None
     by_answer None none = refl
     by_answer (Some k) none = absurd (none-some k.number (sym none))
-  by_node (Some node) at_key = same_number nodes sound r node.above there (sound.placed key node at_key).there (numbered ∙ sym (named_parent nodes key node at_key sound))
+  by_node (Some node) at_key = same_number nodes sound r node.above there (sound.placed key node at_key).there
+      (numbered ∙ sym (named_parent nodes key node at_key sound))

@@ -13,7 +13,7 @@ use Rattle.rx_event.specs.Forced.{IsForced, IsSettled, IsConnected, IsDue, Sourc
 use Rattle.rx_event.specs.Lawful.{IsLawful}
 use Rattle.rx_event.proofs.Laws.MarksDue.{due_at_forced, settled_by_marks, settled_hubless, settled_quiet}
 use Rattle.rx_slots.specs.Slots.{Slots, find}
-use Rattle.rx_forest.specs.declared.node.Node.{Node}
+use Rattle.rx_tree.specs.declared.node.Node.{Node}
 use Rattle.rx_flow.specs.Due.{IsDueIn, IsQuiet}
 use Rattle.rx_flow.specs.Records.{IsRecordOf, HasRecord, AreRecordsOf}
 
@@ -33,8 +33,8 @@ quiet_marks h nodes records quiet n made o at_n =
     let own : HasRecord nodes n = records.every n o in
     let r : IsRecordOf h own.key.number own.node = records.each own.key own.node own.found in
     let same : made ≡ own.node.made = same_Some made own.node.made (sym (ap (slice_get h) own.numbered ∙ at_n) ∙ r.made) in
-    let none : due_at own.node.made own.node.marks own.key.number ≡ None = sym (ap (option_and_then (λ node. due_at node.made node.marks own.key.number)) own.found) ∙
-    quiet own.key in
+    let none : due_at own.node.made own.node.marks own.key.number ≡ None =
+    sym (ap (option_and_then (λ node. due_at node.made node.marks own.key.number)) own.found) ∙ quiet own.key in
     ap (λ k. due_at made (marks_of h k) k) (sym own.numbered) ∙ ap (λ m. due_at made m own.key.number) (sym r.marks) ∙
     ap (λ e. due_at e own.node.marks own.key.number) same ∙ none
 

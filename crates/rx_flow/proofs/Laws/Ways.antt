@@ -1,5 +1,6 @@
 -- The way of an item inside one tree is its climb in every history whose records the tree has.
-use Rattle.std.proofs.Common.{◌≡◌, ℕ, zero, suc, ◌-◌, ◌+◌, Bool, true, false, List, [], ◌∷◌, ◌++◌, length, Option, Some, None, IsSome, IfSome, is_some, option_map, slice_get, refl, sym, ap, ◌∙◌, arith, append-nil}
+use Rattle.std.proofs.Common.{◌≡◌, ℕ, zero, suc, ◌-◌, Bool, true, false, List, [], ◌∷◌, ◌++◌, length}
+use Rattle.std.proofs.Common.{Option, Some, None, IsSome, IfSome, is_some, option_map, slice_get, refl, sym, ap, ◌∙◌, arith, append-nil}
 use Rattle.std.specs.Prelude.{if◌then◌else◌}
 use Rattle.std.specs.List.{filter_map}
 use Rattle.std.specs.Option.{option_and_then, option_map_or, option_or, option_to_list}
@@ -11,12 +12,14 @@ use Rattle.rx_event.specs.declared.event.Event.{Event}
 use Rattle.rx_event.specs.declared.event.Event.TheVariants.{Open, Connect}
 use Rattle.rx_event.specs.Events.{is_merging, parent_named, hub_connected}
 use Rattle.rx_event.specs.Tree.{at, parent, if_less, open_subscribers}
-use Rattle.rx_event.specs.Climb.{Stop as NumberedStop, Projection as ProjectionTo, Firing as FiringOf, stop_made as stop_made_in, stop_at, onward, onward_from, onward_unless, visited, most_visits, climb, stops}
+use Rattle.rx_event.specs.Climb.{Stop as NumberedStop, Projection as ProjectionTo, Firing as FiringOf}
+use Rattle.rx_event.specs.Climb.{stop_made as stop_made_in, stop_at, onward, onward_from, onward_unless, visited, most_visits, climb, stops}
 use Rattle.rx_slots.specs.declared.Key.{Key}
 use Rattle.rx_slots.specs.Slots.{Slots, find}
-use Rattle.rx_forest.specs.declared.node.Node.{Node}
-use Rattle.rx_forest.specs.Tree.{IsSound, named_above}
-use Rattle.rx_forest.proofs.Laws.Parents.{named_parent}
+use Rattle.rx_tree.specs.declared.node.Node.{Node}
+use Rattle.rx_tree.specs.Tree.{IsSound, named_above}
+use Rattle.rx_tree.proofs.Laws.Keys.{some_of}
+use Rattle.rx_tree.proofs.Laws.Parents.{named_parent}
 use Rattle.rx_flow.specs.declared.stop.Stop.{Stop}
 use Rattle.rx_flow.specs.declared.stop.Stop.TheVariants.{Delivery, Projection, Firing, Connection}
 use Rattle.rx_flow.specs.Way.{made_of, above_of, if_merging, stop_made, stop_of, onward_of, way_within, way, end_of}
@@ -30,14 +33,10 @@ pub record IsTold (h : List Event) (nodes : Slots Node) : Type 0 where
   pub sound : IsSound nodes
   pub records : AreRecordsOf h nodes
 
-some_node : (o : Option Node) → IsSome o → (node : Node) × (o ≡ Some node)
-some_node None found = absurd (false≢true found)
-some_node (Some node) found = (node, refl)
-
 merging_told : (h : List Event) (nodes : Slots Node) → IsTold h nodes → (up : Key) → IsSome (find nodes up) →
     at is_merging h up.number ≡ option_map_or is_merging (made_of nodes up) false
 merging_told h nodes t up found =
-    let n = some_node (find nodes up) found in
+    let n = some_of (find nodes up) found in
     ap (λ (o : Option Event). option_map_or is_merging o false) (t.records.each up n.0 n.1).made ∙
     sym (ap (λ (o : Option Node). option_map_or is_merging (option_map (λ node. node.made) o) false) n.1)
 
@@ -63,13 +62,18 @@ stop_told h nodes t key above (Connect g) named there = refl
 stop_told h nodes t key above _ named there = refl
 
 -- of a node that is found
-stop_seen : (h : List Event) (nodes : Slots Node) → IsTold h nodes → (key : Key) (node : Node) → find nodes key ≡ Some node →
+pub stop_of-found : (nodes : Slots Node) (key : Key) (node : Node) → find nodes key ≡ Some node →
+    stop_of nodes key ≡ stop_made nodes key node.above node.made
+stop_of-found nodes key node found =
+    ap (λ (o : Option Node). option_and_then (stop_made nodes key (option_and_then (λ n. n.above) o)) (option_map (λ n. n.made) o)) found
+
+pub stop_seen : (h : List Event) (nodes : Slots Node) → IsTold h nodes → (key : Key) (node : Node) → find nodes key ≡ Some node →
     stop_at h key.number ≡ option_and_then numbered (stop_of nodes key)
 stop_seen h nodes t key node found =
     let placed = t.sound.placed key node found in
     ap (option_and_then (stop_made_in h key.number)) (t.records.each key node found).made ∙
     stop_told h nodes t key node.above node.made placed.named placed.there ∙
-    sym (ap (λ (o : Option Node). option_and_then numbered (option_and_then (stop_made nodes key (option_and_then (λ n. n.above) o)) (option_map (λ n. n.made) o))) found)
+    sym (ap (option_and_then numbered) (stop_of-found nodes key node found))
 
 -- the parent of a node is that above its record
 parent_seen : (h : List Event) (nodes : Slots Node) → IsTold h nodes → (key : Key) (node : Node) → find nodes key ≡ Some node →
@@ -97,7 +101,7 @@ no_connection : (s : Stop) (c : Key) → is_connection s ≡ false → s ≡ Con
 no_connection s c other same = false≢true (sym other ∙ ap is_connection same)
 
 -- only a Connect makes a connection
-connection_made : (nodes : Slots Node) (key c : Key) (above : Option Key) (made : Event) → stop_made nodes key above made ≡ Some (Connection c) →
+pub connection_made : (nodes : Slots Node) (key c : Key) (above : Option Key) (made : Event) → stop_made nodes key above made ≡ Some (Connection c) →
     (g : ℕ) × (made ≡ Connect g) × (key ≡ c)
 connection_made nodes key c above (Connect g) stop = (g, refl, same_connection key c (same_Some (Connection key) (Connection c) stop)) where
   same_connection : (a b : Key) → Connection a ≡ Connection b → a ≡ b
@@ -121,12 +125,19 @@ goes_to_parent h nodes key above (Connect g) n free = absurd (none-some (Connect
 goes_to_parent h nodes key above (Open place kind) n free = refl
 goes_to_parent h nodes key above _ n free = refl
 
-onward_seen : (h : List Event) (nodes : Slots Node) → IsTold h nodes → (key : Key) (node : Node) → find nodes key ≡ Some node → stop_of nodes key ≡ None →
+-- where a climb goes on, by the stop
+pub onward_at : (h : List Event) (nodes : Slots Node) → IsTold h nodes → (key : Key) (node : Node) → find nodes key ≡ Some node → (s : Option Stop) →
+    stop_of nodes key ≡ s →
+    onward h key.number ≡ onward_unless (option_and_then numbered s) (option_map_or (onward_from h key.number) (slice_get h key.number) [])
+onward_at h nodes t key node found s stop =
+    ap (λ (x : Option NumberedStop). onward_unless x (option_map_or (onward_from h key.number) (slice_get h key.number) []))
+    (stop_seen h nodes t key node found ∙ ap (option_and_then numbered) stop)
+
+pub onward_seen : (h : List Event) (nodes : Slots Node) → IsTold h nodes → (key : Key) (node : Node) → find nodes key ≡ Some node → stop_of nodes key ≡ None →
     onward h key.number ≡ option_to_list (option_map (λ k. k.number) node.above)
 onward_seen h nodes t key node found free =
-    let stop : stop_made nodes key node.above node.made ≡ None = sym (ap (λ (o : Option Node). option_and_then (stop_made nodes key (option_and_then (λ n. n.above) o)) (option_map (λ n. n.made) o)) found) ∙
-    free in
-    ap (λ (s : Option NumberedStop). onward_unless s (option_map_or (onward_from h key.number) (slice_get h key.number) [])) (stop_seen h nodes t key node found ∙ ap (option_and_then numbered) free) ∙
+    let stop : stop_made nodes key node.above node.made ≡ None = sym (stop_of-found nodes key node found) ∙ free in
+    onward_at h nodes t key node found None free ∙
     ap (λ (o : Option Event). option_map_or (onward_from h key.number) o []) (t.records.each key node found).made ∙
     goes_to_parent h nodes key node.above node.made key.number stop ∙ ap option_to_list (parent_seen h nodes t key node found)
 
@@ -140,7 +151,7 @@ onward_some nodes key up on = by_stop (stop_of nodes key) refl on where
   by_stop None free above = (free, above)
   by_stop (Some s) stop none = absurd (none-some up none)
 
-above_found : (nodes : Slots Node) (key up : Key) → IsSound nodes → above_of nodes key ≡ Some up → IsSome (find nodes up)
+pub above_found : (nodes : Slots Node) (key up : Key) → IsSound nodes → above_of nodes key ≡ Some up → IsSome (find nodes up)
 above_found nodes key up sound above = by_node (find nodes key) refl above where
   by_above : (o : Option Key) → o ≡ Some up → IfSome o (λ k. IsSome (find nodes k)) → IsSome (find nodes up)
   by_above None same there = absurd (none-some up same)
@@ -163,16 +174,16 @@ onward_ended h nodes t key node found None free ended =
     let top : node.above ≡ None = sym (above_seen nodes key node found) ∙ sym (ap (λ (s : Option Stop). if is_some s then None else above_of nodes key) free) ∙
     ended in
     onward_seen h nodes t key node found free ∙ ap (λ (o : Option Key). option_to_list (option_map (λ k. k.number) o)) top
-onward_ended h nodes t key node found (Some (Delivery c)) stop ended = ap (λ (s : Option NumberedStop). onward_unless s (option_map_or (onward_from h key.number) (slice_get h key.number) [])) (stop_seen h nodes t key node found ∙ ap (option_and_then numbered) stop)
-onward_ended h nodes t key node found (Some (Projection c)) stop ended = ap (λ (s : Option NumberedStop). onward_unless s (option_map_or (onward_from h key.number) (slice_get h key.number) [])) (stop_seen h nodes t key node found ∙ ap (option_and_then numbered) stop)
-onward_ended h nodes t key node found (Some (Firing c)) stop ended = ap (λ (s : Option NumberedStop). onward_unless s (option_map_or (onward_from h key.number) (slice_get h key.number) [])) (stop_seen h nodes t key node found ∙ ap (option_and_then numbered) stop)
+onward_ended h nodes t key node found (Some (Delivery c)) stop ended = onward_at h nodes t key node found (Some (Delivery c)) stop
+onward_ended h nodes t key node found (Some (Projection c)) stop ended = onward_at h nodes t key node found (Some (Projection c)) stop
+onward_ended h nodes t key node found (Some (Firing c)) stop ended = onward_at h nodes t key node found (Some (Firing c)) stop
 onward_ended h nodes t key node found (Some (Connection c)) stop ended =
-    let here : stop_made nodes key node.above node.made ≡ Some (Connection c) = sym (ap (λ (o : Option Node). option_and_then (stop_made nodes key (option_and_then (λ n. n.above) o)) (option_map (λ n. n.made) o)) found) ∙
-    stop in
+    let here : stop_made nodes key node.above node.made ≡ Some (Connection c) = sym (stop_of-found nodes key node found) ∙ stop in
     let c_is = connection_made nodes key c node.above node.made here in
-    ap (λ (s : Option NumberedStop). onward_unless s (option_map_or (onward_from h key.number) (slice_get h key.number) [])) (stop_seen h nodes t key node found ∙ ap (option_and_then numbered) stop) ∙
+    let made_is = ap (made_of nodes) (sym c_is.2) ∙ ap (option_map (λ (n : Node). n.made)) found ∙ ap (λ e. Some e) c_is.1 in
+    onward_at h nodes t key node found (Some (Connection c)) stop ∙
     ap (λ (o : Option Event). option_map_or (onward_from h key.number) o []) ((t.records.each key node found).made ∙ ap (λ e. Some e) c_is.1) ∙
-    sym (ap (λ (o : Option Event). option_map_or (open_subscribers h) (option_and_then hub_connected o) []) (ap (made_of nodes) (sym c_is.2) ∙ ap (option_map (λ (n : Node). n.made)) found ∙ ap (λ e. Some e) c_is.1))
+    sym (ap (λ (o : Option Event). option_map_or (open_subscribers h) (option_and_then hub_connected o) []) made_is)
 
 -- the whole way ---------------------------------------------------------------------------------------
 
@@ -190,28 +201,37 @@ one_less a = omega arith
 both_less : (a b : ℕ) → suc a - suc b ≡ a - b
 both_less a b = omega arith
 
+-- what is visited after a way of so many nodes at most
+abbrev after : List Event → Slots Node → ℕ → List Key → List ℕ
+after h nodes left keys = visited (left - length keys) h (beyond h nodes (end_of nodes keys))
+
 -- the climb is the way, and then what is beyond its end
 visited_way : (h : List Event) (nodes : Slots Node) → IsTold h nodes → (left : ℕ) (key : Key) → IsSome (find nodes key) →
-    visited left h (key.number ∷ []) ≡ numbers (way_within left nodes key) ++ visited (left - length (way_within left nodes key)) h (beyond h nodes (end_of nodes (way_within left nodes key)))
+    visited left h (key.number ∷ []) ≡ numbers (way_within left nodes key) ++ after h nodes left (way_within left nodes key)
 visited_way h nodes t zero key there = refl
 visited_way h nodes t (suc left) key there = by_onward (onward_of nodes key) refl (λ up found. visited_way h nodes t left up found) where
   node : (x : Node) × (find nodes key ≡ Some x)
-  node = some_node (find nodes key) there
+  node = some_of (find nodes key) there
 
   goal : List Key → Type 0
-  goal keys = visited (suc left) h (key.number ∷ []) ≡ numbers keys ++ visited (suc left - length keys) h (beyond h nodes (end_of nodes keys))
+  goal keys = visited (suc left) h (key.number ∷ []) ≡ numbers keys ++ after h nodes (suc left) keys
 
   by_onward : (o : Option Key) → onward_of nodes key ≡ o →
-      ((up : Key) → IsSome (find nodes up) → visited left h (up.number ∷ []) ≡ numbers (way_within left nodes up) ++ visited (left - length (way_within left nodes up)) h (beyond h nodes (end_of nodes (way_within left nodes up)))) →
+      ((up : Key) → IsSome (find nodes up) →
+      visited left h (up.number ∷ []) ≡ numbers (way_within left nodes up) ++ after h nodes left (way_within left nodes up)) →
       goal (key ∷ option_map_or (way_within left nodes) o [])
   by_onward None ended rest =
-      ap (λ (ns : List ℕ). key.number ∷ visited left h ns) (append-nil (onward h key.number) ∙ onward_ended h nodes t key node.0 node.1 (stop_of nodes key) refl ended ∙ ap (beyond h nodes) (sym (or_none (stop_of nodes key)))) ∙
+      let goes = onward_ended h nodes t key node.0 node.1 (stop_of nodes key) refl ended ∙ ap (beyond h nodes) (sym (or_none (stop_of nodes key))) in
+      ap (λ (ns : List ℕ). key.number ∷ visited left h ns) (append-nil (onward h key.number) ∙ goes) ∙
       ap (λ k. key.number ∷ visited k h (beyond h nodes (option_or (stop_of nodes key) None))) (sym (one_less left))
   by_onward (Some up) on rest =
       let goes = onward_some nodes key up on in
+      let keys : List Key = way_within left nodes up in
+      let free = ap (λ (s : Option Stop). numbers keys ++ visited (left - length keys) h (beyond h nodes (option_or s (end_of nodes keys)))) (sym goes.0) in
       ap (λ (ns : List ℕ). key.number ∷ visited left h (ns ++ [])) (onward_up h nodes t key node.0 up node.1 goes.0 goes.1) ∙
-      ap (λ (ns : List ℕ). key.number ∷ ns) (rest up (above_found nodes key up t.sound goes.1) ∙ ap (λ (s : Option Stop). numbers (way_within left nodes up) ++ visited (left - length (way_within left nodes up)) h (beyond h nodes (option_or s (end_of nodes (way_within left nodes up))))) (sym goes.0)) ∙
-      ap (λ k. key.number ∷ (numbers (way_within left nodes up) ++ visited k h (beyond h nodes (option_or (stop_of nodes key) (end_of nodes (way_within left nodes up)))))) (sym (both_less left (length (way_within left nodes up))))
+      ap (λ (ns : List ℕ). key.number ∷ ns) (rest up (above_found nodes key up t.sound goes.1) ∙ free) ∙
+      ap (λ k. key.number ∷ (numbers keys ++ visited k h (beyond h nodes (option_or (stop_of nodes key) (end_of nodes keys)))))
+      (sym (both_less left (length keys)))
 
 -- the way has one stop at most, its last
 stops_way : (h : List Event) (nodes : Slots Node) → IsTold h nodes → (left : ℕ) (key : Key) → IsSome (find nodes key) →
@@ -219,7 +239,7 @@ stops_way : (h : List Event) (nodes : Slots Node) → IsTold h nodes → (left :
 stops_way h nodes t zero key there = refl
 stops_way h nodes t (suc left) key there = by_stop (stop_of nodes key) refl (onward_of nodes key) refl (λ up found. stops_way h nodes t left up found) where
   node : (x : Node) × (find nodes key ≡ Some x)
-  node = some_node (find nodes key) there
+  node = some_of (find nodes key) there
 
   goal : Option Stop → List Key → Type 0
   goal s keys = filter_map (stop_at h) (key.number ∷ numbers keys) ≡ option_to_list (option_and_then numbered (option_or s (end_of nodes keys)))
@@ -232,7 +252,8 @@ stops_way h nodes t (suc left) key there = by_stop (stop_of nodes key) refl (onw
   one (Some x) stop = rw stop refl
 
   by_stop : (s : Option Stop) → stop_of nodes key ≡ s → (o : Option Key) → onward_of nodes key ≡ o →
-      ((up : Key) → IsSome (find nodes up) → filter_map (stop_at h) (numbers (way_within left nodes up)) ≡ option_to_list (option_and_then numbered (end_of nodes (way_within left nodes up)))) →
+      ((up : Key) → IsSome (find nodes up) →
+      filter_map (stop_at h) (numbers (way_within left nodes up)) ≡ option_to_list (option_and_then numbered (end_of nodes (way_within left nodes up)))) →
       goal (stop_of nodes key) (option_map_or (way_within left nodes) o [])
   by_stop s stop None ended rest = one (option_and_then numbered (stop_of nodes key)) (here (stop_of nodes key) refl) ∙
       ap (λ (x : Option Stop). option_to_list (option_and_then numbered x)) (sym (or_none (stop_of nodes key)))
@@ -262,7 +283,8 @@ pub climb_whole_way : (h : List Event) (nodes : Slots Node) (key : Key) → IsWa
     ((c : Key) → ¬ (end_of nodes (way nodes key) ≡ Some (Connection c))) → climb h key.number ≡ numbers (way nodes key)
 climb_whole_way h nodes key w none =
     climb_way h nodes key w ∙
-    ap (λ (ns : List ℕ). numbers (way nodes key) ++ visited (suc most_visits - length (way nodes key)) h ns) (nothing_beyond h nodes (end_of nodes (way nodes key)) none) ∙
+    ap (λ (ns : List ℕ). numbers (way nodes key) ++ visited (suc most_visits - length (way nodes key)) h ns)
+    (nothing_beyond h nodes (end_of nodes (way nodes key)) none) ∙
     ap (λ (ns : List ℕ). numbers (way nodes key) ++ ns) (visited_nothing (suc most_visits - length (way nodes key)) h) ∙
     append-nil (numbers (way nodes key))
 
@@ -284,7 +306,8 @@ pub climb_connected_way : (h : List Event) (nodes : Slots Node) (key c : Key) (g
     climb h key.number ≡ numbers (way nodes key) ++ visited (suc most_visits - length (way nodes key)) h (open_subscribers h g)
 climb_connected_way h nodes key c g w stop made =
     climb_way h nodes key w ∙
-    ap (λ (ns : List ℕ). numbers (way nodes key) ++ visited (suc most_visits - length (way nodes key)) h ns) (beyond_hub h nodes (end_of nodes (way nodes key)) c g stop made)
+    ap (λ (ns : List ℕ). numbers (way nodes key) ++ visited (suc most_visits - length (way nodes key)) h ns)
+    (beyond_hub h nodes (end_of nodes (way nodes key)) c g stop made)
 
 -- and so do the stops
 pub stops_connected_way : (h : List Event) (nodes : Slots Node) (key c : Key) (g : ℕ) → IsWay h nodes key → end_of nodes (way nodes key) ≡ Some (Connection c) →
@@ -294,4 +317,5 @@ unfolding stops
 stops_connected_way h nodes key c g w stop made =
     let rest = visited (suc most_visits - length (way nodes key)) h (open_subscribers h g) in
     ap (filter_map (stop_at h)) (climb_connected_way h nodes key c g w stop made) ∙ filter_map-append (stop_at h) (numbers (way nodes key)) rest ∙
-    ap (λ (ss : List NumberedStop). ss ++ filter_map (stop_at h) rest) (stops_way h nodes (told w) (suc most_visits) key w.found ∙ ap (λ (s : Option Stop). option_to_list (option_and_then numbered s)) stop)
+    ap (λ (ss : List NumberedStop). ss ++ filter_map (stop_at h) rest)
+    (stops_way h nodes (told w) (suc most_visits) key w.found ∙ ap (λ (s : Option Stop). option_to_list (option_and_then numbered s)) stop)

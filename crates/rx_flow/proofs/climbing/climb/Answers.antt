@@ -1,4 +1,7 @@
-use Rattle.std.proofs.Common.{◌≡◌, ◌≤◌, None, sym, ◌∙◌, arith, length}
+use Rattle.std.proofs.Common.{◌≡◌, ℕ, ◌≤◌, None, sym, ◌∙◌, arith, length}
+use Rattle.rx_slots.specs.declared.Key.{Key}
+use Rattle.rx_slots.specs.Slots.{Slots}
+use Rattle.rx_tree.specs.declared.node.Node.{Node}
 use Rattle.rx_flow.specs.Way.{stop_of, way, end_of}
 use Rattle.rx_flow.proofs.Walked.{at_first, one_further, at_stop, at_top, at_limit, limit_is, free_of, stop_there}
 use Rattle.rx_flow.proofs.climbing.climb.Given as given
@@ -12,14 +15,21 @@ loop-at-smaller g c = let few : c.loop-at.reached.visits ≤ 1048576 = c.if-reac
 
 pub loop-at-preserved : goal.loop-at-preserved
 loop-at-preserved g c =
-    let free : stop_of c.args.tree.now.nodes c.loop-at.at ≡ None = sym c.loop-at.invariant.1 ∙ free_of c.loop-at.reached.stop c.is_none.result c.is_none.ensures c.loop-at-test.true in
+    let none = free_of c.loop-at.reached.stop c.is_none.result c.is_none.ensures c.loop-at-test.true in
+    let free : stop_of c.args.tree.now.nodes c.loop-at.at ≡ None = sym c.loop-at.invariant.1 ∙ none in
     let few : c.loop-at.reached.visits ≤ 1048576 = c.if-reached-le-MOST_VISITS.true in
     let limit = limit_is in
-    (one_further c.args.tree.now.nodes c.args.node c.loop-at.at c.in-Some.next c.loop-at.reached.visits c.loop-at.invariant.0 (omega arith) free (sym c.above.ensures ∙ c.in-Some.is), c.stop_at-in-loop-at.ensures)
+    let further = one_further c.args.tree.now.nodes c.args.node c.loop-at.at c.in-Some.next c.loop-at.reached.visits c.loop-at.invariant.0 in
+    (further (omega arith) free (sym c.above.ensures ∙ c.in-Some.is), c.stop_at-in-loop-at.ensures)
 
-top : (g : given.Over) (c : goal.In_default g) → (c.loop-at.reached.visits ≡ length (way c.args.tree.now.nodes c.args.node)) × (stop_of c.args.tree.now.nodes c.loop-at.at ≡ end_of c.args.tree.now.nodes (way c.args.tree.now.nodes c.args.node))
+-- the way ends here, after so many visits
+abbrev EndsAt : Slots Node → Key → Key → ℕ → Type 0
+EndsAt nodes first at visits = (visits ≡ length (way nodes first)) × (stop_of nodes at ≡ end_of nodes (way nodes first))
+
+top : (g : given.Over) (c : goal.In_default g) → EndsAt c.args.tree.now.nodes c.args.node c.loop-at.at c.loop-at.reached.visits
 top g c =
-    let free : stop_of c.args.tree.now.nodes c.loop-at.at ≡ None = sym c.loop-at.invariant.1 ∙ free_of c.loop-at.reached.stop c.is_none.result c.is_none.ensures c.loop-at-test.true in
+    let none = free_of c.loop-at.reached.stop c.is_none.result c.is_none.ensures c.loop-at-test.true in
+    let free : stop_of c.args.tree.now.nodes c.loop-at.at ≡ None = sym c.loop-at.invariant.1 ∙ none in
     at_top c.args.tree.now.nodes c.args.node c.loop-at.at c.loop-at.reached.visits c.loop-at.invariant.0 free (sym c.above.ensures ∙ c.in_default.is)
 
 pub returns-in_default-clause-visits : goal.returns-in_default-clause-visits
@@ -28,7 +38,7 @@ returns-in_default-clause-visits g c = (top g c).0
 pub returns-in_default-clause-stop : goal.returns-in_default-clause-stop
 returns-in_default-clause-stop g c = c.loop-at.invariant.1 ∙ (top g c).1
 
-limit : (g : given.Over) (c : goal.Else-reached-le-MOST_VISITS g) → (c.loop-at.reached.visits ≡ length (way c.args.tree.now.nodes c.args.node)) × (stop_of c.args.tree.now.nodes c.loop-at.at ≡ end_of c.args.tree.now.nodes (way c.args.tree.now.nodes c.args.node))
+limit : (g : given.Over) (c : goal.Else-reached-le-MOST_VISITS g) → EndsAt c.args.tree.now.nodes c.args.node c.loop-at.at c.loop-at.reached.visits
 limit g c =
     let many : 1048577 ≤ c.loop-at.reached.visits = c.if-reached-le-MOST_VISITS.false in
     let most = limit_is in
@@ -40,7 +50,7 @@ returns-else-reached-le-MOST_VISITS-clause-visits g c = (limit g c).0
 pub returns-else-reached-le-MOST_VISITS-clause-stop : goal.returns-else-reached-le-MOST_VISITS-clause-stop
 returns-else-reached-le-MOST_VISITS-clause-stop g c = c.loop-at.invariant.1 ∙ (limit g c).1
 
-stopped : (g : given.Over) (c : goal.After-loop-at g) → (c.loop-at.reached.visits ≡ length (way c.args.tree.now.nodes c.args.node)) × (stop_of c.args.tree.now.nodes c.loop-at.at ≡ end_of c.args.tree.now.nodes (way c.args.tree.now.nodes c.args.node))
+stopped : (g : given.Over) (c : goal.After-loop-at g) → EndsAt c.args.tree.now.nodes c.args.node c.loop-at.at c.loop-at.reached.visits
 stopped g c =
     let here = stop_there c.loop-at.reached.stop c.is_none.result c.is_none.ensures c.loop-at-test.false in
     at_stop c.args.tree.now.nodes c.args.node c.loop-at.at c.loop-at.reached.visits here.0 c.loop-at.invariant.0 (sym c.loop-at.invariant.1 ∙ here.1)
