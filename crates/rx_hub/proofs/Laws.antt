@@ -1,0 +1,10 @@
+pub mod Dues
+pub mod Walks
+pub mod Routes
+pub mod Orders
+pub mod AfterLeft
+pub mod AfterOne
+pub mod AfterAll
+pub mod AfterCases
+pub mod AfterReady
+pub mod AfterOrder

@@ -1,0 +1,171 @@
+-- What one more event leaves of a hub: those of its nodes that are open after it.
+use Rattle.std.proofs.Common.{◌≡◌, ℕ, ◌≤◌, ◌&&◌, ◌++◌, cond, Bool, true, false, List, [], ◌∷◌, length, slice_get, filter, Option, Some, None}
+use Rattle.std.proofs.Common.{refl, sym, ap, ◌∙◌, inl, inr, ◌⊎◌, arith, length-append}
+use Rattle.std.specs.Prelude.{if◌then◌else◌}
+use Rattle.std.specs.List.{AllByRecursion}
+use Rattle.std.specs.Option.{option_map_or, option_or, option_to_list}
+use Rattle.std.proofs.Math.Bool.{not}
+use Rattle.std.proofs.lemmas.Bool.{false≢true, and_parts, and_from, both_ways}
+use Rattle.std.proofs.lemmas.Option.{none-some, slice_get_within}
+use Rattle.rx_note.specs.declared.note.Terminal.{Terminal}
+use Rattle.rx_event.specs.declared.event.Event.{Event}
+use Rattle.rx_event.specs.declared.event.Event.TheVariants.{Connect, End}
+use Rattle.rx_event.specs.Events.{is_connect_of}
+use Rattle.rx_event.specs.Tree.{at, places, parent, is_open, is_within}
+use Rattle.rx_event.specs.Lawful.{IsLawful}
+use Rattle.rx_event.proofs.Laws.Hubs.{TwoConnections, one_connection}
+use Rattle.rx_event.proofs.Laws.Lists.{first_passes, filter_nonempty}
+use Rattle.rx_event.proofs.Laws.Openness.{is_open_outside-end, is_open_within}
+use Rattle.rx_event.proofs.Laws.Parents.{within_cases}
+use Rattle.rx_event.proofs.Laws.Places.{slice_get-append, cases_push}
+use Rattle.rx_event.proofs.Laws.Stands.{connection_parent}
+use Rattle.rx_slots.specs.declared.Key.{Key}
+use Rattle.rx_hub.specs.declared.hub.LastEnd.{LastEnd}
+use Rattle.rx_hub.specs.After.{end_by, is_gone_after}
+use Rattle.rx_hub.specs.Closing.{remaining, without_gone}
+use Rattle.rx_hub.specs.Hubs.{Hub, disconnected}
+use Rattle.rx_hub.specs.Records.{numbers, IsHubOf}
+
+-- older places ------------------------------------------------------------------------------------
+
+-- what stood at a place stands there still
+pub still_at : {X : Type 0} (xs ys : List X) (i : ℕ) (x : X) → slice_get xs i ≡ Some x → slice_get (xs ++ ys) i ≡ Some x
+still_at xs ys i x at_i = slice_get-append xs ys i (slice_get_within xs i x at_i) ∙ at_i
+
+-- a place of the longer history is an older one or the last
+pub within_push : (h : List Event) (e x : Event) (i : ℕ) → slice_get (h ++ e ∷ []) i ≡ Some x → i ≤ length h
+within_push h e x i at_i = let l = slice_get_within (h ++ e ∷ []) i x at_i in omega (arith, l, length-append h (e ∷ []))
+
+event_of_at : (p : Event → Bool) (o : Option Event) → option_map_or p o false ≡ true → (x : Event) × (o ≡ Some x) × (p x ≡ true)
+event_of_at p None passes = absurd (false≢true passes)
+event_of_at p (Some x) passes = (x, refl, passes)
+
+-- what passes a test in the longer history passed it before, or is the event
+pub at_push : (p : Event → Bool) (h : List Event) (e : Event) (n : ℕ) → at p (h ++ e ∷ []) n ≡ true → (at p h n ≡ true) ⊎ (p e ≡ true)
+at_push p h e n passes = by_event (event_of_at p (slice_get (h ++ e ∷ []) n) passes) where
+  by_place : (x : Event) → p x ≡ true → (slice_get h n ≡ Some x) ⊎ (e ≡ x) → (at p h n ≡ true) ⊎ (p e ≡ true)
+  by_place x holds (inl old) = inl (ap (λ (o : Option Event). option_map_or p o false) old ∙ holds)
+  by_place x holds (inr same) = inr (ap p same ∙ holds)
+
+  by_event : (x : Event) × (slice_get (h ++ e ∷ []) n ≡ Some x) × (p x ≡ true) → (at p h n ≡ true) ⊎ (p e ≡ true)
+  by_event (x, at_n, holds) = by_place x holds (cases_push h e x n at_n)
+
+-- what stays of one hub ---------------------------------------------------------------------------
+
+-- the connection, where it stays
+abbrev pub connection_left : (Key → Bool) → Option Key → Option Key
+connection_left stays None = None
+connection_left stays (Some key) = if stays key then Some key else None
+
+-- how the last connection ended, where the connection may go
+abbrev pub last_end_left : (Key → Bool) → Option Key → (ended before : Option LastEnd) → Option LastEnd
+last_end_left stays None ended before = before
+last_end_left stays (Some key) ended before = if stays key then before else option_or ended before
+
+-- a hub with those of its nodes that stay, field by field
+abbrev pub with_only : (Key → Bool) → Option LastEnd → Hub → Hub
+with_only stays ended hub = record hub {
+  connection = connection_left stays hub.connection;
+  last_end = last_end_left stays hub.connection ended hub.last_end;
+  subscribers = filter stays hub.subscribers;
+}
+
+abbrev pub is_open_after : List Event → Event → Key → Bool
+is_open_after h e key = is_open (h ++ e ∷ []) key.number
+
+-- a hub after one more event, but for what the event makes
+abbrev pub hub_left : List Event → Event → Hub → Hub
+hub_left h e hub = with_only (is_open_after h e) (end_by (length h) e) hub
+
+pub filter_agrees : (p q : Key → Bool) (keys : List Key) → AllByRecursion (λ key. p key ≡ q key) keys → filter p keys ≡ filter q keys
+filter_agrees p q [] same = refl
+filter_agrees p q (key ∷ keys) same = let rest = filter_agrees p q keys same.1 in (λ i. cond (same.0 i) (key ∷ rest i) (rest i))
+
+agree_everywhere : (p q : Key → Bool) → ((key : Key) → p key ≡ q key) → (keys : List Key) → AllByRecursion (λ key. p key ≡ q key) keys
+agree_everywhere p q same [] = tt
+agree_everywhere p q same (key ∷ keys) = (same key, agree_everywhere p q same keys)
+
+-- without what is gone, a hub has what stays
+only_left : (gone stays : Key → Bool) → ((key : Key) → not (gone key) ≡ stays key) → (ended : Option LastEnd) (hub : Hub) →
+    without_gone gone ended hub ≡ with_only stays ended hub
+only_left gone stays same ended hub = by_connection hub.connection refl where
+  kept : filter (λ (key : Key). not (gone key)) hub.subscribers ≡ filter stays hub.subscribers
+  kept = filter_agrees (λ key. not (gone key)) stays hub.subscribers (agree_everywhere (λ key. not (gone key)) stays same hub.subscribers)
+
+  by_test : (key : Key) → hub.connection ≡ Some key → (b s : Bool) → not b ≡ s →
+      cond b (disconnected ended (remaining gone hub)) (remaining gone hub) ≡ record hub {
+        connection = if s then Some key else None;
+        last_end = if s then hub.last_end else option_or ended hub.last_end;
+        subscribers = filter stays hub.subscribers;
+      }
+  by_test key own true false e = (λ i. record hub { connection = None; last_end = option_or ended hub.last_end; subscribers = kept i })
+  by_test key own false true e = (λ i. record hub { connection = own i; subscribers = kept i })
+  by_test key own true true e = absurd (false≢true e)
+  by_test key own false false e = absurd (false≢true (sym e))
+
+  by_connection : (o : Option Key) → hub.connection ≡ o →
+      cond (option_map_or gone o false) (disconnected ended (remaining gone hub)) (remaining gone hub) ≡ record hub {
+        connection = connection_left stays o;
+        last_end = last_end_left stays o ended hub.last_end;
+        subscribers = filter stays hub.subscribers;
+      }
+  by_connection None own = (λ i. record hub { connection = own i; subscribers = kept i })
+  by_connection (Some key) own = by_test key own (gone key) (stays key) (same key)
+
+-- and so after one more event
+pub without_closed : (h : List Event) (e : Event) (hub : Hub) → without_gone (is_gone_after h e) (end_by (length h) e) hub ≡ hub_left h e hub
+without_closed h e hub = only_left (is_gone_after h e) (is_open_after h e) (λ key. twice (is_open_after h e key)) (end_by (length h) e) hub where
+  twice : (b : Bool) → not (not b) ≡ b
+  twice true = refl
+  twice false = refl
+
+pub numbers_filter : (p : ℕ → Bool) (keys : List Key) → numbers (filter (λ (key : Key). p key.number) keys) ≡ filter p (numbers keys)
+numbers_filter p [] = refl
+numbers_filter p (key ∷ keys) = by_test (p key.number) (numbers_filter p keys) where
+  by_test : (b : Bool) → numbers (filter (λ (k : Key). p k.number) keys) ≡ filter p (numbers keys) →
+      numbers (cond b (key ∷ filter (λ (k : Key). p k.number) keys) (filter (λ (k : Key). p k.number) keys)) ≡
+      cond b (key.number ∷ filter p (numbers keys)) (filter p (numbers keys))
+  by_test true rest = ap (λ (ns : List ℕ). key.number ∷ ns) rest
+  by_test false rest = rest
+
+pub numbers_left : (p : ℕ → Bool) (o : Option Key) →
+    numbers (option_to_list (connection_left (λ (key : Key). p key.number) o)) ≡ filter p (numbers (option_to_list o))
+numbers_left p None = refl
+numbers_left p (Some key) = by_test (p key.number) where
+  by_test : (b : Bool) → numbers (option_to_list (if b then Some key else None)) ≡ cond b (key.number ∷ []) []
+  by_test true = refl
+  by_test false = refl
+
+-- the connection that the record names is an open one of the hub
+pub own_connection : (h : List Event) (hub : Hub) → IsHubOf h hub → (key : Key) → hub.connection ≡ Some key →
+    (at (is_connect_of hub.number) h key.number ≡ true) × (is_open h key.number ≡ true)
+own_connection h hub is key own =
+    and_parts (at (is_connect_of hub.number) h key.number) (is_open h key.number)
+    (first_passes (λ n. at (is_connect_of hub.number) h n && is_open h n) (places h) key.number []
+    (sym is.connection ∙ ap (λ (o : Option Key). numbers (option_to_list o)) own))
+
+-- and each open one is that
+pub named_connection : (h : List Event) (hub : Hub) → IsLawful h → IsHubOf h hub → (c : ℕ) → at (is_connect_of hub.number) h c ≡ true → is_open h c ≡ true →
+    (key : Key) × (hub.connection ≡ Some key) × (key.number ≡ c)
+named_connection h hub law is c connects o = by_record hub.connection refl where
+  by_record : (own : Option Key) → hub.connection ≡ own → (key : Key) × (hub.connection ≡ Some key) × (key.number ≡ c)
+  by_record None own =
+      let inside = is_open_within h c o in
+      absurd (filter_nonempty (λ n. at (is_connect_of hub.number) h n && is_open h n) 0 (length h) c (omega arith) (omega (arith, inside))
+      (and_from _ _ connects o) (sym is.connection ∙ ap (λ (x : Option Key). numbers (option_to_list x)) own))
+  by_record (Some key) own =
+      let parts = own_connection h hub is key own in
+      let two : TwoConnections h hub.number key.number c = record { one = parts.0; one_open = parts.1; other = connects; other_open = o } in
+      (key, own, one_connection h law hub.number key.number c two)
+
+-- a connection that goes by an end is what ended
+pub connection_ended : (h : List Event) (n c g : ℕ) (t : Terminal) → slice_get h c ≡ Some (Connect g) → is_open h c ≡ true →
+    is_open (h ++ End n t ∷ []) c ≡ false → n ≡ c
+connection_ended h n c g t at_c o gone = by_test (is_within h n c) refl where
+  by_place : (n ≡ c) ⊎ ((p : ℕ) × (parent h c ≡ Some p) × (is_within h n p ≡ true)) → n ≡ c
+  by_place (inl same) = same
+  by_place (inr (p, below, above)) = absurd (none-some p (sym (connection_parent h c g at_c) ∙ below))
+
+  by_test : (b : Bool) → is_within h n c ≡ b → n ≡ c
+  by_test true inside = by_place (within_cases h n c inside)
+  by_test false outside = absurd (both_ways _ gone (is_open_outside-end h n t c ∙ (λ i. o i && not (outside i))))

@@ -1,0 +1,35 @@
+-- The order of hubs: what stands inside a connection subscribes to earlier hubs.
+use Rattle.std.proofs.Common.{◌≡◌, ℕ, ◌<◌, ◌==◌, true, List, [], ◌∷◌, slice_get, Some}
+use Rattle.std.proofs.Common.{sym, subst, inl, inr, ◌⊎◌}
+use Rattle.std.specs.List.{AllByRecursion}
+use Rattle.std.proofs.lemmas.Bool.{false≢true, and_parts, or_cases, eqb-true}
+use Rattle.rx_event.specs.declared.event.Event.{Event}
+use Rattle.rx_event.specs.Events.{is_subscriber_of}
+use Rattle.rx_event.specs.Lawful.{IsLawful}
+use Rattle.rx_event.specs.Tree.{at, is_open, is_within}
+use Rattle.rx_event.proofs.Laws.Hubs.{at_connect, hubs_in_order}
+use Rattle.rx_slots.specs.declared.Key.{Key}
+use Rattle.rx_tree.specs.Tree.{is_key, is_on}
+use Rattle.rx_hub.specs.Hubs.{Hub}
+use Rattle.rx_hub.specs.Records.{AreHubsOf}
+use Rattle.rx_hub.proofs.Laws.AfterLeft.{own_connection}
+use Rattle.rx_hub.proofs.Laws.AfterCases.{IsOpenAt, subscribers_open}
+
+-- in a history ------------------------------------------------------------------------------------
+
+all_on : (P : ℕ → Type 0) (key : Key) (keys : List Key) → AllByRecursion (λ (k : Key). P k.number) keys → is_on key keys ≡ true → P key.number
+all_on P key [] all on = absurd (false≢true on)
+all_on P key (k ∷ keys) all on = by_place (all_on P key keys all.1) (or_cases (is_key key k) (is_on key keys) on) where
+  by_place : (is_on key keys ≡ true → P key.number) → (is_key key k ≡ true) ⊎ (is_on key keys ≡ true) → P key.number
+  by_place rest (inl same) = subst P (sym (eqb-true key.number k.number (and_parts (key.slot == k.slot) (key.number == k.number) same).1)) all.0
+  by_place rest (inr later) = rest later
+
+-- a subscriber inside a connection is of an earlier hub than that, so that no item goes round in a circle
+pub subscribers_earlier : (h : List Event) (hubs : List Hub) → IsLawful h → AreHubsOf h hubs → (i j : ℕ) (outer inner : Hub) →
+    slice_get hubs i ≡ Some outer → slice_get hubs j ≡ Some inner → (c s : Key) → outer.connection ≡ Some c → is_on s inner.subscribers ≡ true →
+    is_within h c.number s.number ≡ true → inner.number < outer.number
+subscribers_earlier h hubs law are i j outer inner at_i at_j c s connection on inside =
+    let connects = at_connect h outer.number c.number (own_connection h outer (are.each i outer at_i) c connection).0 in
+    let both = all_on (IsOpenAt h inner.number) s inner.subscribers (subscribers_open h inner (are.each j inner at_j)) on in
+    let subscribes = (and_parts (at (is_subscriber_of inner.number) h s.number) (is_open h s.number) both).0 in
+    hubs_in_order h law inner.number s.number c.number outer.number subscribes inside connects

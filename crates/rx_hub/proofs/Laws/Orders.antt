@@ -1,0 +1,104 @@
+-- In a lawful history no item goes round in a circle: from a subscriber it gets to connections of later hubs alone.
+use Rattle.std.proofs.Common.{◌≡◌, ℕ, zero, suc, ◌<◌, ◌&&◌, true, List, [], ◌∷◌, slice_get, Option, Some, None, IsSome, IfSome, is_some, option_map}
+use Rattle.std.proofs.Common.{refl, sym, ap, subst, ◌∙◌, arith}
+use Rattle.std.specs.Prelude.{if◌then◌else◌}
+use Rattle.std.specs.List.{AllByRecursion}
+use Rattle.std.specs.Option.{option_and_then, option_map_or, option_or}
+use Rattle.std.proofs.lemmas.Bool.{and_parts}
+use Rattle.std.proofs.lemmas.Bool.Decides.{nat_tests}
+use Rattle.std.proofs.lemmas.Option.{same_Some, none-some}
+use Rattle.rx_event.specs.declared.event.Event.{Event}
+use Rattle.rx_event.specs.declared.event.Event.TheVariants.{Connect}
+use Rattle.rx_event.specs.Events.{parent_named, is_subscriber_of}
+use Rattle.rx_event.specs.Tree.{at, places, is_open, is_within, parent, if_less, open_subscribers}
+use Rattle.rx_event.specs.Climb.{most_visits}
+use Rattle.rx_event.specs.Lawful.{IsLawful}
+use Rattle.rx_event.proofs.Laws.Hubs.{hubs_in_order}
+use Rattle.rx_event.proofs.Laws.Lists.{filtered}
+use Rattle.rx_event.proofs.Laws.Parents.{within_parent}
+use Rattle.rx_event.proofs.Laws.Totals.{is_within_self}
+use Rattle.rx_slots.specs.declared.Key.{Key}
+use Rattle.rx_slots.specs.Slots.{Slots, find}
+use Rattle.rx_tree.specs.declared.node.Node.{Node}
+use Rattle.rx_flow.specs.declared.stop.Stop.{Stop}
+use Rattle.rx_flow.specs.declared.stop.Stop.TheVariants.{Connection}
+use Rattle.rx_flow.specs.Way.{made_of, above_of, stop_of, way_within, end_of}
+use Rattle.rx_tree.proofs.Laws.Keys.{some_of}
+use Rattle.rx_flow.proofs.Laws.Ways.{stop_of-found, connection_made, above_found}
+use Rattle.rx_hub.specs.Hubs.{Hub, find_hub}
+use Rattle.rx_hub.specs.Records.{numbers}
+use Rattle.rx_hub.specs.Walk.{IsWalk}
+use Rattle.rx_hub.specs.Route.{ReachesFrom, IsOrdered}
+use Rattle.rx_hub.proofs.Laws.Walks.{found_hub}
+
+-- the node above one is its parent in the history
+parent_above : (h : List Event) (nodes : Slots Node) (hubs : List Hub) → IsWalk h nodes hubs → (key up : Key) (node : Node) → find nodes key ≡ Some node →
+    node.above ≡ Some up → parent h key.number ≡ Some up.number
+unfolding parent
+parent_above h nodes hubs w key up node found above =
+    let placed = w.sound.placed key node found in
+    let lower : up.number < key.number = below node.above above placed.lower in
+    let test : (if_less key.number up.number) ≡ Some up.number = grind (arith, nat_tests, lower) in
+    ap (λ (o : Option Event). option_and_then (if_less key.number) (option_and_then parent_named o)) (w.records.each key node found).made ∙
+    ap (option_and_then (if_less key.number)) (placed.named ∙ ap (option_map (λ (k : Key). k.number)) above) ∙ test
+  where
+    below : (o : Option Key) → o ≡ Some up → IfSome o (λ k. k.number < key.number) → up.number < key.number
+    below None none lower = absurd (none-some up none)
+    below (Some k) some lower = subst (λ (x : Key). x.number < key.number) (same_Some k up some) lower
+
+-- a connection that an item gets to stands above the node
+way_within_connection : (h : List Event) (nodes : Slots Node) (hubs : List Hub) → IsWalk h nodes hubs → (c : Key) (left : ℕ) (key : Key) →
+    IsSome (find nodes key) → end_of nodes (way_within left nodes key) ≡ Some (Connection c) → is_within h c.number key.number ≡ true
+way_within_connection h nodes hubs w c zero key there ends = absurd (none-some (Connection c) ends)
+way_within_connection h nodes hubs w c (suc left) key there ends =
+    by_stop (stop_of nodes key) refl (above_of nodes key) refl ends (way_within_connection h nodes hubs w c left) where
+      own : (node : Node) × (find nodes key ≡ Some node)
+      own = some_of (find nodes key) there
+
+      by_stop : (s : Option Stop) → stop_of nodes key ≡ s → (above : Option Key) → above_of nodes key ≡ above →
+          option_or s (end_of nodes (option_map_or (way_within left nodes) (if is_some s then None else above) [])) ≡ Some (Connection c) →
+          ((up : Key) → IsSome (find nodes up) → end_of nodes (way_within left nodes up) ≡ Some (Connection c) → is_within h c.number up.number ≡ true) →
+          is_within h c.number key.number ≡ true
+      by_stop (Some s) stop above at ends later =
+          let here = sym (stop_of-found nodes key own.0 own.1) ∙ stop ∙ ends in
+          let made = connection_made nodes key c own.0.above own.0.made here in
+          ap (λ (k : Key). is_within h c.number k.number) made.2 ∙ is_within_self h c.number
+      by_stop None stop None at ends later = absurd (none-some (Connection c) ends)
+      by_stop None stop (Some up) at ends later =
+          within_parent h c.number key.number up.number
+          (parent_above h nodes hubs w key up own.0 own.1 (sym (ap (option_and_then (λ (node : Node). node.above)) own.1) ∙ at))
+          (later up (above_found nodes key up w.sound at) ends)
+
+-- the event of a node's record is that of the history
+made_told : (h : List Event) (nodes : Slots Node) (hubs : List Hub) → IsWalk h nodes hubs → (c : Key) (e : Event) → made_of nodes c ≡ Some e →
+    slice_get h c.number ≡ Some e
+made_told h nodes hubs w c e made = by_node (find nodes c) refl made where
+  by_node : (o : Option Node) → find nodes c ≡ o → option_map (λ (node : Node). node.made) o ≡ Some e → slice_get h c.number ≡ Some e
+  by_node None found none = absurd (none-some e none)
+  by_node (Some node) found some = (w.records.each c node found).made ∙ some
+
+-- what is so of numbers and of their keys together
+of_numbers : (P : ℕ → Type 0) (F Q : Key → Type 0) → ((key : Key) → P key.number → F key → Q key) → (keys : List Key) → AllByRecursion P (numbers keys) →
+    AllByRecursion F keys → AllByRecursion Q keys
+of_numbers P F Q same [] each found = tt
+of_numbers P F Q same (key ∷ keys) each found = (same key each.0 found.0, of_numbers P F Q same keys each.1 found.1)
+
+-- a walk of a lawful history is in order
+pub IsOrdered-walk : (h : List Event) (nodes : Slots Node) (hubs : List Hub) → IsLawful h → IsWalk h nodes hubs → IsOrdered nodes hubs
+IsOrdered-walk h nodes hubs law w = record { found = w.found; later = later } where
+  subscribes : (g : ℕ) → AllByRecursion (λ s. at (is_subscriber_of g) h s ≡ true) (open_subscribers h g)
+  subscribes g = filtered (λ n. at (is_subscriber_of g) h n && is_open h n) (λ s. at (is_subscriber_of g) h s ≡ true)
+      (λ s both. (and_parts (at (is_subscriber_of g) h s) (is_open h s) both).0) (places h)
+
+  reaches : (g : ℕ) (key : Key) → at (is_subscriber_of g) h key.number ≡ true → IsSome (find nodes key) → ReachesFrom nodes (suc g) key
+  reaches g key is there c k ends made =
+      let order = hubs_in_order h law g key.number c.number k is (way_within_connection h nodes hubs w c (suc most_visits) key there ends)
+      (made_told h nodes hubs w c (Connect k) made) in
+      omega (arith, order)
+
+  later : (g : ℕ) (hub : Hub) → find_hub hubs g ≡ Some hub → AllByRecursion (ReachesFrom nodes (suc g)) hub.subscribers
+  later g hub at_g =
+      let r = found_hub hubs g hub at_g in
+      let same : open_subscribers h g ≡ numbers hub.subscribers = sym ((w.published.each r.0 hub r.1.0).subscribers ∙ ap (open_subscribers h) r.1.1) in
+      of_numbers (λ s. at (is_subscriber_of g) h s ≡ true) (λ key. IsSome (find nodes key)) (ReachesFrom nodes (suc g)) (reaches g) hub.subscribers
+      (subst (λ (ns : List ℕ). AllByRecursion (λ s. at (is_subscriber_of g) h s ≡ true) ns) same (subscribes g)) (w.found g hub at_g)

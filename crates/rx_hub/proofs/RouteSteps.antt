@@ -1,0 +1,233 @@
+-- One climb further on an item's way.
+use Rattle.std.proofs.Common.{◌≡◌, ℕ, zero, suc, ◌+◌, ◌-◌, ◌<◌, ◌≤◌, ◌++◌, List, [], ◌∷◌, length, Option, Some, None, IsSome, IfSome, IfNone, is_some}
+use Rattle.std.proofs.Common.{refl, sym, ap, subst, ◌∙◌, arith, length-append, true≢false}
+use Rattle.std.specs.List.{AllByRecursion, filter_map, cons_option}
+use Rattle.std.specs.Option.{option_and_then, option_to_list}
+use Rattle.std.proofs.lemmas.Bool.{false≢true}
+use Rattle.std.proofs.lemmas.List.Elements.{filter_map-append}
+use Rattle.std.proofs.Math.Bool.{Bool, true, false, ◌||◌}
+use Rattle.rx_event.specs.Climb.{most_visits}
+use Rattle.rx_slots.specs.declared.Key.{Key}
+use Rattle.rx_slots.specs.Slots.{Slots, find}
+use Rattle.rx_tree.specs.declared.node.Node.{Node}
+use Rattle.rx_tree.specs.Tree.{is_key, is_on}
+use Rattle.rx_flow.specs.declared.stop.Stop.{Stop}
+use Rattle.rx_flow.specs.Way.{way, end_of}
+use Rattle.rx_hub.specs.declared.route.Frame.{Frame}
+use Rattle.rx_hub.specs.Hubs.{Hub}
+use Rattle.rx_hub.specs.Walk.{visited_over, arrival, arrival_at}
+use Rattle.rx_hub.specs.Route.{Route, after_frames, todo, visits_left, visited_next, stops_left, all_visits}
+use Rattle.rx_hub.specs.Route.{IsBehind, ReachesFrom, IsOrdered, IsUnderWay, IsTurn, beyond_end, first_keys, GoesOn, Climbs, Arrives}
+use Rattle.rx_hub.proofs.RouteWays.{visited_way, stops_way, visited_cut}
+use Rattle.rx_tree.proofs.Laws.Keys.{key_is}
+
+pub limit_is : most_visits ≡ 1048576
+unfolding most_visits
+limit_is = refl
+
+-- what holds of each subscriber holds of one
+of_key : (P : Key → Type 0) (keys : List Key) (key : Key) → AllByRecursion P keys → is_on key keys ≡ true → P key
+of_key P [] key all on = absurd (false≢true on)
+of_key P (k ∷ ks) key all on = by_test (is_key key k) refl on (of_key P ks key all.1) where
+  by_test : (b : Bool) → is_key key k ≡ b → (b || is_on key ks) ≡ true → (is_on key ks ≡ true → P key) → P key
+  by_test true e here later = subst P (sym (key_is key k e)) all.0
+  by_test false e there later = later there
+
+-- it is under way where it is a subscriber's turn
+pub turn_under_way : (nodes : Slots Node) (hubs : List Hub) (route : Route) → IsOrdered nodes hubs → length hubs ≤ route.room → route.visits ≤ suc most_visits →
+    (old : List Frame) (first : Option Frame) → GoesOn hubs old route.frames first route.at → IsUnderWay nodes hubs route
+turn_under_way nodes hubs route ordered room visits old first on = by_at route.at refl on.turn on.ended where
+  by_at : (at : Option Key) → route.at ≡ at → IfSome at (IsTurn hubs route.frames) → IfNone at (route.frames ≡ []) → IsUnderWay nodes hubs route
+  by_at None is turn ended = record {
+    room = room;
+    frames = on.frames;
+    there = subst (λ (o : Option Key). IfSome o (λ key. IsSome (find nodes key))) (sym is) tt;
+    hub = 0;
+    reaches = subst (λ (o : Option Key). IfSome o (ReachesFrom nodes 0)) (sym is) tt;
+    behind = subst (λ (fs : List Frame). IsBehind 0 fs) (sym ended) tt;
+    ended = on.ended;
+    visits = visits;
+  }
+  by_at (Some key) is turn ended =
+      let own = turn.frame in
+      record {
+        room = room;
+        frames = on.frames;
+        there = subst (λ (o : Option Key). IfSome o (λ k. IsSome (find nodes k))) (sym is)
+            (of_key (λ k. IsSome (find nodes k)) own.hub.subscribers key (ordered.found turn.hub own.hub own.there) own.subscribes);
+        hub = suc turn.hub;
+        reaches = subst (λ (o : Option Key). IfSome o (ReachesFrom nodes (suc turn.hub))) (sym is)
+            (of_key (ReachesFrom nodes (suc turn.hub)) own.hub.subscribers key (ordered.later turn.hub own.hub own.there) own.subscribes);
+        behind = turn.behind;
+        ended = on.ended;
+        visits = visits;
+      }
+
+less_left : (m v l : ℕ) → m - (v + l) ≡ m - v - l
+less_left m v l = omega arith
+
+-- what is still to be visited is the way of one climb, and then what is left after it
+pub visited_on : (nodes : Slots Node) (hubs : List Hub) (old new : Route) (node : Key) (first : Option Frame) → old.at ≡ Some node →
+    old.visits + length (way nodes node) ≤ suc most_visits → new.visits ≡ old.visits + length (way nodes node) →
+    first_keys hubs first ≡ beyond_end nodes hubs (end_of nodes (way nodes node)) → GoesOn hubs old.frames new.frames first new.at →
+    visited_next nodes hubs old ≡ way nodes node ++ visited_next nodes hubs new
+visited_on nodes hubs old new node first at fits visits firsts on =
+    let w = way nodes node in
+    let rest = after_frames hubs old.frames in
+    ap (λ (o : Option Key). visited_over (visits_left old) nodes hubs (option_to_list o ++ rest)) at ∙
+    visited_way nodes hubs (suc most_visits) (visits_left old) node rest (omega arith) (omega (arith, fits)) ∙
+    (λ i. w ++ visited_over (left i) nodes hubs (keys i)) where
+      left : visits_left old - length (way nodes node) ≡ visits_left new
+      left = sym (ap (λ v. suc most_visits - v) visits ∙ less_left (suc most_visits) old.visits (length (way nodes node)))
+
+      keys : beyond_end nodes hubs (end_of nodes (way nodes node)) ++ after_frames hubs old.frames ≡ todo hubs new
+      keys = ap (λ (ks : List Key). ks ++ after_frames hubs old.frames) (sym firsts) ∙ sym on.todo
+
+-- so it gives the stop of that climb, and then those that come after
+pub climbs_on : (nodes : Slots Node) (hubs : List Hub) (old new : Route) (node : Key) (first : Option Frame) → IsOrdered nodes hubs →
+    IsUnderWay nodes hubs old → old.at ≡ Some node → old.visits + length (way nodes node) ≤ suc most_visits → new.visits ≡ old.visits + length (way nodes node) →
+    first_keys hubs first ≡ beyond_end nodes hubs (end_of nodes (way nodes node)) → GoesOn hubs old.frames new.frames first new.at →
+    new.room ≡ old.room → Climbs nodes hubs old new (option_and_then arrival (end_of nodes (way nodes node)))
+climbs_on nodes hubs old new node first ordered under_way at fits visits firsts on room =
+    record {
+      stops = ap (filter_map (arrival_at nodes)) visited ∙ filter_map-append (arrival_at nodes) w (visited_next nodes hubs new) ∙
+          ap (λ (ss : List Stop). ss ++ stops_left nodes hubs new) (stops_way nodes hubs (suc most_visits) node) ∙
+          one (option_and_then arrival (end_of nodes w));
+      visits = let all = ap length visited ∙ length-append w (visited_next nodes hubs new) in omega (arith, all, visits);
+      under_way = turn_under_way nodes hubs new ordered (subst (λ n. length hubs ≤ n) (sym room) under_way.room) (omega (arith, fits, visits))
+          old.frames first on;
+      fewer = omega (arith, fits, visits);
+      room = room;
+    }
+  where
+    w : List Key
+    w = way nodes node
+
+    visited : visited_next nodes hubs old ≡ w ++ visited_next nodes hubs new
+    visited = visited_on nodes hubs old new node first at fits visits firsts on
+
+    one : (o : Option Stop) → option_to_list o ++ stops_left nodes hubs new ≡ cons_option o (stops_left nodes hubs new)
+    one None = refl
+    one (Some s) = refl
+
+nothing_left : (m : ℕ) → m - m ≡ 0
+nothing_left m = omega arith
+
+-- and where too few visits are left, the way is cut off
+pub climbs_cut : (nodes : Slots Node) (hubs : List Hub) (old new : Route) (node : Key) → IsUnderWay nodes hubs old → old.at ≡ Some node →
+    old.visits ≤ most_visits → suc most_visits < old.visits + length (way nodes node) → new ≡ record old { visits = suc most_visits } → Climbs nodes hubs old new None
+climbs_cut nodes hubs old new node under_way at within cut is =
+    subst (λ (r : Route). Climbs nodes hubs old r None) (sym is) (record {
+      stops = ap (λ (ks : List Key). filter_map (arrival_at nodes) ks) same ∙ cuts.1 ∙ sym (ap (filter_map (arrival_at nodes)) none);
+      visits = let all = ap length same ∙ cuts.0 in let no = ap length none in omega (arith, all, no, within);
+      under_way = record {
+        room = under_way.room;
+        frames = under_way.frames;
+        there = under_way.there;
+        hub = under_way.hub;
+        reaches = under_way.reaches;
+        behind = under_way.behind;
+        ended = under_way.ended;
+        visits = omega arith;
+      };
+      fewer = omega (arith, within);
+      room = refl;
+    })
+  where
+    rest : List Key
+    rest = after_frames hubs old.frames
+
+    same : visited_next nodes hubs old ≡ visited_over (visits_left old) nodes hubs (node ∷ rest)
+    same = ap (λ (o : Option Key). visited_over (visits_left old) nodes hubs (option_to_list o ++ rest)) at
+
+    cuts : (length (visited_over (visits_left old) nodes hubs (node ∷ rest)) ≡ visits_left old) ×
+        (filter_map (arrival_at nodes) (visited_over (visits_left old) nodes hubs (node ∷ rest)) ≡ [])
+    cuts = visited_cut nodes hubs (suc most_visits) (visits_left old) node rest (omega (arith, cut, within))
+
+    none : visited_over (suc most_visits - suc most_visits) nodes hubs (todo hubs old) ≡ []
+    none = ap (λ n. visited_over n nodes hubs (todo hubs old)) (nothing_left (suc most_visits))
+
+-- the same of a way that is seen as another --------------------------------------------------------------
+
+pub cut_seen : (nodes : Slots Node) (hubs : List Hub) (seen old : Route) (node : Key) (visits : ℕ) → seen ≡ old → IsUnderWay nodes hubs old →
+    old.at ≡ Some node → old.visits ≤ most_visits → visits ≡ length (way nodes node) → 1048577 - seen.visits < visits → Climbs nodes hubs old (record seen { visits = 1048577 }) None
+cut_seen nodes hubs seen old node visits same under_way at within all cut =
+    let made = ap (λ (r : Route). r.visits) same in
+    climbs_cut nodes hubs old (record seen { visits = 1048577 }) node under_way at within (omega (arith, made, within, all, cut, limit_is))
+    (ap (λ (r : Route). record r { visits = 1048577 }) same ∙ ap (λ n. record old { visits = n }) (sym (ap suc limit_is)))
+
+pub climbs_seen : (nodes : Slots Node) (hubs : List Hub) (seen old new : Route) (node : Key) (visits : ℕ) (stop arrived : Option Stop)
+    (first : Option Frame) → seen ≡ old → IsOrdered nodes hubs → IsUnderWay nodes hubs old → old.at ≡ Some node → old.visits ≤ most_visits → visits ≡ length (way nodes node) →
+    stop ≡ end_of nodes (way nodes node) → visits ≤ 1048577 - seen.visits → new.visits ≡ seen.visits + visits →
+    first_keys hubs first ≡ beyond_end nodes hubs stop → GoesOn hubs seen.frames new.frames first new.at → new.room ≡ seen.room →
+    arrived ≡ option_and_then arrival stop → Climbs nodes hubs old new arrived
+climbs_seen nodes hubs seen old new node visits stop arrived first same ordered under_way at within all ends fits sum firsts on room arrives =
+    let made = ap (λ (r : Route). r.visits) same in
+    subst (λ (s : Option Stop). Climbs nodes hubs old new s) (sym (arrives ∙ ap (option_and_then arrival) ends))
+    (climbs_on nodes hubs old new node first ordered under_way at (omega (arith, made, within, all, fits, limit_is)) (omega (arith, made, all, sum))
+    (firsts ∙ ap (beyond_end nodes hubs) ends) (subst (λ (r : Route). GoesOn hubs r.frames new.frames first new.at) same on)
+    (room ∙ ap (λ (r : Route). r.room) same))
+
+-- climb after climb, up to a stop ------------------------------------------------------------------------
+
+-- it came here from there without a stop
+pub record IsFurther (nodes : Slots Node) (hubs : List Hub) (first now : Route) : Type 0 where
+  pub stops : stops_left nodes hubs first ≡ stops_left nodes hubs now
+  pub visits : all_visits nodes hubs now ≡ all_visits nodes hubs first
+  pub under_way : IsUnderWay nodes hubs now
+  pub room : now.room ≡ first.room
+
+pub further_first : (nodes : Slots Node) (hubs : List Hub) (first : Route) → IsUnderWay nodes hubs first → IsFurther nodes hubs first first
+further_first nodes hubs first under_way = record { stops = refl; visits = refl; under_way = under_way; room = refl }
+
+pub further_on : (nodes : Slots Node) (hubs : List Hub) (first old new : Route) (stop : Option Stop) → IsFurther nodes hubs first old →
+    Climbs nodes hubs old new stop → is_some stop ≡ false → IsFurther nodes hubs first new
+further_on nodes hubs first old new None further climbs none = record {
+  stops = further.stops ∙ climbs.stops;
+  visits = climbs.visits ∙ further.visits;
+  under_way = climbs.under_way;
+  room = climbs.room ∙ further.room;
+}
+further_on nodes hubs first old new (Some s) further climbs none = absurd (true≢false none)
+
+pub arrives_on : (nodes : Slots Node) (hubs : List Hub) (first old new : Route) (stop : Option Stop) → IsFurther nodes hubs first old →
+    Climbs nodes hubs old new stop → is_some stop ≡ true → Arrives nodes hubs first new stop
+arrives_on nodes hubs first old new None further climbs some = absurd (false≢true some)
+arrives_on nodes hubs first old new (Some s) further climbs some = record {
+  stops = further.stops ∙ climbs.stops;
+  ended = tt;
+  visits = climbs.visits ∙ further.visits;
+  counted = tt;
+  under_way = climbs.under_way;
+  room = climbs.room ∙ further.room;
+}
+
+none_visited : (left : ℕ) (nodes : Slots Node) (hubs : List Hub) → visited_over left nodes hubs [] ≡ []
+none_visited zero nodes hubs = refl
+none_visited (suc left) nodes hubs = refl
+
+-- where nothing is left to visit, it has arrived everywhere
+ends_on : (nodes : Slots Node) (hubs : List Hub) (first now : Route) → IsFurther nodes hubs first now → visited_next nodes hubs now ≡ [] →
+    Arrives nodes hubs first now None
+ends_on nodes hubs first now further none = record {
+  stops = further.stops;
+  ended = ap (filter_map (arrival_at nodes)) none;
+  visits = further.visits;
+  counted = let no = ap length none in let all = further.visits in omega (arith, no, all);
+  under_way = further.under_way;
+  room = further.room;
+}
+
+pub ends_nowhere : (nodes : Slots Node) (hubs : List Hub) (first now : Route) → IsFurther nodes hubs first now → now.at ≡ None →
+    Arrives nodes hubs first now None
+ends_nowhere nodes hubs first now further at = ends_on nodes hubs first now further
+    ((λ i. visited_over (visits_left now) nodes hubs (option_to_list (at i) ++ after_frames hubs (frames i))) ∙ none_visited (visits_left now) nodes hubs) where
+      frames : now.frames ≡ []
+      frames = subst (λ (o : Option Key). IfNone o (now.frames ≡ [])) at further.under_way.ended
+
+pub ends_cut : (nodes : Slots Node) (hubs : List Hub) (first now : Route) → IsFurther nodes hubs first now → 1048576 < now.visits →
+    Arrives nodes hubs first now None
+ends_cut nodes hubs first now further cut = ends_on nodes hubs first now further
+    (ap (λ n. visited_over n nodes hubs (todo hubs now)) none) where
+      none : visits_left now ≡ 0
+      none = omega (arith, cut, limit_is)

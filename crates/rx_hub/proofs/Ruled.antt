@@ -1,0 +1,167 @@
+-- What a hub has to do is told by its oldest and its youngest subscriber.
+use Rattle.std.proofs.Common.{◌≡◌, ℕ, ◌<◌, ◌≤◌, ◌==◌, ◌&&◌, ◌||◌, cond, Bool, true, false, List, [], ◌∷◌, length, slice_get, Option, Some, None, option_map}
+use Rattle.std.proofs.Common.{is_some, is_none, refl, sym, ap, subst, ◌∙◌, arith, true≢false, IfSome}
+use Rattle.std.specs.Prelude.{if◌then◌else◌}
+use Rattle.std.specs.List.{list_any}
+use Rattle.std.specs.Option.{option_map_or, option_and_then, option_or}
+use Rattle.std.proofs.Math.Bool.{not}
+use Rattle.std.proofs.lemmas.Bool.Decides.{nat_tests}
+use Rattle.std.proofs.lemmas.Option.{same_Some, none-some}
+use Rattle.rx_slots.specs.declared.Key.{Key}
+use Rattle.rx_tree.specs.Tree.{first_of}
+use Rattle.rx_hub.specs.declared.hub.HubDue.{HubDue}
+use Rattle.rx_hub.specs.declared.hub.HubDue.TheVariants.{Connect as Connecting}
+use Rattle.rx_hub.specs.declared.hub.LastEnd.{LastEnd}
+use Rattle.rx_hub.specs.declared.hub.Published.{Published}
+use Rattle.rx_hub.specs.declared.forcing.Rule.{Rule}
+use Rattle.rx_hub.specs.declared.forcing.Rule.TheVariants.{Connect, Other}
+use Rattle.rx_hub.specs.Chains.{IsCalm, IsChain, IsAt}
+use Rattle.rx_hub.specs.Due.{IsDueIn, NoneWaits, connects, acts, is_auto, is_cut, connect_of, due_of, cut_of, left_of}
+use Rattle.rx_hub.specs.Hubs.{Hub, Hubs, IsPromised, AreAbove, Rises, published_of, last_from}
+use Rattle.rx_hub.specs.Lists.{Lists, list_at, is_in, take_out, head_of}
+use Rattle.rx_hub.specs.Rules.{connect_by, cut_by, due_by, given_by}
+
+-- the youngest tells ------------------------------------------------------------------------------
+
+abbrev stays_on : Option LastEnd → Key → Bool
+stays_on last key = not (is_cut last key)
+
+-- a younger one stays where an older one does
+younger : (last : Option LastEnd) (a b : Key) → a.number < b.number → stays_on last a ≡ true → stays_on last b ≡ true
+younger None a b less e = refl
+younger (Some x) a b less e = grind (arith, nat_tests, less, e)
+
+any_last : (last : Option LastEnd) (before : Key) (ks : List Key) → AreAbove before.number ks → Rises ks →
+    (stays_on last before || list_any (stays_on last) ks) ≡ option_map_or (stays_on last) (last_from (Some before) ks) false
+any_last last before [] above rises = shape (stays_on last before) where
+  shape : (b : Bool) → (b || false) ≡ b
+  shape true = refl
+  shape false = refl
+any_last last before (k ∷ ks) above rises =
+    shape (stays_on last before) (stays_on last k) (list_any (stays_on last) ks) (younger last before k above.0) ∙ any_last last k ks rises.0 rises.1 where
+      shape : (a b c : Bool) → (a ≡ true → b ≡ true) → (a || (b || c)) ≡ (b || c)
+      shape true b c up = ap (λ t. t || c) (sym (up refl))
+      shape false b c up = refl
+
+youngest_tells : (last : Option LastEnd) (ks : List Key) → Rises ks → list_any (stays_on last) ks ≡ option_map_or (stays_on last) (last_from None ks) false
+youngest_tells last [] rises = refl
+youngest_tells last (k ∷ ks) rises = any_last last k ks rises.0 rises.1
+
+connect_told : (hub : Hub) → Rises hub.subscribers → connect_by (published_of hub) (last_from None hub.subscribers) ≡ connect_of hub
+connect_told hub rises = ap (λ b. if is_auto hub.mode && is_none hub.connection && b then Some (Connecting hub.number) else None)
+    (sym (youngest_tells hub.last_end hub.subscribers rises))
+
+due_told : (hub : Hub) → due_by (published_of hub) (first_of hub.subscribers) ≡ due_of hub
+due_told hub = of hub.last_end hub.subscribers where
+  none_or : {X : Type 0} (o : Option X) → o ≡ option_or o None
+  none_or None = refl
+  none_or (Some x) = refl
+
+  of : (last : Option LastEnd) (ks : List Key) → due_by (record { number = hub.number; mode = hub.mode; connection = hub.connection; last_end = last }) (first_of ks) ≡
+      option_or (cut_of last ks) (left_of (is_auto hub.mode) hub.connection ks)
+  of None [] = refl
+  of (Some e) [] = refl
+  of None (k ∷ ks) = refl
+  of (Some e) (k ∷ ks) = none_or (cut_by (Some e) k)
+
+-- at an index
+pub at_none : (rule : Rule) (hubs : List Hub) (index : ℕ) → option_map published_of (slice_get hubs index) ≡ None → option_and_then (given_by rule) (slice_get hubs index) ≡ None
+at_none rule hubs index none = of (slice_get hubs index) none where
+  of : (o : Option Hub) → option_map published_of o ≡ None → option_and_then (given_by rule) o ≡ None
+  of None e = refl
+  of (Some hub) e = absurd (none-some (published_of hub) (sym e))
+
+pub connect_found : (s : Hubs) (index : ℕ) (p : Published) (youngest : Option Key) → IsPromised s → option_map published_of (slice_get s.hubs index) ≡ Some p →
+    IfSome (slice_get s.hubs index) (λ hub. youngest ≡ last_from None hub.subscribers) → connect_by p youngest ≡ option_and_then (given_by Connect) (slice_get s.hubs index)
+connect_found s index p youngest promised some last = of (slice_get s.hubs index) refl some last where
+  of : (o : Option Hub) → slice_get s.hubs index ≡ o → option_map published_of o ≡ Some p → IfSome o (λ hub. youngest ≡ last_from None hub.subscribers) →
+      connect_by p youngest ≡ option_and_then (given_by Connect) o
+  of None got e l = absurd (none-some p e)
+  of (Some hub) got e l = (λ i. connect_by (sym (same_Some (published_of hub) p e) i) (l i)) ∙ connect_told hub (promised.rises index hub got)
+
+pub due_found : (s : Hubs) (index : ℕ) (p : Published) (oldest : Option Key) → option_map published_of (slice_get s.hubs index) ≡ Some p →
+    IfSome (slice_get s.hubs index) (λ hub. oldest ≡ first_of hub.subscribers) → due_by p oldest ≡ option_and_then (given_by Other) (slice_get s.hubs index)
+due_found s index p oldest some first = of (slice_get s.hubs index) refl some first where
+  of : (o : Option Hub) → slice_get s.hubs index ≡ o → option_map published_of o ≡ Some p → IfSome o (λ hub. oldest ≡ first_of hub.subscribers) →
+      due_by p oldest ≡ option_and_then (given_by Other) o
+  of None got e l = absurd (none-some p e)
+  of (Some hub) got e l = (λ i. due_by (sym (same_Some (published_of hub) p e) i) (l i)) ∙ due_told hub
+
+-- the chain ---------------------------------------------------------------------------------------
+
+eq_self : (a : ℕ) → (a == a) ≡ true
+eq_self a = grind (arith, nat_tests)
+
+pub head_in : (xs : List ℕ) (index : ℕ) → head_of xs ≡ Some index → is_in index xs ≡ true
+head_in [] index e = absurd (none-some index e)
+head_in (x ∷ xs) index e = ap (λ k. (index == k) || is_in index xs) (same_Some x index e) ∙ ap (λ b. b || is_in index xs) (eq_self index)
+
+fewer : (m : ℕ) (xs : List ℕ) → length (take_out m xs) ≤ length xs
+fewer m [] = omega arith
+fewer m (x ∷ xs) = of (m == x) (fewer m xs) where
+  of : (b : Bool) → length (take_out m xs) ≤ length xs → length (cond (not b) (x ∷ take_out m xs) (take_out m xs)) ≤ length (x ∷ xs)
+  of true less = omega (arith, less)
+  of false less = omega (arith, less)
+
+pub one_fewer : (xs : List ℕ) (index : ℕ) → head_of xs ≡ Some index → length (take_out index xs) < length xs
+one_fewer [] index e = absurd (none-some index e)
+one_fewer (x ∷ xs) index e =
+    let here : (index == x) ≡ true = ap (λ k. index == k) (same_Some x index e) ∙ eq_self index in
+    let less = fewer index xs in
+    subst (λ b. length (cond (not b) (x ∷ take_out index xs) (take_out index xs)) < length (x ∷ xs)) (sym here) (omega (arith, less))
+
+pub nothing_in : (xs : List ℕ) → head_of xs ≡ None → (i : ℕ) → is_in i xs ≡ false
+nothing_in [] e i = refl
+nothing_in (x ∷ xs) e i = absurd (none-some x (sym e))
+
+-- what is off a chain from which one index was taken is that index, or was off it
+still_off : (i index : ℕ) (xs : List ℕ) → is_in i (take_out index xs) ≡ false → (index == i) ≡ false → is_in i xs ≡ false
+still_off i index [] off apart = refl
+still_off i index (x ∷ xs) off apart = of (index == x) refl (i == x) refl (still_off i index xs) off where
+  of : (b : Bool) → (index == x) ≡ b → (c : Bool) → (i == x) ≡ c → (is_in i (take_out index xs) ≡ false → (index == i) ≡ false → is_in i xs ≡ false) →
+      is_in i (cond (not b) (x ∷ take_out index xs) (take_out index xs)) ≡ false → (c || is_in i xs) ≡ false
+  of true e true f rest off2 = absurd (let p : index ≡ i = grind (arith, nat_tests, e, f) in true≢false (sym (eq_self i) ∙ ap (λ k. k == i) (sym p) ∙ apart))
+  of true e false f rest off2 = rest off2 apart
+  of false e c f rest off2 = shape c (subst (λ t. (t || is_in i (take_out index xs)) ≡ false) f off2) where
+    shape : (c : Bool) → (c || is_in i (take_out index xs)) ≡ false → (c || is_in i xs) ≡ false
+    shape true e = absurd (true≢false e)
+    shape false e = rest e apart
+
+pub calm_dropped : (due : Hub → Option HubDue) (hubs : List Hub) (old new : Lists) (index : ℕ) → list_at new 0 ≡ take_out index (list_at old 0) →
+    option_and_then due (slice_get hubs index) ≡ None → IsCalm due hubs old → IsCalm due hubs new
+calm_dropped due hubs old new index left none calm i hub got off = of (index == i) refl where
+  of : (b : Bool) → (index == i) ≡ b → due hub ≡ None
+  of true e = let same : index ≡ i = grind (arith, nat_tests, e) in sym (ap (option_and_then due) (ap (slice_get hubs) same ∙ got)) ∙ none
+  of false e = calm i hub got (still_off i index (list_at old 0) (ap (is_in i) (sym left) ∙ off) e)
+
+pub found_at : (due : Hub → Option HubDue) (hubs : List Hub) (index : ℕ) (d : HubDue) → option_and_then due (slice_get hubs index) ≡ Some d → IsAt due hubs d
+found_at due hubs index d some = of (slice_get hubs index) refl some where
+  of : (o : Option Hub) → slice_get hubs index ≡ o → option_and_then due o ≡ Some d → IsAt due hubs d
+  of None got e = absurd (none-some d e)
+  of (Some hub) got e = record { index = index; hub = hub; there = got; gives = e }
+
+-- of an answer
+pub found_if : (due : Hub → Option HubDue) (hubs : List Hub) (index : ℕ) (r : Option HubDue) → r ≡ option_and_then due (slice_get hubs index) → IfSome r (IsAt due hubs)
+found_if due hubs index None e = tt
+found_if due hubs index (Some d) e = found_at due hubs index d (sym e)
+
+pub none_of : {X : Type 0} (o : Option X) (b : Bool) → b ≡ is_some o → b ≡ false → o ≡ None
+none_of None b e f = refl
+none_of (Some x) b e f = absurd (true≢false (sym e ∙ f))
+
+pub chain_left : (old new : Lists) → length new.lists ≡ length old.lists → new.members ≡ old.members → IsChain old → IsChain new
+chain_left old new count members chain =
+    let single = chain.single in
+    record {
+      single = omega (arith, count, single);
+      there = λ some. let there = chain.there (omega (arith, members, some)) in omega (arith, count, there);
+    }
+
+-- of the two chains
+pub connects_if : (hubs : List Hub) (r : Option HubDue) → IfSome r (IsAt (given_by Connect) hubs) → IfSome r (IsDueIn hubs)
+connects_if hubs None at = tt
+connects_if hubs (Some e) at = connects at.index at.hub at.there at.gives
+
+pub acts_if : (hubs : List Hub) (r : Option HubDue) → NoneWaits hubs → IfSome r (IsAt (given_by Other) hubs) → IfSome r (IsDueIn hubs)
+acts_if hubs None none at = tt
+acts_if hubs (Some e) none at = acts at.index at.hub none at.there at.gives

@@ -1,0 +1,36 @@
+use Rattle.std.proofs.Common.{◌≡◌, Option, IfSome, IsSome, true, sym, subst, arith}
+use Rattle.rx_tree.specs.Tree.{is_on}
+use Rattle.rx_hub.specs.Hubs.{Hub, Hubs, find_hub, unsubscribed}
+use Rattle.rx_hub.proofs.Found.{find_index, index_below, not_found, linked_changed}
+use Rattle.rx_hub.proofs.hubs.Hubs.leave.Goals as goal
+
+pub unreachable-requires : goal.unreachable-requires
+unreachable-requires c = not_found c.self.inside.store.hubs c.args.hub c.in_default.ensures.none
+    (subst (λ (v : Hubs). IsSome (find_hub v.hubs c.args.hub)) (sym c.self.view_is) c.requires.there)
+
+pub unsubscribe-requires-clause-there : goal.unsubscribe-requires-clause-there
+unsubscribe-requires-clause-there c =
+    let s = c.self.inside.store in
+    subst (λ (o : Option Hub). IfSome o (λ hub. is_on c.args.key hub.subscribers ≡ true)) (find_index s c.promise.ensures c.in-Some.index c.args.hub c.in-Some.ensures.some)
+    (subst (λ (v : Hubs). IfSome (find_hub v.hubs c.args.hub) (λ hub. is_on c.args.key hub.subscribers ≡ true)) (sym c.self.view_is) c.requires.subscribes)
+
+pub note-requires-clause-index : goal.note-requires-clause-index
+note-requires-clause-index c =
+    let s = c.self.inside.store in
+    let l = index_below s.hubs c.in-Some.index c.args.hub c.in-Some.ensures.some in
+    let fit = c.self.invariant.fit in
+    omega (arith, l, fit)
+
+pub note-requires-2-clause-index : goal.note-requires-2-clause-index
+note-requires-2-clause-index c =
+    let s = c.self.inside.store in
+    let l = index_below s.hubs c.in-Some.index c.args.hub c.in-Some.ensures.some in
+    let fit = c.self.invariant.fit in
+    let both = c.self.invariant.both in
+    omega (arith, l, fit, both)
+
+pub invariant_of-self : goal.invariant_of-self
+invariant_of-self c =
+    let s = c.self.inside in
+    linked_changed s.store c.unsubscribe.new.self s.waiting s.due c.note.new.chain c.note-2.new.chain c.in-Some.index c.args.hub (unsubscribed c.args.key)
+    c.promise.ensures c.in-Some.ensures.some c.unsubscribe.ensures c.note.ensures c.note-2.ensures c.self.invariant

@@ -1,0 +1,38 @@
+-- What stands on the chains of hubs for which something may be due. No public clause cites this module.
+use Rattle.std.specs.Prelude.{◌≡◌, ℕ, ◌+◌, ◌<◌, ◌≤◌, false, List, Option, Some, None, length, slice_get}
+use Rattle.rx_hub.specs.declared.hub.HubDue.{HubDue}
+use Rattle.rx_hub.specs.Due.{connect_of, due_of}
+use Rattle.rx_hub.specs.Hubs.{Hub, Hubs}
+use Rattle.rx_hub.specs.Lists.{Lists, list_at, is_in}
+
+-- nothing is due at a hub whose index is not on the chain
+abbrev pub IsCalm : (Hub → Option HubDue) → List Hub → Lists → Type 0
+IsCalm due hubs chain = (i : ℕ) (hub : Hub) → slice_get hubs i ≡ Some hub → is_in i (list_at chain 0) ≡ false → due hub ≡ None
+
+-- a chain is one list, and there is one where something may stand on it
+pub record IsChain (chain : Lists) : Type 0 where
+  pub single : length chain.lists ≤ 1
+  pub there : 0 < chain.members → 0 < length chain.lists
+
+-- an index is put on a chain where it is not there
+pub record Notes (old new : Lists) (index : ℕ) : Type 0 where
+  pub kept : (i : ℕ) → is_in i (list_at new 0) ≡ false → (is_in i (list_at old 0) ≡ false) × (i ≡ index → ⊥)
+  pub chain : IsChain new
+  pub members : new.members ≡ old.members
+
+-- the hubs and their chains
+pub record IsLinked (store : Hubs) (waiting due : Lists) : Type 0 where
+  pub waits : IsCalm connect_of store.hubs waiting
+  pub acts : IsCalm due_of store.hubs due
+  pub waiting_chain : IsChain waiting
+  pub due_chain : IsChain due
+  pub fit : length store.hubs ≤ waiting.members
+  pub both : waiting.members ≤ due.members
+  pub room : waiting.members ≤ length store.hubs + store.room
+
+-- this is due at some hub
+pub record IsAt (due : Hub → Option HubDue) (hubs : List Hub) (d : HubDue) : Type 0 where
+  pub index : ℕ
+  pub hub : Hub
+  pub there : slice_get hubs index ≡ Some hub
+  pub gives : due hub ≡ Some d

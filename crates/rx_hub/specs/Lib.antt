@@ -1,0 +1,14 @@
+pub mod Hubs
+pub mod Due
+pub mod Closing
+pub mod Records
+pub mod After
+pub mod Walk
+pub mod Route
+pub mod Claims
+pub mod Chains
+pub mod Store
+pub mod Lists
+pub mod Rings
+pub mod Places
+pub mod Rules

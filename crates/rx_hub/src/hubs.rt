@@ -1,0 +1,257 @@
+//! Hubs with what may be due at them.
+
+ghost use Rattle.std.specs.Prelude.{◌≡◌, ◌+◌, ◌<◌, ◌≤◌, ◌++◌, ◌∷◌, [], length, option_map, max, slice_get};
+ghost use Rattle.std.specs.Prelude.{OnOk, OnErr, IsOk, IsTrue, IfSome, IfNone, IsSome, Some, None};
+ghost use Rattle.std.specs.Option.{option_and_then};
+ghost use Rattle.rx_hub.specs.Chains.{IsChain, Notes};
+ghost use Rattle.rx_hub.specs.Lists.{list_at};
+
+use crate::forcing::{Rule, next_at};
+use crate::hub::{HubDue, LastEnd, Published};
+use crate::rings::Rings;
+use crate::store::Store;
+use rx_event::Mode;
+use rx_slots::Key;
+use std::alloc::{AllocError, Global};
+use std::marker::Model;
+
+/// Hubs, the published observables: each with its connection and its subscribers (Publish, Connect,
+/// RefCount).
+#[derive(Drop)]
+pub struct Hubs {
+    store: Store,
+    // The hubs that may wait for a connection, and those at which something else may be due.
+    waiting: Rings,
+    due: Rings,
+}
+
+impl Model for Hubs {
+    ghost use Rattle.rx_hub.specs.Hubs.{Hubs as Shown};
+
+    ghost Value = { Shown };
+
+    ghost use Rattle.std.specs.Prelude.{◌-◌, length};
+    ghost use Rattle.rx_hub.specs.Chains.{IsLinked};
+
+    ghost view = { λ s. record s.store { room = s.waiting.members - length s.store.hubs } };
+
+    ghost invariant = { λ s. IsLinked s.store s.waiting s.due };
+}
+
+// Lets indices below this one stand on a chain.
+fn lengthen(chain: &mut Rings, members: usize) -> Result<(), AllocError>
+    requires chain { IsChain chain.old }
+    ensures chain { IsChain chain.new }
+    ensures same { (e : _) → list_at chain.new e ≡ list_at chain.old e }
+    ensures ok { OnOk result (members ≤ chain.new.members) }
+    ensures more { chain.old.members ≤ chain.new.members }
+    ensures most { chain.new.members ≤ max members chain.old.members }
+    ensures err { OnErr result (chain.new.members ≡ chain.old.members) }
+    ensures succeeds { members ≤ chain.old.members → IsOk result }
+{
+    if members <= chain.members() {
+        return Ok(());
+    }
+    if chain.is_empty() {
+        chain.reserve(1)?;
+        chain.add();
+    }
+    chain.admit(members)
+}
+
+// Puts an index on a chain, where it is not there.
+fn note(chain: &mut Rings, index: usize)
+    requires chain { IsChain chain.old }
+    requires index { index < chain.old.members }
+    ensures { Notes chain.old chain.new index }
+{
+    if chain.is_free(index) {
+        chain.join(0, index);
+    }
+}
+
+impl Hubs {
+    ghost use Rattle.rx_hub.specs.Hubs.{Hub, IsPromised, IsFree, AreBelow, new_hub, find_hub, at_hub, published_of};
+    ghost use Rattle.rx_hub.specs.Hubs.{connected, disconnected, subscribed, unsubscribed, key_after};
+    ghost use Rattle.rx_hub.specs.Due.{IsDueIn, IsQuiet, ConcernsHub};
+    ghost use Rattle.rx_tree.specs.Tree.{is_on, first_of};
+
+    /// No hub. It takes no memory until the first reservation.
+    pub fn new(alloc: Global) -> Self
+        ensures hubs { result.hubs ≡ [] }
+        ensures room { result.room ≡ 0 }
+        ensures slots { result.slots ≡ 0 }
+    {
+        Hubs {
+            store: Store::new(alloc),
+            waiting: Rings::new(alloc),
+            due: Rings::new(alloc),
+        }
+    }
+
+    /// What holds of all hubs, for proofs: their numbers rise, and so do those of each hub's subscribers.
+    /// It does nothing.
+    pub fn promise(&self)
+        ensures { IsPromised self.now }
+    {
+        self.store.promise();
+    }
+
+    /// How many hubs there are.
+    pub fn len(&self) -> usize
+        ensures { result ≡ length self.now.hubs }
+    {
+        self.store.len()
+    }
+
+    /// Makes room for `additional` hubs more and for no others, so that as many calls of `add` take no
+    /// memory. Refused only where there was less room and memory was refused. Nothing else changes either
+    /// way.
+    pub fn reserve(&mut self, additional: usize) -> Result<(), AllocError>
+        ensures ok { OnOk result (additional ≤ self.new.room) }
+        ensures kept { self.new ≡ record self.old { room = self.new.room } }
+        ensures room { self.old.room ≤ self.new.room }
+        ensures most { self.new.room ≤ max additional self.old.room }
+        ensures err { OnErr result (self.new ≡ self.old) }
+        ensures succeeds { additional ≤ self.old.room → IsOk result }
+    {
+        self.store.reserve(additional)?;
+        let members = self.store.len() + additional;
+        lengthen(&mut self.due, members)?;
+        lengthen(&mut self.waiting, members)
+    }
+
+    /// Lets subscribers stand at all slots of a tree below this one: so `subscribe` takes no memory.
+    /// Refused only where memory was. Nothing else changes either way.
+    pub fn reserve_slots(&mut self, slots: usize) -> Result<(), AllocError>
+        ensures ok { OnOk result (slots ≤ self.new.slots) }
+        ensures kept { self.new ≡ record self.old { slots = self.new.slots } }
+        ensures slots { self.old.slots ≤ self.new.slots }
+        ensures err { OnErr result (self.new ≡ self.old) }
+        ensures succeeds { slots ≤ self.old.slots → IsOk result }
+    {
+        self.store.admit(slots)
+    }
+
+    /// Adds a hub to which nobody has subscribed. Its number is greater than those before. There is
+    /// room for it, of which it takes one place.
+    pub fn add(&mut self, number: u64, mode: Mode)
+        requires room { 0 < self.old.room }
+        requires newest { (i : _) (hub : Hub) → slice_get self.old.hubs i ≡ Some hub → hub.number < number }
+        ensures hubs { self.new.hubs ≡ self.old.hubs ++ new_hub number mode ∷ [] }
+        ensures slots { self.new.slots ≡ self.old.slots }
+        ensures room { self.new.room + 1 ≡ self.old.room }
+    {
+        self.store.add(number, mode);
+    }
+
+    /// A hub without its subscribers; None where no hub has the number.
+    pub fn get(&self, hub: u64) -> Option<Published>
+        ensures { result ≡ option_map published_of (find_hub self.now.hubs hub) }
+    {
+        self.store.promise();
+        self.store.published(self.store.index_of(hub)?)
+    }
+
+    /// The key of a hub's oldest subscriber; None where it has none, and where no hub has the number.
+    pub fn first_subscriber(&self, hub: u64) -> Option<Key>
+        ensures { result ≡ option_and_then (λ (h : Hub). first_of h.subscribers) (find_hub self.now.hubs hub) }
+    {
+        self.store.promise();
+        self.store.first(self.store.index_of(hub)?)
+    }
+
+    /// The key of the next younger subscriber of the same hub; None for the youngest.
+    pub fn next_subscriber(&self, key: Key) -> Option<Key>
+        ensures { (n : _) (h : Hub) → find_hub self.now.hubs n ≡ Some h → IsTrue (is_on key h.subscribers) →
+            result ≡ key_after key h.subscribers }
+    {
+        self.store.next(key)
+    }
+
+    /// Subscribes: the node of this key comes last among the hub's subscribers. It is newer than they
+    /// are, and no subscriber stands at its slot, which was reserved for.
+    pub fn subscribe(&mut self, hub: u64, key: Key)
+        requires there { IsSome (find_hub self.old.hubs hub) }
+        requires newest { IfSome (find_hub self.old.hubs hub) (λ h. AreBelow key.number h.subscribers) }
+        requires slot { key.slot < self.old.slots }
+        requires free { IsFree self.old.hubs key.slot }
+        ensures { self.new ≡ record self.old { hubs = at_hub hub (subscribed key) self.old.hubs } }
+    {
+        self.store.promise();
+        let Some(index) = self.store.index_of(hub) else {
+            unreachable!()
+        };
+        self.store.subscribe(index, key);
+        note(&mut self.waiting, index);
+        note(&mut self.due, index);
+    }
+
+    /// Takes a subscriber away from its hub, when its node is closed. It takes the same time however
+    /// many subscribers there are.
+    pub fn leave(&mut self, hub: u64, key: Key)
+        requires there { IsSome (find_hub self.old.hubs hub) }
+        requires subscribes { IfSome (find_hub self.old.hubs hub) (λ h. IsTrue (is_on key h.subscribers)) }
+        ensures { self.new ≡ record self.old { hubs = at_hub hub (unsubscribed key) self.old.hubs } }
+    {
+        self.store.promise();
+        let Some(index) = self.store.index_of(hub) else {
+            unreachable!()
+        };
+        self.store.unsubscribe(index, key);
+        note(&mut self.waiting, index);
+        note(&mut self.due, index);
+    }
+
+    /// Gives the hub its open connection. It has none: a connection is never replaced.
+    pub fn connect(&mut self, hub: u64, key: Key)
+        requires there { IsSome (find_hub self.old.hubs hub) }
+        requires unconnected { IfSome (find_hub self.old.hubs hub) (λ h. h.connection ≡ None) }
+        ensures { self.new ≡ record self.old { hubs = at_hub hub (connected key) self.old.hubs } }
+    {
+        self.store.promise();
+        let Some(index) = self.store.index_of(hub) else {
+            unreachable!()
+        };
+        self.store.connect(index, key);
+        note(&mut self.waiting, index);
+        note(&mut self.due, index);
+    }
+
+    /// Takes the hub's connection away, when its node is closed. Where it ended by itself, that end is
+    /// kept in place of the one before: a subscriber that is older than its place ends in the same way,
+    /// and one that comes later does not.
+    pub fn disconnect(&mut self, hub: u64, ended: Option<LastEnd>)
+        requires there { IsSome (find_hub self.old.hubs hub) }
+        ensures { self.new ≡ record self.old { hubs = at_hub hub (disconnected ended) self.old.hubs } }
+    {
+        self.store.promise();
+        let Some(index) = self.store.index_of(hub) else {
+            unreachable!()
+        };
+        self.store.disconnect(index, ended);
+        note(&mut self.waiting, index);
+        note(&mut self.due, index);
+    }
+
+    /// What a hub has to do next: connect, before anything else, where a hub with RefCount has a
+    /// subscriber and no connection; end a subscriber as the connection ended that it had (Publish);
+    /// close the connection of a hub with RefCount that nobody is subscribed to. None only where
+    /// nothing is due at any hub.
+    ///
+    /// It looks at hubs alone that were changed since it last found nothing due there, and takes no
+    /// memory.
+    pub fn next_forced(&mut self) -> Option<HubDue>
+        ensures due { IfSome result (IsDueIn self.old.hubs) }
+        ensures concerns { IfSome result (ConcernsHub self.old.hubs) }
+        ensures none { IfNone result (IsQuiet self.old.hubs) }
+        ensures kept { self.new ≡ self.old }
+    {
+        self.store.promise();
+        let connect = next_at(&self.store, &mut self.waiting, Rule::Connect);
+        if connect.is_some() {
+            return connect;
+        }
+        next_at(&self.store, &mut self.due, Rule::Other)
+    }
+}

@@ -1,0 +1,44 @@
+//! Hubs: published observables, each with its open connection and its open subscribers (Publish,
+//! Connect, RefCount).
+//!
+//! # Vocabulary
+//!
+//! A contract sees hubs as a list of records by rising number (`specs/Hubs.antt`): number, mode, the
+//! key of the connection, how the last connection ended that ended by itself, and the keys of the
+//! subscribers by rising number. Beside it stand two numbers: `room`, how many hubs more take no
+//! memory, and `slots`, below which a subscriber's slot takes none. `find_hub` looks a hub up,
+//! `at_hub` says that one hub changes by a function and the others stay, and `IsPromised` what holds
+//! of all hubs. `after_closing` (`specs/Closing.antt`) is a hub once closed nodes left it. `IsDueIn` and
+//! `IsQuiet` (`specs/Due.antt`) say what the hubs have to do, and that it is nothing. A `Route`
+//! (`specs/Route.antt`) stands on an item's way over a tree and its hubs: `stops_left` are the stops
+//! that are still to come, and `all_visits` counts the visits of the whole way. `hubs_after`
+//! (`specs/After.antt`) is what one more event of a history leaves of its hubs.
+//!
+//! # What is promised
+//!
+//! Each call says which hub it changes and how. Only `reserve` and `reserve_slots` ask for memory, and
+//! what they refuse changes nothing. A hub is found by its number in steps that grow with the
+//! logarithm of the hubs; no call takes longer where a hub has many subscribers. `next_forced` gives
+//! what is due at some hub, a Connect before anything else, and nothing only where nothing is due.
+//! `Route::next` gives the stops of an item one by one, and takes no memory once there is room for a
+//! frame of each hub.
+//!
+//! # What is not
+//!
+//! That keys find nodes: they are the caller's, of a tree that is kept beside the hubs.
+#![tactic(auto)]
+
+mod closing;
+mod forcing;
+mod hub;
+mod hubs;
+mod links;
+mod rings;
+mod route;
+mod store;
+mod theorems;
+
+pub use hub::{HubDue, LastEnd, Published};
+pub use hubs::Hubs;
+pub use route::Route;
+pub use theorems::{hubs_are_forced, hubs_are_in_order, hubs_follow_events, walks_are_climbs};
