@@ -4,12 +4,12 @@ use Rattle.std.specs.Option.{option_map_or}
 use Rattle.std.proofs.lemmas.Bool.{false≢true}
 use Rattle.rx_slots.specs.declared.Key.{Key}
 use Rattle.rx_slots.specs.Slots.{Slots, find, KeepsOthers}
-use Rattle.rx_forest.specs.declared.node.Node.{Node}
-use Rattle.rx_forest.specs.declared.node.Stowed.{Stowed}
-use Rattle.rx_forest.specs.declared.node.ResKey.{ResKey}
-use Rattle.rx_forest.specs.Tree.{Tree, Rewrites}
-use Rattle.rx_forest.specs.Resources.{store_key, is_held, is_held_at}
-use Rattle.rx_forest.proofs.Laws.Keys.{cases_key}
+use Rattle.rx_tree.specs.declared.node.Node.{Node}
+use Rattle.rx_tree.specs.declared.node.Stowed.{Stowed}
+use Rattle.rx_tree.specs.declared.node.ResKey.{ResKey}
+use Rattle.rx_tree.specs.Tree.{Tree, Rewrites}
+use Rattle.rx_tree.specs.Resources.{store_key, is_held, is_held_at}
+use Rattle.rx_tree.proofs.Laws.Keys.{cases_key}
 use Rattle.rx_ground.specs.Ties.{KeepsHeld}
 
 module _ {T : Type 0} (old new : Tree T) (number : ℕ) (nodes : new.nodes ≡ old.nodes) (k : Key) (others : KeepsOthers old.resources new.resources k) where

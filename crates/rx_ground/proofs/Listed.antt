@@ -5,9 +5,9 @@ use Rattle.std.proofs.lemmas.Option.{none-some, same_Some}
 use Rattle.rx_slots.specs.declared.Entry.{Entry}
 use Rattle.rx_slots.specs.declared.Key.{Key}
 use Rattle.rx_slots.specs.Slots.{Slots, entry_of, find}
-use Rattle.rx_forest.proofs.Laws.Written.{entry_found, found_entry}
+use Rattle.rx_tree.proofs.Laws.Written.{entry_found, found_entry}
 use Rattle.rx_ground.specs.Shown.{Kept, kept_from, kept_in}
-use Rattle.rx_ground.proofs.ListMembers.{Contains-head, Contains-later, Contains-none, Contains-cases}
+use Rattle.rx_ground.proofs.Laws.Members.{Contains-head, Contains-later, Contains-none, Contains-cases}
 
 module _ {X : Type 0} where
   -- lists that are filtered or mapped ---------------------------------------------------------------
@@ -35,7 +35,7 @@ module _ {X : Type 0} where
 
   -- the list of some slots --------------------------------------------------------------------------
 
-  stands_from : (first : ℕ) (es : List (Option (Entry X))) (k : Kept X) → Contains (kept_from first es) k → (i : ℕ) × (k.key.slot ≡ first + i) × (get_or es i None ≡ Some (entry_of k.key.number k.value))
+  pub stands_from : (first : ℕ) (es : List (Option (Entry X))) (k : Kept X) → Contains (kept_from first es) k → (i : ℕ) × (k.key.slot ≡ first + i) × (get_or es i None ≡ Some (entry_of k.key.number k.value))
   stands_from first [] k c = absurd (Contains-none k c)
   stands_from first (None ∷ es) k c = let r = stands_from (suc first) es k c in (suc r.0, (let e = r.1 in omega arith), r.2)
   stands_from first (Some e ∷ es) k c = by_place (stands_from (suc first) es k) (Contains-cases (record { key = record { slot = first; number = e.number }; value = e.value }) (kept_from (suc first) es) k c) where

@@ -10,11 +10,11 @@ use Rattle.rx_event.specs.Resources.{uses}
 use Rattle.rx_event.specs.Lawful.{IsLawful}
 use Rattle.rx_event.proofs.Laws.Openness.{is_open_within}
 use Rattle.rx_slots.specs.Slots.{find}
-use Rattle.rx_forest.specs.declared.node.Stowed.{Stowed}
-use Rattle.rx_forest.specs.declared.node.ResKey.{ResKey}
-use Rattle.rx_forest.specs.Tree.{Tree, IsNewest, IsPast}
-use Rattle.rx_forest.specs.Resources.{store_key, is_held, is_held_at}
-use Rattle.rx_forest.proofs.Laws.Keys.{some_of}
+use Rattle.rx_tree.specs.declared.node.Stowed.{Stowed}
+use Rattle.rx_tree.specs.declared.node.ResKey.{ResKey}
+use Rattle.rx_tree.specs.Tree.{Tree, IsNewest, IsPast}
+use Rattle.rx_tree.specs.Resources.{store_key, is_held, is_held_at}
+use Rattle.rx_tree.proofs.Laws.Keys.{some_of}
 use Rattle.rx_ground.specs.Ties.{IsTied}
 use Rattle.rx_ground.proofs.Stored.{stored_within}
 

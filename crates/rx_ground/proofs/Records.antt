@@ -3,7 +3,7 @@ use Rattle.std.proofs.Common.{◌≡◌, ◌≢◌, ℕ, zero, suc, ◌<◌, ◌
 use Rattle.std.proofs.Math.Bool.{not, ◌&&◌, ◌||◌}
 use Rattle.std.specs.List.{list_any}
 use Rattle.std.specs.Option.{option_and_then, option_map_or}
-use Rattle.std.proofs.lemmas.Bool.{false≢true, cases_order, and_parts, and_from, or_parts, both_ways, eqb-true, eq-eqb, not-true, not_from_false}
+use Rattle.std.proofs.lemmas.Bool.{false≢true, cases_order, and_parts, and_from, or_parts, both_ways, eq-eqb, not-true, not_from_false}
 use Rattle.std.proofs.lemmas.Option.{none-some, same_Some}
 use Rattle.rx_event.specs.declared.marks.Marks.{Marks}
 use Rattle.rx_event.specs.declared.event.Event.{Event}
@@ -13,27 +13,24 @@ use Rattle.rx_event.specs.Marks.{marks_of, due_at, touches}
 use Rattle.rx_event.specs.Lawful.{MayFollow, IsLawful}
 use Rattle.rx_event.proofs.Laws.Places.{slice_get-append, slice_get_last}
 use Rattle.rx_event.proofs.Laws.Parents.{ancestors_step, parent-lt, option_map_or-same}
-use Rattle.rx_event.proofs.Laws.Openness.{shuts_none, is_open_within, is_open_kept, is_open_unchanged, parent_open}
+use Rattle.rx_event.proofs.Laws.Openness.{shuts_none, is_open_within, is_open_cut, is_open_unchanged, parent_open}
 use Rattle.rx_event.proofs.Laws.Totals.{is_open_new}
 use Rattle.rx_event.proofs.Laws.MarksNew.{marks-new}
 use Rattle.rx_event.proofs.Laws.MarksTouched.{marks_untouched, blank_quiet}
 use Rattle.rx_slots.specs.declared.Key.{Key}
 use Rattle.rx_slots.specs.Slots.{Slots, find, entry_at, with_number, KeepsOthers}
-use Rattle.rx_forest.specs.declared.node.Node.{Node}
-use Rattle.rx_forest.specs.Tree.{IsSound, AreApart, Rewrites, blank_node, named_above, parent_number, with_marks, with_last, is_key, is_on}
-use Rattle.rx_forest.specs.Below.{up, ancestors as tree_ancestors, is_below}
-use Rattle.rx_forest.specs.Closing.{outside}
-use Rattle.rx_forest.proofs.Laws.Below.{climb_step, up-lt, record_found}
-use Rattle.rx_forest.proofs.Laws.Keys.{same_key, cases_key}
+use Rattle.rx_tree.specs.declared.node.Node.{Node}
+use Rattle.rx_tree.specs.Tree.{IsSound, AreApart, Rewrites, blank_node, named_above, parent_number, with_marks, with_last, is_key, is_on}
+use Rattle.rx_tree.specs.Below.{up, ancestors as tree_ancestors, is_below}
+use Rattle.rx_tree.specs.Closing.{outside}
+use Rattle.rx_tree.proofs.Laws.Below.{climb_step, up-lt, record_found}
+use Rattle.rx_tree.proofs.Laws.Keys.{key_is, cases_key}
 use Rattle.rx_ground.specs.Ties.{IsRecordOf, HasKey, AreRecords}
 
 -- the chain ---------------------------------------------------------------------------------------
 
 key_itself : (a : Key) → is_key a a ≡ true
 key_itself a = and_from _ _ (eq-eqb a.slot a.slot refl) (eq-eqb a.number a.number refl)
-
-pub key_is : (a b : Key) → is_key a b ≡ true → a ≡ b
-key_is a b same = let parts = and_parts _ _ same in same_key a b (eqb-true a.slot b.slot parts.0) (eqb-true a.number b.number parts.1)
 
 on_append : (k : Key) (xs ys : List Key) → is_on k (xs ++ ys) ≡ (is_on k xs || is_on k ys)
 on_append k [] ys = refl
@@ -170,6 +167,15 @@ module _ (h : List Event) (nodes : Slots Node) (chain : List Key) (r : AreRecord
     pub below_is_within : (key : Key) (node : Node) → find nodes key ≡ Some node → (top : ℕ) → is_below nodes top key.number ≡ list_any (λ a. top == a) (ancestors h key.number)
     below_is_within key node found top = ap (list_any (λ a. top == a)) (climbs_agree (suc key.number) key.number (omega arith) (r.each key node found).alive)
 
+-- what stays ------------------------------------------------------------------------------------------
+
+-- of the records those of the nodes that are open after the event still, and of the chain their keys
+pub record AreLeft (h : List Event) (e : Event) (nodes left : Slots Node) (chain rest : List Key) : Type 0 where
+  pub was : (key : Key) (node : Node) → find left key ≡ Some node → find nodes key ≡ Some node
+  pub alive : (key : Key) (node : Node) → find left key ≡ Some node → is_open (h ++ e ∷ []) key.number ≡ true
+  pub still : (key : Key) (node : Node) → find nodes key ≡ Some node → is_open (h ++ e ∷ []) key.number ≡ true → find left key ≡ Some node
+  pub off : (key : Key) (node : Node) → find left key ≡ Some node → is_on key rest ≡ false → is_on key chain ≡ false
+
 -- events ------------------------------------------------------------------------------------------
 
 module _ (h : List Event) (e : Event) (law : IsLawful h) (next : MayFollow h e) (nodes : Slots Node) (chain : List Key) (r : AreRecords h nodes chain) where
@@ -190,9 +196,52 @@ module _ (h : List Event) (e : Event) (law : IsLawful h) (next : MayFollow h e) 
     quiet = r.quiet;
   }
 
-  -- a new node
-  pub records_opened : (new : Slots Node) (key : Key) (above : Option Key) → shuts_none e ≡ true → makes_node e ≡ true → ((n : ℕ) → parent_named e ≢ Some n → touches h n e ≡ false) → key.number ≡ length h → entry_at nodes key.slot ≡ None → find new key ≡ Some (blank_node e above) → KeepsOthers nodes new key → AreNearly (h ++ e ∷ []) (parent_named e) new chain
-  records_opened new key above shuts makes untouched numbered free found others = record {
+  -- one that touches the marks of one node alone
+  pub records_touched : (p : ℕ) → shuts_none e ≡ true → makes_node e ≡ false → ((n : ℕ) → p ≢ n → touches h n e ≡ false) → AreNearly (h ++ e ∷ []) (Some p) nodes chain
+  records_touched p shuts makes untouched = record {
+    made = made_still;
+    alive = alive;
+    marks = λ key node found fresh. let is = r.each key node found in
+        is.marks ∙ sym (marks_untouched h e law next key.number (is_open_within h key.number is.alive) (alive key node found) (untouched key.number (λ same. fresh (ap (λ (n : ℕ). Some n) same))));
+    every = λ n open_now. r.every n (sym (is_open_unchanged h e shuts makes n) ∙ open_now);
+    quiet = λ key node found fresh off. r.quiet key node found off;
+  }
+    where
+      alive : (key : Key) (node : Node) → find nodes key ≡ Some node → is_open (h ++ e ∷ []) key.number ≡ true
+      alive key node found = is_open_unchanged h e shuts makes key.number ∙ (r.each key node found).alive
+
+  -- where the event closes none of those before it, all stay
+  pub all_left : ((n : ℕ) → n < length h → is_open (h ++ e ∷ []) n ≡ is_open h n) → AreLeft h e nodes nodes chain chain
+  all_left opens = record {
+    was = λ key node found. found;
+    alive = λ key node found. let is = r.each key node found in opens key.number (is_open_within h key.number is.alive) ∙ is.alive;
+    still = λ key node found alive. found;
+    off = λ key node found off. off;
+  }
+
+  -- where it closes a node and all below it, the others stay
+  pub cut_left : (left : Slots Node) (rest : List Key) (top : ℕ) → IsSound nodes → ((n : ℕ) → n < length h → is_open (h ++ e ∷ []) n ≡ (is_open h n && not (list_any (λ a. top == a) (ancestors h n)))) → ((key : Key) → find left key ≡ cond (is_below nodes top key.number) None (find nodes key)) → rest ≡ outside nodes top chain → AreLeft h e nodes left chain rest
+  cut_left left rest top sound opens cuts chained = record {
+    was = λ k node f. (was k node f).1;
+    alive = λ k node f. let o = was k node f in let is = r.each k node o.1 in opens k.number (is_open_within h k.number is.alive) ∙ and_from _ _ is.alive (not_from_false _ (sym (below_is_within h nodes chain r sound k node o.1 top) ∙ o.0));
+    still = still;
+    off = λ k node f off. off_outside nodes top k chain (was k node f).0 (sym (ap (is_on k) chained) ∙ off);
+  }
+    where
+      was : (k : Key) (node : Node) → find left k ≡ Some node → (is_below nodes top k.number ≡ false) × (find nodes k ≡ Some node)
+      was k node f = by_test (is_below nodes top k.number) refl (sym (cuts k) ∙ f) where
+        by_test : (b : Bool) → is_below nodes top k.number ≡ b → cond b None (find nodes k) ≡ Some node → (is_below nodes top k.number ≡ false) × (find nodes k ≡ Some node)
+        by_test true e f = absurd (none-some node f)
+        by_test false e f = (e, f)
+
+      still : (k : Key) (node : Node) → find nodes k ≡ Some node → is_open (h ++ e ∷ []) k.number ≡ true → find left k ≡ Some node
+      still k node f alive =
+          let parts = and_parts (is_open h k.number) (not (list_any (λ a. top == a) (ancestors h k.number))) (sym (opens k.number (is_open_within h k.number (r.each k node f).alive)) ∙ alive) in
+          cuts k ∙ ap (λ b. cond b None (find nodes k)) (below_is_within h nodes chain r sound k node f top ∙ not-true (list_any (λ a. top == a) (ancestors h k.number)) parts.1) ∙ f
+
+  -- a new node beside those that stay
+  pub records_opened : (left : Slots Node) (rest : List Key) → AreLeft h e nodes left chain rest → (new : Slots Node) (key : Key) (above : Option Key) → makes_node e ≡ true → ((n : ℕ) → parent_named e ≢ Some n → touches h n e ≡ false) → key.number ≡ length h → entry_at left key.slot ≡ None → find new key ≡ Some (blank_node e above) → KeepsOthers left new key → AreNearly (h ++ e ∷ []) (parent_named e) new rest
+  records_opened left rest stays new key above makes untouched numbered free found others = record {
     made = made;
     alive = alive;
     marks = marks;
@@ -200,11 +249,8 @@ module _ (h : List Event) (e : Event) (law : IsLawful h) (next : MayFollow h e) 
     quiet = quiet;
   }
     where
-      old : (k : Key) (node : Node) → k ≢ key → find new k ≡ Some node → find nodes k ≡ Some node
+      old : (k : Key) (node : Node) → k ≢ key → find new k ≡ Some node → find left k ≡ Some node
       old k node differs f = sym (others k differs) ∙ f
-
-      open_still : (k : Key) (node : Node) → find nodes k ≡ Some node → is_open (h ++ e ∷ []) k.number ≡ true
-      open_still k node f = let is = r.each k node f in is_open_kept h e k.number (is_open_within h k.number is.alive) shuts ∙ is.alive
 
       is_blank : (k : Key) (node : Node) → k ≡ key → find new k ≡ Some node → blank_node e above ≡ node
       is_blank k node same f = same_Some _ _ (sym found ∙ sym (ap (find new) same) ∙ f)
@@ -216,37 +262,38 @@ module _ (h : List Event) (e : Event) (law : IsLawful h) (next : MayFollow h e) 
       made k node f = by_key (cases_key k key) where
         by_key : (k ≡ key) ⊎ (k ≢ key) → slice_get (h ++ e ∷ []) k.number ≡ Some node.made
         by_key (inl same) = ap (slice_get (h ++ e ∷ [])) (at_end k same) ∙ slice_get_last h e ∙ ap (λ (x : Node). Some x.made) (is_blank k node same f)
-        by_key (inr differs) = made_still k node (old k node differs f)
+        by_key (inr differs) = made_still k node (stays.was k node (old k node differs f))
 
       alive : (k : Key) (node : Node) → find new k ≡ Some node → is_open (h ++ e ∷ []) k.number ≡ true
       alive k node f = by_key (cases_key k key) where
         by_key : (k ≡ key) ⊎ (k ≢ key) → is_open (h ++ e ∷ []) k.number ≡ true
         by_key (inl same) = ap (is_open (h ++ e ∷ [])) (at_end k same) ∙ is_open_new h e next ∙ makes
-        by_key (inr differs) = open_still k node (old k node differs f)
+        by_key (inr differs) = stays.alive k node (old k node differs f)
 
       marks : (k : Key) (node : Node) → find new k ≡ Some node → parent_named e ≢ Some k.number → node.marks ≡ marks_of (h ++ e ∷ []) k.number
       marks k node f fresh = by_key (cases_key k key) where
         by_key : (k ≡ key) ⊎ (k ≢ key) → node.marks ≡ marks_of (h ++ e ∷ []) k.number
         by_key (inl same) = sym (ap (λ (x : Node). x.marks) (is_blank k node same f)) ∙ sym (marks-new h e law next) ∙ ap (marks_of (h ++ e ∷ [])) (sym (at_end k same))
         by_key (inr differs) =
-            let was = old k node differs f in
-            let is = r.each k node was in
-            is.marks ∙ sym (marks_untouched h e law next k.number (is_open_within h k.number is.alive) (open_still k node was) (untouched k.number fresh))
+            let here = old k node differs f in
+            let is = r.each k node (stays.was k node here) in
+            is.marks ∙ sym (marks_untouched h e law next k.number (is_open_within h k.number is.alive) (stays.alive k node here) (untouched k.number fresh))
 
       every : (n : ℕ) → is_open (h ++ e ∷ []) n ≡ true → HasKey new n
       every n open_now = by_place (cases_order n (length h)) where
         by_place : (n ≡ length h) ⊎ ((n < length h) ⊎ (length h < n)) → HasKey new n
         by_place (inl same) = record { key = key; value = blank_node e above; found = found; numbered = numbered ∙ sym same }
         by_place (inr (inl l)) =
-            let has = r.every n (sym (is_open_kept h e n l shuts) ∙ open_now) in
-            record { key = has.key; value = has.value; found = others has.key (λ same. none-some has.value (sym (ap (λ (k : Key). find nodes k) same ∙ ap (with_number key.number) free) ∙ has.found)) ∙ has.found; numbered = has.numbered }
+            let has = r.every n (and_parts (is_open h n) _ (sym (is_open_cut h e n l) ∙ open_now)).0 in
+            let here = stays.still has.key has.value has.found (ap (is_open (h ++ e ∷ [])) has.numbered ∙ open_now) in
+            record { key = has.key; value = has.value; found = others has.key (λ same. none-some has.value (sym (ap (λ (k : Key). find left k) same ∙ ap (with_number key.number) free) ∙ here)) ∙ here; numbered = has.numbered }
         by_place (inr (inr g)) = absurd (let w = is_open_within (h ++ e ∷ []) n open_now in omega (arith, length-append h (e ∷ [])))
 
-      quiet : (k : Key) (node : Node) → find new k ≡ Some node → parent_named e ≢ Some k.number → is_on k chain ≡ false → due_at node.made node.marks k.number ≡ None
+      quiet : (k : Key) (node : Node) → find new k ≡ Some node → parent_named e ≢ Some k.number → is_on k rest ≡ false → due_at node.made node.marks k.number ≡ None
       quiet k node f fresh off = by_key (cases_key k key) where
         by_key : (k ≡ key) ⊎ (k ≢ key) → due_at node.made node.marks k.number ≡ None
         by_key (inl same) = ap (λ (x : Node). due_at x.made x.marks k.number) (sym (is_blank k node same f)) ∙ blank_quiet e k.number
-        by_key (inr differs) = r.quiet k node (old k node differs f) off
+        by_key (inr differs) = let here = old k node differs f in r.quiet k node (stays.was k node here) (stays.off k node here off)
 
   -- what a closing leaves
   pub records_cut : (new : Slots Node) (rest : List Key) (top : ℕ) (stale : Option ℕ) → IsSound nodes → ((n : ℕ) → stale ≢ Some n → is_open (h ++ e ∷ []) n ≡ true → marks_of (h ++ e ∷ []) n ≡ marks_of h n) → ((n : ℕ) → is_open (h ++ e ∷ []) n ≡ (is_open h n && not (list_any (λ a. top == a) (ancestors h n)))) → ((key : Key) → find new key ≡ cond (is_below nodes top key.number) None (find nodes key)) → rest ≡ outside nodes top chain → AreNearly (h ++ e ∷ []) stale new rest

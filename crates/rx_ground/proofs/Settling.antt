@@ -1,56 +1,43 @@
 -- What an opening, an end, and the loop that settles, leave of the tie.
-use Rattle.std.proofs.Common.{◌≡◌, ℕ, suc, ◌+◌, ◌<◌, Bool, true, false, cond, List, [], ◌∷◌, ◌++◌, length, Option, Some, None, is_some, IsSome, IfSome, option_map, slice_get, drop, refl, sym, ap, subst, ◌∙◌, arith}
+use Rattle.std.proofs.Common.{◌≡◌, ℕ, ◌<◌, Bool, true, false, cond, List, [], ◌∷◌, ◌++◌, length, Option, Some, None, is_some, IsSome, IfSome, option_map, slice_get, drop, refl, sym, ap, subst, ◌∙◌, arith}
 use Rattle.std.specs.Prelude.{IfNone}
+use Rattle.std.specs.List.{list_all}
 use Rattle.std.specs.Option.{option_and_then}
 use Rattle.std.proofs.Math.Bool.{◌||◌}
 use Rattle.std.proofs.lemmas.Bool.{false≢true, and_parts, both_ways}
 use Rattle.std.proofs.lemmas.Option.{none-some, same_Some}
-use Rattle.std.proofs.lemmas.List.Sums.{count_by-le-length}
-use Rattle.std.proofs.lemmas.List.FromFn.{length-range_with_len}
 use Rattle.rx_resource.specs.declared.Resource.{Ghosts}
 use Rattle.rx_note.specs.declared.note.Terminal.{Terminal}
 use Rattle.rx_event.specs.declared.marks.Marks.{Marks}
-use Rattle.rx_event.specs.declared.event.Place.{Place}
-use Rattle.rx_event.specs.declared.event.Place.TheVariants.{Root, Source, Inner, Notifier}
-use Rattle.rx_event.specs.declared.event.Kind.{Kind}
 use Rattle.rx_event.specs.declared.event.Event.{Event}
-use Rattle.rx_event.specs.declared.event.Event.TheVariants.{Open, End}
-use Rattle.rx_event.specs.Events.{parent_named, source_named, is_merging}
-use Rattle.rx_event.specs.Tree.{is_open, parent, places, is_open_child_of}
-use Rattle.rx_event.specs.Marks.{marks_of, open_children, due_at, terminal_due, after_source, after_child}
+use Rattle.rx_event.specs.declared.event.Event.TheVariants.{End}
+use Rattle.rx_event.specs.Events.{source_named, is_merging}
+use Rattle.rx_event.specs.Tree.{is_open, parent}
+use Rattle.rx_event.specs.Marks.{marks_of, due_at, terminal_due, after_child}
 use Rattle.rx_event.specs.Forced.{IsForced, IsSettled}
 use Rattle.rx_event.specs.Lawful.{MayFollow, IsLawful, IsForcedOn, forced, stays, more}
 use Rattle.rx_event.proofs.Laws.Openness.{is_open_outside-end}
-use Rattle.rx_event.proofs.Laws.MarksDue.{forced_hubless, settled_hubless}
 use Rattle.rx_event.proofs.Laws.MarksTouched.{child_counted}
 use Rattle.rx_slots.specs.declared.Key.{Key}
-use Rattle.rx_slots.specs.Slots.{Slots, find, entry_at, with_number, KeepsOthers}
-use Rattle.rx_forest.specs.declared.node.Node.{Node}
-use Rattle.rx_forest.specs.Tree.{Tree, IsSound, AreApart, Rewrites, first_of, is_on, is_key, with_marks, with_last}
-use Rattle.rx_forest.proofs.Laws.Keys.{some_of}
-use Rattle.rx_journal.specs.State.{State as Register, Writes}
-use Rattle.rx_journal.specs.Paid.{IsPaid}
-use Rattle.rx_journal.proofs.Laws.Paid.{forced_room, end_room, forced_pays}
-use Rattle.rx_journal.proofs.Laws.Fits.{told_by_end}
+use Rattle.rx_slots.specs.Slots.{Slots, find}
+use Rattle.rx_tree.specs.declared.node.Node.{Node}
+use Rattle.rx_tree.specs.Tree.{Tree, IsSound, AreApart, Rewrites, first_of, is_on, is_key, with_marks, with_last}
+use Rattle.rx_tree.proofs.Laws.Keys.{key_is, some_of}
+use Rattle.rx_register.specs.State.{State as Register, Writes}
+use Rattle.rx_register.specs.Paid.{IsPaid}
+use Rattle.rx_register.proofs.Laws.Paid.{forced_room, end_room, forced_pays}
+use Rattle.rx_register.proofs.Laws.Fits.{told_by_end}
 use Rattle.rx_ground.specs.declared.settle.Due.{Due}
-use Rattle.rx_ground.specs.Ties.{IsTied, IsReady, WithChain, IsDueNext, AllQuiet, KeepsNodes, Remarks, Cuts, is_plain}
+use Rattle.rx_ground.specs.Ties.{IsTied, AreTied, IsReady, WithChain, IsDueNext, AllQuiet, KeepsNodes, Remarks, Cuts, joins_no_hub, left_inside}
+use Rattle.rx_ground.specs.Memory.{TakesNoMemory}
+use Rattle.rx_ground.proofs.Memory.{memory_on}
 use Rattle.rx_ground.specs.Shown.{Ground}
-use Rattle.rx_ground.proofs.Records.{key_is, rechained}
-use Rattle.rx_ground.proofs.PlainHistory.{hubless}
-use Rattle.rx_ground.proofs.Tied.{IsOpenedIn, tied_root, tied_source, tied_end_top, tied_end_child, parent_stays, cut_keeps, keeps_marked}
-
--- openings ----------------------------------------------------------------------------------------
-
-module _ {T : Type 0} (g : Ghosts T) (h : List Event) (kind : Kind) (law : IsLawful h) (old mid new : Tree T) (tied : IsTied g h old) (key : Key) where
-  pub opened_tied : (place : Place) (above : Option Key) → MayFollow h (Open place kind) → is_plain (Open place kind) ≡ true → AreApart mid.nodes → parent_named (Open place kind) ≡ option_map (λ k. k.number) above → IfSome above (λ k. IsSome (find old.nodes k)) → IsOpenedIn h (Open place kind) above old mid key → IfSome above (λ k. Remarks mid new k after_source) → IfNone above (new ≡ mid) → IsTied g (h ++ Open place kind ∷ []) new
-  opened_tied Root None next plain apart named there opened marked same = subst (IsTied g (h ++ Open Root kind ∷ [])) (sym same) (tied_root g h kind law old mid new tied key next plain opened)
-  opened_tied Root (Some p) next plain apart named there opened marked same = absurd (none-some p.number named)
-  opened_tied (Source f) None next plain apart named there opened marked same = absurd (none-some f (sym named))
-  opened_tied (Source f) (Some p) next plain apart named there opened marked same =
-      let at : p.number ≡ f = sym (same_Some f p.number named) in
-      subst (λ (n : ℕ). IsTied g (h ++ Open (Source n) kind ∷ []) new) at (tied_source g h kind law old mid new tied key p (subst (λ (n : ℕ). MayFollow h (Open (Source n) kind)) (sym at) next) (subst (λ (n : ℕ). is_plain (Open (Source n) kind) ≡ true) (sym at) plain) apart there (subst (λ (n : ℕ). IsOpenedIn h (Open (Source n) kind) (Some p) old mid key) (sym at) opened) marked)
-  opened_tied (Inner f) above next plain apart named there opened marked same = absurd (false≢true plain)
-  opened_tied (Notifier f) above next plain apart named there opened marked same = absurd (false≢true plain)
+use Rattle.rx_ground.proofs.Records.{rechained}
+use Rattle.rx_hub.specs.After.{is_inside, end_by}
+use Rattle.rx_ground.proofs.Published.{all_unchanged}
+use Rattle.rx_ground.proofs.Unjoined.{forced_unjoined, settled_unjoined}
+use Rattle.rx_ground.proofs.Laws.Unjoined.{unjoined-push}
+use Rattle.rx_ground.proofs.Tied.{tied_end_top, tied_end_child, parent_stays, cut_keeps, keeps_marked}
 
 -- ends ----------------------------------------------------------------------------------------------
 
@@ -76,12 +63,12 @@ module _ {T : Type 0} (g : Ghosts T) (h : List Event) (c : ℕ) (t : Terminal) (
 
 -- settling ------------------------------------------------------------------------------------------
 
-module _ {T : Type 0} (g : Ghosts T) (s : Register) (tree : Tree T) (tied : IsTied g s.history tree) (law : IsLawful s.history) where
+module _ {T : Type 0} (g : Ghosts T) (s : Register) (tree : Tree T) (tied : IsTied g s.history tree) (unjoined : list_all joins_no_hub s.history ≡ true) (law : IsLawful s.history) where
   -- what is due by a record is forced
   pub due_forced : (next : Due) → IsDueNext tree.nodes next → IsForced s.history (End next.node.number next.terminal)
   due_forced next due =
       let is = tied.records.each next.node due.node due.found in
-      forced_hubless s.history (hubless s.history tied.plain) next.node.number due.node.made (End next.node.number next.terminal) is.alive is.made (ap (λ m. due_at due.node.made m next.node.number) (sym is.marks) ∙ ap (option_map (λ t. End next.node.number t)) due.due)
+      forced_unjoined s.history unjoined next.node.number due.node.made (End next.node.number next.terminal) is.alive is.made (ap (λ m. due_at due.node.made m next.node.number) (sym is.marks) ∙ ap (option_map (λ t. End next.node.number t)) due.due)
 
   pub due_ready : (next : Due) → IsDueNext tree.nodes next → IsPaid s → IsReady s (End next.node.number next.terminal)
   due_ready next due paid =
@@ -91,12 +78,11 @@ module _ {T : Type 0} (g : Ghosts T) (s : Register) (tree : Tree T) (tied : IsTi
         room = forced_room s (End next.node.number next.terminal) law f paid;
         notes = let one = told_by_end s.history next.node.number next.terminal in let room = end_room s next.node.number next.terminal f paid in omega arith;
         pending = paid.pending;
-        plain = refl;
       }
 
   -- where nothing is due by any record nothing is forced
   pub quiet_settled : AllQuiet tree.nodes → IsSettled s.history
-  quiet_settled all = settled_hubless s.history law (hubless s.history tied.plain) (λ n made alive at_n.
+  quiet_settled all = settled_unjoined s.history unjoined (λ n made alive at_n.
       let has = tied.records.every n alive in
       let is = tied.records.each has.key has.value has.found in
       let same : has.value.made ≡ made = same_Some _ _ (sym is.made ∙ ap (slice_get s.history) has.numbered ∙ at_n) in
@@ -113,46 +99,55 @@ keeps_end k n t old mid new first then = record {
 
 -- what was forced so far was written
 pub record IsOnTheWay {T : Type 0} (g : Ghosts T) (start now : Ground T) : Type 0 where
-  pub tied : IsTied g now.register.history now.tree
+  pub tied : AreTied g now.register.history now.tree now.hubs
   pub paid : IsPaid now.register
+  pub unjoined : list_all joins_no_hub now.register.history ≡ true
   pub forced : IsForcedOn start.register.history now.register.history
   pub nodes : KeepsNodes now.register.history start.tree.nodes now.tree.nodes
   pub resources : now.tree.resources ≡ start.tree.resources
+  pub hubs : now.hubs ≡ start.hubs
   pub limit : now.register.limit ≡ start.register.limit
   pub given : now.register.given ≡ start.register.given
+  pub memory : TakesNoMemory start now
 
-pub way_starts : {T : Type 0} (g : Ghosts T) (b : Ground T) → IsTied g b.register.history b.tree → IsPaid b.register → IsOnTheWay g b b
-way_starts g b tied paid = record { tied = tied; paid = paid; forced = stays; nodes = record { from = λ key some. some; still = λ key some alive. some }; resources = refl; limit = refl; given = refl }
+pub way_starts : {T : Type 0} (g : Ghosts T) (b : Ground T) → AreTied g b.register.history b.tree b.hubs → IsPaid b.register → list_all joins_no_hub b.register.history ≡ true → IsOnTheWay g b b
+way_starts g b tied paid unjoined = record { tied = tied; paid = paid; unjoined = unjoined; forced = stays; nodes = record { from = λ key some. some; still = λ key some alive. some }; resources = refl; hubs = refl; limit = refl; given = refl; memory = record { events = refl; notes = refl; nodes = refl; resources = refl; hubs = refl; slots = refl; closing = refl } }
 
 -- another chain is no other way
-pub way_rechained : {T : Type 0} (g : Ghosts T) (start old new : Ground T) → IsOnTheWay g start old → WithChain old new → IsTied g new.register.history new.tree → IsOnTheWay g start new
+pub way_rechained : {T : Type 0} (g : Ghosts T) (start old new : Ground T) → IsOnTheWay g start old → WithChain old new → AreTied g new.register.history new.tree new.hubs → IsOnTheWay g start new
 way_rechained {T = T} g start old new w kept tied = record {
   tied = tied;
   paid = subst IsPaid (sym register) w.paid;
+  unjoined = ap (λ (s : Register). list_all joins_no_hub s.history) register ∙ w.unjoined;
   forced = subst (λ (s : Register). IsForcedOn start.register.history s.history) (sym register) w.forced;
   nodes = subst (λ (ns : Slots Node). KeepsNodes new.register.history start.tree.nodes ns) (sym (ap (λ (b : Ground T). b.tree.nodes) kept.same)) (subst (λ (s : Register). KeepsNodes s.history start.tree.nodes old.tree.nodes) (sym register) w.nodes);
   resources = ap (λ (b : Ground T). b.tree.resources) kept.same ∙ w.resources;
+  hubs = ap (λ (b : Ground T). b.hubs) kept.same ∙ w.hubs;
   limit = ap (λ (s : Register). s.limit) register ∙ w.limit;
   given = ap (λ (s : Register). s.given) register ∙ w.given;
+  memory = subst (TakesNoMemory start) (sym kept.same) (record { events = w.memory.events; notes = w.memory.notes; nodes = w.memory.nodes; resources = w.memory.resources; hubs = w.memory.hubs; slots = w.memory.slots; closing = w.memory.closing });
 }
   where
     register : new.register ≡ old.register
     register = ap (λ (b : Ground T). b.register) kept.same
 
 -- one more forced end
-pub way_on : {T : Type 0} (g : Ghosts T) (start old new : Ground T) (next : Due) → IsOnTheWay g start old → IsLawful old.register.history → IsDueNext old.tree.nodes next → Writes old.register (End next.node.number next.terminal ∷ []) new.register → IsTied g new.register.history new.tree → KeepsNodes new.register.history old.tree.nodes new.tree.nodes → new.tree.resources ≡ old.tree.resources → IsOnTheWay g start new
-way_on g start old new next w law due written tied kept resources = record {
+pub way_on : {T : Type 0} (g : Ghosts T) (start old new : Ground T) (next : Due) → IsOnTheWay g start old → IsLawful old.register.history → IsDueNext old.tree.nodes next → Writes old.register (End next.node.number next.terminal ∷ []) new.register → AreTied g new.register.history new.tree new.hubs → KeepsNodes new.register.history old.tree.nodes new.tree.nodes → new.tree.resources ≡ old.tree.resources → new.hubs ≡ left_inside old.register.history next.node.number (end_by (length old.register.history) (End next.node.number next.terminal)) old.hubs → TakesNoMemory old new → IsOnTheWay g start new
+way_on g start old new next w law due written tied kept resources hubs memory = record {
   tied = tied;
   paid = forced_pays old.register new.register (End next.node.number next.terminal) law f w.paid written;
+  unjoined = ap (list_all joins_no_hub) written.history ∙ unjoined-push old.register.history (End next.node.number next.terminal) w.unjoined refl;
   forced = subst (IsForcedOn start.register.history) (sym written.history) (more w.forced f);
   nodes = subst (λ (k : List Event). KeepsNodes k start.tree.nodes new.tree.nodes) (sym written.history) (keeps_end old.register.history next.node.number next.terminal start.tree.nodes old.tree.nodes new.tree.nodes w.nodes (subst (λ (k : List Event). KeepsNodes k old.tree.nodes new.tree.nodes) written.history kept));
   resources = resources ∙ w.resources;
+  hubs = hubs ∙ (λ i. record old.hubs { hubs = all_unchanged old.register.history w.unjoined (is_inside old.register.history next.node.number) (end_by (length old.register.history) (End next.node.number next.terminal)) old.hubs.hubs w.tied.published.each i }) ∙ w.hubs;
   limit = written.limit ∙ w.limit;
   given = written.given ∙ w.given;
+  memory = memory_on start old new w.memory memory;
 }
   where
     f : IsForced old.register.history (End next.node.number next.terminal)
-    f = due_forced g old.register old.tree w.tied law next due
+    f = due_forced g old.register old.tree w.tied.of_tree w.unjoined law next due
 
 -- the chain -----------------------------------------------------------------------------------------
 
@@ -161,7 +156,6 @@ pub chain_dropped : {T : Type 0} (g : Ghosts T) (h : List Event) (tree new : Tre
 chain_dropped {T = T} g h tree new p tied first undue same = subst (IsTied g h) (sym same) (record {
   records = rechained h tree.nodes tree.chain (drop 1 tree.chain) tied.records (λ key node found off on. by_chain key node found tree.chain first off on);
   stored = record { each = tied.stored.each; every = tied.stored.every };
-  plain = tied.plain;
 })
   where
     by_key : (key : Key) (node : Node) → find tree.nodes key ≡ Some node → key ≡ p → due_at node.made node.marks key.number ≡ None
@@ -196,38 +190,30 @@ with_chain_on {T = T} start old new tree kept changed chained = record { same = 
   whole : new ≡ record old { tree = record old.tree { chain = new.tree.chain } }
   whole = changed ∙ ap (λ (t : Tree T). record old { tree = t }) (chained ∙ ap (λ (k : List Key). record old.tree { chain = k }) at_new)
 
--- the node above a new one is found as before, and has few children
-pub there_above : {T : Type 0} (old mid : Tree T) (key : Key) (above : Option Key) → IfSome above (λ k. IsSome (find old.nodes k)) → entry_at old.nodes key.slot ≡ None → KeepsOthers old.nodes mid.nodes key → IfSome above (λ k. IsSome (find mid.nodes k))
-there_above old mid key None there free others = tt
-there_above old mid key (Some p) there free others = ap is_some (others p (λ same. absurd (false≢true (sym (ap is_some (ap (find old.nodes) same ∙ ap (with_number key.number) free)) ∙ there)))) ∙ there
-
-pub few_above : {T : Type 0} (g : Ghosts T) (h : List Event) (old mid : Tree T) → IsTied g h old → (key : Key) (above : Option Key) → IfSome above (λ k. IsSome (find old.nodes k)) → entry_at old.nodes key.slot ≡ None → KeepsOthers old.nodes mid.nodes key → (most : ℕ) → length h < most → IfSome above (λ k. IfSome (find mid.nodes k) (λ node. node.marks.open_children + 1 < suc most))
-unfolding open_children
-few_above g h old mid tied key None there free others most less = tt
-few_above g h old mid tied key (Some p) there free others most less =
-    let x = some_of (find old.nodes p) there in
-    let stays : find mid.nodes p ≡ find old.nodes p = others p (λ same. absurd (false≢true (sym (ap is_some (ap (find old.nodes) same ∙ ap (with_number key.number) free)) ∙ there))) in
-    let is = (tied.records.each p x.0 x.1).marks in
-    let count = count_by-le-length (λ m. is_open_child_of h p.number m) (places h) in
-    let all = length-range_with_len 0 (length h) in
-    let children : x.0.marks.open_children ≡ open_children h p.number = ap (λ (m : Marks). m.open_children) is in
-    subst (λ o. IfSome o (λ (node : Node). node.marks.open_children + 1 < suc most)) (sym (stays ∙ x.1)) (omega arith)
-
--- the marks that were read are those of the record that is found
-pub found_end : {T : Type 0} (old new : Tree T) (key : Key) (made : Event) (marks : Marks) (source merging : Bool) (t : Terminal) → option_map (λ (node : Node). node.made) (find old.nodes key) ≡ Some made → option_map (λ (node : Node). node.marks) (find old.nodes key) ≡ Some marks → merging ≡ is_merging made → Rewrites old.nodes new.nodes key (with_marks (after_child source merging t marks)) → new.chain ≡ cond (is_some (find old.nodes key)) (with_last key old.chain) old.chain → new.resources ≡ old.resources → IfSome (find old.nodes key) (λ node. Remarks old new key (after_child source (is_merging node.made) t))
-found_end {T = T} old new key made marks source merging t at_made at_marks merges w chain resources = by_value (find old.nodes key) refl where
-  by_value : (o : Option Node) → find old.nodes key ≡ o → IfSome o (λ node. Remarks old new key (after_child source (is_merging node.made) t))
-  by_value None e = tt
+-- marks that were read and set anew change so
+pub set_remarks : {T : Type 0} (old new : Tree T) (key : Key) (marks after : Marks) (change : Marks → Marks) → option_map (λ (node : Node). node.marks) (find old.nodes key) ≡ Some marks → after ≡ change marks →
+    Rewrites old.nodes new.nodes key (with_marks after) → new.chain ≡ cond (is_some (find old.nodes key)) (with_last key old.chain) old.chain → new.resources ≡ old.resources → Remarks old new key change
+set_remarks {T = T} old new key marks after change at_marks changes w chain resources = by_value (find old.nodes key) refl where
+  by_value : (o : Option Node) → find old.nodes key ≡ o → Remarks old new key change
+  by_value None e = absurd (none-some marks (sym (ap (option_map (λ (node : Node). node.marks)) e) ∙ at_marks))
   by_value (Some x) e =
-      let is_made : made ≡ x.made = same_Some made x.made (sym at_made ∙ ap (option_map (λ (node : Node). node.made)) e) in
       let is_marks : marks ≡ x.marks = same_Some marks x.marks (sym at_marks ∙ ap (option_map (λ (node : Node). node.marks)) e) in
-      let now : with_marks (after_child source merging t marks) x ≡ with_marks (after_child source (is_merging x.made) t x.marks) x = ap (λ (m : Marks). with_marks m x) (ap (λ b. after_child source b t marks) (merges ∙ ap is_merging is_made) ∙ ap (after_child source (is_merging x.made) t) is_marks) in
+      let now : with_marks after x ≡ with_marks (change x.marks) x = ap (λ (m : Marks). with_marks m x) (changes ∙ ap change is_marks) in
       record {
         nodes = record {
-          changed = w.changed ∙ ap (option_map (with_marks (after_child source merging t marks))) e ∙ ap (λ (y : Node). Some y) now ∙ sym (ap (option_map (λ (node : Node). with_marks (after_child source (is_merging x.made) t node.marks) node)) e);
+          changed = w.changed ∙ ap (option_map (with_marks after)) e ∙ ap (λ (y : Node). Some y) now ∙ sym (ap (option_map (λ (node : Node). with_marks (change node.marks) node)) e);
           others = w.others;
           rest = w.rest;
         };
         chain = chain ∙ ap (λ (o : Option Node). cond (is_some o) (with_last key old.chain) old.chain) e;
         resources = resources;
       }
+
+-- those of an end are set by the record that is found
+pub found_end : {T : Type 0} (old new : Tree T) (key : Key) (made : Event) (marks : Marks) (source merging : Bool) (t : Terminal) → option_map (λ (node : Node). node.made) (find old.nodes key) ≡ Some made → option_map (λ (node : Node). node.marks) (find old.nodes key) ≡ Some marks → merging ≡ is_merging made → Rewrites old.nodes new.nodes key (with_marks (after_child source merging t marks)) → new.chain ≡ cond (is_some (find old.nodes key)) (with_last key old.chain) old.chain → new.resources ≡ old.resources → IfSome (find old.nodes key) (λ node. Remarks old new key (after_child source (is_merging node.made) t))
+found_end {T = T} old new key made marks source merging t at_made at_marks merges w chain resources = by_value (find old.nodes key) refl where
+  by_value : (o : Option Node) → find old.nodes key ≡ o → IfSome o (λ node. Remarks old new key (after_child source (is_merging node.made) t))
+  by_value None e = tt
+  by_value (Some x) e =
+      let is_made : made ≡ x.made = same_Some made x.made (sym at_made ∙ ap (option_map (λ (node : Node). node.made)) e) in
+      set_remarks old new key marks _ (after_child source (is_merging x.made) t) at_marks (ap (λ b. after_child source b t marks) (merges ∙ ap is_merging is_made)) w chain resources

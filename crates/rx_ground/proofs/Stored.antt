@@ -20,11 +20,11 @@ use Rattle.rx_event.proofs.Laws.Resources.{node_of-lt, no_remove, no_take}
 use Rattle.rx_event.proofs.Laws.Totals.{uses-push, uses_new}
 use Rattle.rx_slots.specs.declared.Key.{Key}
 use Rattle.rx_slots.specs.Slots.{Slots, find, entry_at, with_number, KeepsOthers}
-use Rattle.rx_forest.specs.declared.node.Node.{Node}
-use Rattle.rx_forest.specs.declared.node.Stowed.{Stowed}
-use Rattle.rx_forest.specs.Tree.{Tree, AreApart, Rewrites}
-use Rattle.rx_forest.specs.Resources.{stowed_at, removed, with_resource}
-use Rattle.rx_forest.proofs.Laws.Keys.{cases_key, some_of}
+use Rattle.rx_tree.specs.declared.node.Node.{Node}
+use Rattle.rx_tree.specs.declared.node.Stowed.{Stowed}
+use Rattle.rx_tree.specs.Tree.{Tree, AreApart, Rewrites}
+use Rattle.rx_tree.specs.Resources.{stowed_at, removed, with_resource}
+use Rattle.rx_tree.proofs.Laws.Keys.{cases_key, some_of}
 use Rattle.rx_ground.specs.Ties.{HasKey, IsStored, AreStored}
 
 -- the event is about no resource of this number

@@ -14,18 +14,18 @@ use Rattle.rx_event.specs.Tree.{at, is_open}
 use Rattle.rx_event.specs.Resources.{is_held as is_held_in, is_waiting, is_taken}
 use Rattle.rx_slots.specs.declared.Key.{Key}
 use Rattle.rx_slots.specs.Slots.{find}
-use Rattle.rx_forest.specs.declared.node.Stowed.{Stowed}
-use Rattle.rx_forest.specs.Tree.{Tree}
-use Rattle.rx_forest.specs.Resources.{Takes, is_held}
-use Rattle.rx_forest.proofs.Laws.Keys.{some_of}
+use Rattle.rx_tree.specs.declared.node.Stowed.{Stowed}
+use Rattle.rx_tree.specs.Tree.{Tree}
+use Rattle.rx_tree.specs.Resources.{Takes, is_held}
+use Rattle.rx_tree.proofs.Laws.Keys.{some_of}
 use Rattle.rx_ground.specs.Shown.{Label, label_of, Kept, kept_in, waiting_in, label_in}
 use Rattle.rx_ground.specs.Ties.{IsTied, IsStored, IsListed}
-use Rattle.rx_ground.proofs.ListMembers.{Contains-head, Contains-map}
+use Rattle.rx_ground.proofs.Laws.Members.{Contains-head, Contains-map}
 use Rattle.rx_ground.proofs.Listed.{filter_member, filter_has, kept_found, kept_listed}
 
 module _ {T : Type 0} (g : Ghosts T) (h : List Event) (tree : Tree T) (tied : IsTied g h tree) where
   -- a stored resource is held in the tree just where it is in the history
-  held_agrees : (k : Kept (Stowed T)) → Contains (kept_in tree.resources) k → is_held_in h k.key.number ≡ is_held tree.nodes k.value
+  pub held_agrees : (k : Kept (Stowed T)) → Contains (kept_in tree.resources) k → is_held_in h k.key.number ≡ is_held tree.nodes k.value
   unfolding is_held_in
   held_agrees k c = ap (λ o. option_map_or (is_open h) (option_and_then node_of_accept o) false && not (list_any (is_remove_of k.key.number) h)) is.accepted ∙ ap (λ b. b && not (list_any (is_remove_of k.key.number) h)) node ∙ ap (λ b. is_some (find tree.nodes k.value.node) && not b) (sym is.removed) where
     is : IsStored g h tree.nodes k.key.number k.value
@@ -34,7 +34,7 @@ module _ {T : Type 0} (g : Ghosts T) (h : List Event) (tree : Tree T) (tied : Is
     node : is_open h k.value.node.number ≡ is_some (find tree.nodes k.value.node)
     node = same_test _ _ is.home (λ some. let f = some_of (find tree.nodes k.value.node) some in (tied.records.each k.value.node f.0 f.1).alive)
 
-  waits_agrees : (k : Kept (Stowed T)) → Contains (kept_in tree.resources) k → is_waiting h k.key.number ≡ not (is_held tree.nodes k.value)
+  pub waits_agrees : (k : Kept (Stowed T)) → Contains (kept_in tree.resources) k → is_waiting h k.key.number ≡ not (is_held tree.nodes k.value)
   unfolding is_waiting is_taken
   waits_agrees k c = shape (at makes_resource h k.key.number) (is_held_in h k.key.number) (list_any (is_take_of k.key.number) h) (is_held tree.nodes k.value) (ap (λ o. option_map_or makes_resource o false) is.accepted) is.untaken (held_agrees k c) where
     is : IsStored g h tree.nodes k.key.number k.value

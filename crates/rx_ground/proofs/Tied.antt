@@ -11,26 +11,25 @@ use Rattle.rx_event.specs.declared.event.Place.{Place}
 use Rattle.rx_event.specs.declared.event.Place.TheVariants.{Root, Source, Inner, Notifier}
 use Rattle.rx_event.specs.declared.event.Kind.{Kind}
 use Rattle.rx_event.specs.declared.event.Event.{Event}
-use Rattle.rx_event.specs.declared.event.Event.TheVariants.{Open, End, Close}
+use Rattle.rx_event.specs.declared.event.Event.TheVariants.{Open, Decline, End, Close}
 use Rattle.rx_event.specs.Events.{makes_node, makes_resource, parent_named, source_named, is_source_of, is_merging}
 use Rattle.rx_event.specs.Tree.{is_open, parent, ancestors, is_within}
-use Rattle.rx_event.specs.Marks.{marks_of, touches, is_child_of, after_source, after_child}
+use Rattle.rx_event.specs.Marks.{marks_of, touches, is_child_of, after_child, after_decline}
 use Rattle.rx_event.specs.Lawful.{MayFollow, IsLawful}
 use Rattle.rx_event.proofs.Laws.Parents.{is_within-le, parent-lt, parent_name}
 use Rattle.rx_event.proofs.Laws.Openness.{shuts_none, is_open_outside-end, is_open_outside-close}
 use Rattle.rx_event.proofs.Laws.MarksFound.{is_child_parent}
 use Rattle.rx_event.proofs.Laws.MarksEnds.{marks_closed, marks-end_other}
-use Rattle.rx_event.proofs.Laws.MarksTouched.{marks-source_at, marks-end_at}
+use Rattle.rx_event.proofs.Laws.MarksTouched.{marks-decline_at, marks-end_at}
 use Rattle.rx_slots.specs.declared.Key.{Key}
 use Rattle.rx_slots.specs.Slots.{Slots, find, entry_at, with_number, KeepsOthers}
-use Rattle.rx_forest.specs.declared.node.Node.{Node}
-use Rattle.rx_forest.specs.Tree.{Tree, IsSound, AreApart, Rewrites, blank_node, with_last}
-use Rattle.rx_forest.specs.Below.{is_below}
-use Rattle.rx_forest.proofs.Laws.Keys.{cases_key, some_of}
-use Rattle.rx_ground.specs.Ties.{AreRecords, AreStored, IsTied, KeepsNodes, Remarks, Cuts, is_plain}
-use Rattle.rx_ground.proofs.Records.{AreNearly, all_fresh, remarked, records_still, records_opened, records_cut, below_is_within}
+use Rattle.rx_tree.specs.declared.node.Node.{Node}
+use Rattle.rx_tree.specs.Tree.{Tree, IsSound, AreApart, Rewrites, blank_node, with_last}
+use Rattle.rx_tree.specs.Below.{is_below}
+use Rattle.rx_tree.proofs.Laws.Keys.{cases_key, some_of}
+use Rattle.rx_ground.specs.Ties.{AreRecords, AreStored, IsTied, KeepsNodes, Remarks, Cuts}
+use Rattle.rx_ground.proofs.Records.{AreNearly, AreLeft, all_fresh, remarked, records_still, records_touched, records_opened, records_cut, below_is_within}
 use Rattle.rx_ground.proofs.Stored.{IsApart, all_stored}
-use Rattle.rx_ground.proofs.PlainHistory.{plain-push}
 
 -- nodes that are kept -----------------------------------------------------------------------------
 
@@ -55,6 +54,11 @@ still_there {X = X} {old = old} {new = new} {change = change} k w key some = by_
   by_key (inl same) = ap (λ (j : Key). is_some (find new j)) same ∙ ap is_some w.changed ∙ mapped (find old k) (ap (λ (j : Key). is_some (find old j)) (sym same) ∙ some)
   by_key (inr differs) = ap is_some (w.others key differs) ∙ some
 
+-- what writes the marks of one record over keeps the nodes
+pub remarked_keeps : {T : Type 0} (h : List Event) (old new : Tree T) (u : Key) (change : Marks → Marks) → Remarks old new u change →
+    KeepsNodes h old.nodes new.nodes
+remarked_keeps h old new u change marked = record { from = rewritten_there u marked.nodes; still = λ key some alive. still_there u marked.nodes key some }
+
 -- the source of a node -----------------------------------------------------------------------------
 
 pub source_at : (made : Event) (p : ℕ) → parent_named made ≡ Some p → is_some (source_named made) ≡ is_source_of p made
@@ -67,18 +71,36 @@ source_at (Open (Inner f) kind) p named = refl
 source_at (Open (Notifier f) kind) p named = refl
 source_at _ p named = refl
 
-module _ {T : Type 0} (g : Ghosts T) (h : List Event) (e : Event) (law : IsLawful h) (next : MayFollow h e) (plain : is_plain e ≡ true) (old : Tree T) (tied : IsTied g h old) where
+module _ {T : Type 0} (g : Ghosts T) (h : List Event) (e : Event) (law : IsLawful h) (next : MayFollow h e) (old : Tree T) (tied : IsTied g h old) where
   -- an event that leaves the records as they are
   pub tied_still : (new : Tree T) → shuts_none e ≡ true → makes_node e ≡ false → ((n : ℕ) → touches h n e ≡ false) → new.nodes ≡ old.nodes → new.chain ≡ old.chain → AreStored g (h ++ e ∷ []) new → IsTied g (h ++ e ∷ []) new
   tied_still new shuts makes untouched nodes chain stored = record {
     records = rw (nodes, chain) (records_still h e law next old.nodes old.chain tied.records shuts makes untouched);
     stored = stored;
-    plain = plain-push h e tied.plain plain;
   }
 
   -- one that is about no resource either
   pub tied_same : shuts_none e ≡ true → makes_node e ≡ false → makes_resource e ≡ false → ((n : ℕ) → touches h n e ≡ false) → ((r : ℕ) → IsApart r e) → IsTied g (h ++ e ∷ []) old
   tied_same shuts makes none untouched apart = tied_still old shuts makes untouched refl refl (all_stored g h law e old old tied.stored refl none apart (λ key some alive. some))
+
+  -- one that is about no resource, and changes the marks of one node alone
+  pub tied_marked : (new : Tree T) → IsSound old.nodes → (u : Key) → IsSome (find old.nodes u) → (change : Marks → Marks) → shuts_none e ≡ true →
+      makes_node e ≡ false → makes_resource e ≡ false → ((r : ℕ) → IsApart r e) → ((n : ℕ) → u.number ≢ n → touches h n e ≡ false) →
+      marks_of (h ++ e ∷ []) u.number ≡ change (marks_of h u.number) → Remarks old new u change → IsTied g (h ++ e ∷ []) new
+  tied_marked new sound u there change shuts makes none apart untouched changed marked = record {
+    records = subst (AreRecords (h ++ e ∷ []) new.nodes) (sym marked.chain)
+        (remarked (h ++ e ∷ []) old.nodes new.nodes old.chain u before.0 change near sound.apart before.1 marks marked.nodes);
+    stored = all_stored g h law e old new tied.stored marked.resources none apart (λ k some alive. still_there u marked.nodes k some);
+  }
+    where
+      near : AreNearly (h ++ e ∷ []) (Some u.number) old.nodes old.chain
+      near = records_touched h e law next old.nodes old.chain tied.records u.number shuts makes untouched
+
+      before : (x : Node) × (find old.nodes u ≡ Some x)
+      before = some_of (find old.nodes u) there
+
+      marks : marks_of (h ++ e ∷ []) u.number ≡ change before.0.marks
+      marks = changed ∙ ap change (sym (tied.records.each u before.0 before.1).marks)
 
 -- an opening ----------------------------------------------------------------------------------------
 
@@ -91,44 +113,76 @@ pub record IsOpenedIn {T : Type 0} (h : List Event) (made : Event) (above : Opti
   pub resources : mid.resources ≡ old.resources
   pub chain : mid.chain ≡ old.chain
 
-module _ {T : Type 0} (g : Ghosts T) (h : List Event) (kind : Kind) (law : IsLawful h) (old mid new : Tree T) (tied : IsTied g h old) (key : Key) where
+module _ {T : Type 0} (g : Ghosts T) (h : List Event) (law : IsLawful h) (old left mid : Tree T) (tied : IsTied g h old) (key : Key) where
   -- what was found is found in the tree with the new node
-  found_still : (e : Event) (above : Option Key) → IsOpenedIn h e above old mid key → (k : Key) → IsSome (find old.nodes k) → find mid.nodes k ≡ find old.nodes k
-  found_still e above opened k some = opened.others k (λ same. true_false (sym some ∙ ap is_some (ap (find old.nodes) same ∙ ap (with_number key.number) opened.free))) where
+  pub found_still : (e : Event) (above : Option Key) → IsOpenedIn h e above left mid key → (k : Key) → IsSome (find left.nodes k) → find mid.nodes k ≡ find left.nodes k
+  found_still e above opened k some = opened.others k (λ same. true_false (sym some ∙ ap is_some (ap (find left.nodes) same ∙ ap (with_number key.number) opened.free))) where
     true_false : true ≡ false → ⊥
     true_false e = absurd (false≢true (sym e))
 
+  -- what stays open stands in the tree with the new node
+  pub opened_there : (e : Event) (above : Option Key) → AreLeft h e old.nodes left.nodes old.chain left.chain → IsOpenedIn h e above left mid key → (k : Key) → IsSome (find old.nodes k) → is_open (h ++ e ∷ []) k.number ≡ true → IsSome (find mid.nodes k)
+  opened_there e above stays opened k some alive =
+      let x = some_of (find old.nodes k) some in
+      let here = ap is_some (stays.still k x.0 x.1 alive) in
+      ap is_some (found_still e above opened k here) ∙ here
+
+  -- a node that stands below none
+  pub tied_top : (e : Event) → MayFollow h e → makes_node e ≡ true → makes_resource e ≡ false → parent_named e ≡ None → ((n : ℕ) → touches h n e ≡ false) →
+      ((r : ℕ) → IsApart r e) → AreLeft h e old.nodes left.nodes old.chain left.chain → left.resources ≡ old.resources →
+      IsOpenedIn h e None left mid key → IsTied g (h ++ e ∷ []) mid
+  tied_top e next makes none top untouched apart stays same opened = record {
+    records = subst (AreRecords (h ++ e ∷ []) mid.nodes) (sym opened.chain) (all_fresh _ mid.nodes left.chain
+        (subst (λ (o : Option ℕ). AreNearly (h ++ e ∷ []) o mid.nodes left.chain) top
+        (records_opened h e law next old.nodes old.chain tied.records left.nodes left.chain stays mid.nodes key None makes (λ n differs. untouched n)
+        opened.numbered opened.free opened.found opened.others)));
+    stored = all_stored g h law e old mid tied.stored (opened.resources ∙ same) none apart (opened_there e None stays opened);
+  }
+
+module _ {T : Type 0} (g : Ghosts T) (h : List Event) (kind : Kind) (law : IsLawful h) (old left mid new : Tree T) (tied : IsTied g h old) (key : Key) where
   apart_all : (place : Place) (r : ℕ) → IsApart r (Open place kind)
   apart_all place r = record { removes = refl; takes = refl; uses = refl }
 
-  pub tied_root : MayFollow h (Open Root kind) → is_plain (Open Root kind) ≡ true → IsOpenedIn h (Open Root kind) None old mid key → IsTied g (h ++ Open Root kind ∷ []) mid
-  tied_root next plain opened = record {
-    records = subst (AreRecords (h ++ Open Root kind ∷ []) mid.nodes) (sym opened.chain) (all_fresh _ mid.nodes old.chain (records_opened h (Open Root kind) law next old.nodes old.chain tied.records mid.nodes key None refl refl (λ n apart. refl) opened.numbered opened.free opened.found opened.others));
-    stored = all_stored g h law (Open Root kind) old mid tied.stored opened.resources refl (apart_all Root) (λ k some alive. ap is_some (found_still (Open Root kind) None opened k some) ∙ some);
-    plain = plain-push h (Open Root kind) tied.plain plain;
-  }
+  pub tied_root : MayFollow h (Open Root kind) → AreLeft h (Open Root kind) old.nodes left.nodes old.chain left.chain → left.resources ≡ old.resources →
+      IsOpenedIn h (Open Root kind) None left mid key → IsTied g (h ++ Open Root kind ∷ []) mid
+  tied_root next stays same opened =
+      tied_top g h law old left mid tied key (Open Root kind) next refl refl refl (λ n. refl) (apart_all Root) stays same opened
 
-  pub tied_source : (p : Key) → MayFollow h (Open (Source p.number) kind) → is_plain (Open (Source p.number) kind) ≡ true → AreApart mid.nodes → IsSome (find old.nodes p) → IsOpenedIn h (Open (Source p.number) kind) (Some p) old mid key → Remarks mid new p after_source → IsTied g (h ++ Open (Source p.number) kind ∷ []) new
-  tied_source p next plain apart there opened marked = record {
-    records = subst (AreRecords (h ++ e ∷ []) new.nodes) (ap (with_last p) (sym opened.chain) ∙ sym marked.chain) (remarked (h ++ e ∷ []) mid.nodes new.nodes old.chain p before.0 after_source near apart at_p marks marked.nodes);
-    stored = all_stored g h law e old new tied.stored (marked.resources ∙ opened.resources) refl (apart_all (Source p.number)) (λ k some alive. still_there p marked.nodes k (ap is_some (found_still e (Some p) opened k some) ∙ some));
-    plain = plain-push h e tied.plain plain;
+  -- one below another, which is marked
+  pub tied_below : (place : Place) (p : Key) (change : Marks → Marks) → (let e : Event = Open place kind in MayFollow h e → AreLeft h e old.nodes left.nodes old.chain left.chain → left.resources ≡ old.resources
+      → parent_named e ≡ Some p.number → ((n : ℕ) → p.number ≢ n → touches h n e ≡ false) → marks_of (h ++ e ∷ []) p.number ≡ change (marks_of h p.number)
+      → AreApart mid.nodes → IsSome (find left.nodes p) → IsOpenedIn h e (Some p) left mid key → Remarks mid new p change → IsTied g (h ++ e ∷ []) new)
+  tied_below place p change next stays same named apart_marks changed apart there opened marked = record {
+    records = subst (AreRecords (h ++ e ∷ []) new.nodes) (ap (with_last p) (sym opened.chain) ∙ sym marked.chain) (remarked (h ++ e ∷ []) mid.nodes new.nodes left.chain p before.0 change near apart at_p marks marked.nodes);
+    stored = all_stored g h law e old new tied.stored (marked.resources ∙ opened.resources ∙ same) refl (apart_all place) (λ k some alive. still_there p marked.nodes k (opened_there g h law old left mid tied key e (Some p) stays opened k some alive));
   }
     where
       e : Event
-      e = Open (Source p.number) kind
+      e = Open place kind
 
-      near : AreNearly (h ++ e ∷ []) (Some p.number) mid.nodes old.chain
-      near = records_opened h e law next old.nodes old.chain tied.records mid.nodes key (Some p) refl refl (λ n differs. ne_eqb p.number n (λ same. differs (ap (λ (m : ℕ). Some m) same))) opened.numbered opened.free opened.found opened.others
+      near : AreNearly (h ++ e ∷ []) (Some p.number) mid.nodes left.chain
+      near = subst (λ (o : Option ℕ). AreNearly (h ++ e ∷ []) o mid.nodes left.chain) named
+          (records_opened h e law next old.nodes old.chain tied.records left.nodes left.chain stays mid.nodes key (Some p) refl (λ n differs. apart_marks n (λ same. differs (named ∙ ap (λ (m : ℕ). Some m) same))) opened.numbered opened.free opened.found opened.others)
 
-      before : (x : Node) × (find old.nodes p ≡ Some x)
-      before = some_of (find old.nodes p) there
+      before : (x : Node) × (find left.nodes p ≡ Some x)
+      before = some_of (find left.nodes p) there
 
       at_p : find mid.nodes p ≡ Some before.0
-      at_p = found_still e (Some p) opened p there ∙ before.1
+      at_p = found_still g h law old left mid tied key e (Some p) opened p there ∙ before.1
 
-      marks : marks_of (h ++ e ∷ []) p.number ≡ after_source before.0.marks
-      marks = marks-source_at h p.number kind law next ∙ ap after_source (sym (tied.records.each p before.0 before.1).marks)
+      marks : marks_of (h ++ e ∷ []) p.number ≡ change before.0.marks
+      marks = changed ∙ ap change (sym (tied.records.each p before.0 (stays.was p before.0 before.1)).marks)
+
+-- an item that is declined ------------------------------------------------------------------------
+
+module _ {T : Type 0} (g : Ghosts T) (h : List Event) (law : IsLawful h) (old new : Tree T) (tied : IsTied g h old) (sound : IsSound old.nodes) (u : Key)
+    (there : IsSome (find old.nodes u)) where
+  -- a FlatMap or Switch owes it no more
+  pub tied_decline : MayFollow h (Decline u.number) → Remarks old new u after_decline → IsTied g (h ++ Decline u.number ∷ []) new
+  tied_decline next marked =
+      tied_marked g h (Decline u.number) law next old tied new sound u there after_decline refl refl refl
+      (λ r. record { removes = refl; takes = refl; uses = refl })
+      (λ n differs. ne_eqb u.number n differs) (marks-decline_at h u.number law next) marked
 
 -- closings ----------------------------------------------------------------------------------------
 
@@ -173,7 +227,6 @@ module _ {T : Type 0} (g : Ghosts T) (h : List Event) (c : ℕ) (t : Terminal) (
   tied_end_top above = record {
     records = all_fresh _ mid.nodes mid.chain (near_end None (λ n fresh alive. marks-end_other h c t law next n alive (no_child None above n (λ e. none-some n e))));
     stored = all_stored g h law (End c t) old mid tied.stored cuts.resources refl apart_end (cut_keeps h (End c t) old mid tied.records sound c (is_open_outside-end h c t) cuts).still;
-    plain = plain-push h (End c t) tied.plain refl;
   }
 
   -- and that of one that stands below another, which remembers it
@@ -181,7 +234,6 @@ module _ {T : Type 0} (g : Ghosts T) (h : List Event) (c : ℕ) (t : Terminal) (
   tied_end_child p made above apart alive below at_c found at_p marked = record {
     records = subst (AreRecords (h ++ End c t ∷ []) new.nodes) (sym marked.chain) (remarked (h ++ End c t ∷ []) mid.nodes new.nodes mid.chain p above (after_child (is_some (source_named made)) (is_merging above.made) t) (near_end (Some p.number) (λ n fresh alive. marks-end_other h c t law next n alive (no_child (Some p.number) below n fresh))) apart at_p marks marked.nodes);
     stored = all_stored g h law (End c t) old new tied.stored (marked.resources ∙ cuts.resources) refl apart_end (keeps_marked h (End c t) old mid tied.records sound c (is_open_outside-end h c t) cuts new p _ marked).still;
-    plain = plain-push h (End c t) tied.plain refl;
   }
     where
       is : slice_get h p.number ≡ Some above.made
@@ -200,5 +252,4 @@ pub tied_close : {T : Type 0} (g : Ghosts T) (h : List Event) (c : ℕ) → IsLa
 tied_close g h c law next old mid tied sound cuts = record {
   records = all_fresh _ mid.nodes mid.chain (records_cut h (Close c) law next old.nodes old.chain tied.records mid.nodes mid.chain c None sound (λ n fresh alive. marks_closed h c law next n alive) (is_open_outside-close h c) cuts.nodes cuts.chain);
   stored = all_stored g h law (Close c) old mid tied.stored cuts.resources refl (λ r. record { removes = refl; takes = refl; uses = refl }) (cut_keeps h (Close c) old mid tied.records sound c (is_open_outside-close h c) cuts).still;
-  plain = plain-push h (Close c) tied.plain refl;
 }

@@ -4,7 +4,7 @@ use Rattle.rx_event.specs.declared.mail.Mail.{Mail}
 use Rattle.rx_event.specs.declared.event.Event.{Event}
 use Rattle.rx_event.specs.Notes.{notes, mail_of}
 use Rattle.rx_event.proofs.Laws.Counts.{notes-push}
-use Rattle.rx_journal.specs.State.{State, Writes}
+use Rattle.rx_register.specs.State.{State, Writes}
 
 -- an event whose notes were told before it was written
 pub writes_told : (old told new : State) (e : Event) → told ≡ record old { pending = told.pending; mail_room = told.mail_room } → old.mail_room ≡ told.mail_room + length (mail_of old.history e) → new.history ≡ told.history ++ e ∷ [] → new.pending ≡ [] → new.room + 1 ≡ told.room → new.limit ≡ told.limit → new.given ≡ told.given → new.mail_room ≡ told.mail_room → Writes old (e ∷ []) new

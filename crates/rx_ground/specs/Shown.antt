@@ -1,4 +1,4 @@
--- What contracts see of a register and a tree of one history: its register, its tree, and the resources that wait in it.
+-- What contracts see of a register, a tree and hubs of one history, and of the resources that wait there.
 use Rattle.std.specs.Prelude.{ℕ, suc, List, [], ◌∷◌, Option, Some, None}
 use Rattle.std.proofs.Math.Bool.{not}
 use Rattle.std.specs.List.{filter}
@@ -7,10 +7,11 @@ use Rattle.rx_resource.specs.declared.Life.{Life}
 use Rattle.rx_slots.specs.declared.Entry.{Entry}
 use Rattle.rx_slots.specs.declared.Key.{Key as SlotKey}
 use Rattle.rx_slots.specs.Slots.{Slots}
-use Rattle.rx_forest.specs.declared.node.Stowed.{Stowed}
-use Rattle.rx_forest.specs.Tree.{Tree}
-use Rattle.rx_forest.specs.Resources.{is_held}
-use Rattle.rx_journal.specs.State.{State as Register}
+use Rattle.rx_tree.specs.declared.node.Stowed.{Stowed}
+use Rattle.rx_tree.specs.Tree.{Tree}
+use Rattle.rx_tree.specs.Resources.{is_held}
+use Rattle.rx_hub.specs.Hubs.{Hubs}
+use Rattle.rx_register.specs.State.{State as Register}
 
 -- a resource that is kept: the number of its acceptance, its tag, its life, and how often it was used
 pub record Label : Type 0 where
@@ -37,13 +38,18 @@ module _ {X : Type 0} where
   abbrev pub kept_in : Slots X → List (Kept X)
   kept_in slots = kept_from 0 slots.entries
 
--- a register, the tree beside it, and for how many more nodes a closing has room
+-- a register, the tree and the hubs beside it, and for how many more nodes a closing has room
 pub record Ground (T : Type 0) : Type 0 where
   pub register : Register
   pub tree : Tree T
+  pub hubs : Hubs
   pub space : ℕ
 
 module _ {T : Type 0} where
+  -- the resources that a tree holds
+  abbrev pub held_in : Tree T → List (Kept (Stowed T))
+  held_in tree = filter (λ k. is_held tree.nodes k.value) (kept_in tree.resources)
+
   -- the resources that wait in a tree: those that it does not hold
   abbrev pub waiting_in : Tree T → List (Kept (Stowed T))
   waiting_in tree = filter (λ k. not (is_held tree.nodes k.value)) (kept_in tree.resources)

@@ -1,32 +1,40 @@
--- How a tree is tied to the history beside it, and what each write asks for and changes.
-use Rattle.std.specs.Prelude.{◌≡◌, ℕ, ◌<◌, ◌≤◌, cond, map, length, Bool, true, false, Some, None, IsSome, List, []}
+-- How a tree and hubs are tied to the history beside them, and what each write asks for and changes.
+use Rattle.std.specs.Prelude.{◌≡◌, ℕ, ◌+◌, ◌<◌, ◌≤◌, cond, map, length, Bool, true, false, Option, Some, None, is_some, IsSome, IfSome, List, []}
 use Rattle.std.specs.Prelude.{slice_get}
-use Rattle.std.specs.List.{list_all, list_any, Contains}
+use Rattle.std.specs.List.{AllByRecursion, list_all, list_any, Contains}
+use Rattle.std.specs.Option.{option_map_or}
 use Rattle.rx_resource.specs.declared.Resource.{Ghosts}
 use Rattle.rx_resource.specs.declared.Life.TheVariants.{Live}
 use Rattle.rx_event.specs.declared.marks.Marks.{Marks}
-use Rattle.rx_event.specs.declared.event.Place.TheVariants.{Root, Source}
-use Rattle.rx_event.specs.declared.event.Kind.TheVariants.{Leaf, Pass}
+use Rattle.rx_event.specs.declared.event.Place.{Place}
+use Rattle.rx_event.specs.declared.event.Place.TheVariants.{Root, Source, Inner, Notifier}
+use Rattle.rx_event.specs.declared.event.Kind.TheVariants.{Sub}
 use Rattle.rx_event.specs.declared.event.Event.{Event}
-use Rattle.rx_event.specs.declared.event.Event.TheVariants.{Open, Hub, Connect, Accept, Decline}
+use Rattle.rx_event.specs.declared.event.Event.TheVariants.{Open, Connect, Accept}
 use Rattle.rx_event.specs.Events.{makes_resource, is_remove_of, is_take_of}
 use Rattle.rx_event.specs.Tree.{at, is_open}
 use Rattle.rx_event.specs.Resources.{uses}
-use Rattle.rx_event.specs.Marks.{marks_of, due_at, terminal_due}
+use Rattle.rx_event.specs.Marks.{marks_of, due_at, terminal_due, after_source, after_notifier, after_inner}
 use Rattle.rx_event.specs.Notes.{mail_of}
+use Rattle.rx_event.specs.Totals.{debt, open_count}
 use Rattle.rx_event.specs.Lawful.{MayFollow}
 use Rattle.rx_event.specs.Forced.{IsSettled}
 use Rattle.rx_slots.specs.declared.Key.{Key}
 use Rattle.rx_slots.specs.Slots.{Slots, find}
-use Rattle.rx_forest.specs.declared.node.Node.{Node}
-use Rattle.rx_forest.specs.declared.node.Stowed.{Stowed}
-use Rattle.rx_forest.specs.declared.node.ResKey.{ResKey}
-use Rattle.rx_forest.specs.Below.{is_below}
-use Rattle.rx_forest.specs.Closing.{outside}
-use Rattle.rx_forest.specs.Resources.{is_held_at}
-use Rattle.rx_forest.specs.Tree.{Tree, Rewrites, is_on, with_last, with_marks}
-use Rattle.rx_journal.specs.State.{State as Register}
-use Rattle.rx_journal.specs.Paid.{IsPaid}
+use Rattle.rx_tree.specs.declared.node.Node.{Node}
+use Rattle.rx_tree.specs.declared.node.Stowed.{Stowed}
+use Rattle.rx_tree.specs.declared.node.ResKey.{ResKey}
+use Rattle.rx_tree.specs.Below.{is_below}
+use Rattle.rx_tree.specs.Closing.{outside}
+use Rattle.rx_tree.specs.Resources.{is_held_at}
+use Rattle.rx_tree.specs.Tree.{Tree, Rewrites, is_on, with_last, with_marks}
+use Rattle.rx_hub.specs.declared.hub.LastEnd.{LastEnd}
+use Rattle.rx_hub.specs.After.{is_inside}
+use Rattle.rx_hub.specs.Closing.{without_gone}
+use Rattle.rx_hub.specs.Hubs.{Hub, Hubs}
+use Rattle.rx_hub.specs.Records.{AreHubsOf}
+use Rattle.rx_register.specs.State.{State as Register}
+use Rattle.rx_register.specs.Paid.{IsPaid}
 use Rattle.rx_ground.specs.declared.settle.Due.{Due}
 use Rattle.rx_ground.specs.declared.base.Record.{Record}
 use Rattle.rx_ground.specs.declared.base.Wanted.{Wanted}
@@ -34,17 +42,18 @@ use Rattle.rx_ground.specs.Shown.{Ground, label_of, label_in, waiting_in}
 
 -- nodes -------------------------------------------------------------------------------------------
 
--- an event of what is there so far: leaves and mirroring nodes at roots and sources, and no hub
-abbrev pub is_plain : Event → Bool
-is_plain (Open Root Leaf) = true
-is_plain (Open Root Pass) = true
-is_plain (Open (Source p) Leaf) = true
-is_plain (Open (Source p) Pass) = true
-is_plain (Open place kind) = false
-is_plain (Hub mode) = false
-is_plain (Connect g) = false
-is_plain (Decline f) = false
-is_plain _ = true
+-- an event that subscribes nobody to a hub and connects none, which are not there so far; a hub may be made
+abbrev pub joins_no_hub : Event → Bool
+joins_no_hub (Open place (Sub g)) = false
+joins_no_hub (Connect g) = false
+joins_no_hub _ = true
+
+-- how an opening at this place marks the node above, where an inner takes the place of an open one or not
+abbrev pub opened_marks : Bool → Place → Marks → Marks
+opened_marks replaces (Source p) m = after_source m
+opened_marks replaces (Inner f) m = after_inner replaces m
+opened_marks replaces (Notifier u) m = after_notifier m
+opened_marks replaces Root m = m
 
 -- the record of an open node: its event, and its marks by the history
 pub record IsRecordOf (h : List Event) (n : ℕ) (node : Node) : Type 0 where
@@ -64,6 +73,17 @@ pub record AreRecords (h : List Event) (nodes : Slots Node) (chain : List Key) :
   pub each : (key : Key) (node : Node) → find nodes key ≡ Some node → IsRecordOf h key.number node
   pub every : (n : ℕ) → is_open h n ≡ true → HasKey nodes n
   pub quiet : (key : Key) (node : Node) → find nodes key ≡ Some node → is_on key chain ≡ false → due_at node.made node.marks key.number ≡ None
+
+-- hubs --------------------------------------------------------------------------------------------
+
+-- the subscribers and the connection of each hub have records
+pub record AreJoined (nodes : Slots Node) (hubs : List Hub) : Type 0 where
+  pub subscribers : (i : ℕ) (hub : Hub) → slice_get hubs i ≡ Some hub → AllByRecursion (λ key. IsSome (find nodes key)) hub.subscribers
+  pub connection : (i : ℕ) (hub : Hub) → slice_get hubs i ≡ Some hub → IfSome hub.connection (λ key. IsSome (find nodes key))
+
+-- the hubs once what stands inside this node left them, and a connection among it ended so if it ended by itself
+abbrev pub left_inside : List Event → (top : ℕ) → (ended : Option LastEnd) → Hubs → Hubs
+left_inside h top ended hubs = record hubs { hubs = map (without_gone (is_inside h top) ended) hubs.hubs }
 
 -- resources ---------------------------------------------------------------------------------------
 
@@ -88,13 +108,19 @@ module _ {T : Type 0} where
   pub record IsTied (g : Ghosts T) (h : List Event) (tree : Tree T) : Type 0 where
     pub records : AreRecords h tree.nodes tree.chain
     pub stored : AreStored g h tree
-    pub plain : list_all is_plain h ≡ true
 
-  -- and no rule is left undone, and what closing everything needs is reserved
+  -- and so are the hubs beside it, each key of which is an open node's
+  pub record AreTied (g : Ghosts T) (h : List Event) (tree : Tree T) (hubs : Hubs) : Type 0 where
+    pub of_tree : IsTied g h tree
+    pub published : AreHubsOf h hubs.hubs
+    pub joined : AreJoined tree.nodes hubs.hubs
+
+  -- and no rule is left undone, and what closing everything needs is reserved; nobody joined a hub so far
   pub record IsStanding (g : Ghosts T) (b : Ground T) : Type 0 where
-    pub tied : IsTied g b.register.history b.tree
+    pub tied : AreTied g b.register.history b.tree b.hubs
     pub settled : IsSettled b.register.history
     pub paid : IsPaid b.register
+    pub unjoined : list_all joins_no_hub b.register.history ≡ true
 
   -- there may be more room, and nothing else changed
   pub record IsRoomier (old new : Ground T) : Type 0 where
@@ -104,14 +130,27 @@ module _ {T : Type 0} where
     pub nodes : new.tree.nodes ≡ record old.tree.nodes { room = new.tree.nodes.room }
     pub resources : new.tree.resources ≡ record old.tree.resources { room = new.tree.resources.room }
     pub chain : new.tree.chain ≡ old.tree.chain
+    pub hubs : new.hubs ≡ record old.hubs { room = new.hubs.room; slots = new.hubs.slots }
 
-  -- there is room for what a call wants
+  -- there is room for what a call wants; where there are hubs, a subscriber may stand at each slot of the tree
   pub record HasRoom (b : Ground T) (wanted : Wanted) : Type 0 where
     pub events : wanted.events ≤ b.register.room
     pub notes : wanted.notes ≤ b.register.mail_room
     pub nodes : wanted.nodes ≤ b.tree.nodes.room
     pub space : wanted.nodes ≤ b.space
     pub resources : wanted.resources ≤ b.tree.resources.room
+    pub hubs : wanted.hubs ≤ b.hubs.room
+    pub slots : 0 < length b.hubs.hubs → b.tree.nodes.count + b.tree.nodes.room ≤ b.hubs.slots
+
+  -- there is room for what a call wants beside what closing everything needs
+  pub record HasRoomBeside (b : Ground T) (wanted : Wanted) : Type 0 where
+    pub events : debt b.register.history + wanted.events ≤ b.register.room
+    pub notes : open_count b.register.history + wanted.notes ≤ b.register.mail_room
+    pub nodes : wanted.nodes ≤ b.tree.nodes.room
+    pub space : wanted.nodes ≤ b.space
+    pub resources : wanted.resources ≤ b.tree.resources.room
+    pub hubs : wanted.hubs ≤ b.hubs.room
+    pub slots : 0 < length b.hubs.hubs → b.tree.nodes.count + b.tree.nodes.room ≤ b.hubs.slots
 
   -- of its resources, those held now that are older than this were held
   pub record KeepsHeld (old new : Tree T) (number : ℕ) : Type 0 where
@@ -136,6 +175,10 @@ module _ {T : Type 0} where
     pub nodes : Rewrites old.nodes new.nodes key (λ node. with_marks (change node.marks) node)
     pub chain : new.chain ≡ with_last key old.chain
     pub resources : new.resources ≡ old.resources
+
+-- the key of the node that a place names finds a record, or the place names none
+abbrev pub is_there : Slots Node → Option Key → Bool
+is_there nodes above = option_map_or (λ key. is_some (find nodes key)) above true
 
 -- no node came, and those that stay open keep their records' keys
 pub record KeepsNodes (h : List Event) (old new : Slots Node) : Type 0 where
@@ -164,7 +207,6 @@ pub record IsReady (s : Register) (e : Event) : Type 0 where
   pub room : 0 < s.room
   pub notes : length (mail_of s.history e) ≤ s.mail_room
   pub pending : s.pending ≡ []
-  pub plain : is_plain e ≡ true
 
 -- what an open node's record says
 abbrev pub record_of : Node → Record

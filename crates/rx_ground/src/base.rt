@@ -1,37 +1,44 @@
-//! What a book stands on: the register of what happened, and the tree of what is open, held and waiting.
+//! What a book stands on: the register of what happened, the tree of what is open, held and waiting, and
+//! the hubs that were made.
 
-ghost use Rattle.std.specs.Prelude.{◌≡◌, ◌+◌, ◌≤◌, length, option_map, OnOk};
-ghost use Rattle.rx_journal.specs.State.{IsPromised as IsRegisterPromised};
-ghost use Rattle.rx_forest.specs.Tree.{IsPromised as IsTreePromised};
+ghost use Rattle.std.specs.Prelude.{◌≡◌, ◌+◌, ◌<◌, ◌≤◌, length, option_map, OnOk};
+ghost use Rattle.rx_register.specs.State.{IsPromised as IsRegisterPromised};
+ghost use Rattle.rx_tree.specs.Tree.{IsPromised as IsTreePromised};
+ghost use Rattle.rx_hub.specs.Hubs.{IsPromised as IsHubsPromised};
 ghost use Rattle.rx_slots.specs.Slots.{find};
 ghost use Rattle.rx_ground.specs.Ties.{IsRoomier, HasRoom, record_of};
 
 use rx_event::{Event, Marks};
-use rx_forest::{Closed, Key, Tree};
-use rx_journal::Register;
+use rx_hub::{Hubs, Route};
+use rx_register::Register;
 use rx_resource::Resource;
+use rx_tree::{Closed, Key, Tree};
 use std::alloc::AllocError;
 use std::marker::Model;
 
-/// The register and the tree. Between a caller's event and the last that it forces they are of one
-/// history, in which something is still due.
+/// The register, the tree and the hubs. Between a caller's event and the last that it forces they are of
+/// one history, in which something is still due.
 #[derive(Drop)]
 pub struct Ground<R: Resource> {
     pub(crate) register: Register,
     pub(crate) tree: Tree<R>,
+    pub(crate) hubs: Hubs,
     // What a closing moves out, which then is done with.
     pub(crate) closed: Vec<Closed>,
+    // Where an item stands on its way. It has room for all hubs, so that an item takes no memory.
+    pub(crate) route: Route,
 }
 
 impl<R: Resource> Model for Ground<R> {
-    ghost use Rattle.std.specs.Prelude.{◌≡◌, ◌-◌, ◌≤◌, [], vec_capacity};
+    ghost use Rattle.std.specs.Prelude.{◌≡◌, ◌+◌, ◌-◌, ◌≤◌, [], length, vec_capacity};
     ghost use Rattle.rx_ground.specs.Shown.{Ground as Shown};
 
     ghost Value = { Shown R };
 
-    ghost view = { λ b. record { register = b.register; tree = b.tree; space = vec_capacity b.closed - b.tree.nodes.count } };
+    ghost view = { λ b. record { register = b.register; tree = b.tree; hubs = b.hubs; space = vec_capacity b.closed - b.tree.nodes.count } };
 
-    ghost invariant = { λ b. (b.closed.items ≡ []) × (b.tree.nodes.count ≤ vec_capacity b.closed) };
+    ghost invariant = { λ b. (b.closed.items ≡ []) × (b.tree.nodes.count ≤ vec_capacity b.closed) ×
+        (length b.hubs.hubs + b.hubs.room ≤ b.route.room) };
 }
 
 /// For how much a call wants room.
@@ -45,6 +52,8 @@ pub struct Wanted {
     pub nodes: usize,
     /// Resources to accept.
     pub resources: usize,
+    /// Hubs to make.
+    pub hubs: usize,
 }
 
 /// What a node's record says of it.
@@ -56,20 +65,34 @@ pub struct Record {
     pub marks: Marks,
 }
 
+// Lets subscribers stand at all slots below this one, where there are hubs.
+fn reserve_slots(hubs: &mut Hubs, slots: usize) -> Result<(), AllocError>
+    ensures ok { OnOk result (0 < length hubs.old.hubs → slots ≤ hubs.new.slots) }
+    ensures kept { hubs.new ≡ record hubs.old { slots = hubs.new.slots } }
+{
+    if hubs.len() == 0 {
+        return Ok(());
+    }
+    hubs.reserve_slots(slots)
+}
+
 impl<R: Resource> Ground<R> {
     /// What its parts promise, for proofs. It does nothing.
     pub fn promise(&self)
         ensures register { IsRegisterPromised self.now.register }
         ensures tree { IsTreePromised self.now.tree }
+        ensures hubs { IsHubsPromised self.now.hubs }
     {
         self.register.promise();
         self.tree.promise();
+        self.hubs.promise();
     }
 
-    /// Gets room for what is wanted in all, with what is kept for closing everything counted in.
+    /// Gets room for what is wanted in all, with what is kept for closing everything counted in. Where there
+    /// are hubs, a subscriber may then stand at each slot of the tree.
     ///
-    /// An error comes where memory is refused, and where the count of nodes would pass `usize`; then some of the
-    /// room may have been gotten, and nothing else changed.
+    /// An error comes where memory is refused, and where the count of nodes or of hubs would pass `usize`; then
+    /// some of the room may have been gotten, and nothing else changed.
     pub fn reserve(&mut self, wanted: Wanted) -> Result<(), AllocError>
         requires { length self.old.register.history + wanted.events ≤ self.old.register.limit }
         ensures ok { OnOk result (HasRoom self.new wanted) }
@@ -78,11 +101,17 @@ impl<R: Resource> Ground<R> {
         let Some(space) = self.tree.len().checked_add(wanted.nodes) else {
             return Err(AllocError);
         };
+        let Some(hubs) = self.hubs.len().checked_add(wanted.hubs) else {
+            return Err(AllocError);
+        };
         self.register.reserve(wanted.events)?;
         self.register.reserve_mail(wanted.notes as usize)?;
         self.closed.reserve(space)?;
         self.tree.reserve(wanted.nodes)?;
-        self.tree.reserve_resources(wanted.resources)
+        self.tree.reserve_resources(wanted.resources)?;
+        self.route.reserve(hubs)?;
+        reserve_slots(&mut self.hubs, self.tree.slots())?;
+        self.hubs.reserve(wanted.hubs)
     }
 
     /// How many events there are, which is the place of the next one.

@@ -1,37 +1,54 @@
-//! The ground of a book of subscriptions: a register and a tree of one history, changed one event at a time.
+//! The ground of a book of subscriptions: a register, a tree and hubs of one history, changed one event at a
+//! time.
 //!
 //! The register keeps what happened, by numbers alone; the tree keeps which nodes are open, which
-//! resources they hold, and which resources wait for their release. This crate holds the two together:
-//! each event is written on both, and then what the operators' rules force is written until nothing is
-//! due. A book decides which call is accepted, reserves room, writes the call's event here and settles.
-//! The book does not stand on it yet.
+//! resources they hold, and which resources wait for their release; the hubs keep what was published. This
+//! crate holds the three together: each event is written on all that it changes, and then what the
+//! operators' rules force is written until nothing is due. A book decides which call is accepted, reserves room, writes the call's event here and settles.
 //!
 //! # Vocabulary
 //!
-//! - A contract sees a [`Ground`] as its register, its tree, and for how many more nodes a closing has
-//!   room (`specs/Shown`). The rest is in `specs/Ties`.
+//! - A contract sees a [`Ground`] as its register, its tree, its hubs, and for how many more nodes a closing
+//!   has room (`specs/Shown`). `TakesNoMemory` says that each room fell by just what came, and rose by just
+//!   what went (`specs/Memory`). The rest is in `specs/Ties`.
 //! - `IsTied` says that the tree is that of the history: a record, with the marks that the history gives,
 //!   for just the nodes that are open, and each resource that was accepted and not taken, live and with
-//!   its uses. `IsReady` says that an event may come next and that there is room for it and its notes.
-//! - `IsStanding` says that beside this no rule is left undone, and that what closing everything needs is
-//!   reserved.
+//!   its uses. `AreTied` says beside this that the hubs are those of the history, and that each key they
+//!   keep is an open node's. `IsReady` says that an event may come next and that there is room for it and
+//!   its notes.
+//! - `IsStanding` says that beside this no rule is left undone, that what closing everything needs is
+//!   reserved, and that nobody joined a hub so far.
+//! - A [`Reach`] is what an item of a leaf wants, wherever it goes: how many events with what FlatMaps and
+//!   Switches then owe, and how many notes. `IsReach` (`specs/Reached`) says of which item it is that.
+//! - What stands first against a call is `first_at`, of a call by an open node's key, and `first_by_key` and
+//!   `first_by_res_key` (`specs/FirstCause`), by the register's table of causes.
 //! - `Writes` (of the register) says that just these events were added. `KeepsNodes` and `KeepsHeld`
 //!   say that the keys of what is still there are as before.
 //!
 //! # Promised, and not
 //!
-//! - Each write adds its own event and no other, leaves register and tree tied, and takes no memory:
+//! - Each write adds its own event and no other, leaves register, tree and hubs tied, and takes no memory:
 //!   [`Ground::reserve`] gets the room before.
 //! - [`Ground::settle`] adds only what the rules force (Observable Contract, and the operators' own
 //!   rules), and after it nothing is due.
 //! - Closing a node closes all below it; the resources that were held there then wait, and
 //!   [`Ground::write_take`] hands each of them out as an `rx_resource::Handed`, which can only be released.
+//! - What is closed leaves the hubs in the same step (`left_inside`): a subscriber is one no more, and of a
+//!   connection that ended by itself its hub keeps how (Publish, RefCount).
 //! - Not promised: that a call may be accepted. A caller shows `IsReady` of each event that it writes.
-//! - There are leaves and mirroring nodes so far, at roots and at sources; no clause speaks of hubs.
+//! - A hub can be made, a subscriber of it opened and the hub connected (Publish and Connect, at
+//!   reactivex.io), each in one step. That what is due at a hub is settled is not there so far.
 #![tactic(auto)]
 
 mod base;
+mod counts;
+mod decide;
+mod hubs;
+mod opening;
+mod route;
 mod settle;
 mod write;
 
 pub use base::{Ground, Record, Wanted};
+pub use decide::end_at;
+pub use route::Reach;

@@ -1,18 +1,19 @@
 //! What operators still have to do, done.
 
-ghost use Rattle.std.specs.Prelude.{◌≡◌, MatchOption};
+ghost use Rattle.std.specs.Prelude.{◌≡◌, true, MatchOption};
+ghost use Rattle.std.specs.List.{list_all};
 ghost use Rattle.std.specs.Option.{option_and_then};
 ghost use Rattle.rx_slots.specs.Slots.{find};
 ghost use Rattle.rx_event.specs.Marks.{terminal_due};
 ghost use Rattle.rx_event.specs.Lawful.{IsForcedOn};
-ghost use Rattle.rx_event.specs.Forced.{IsSettled};
-ghost use Rattle.rx_journal.specs.Paid.{IsPaid};
-ghost use Rattle.rx_ground.specs.Ties.{IsTied, IsStanding, IsDueNext, KeepsNodes, AllQuiet, WithChain};
+ghost use Rattle.rx_register.specs.Paid.{IsPaid};
+ghost use Rattle.rx_ground.specs.Ties.{AreTied, IsStanding, IsDueNext, KeepsNodes, AllQuiet, WithChain, joins_no_hub};
+ghost use Rattle.rx_ground.specs.Memory.{TakesNoMemory};
 
 use crate::base::Ground;
 use rx_event::Terminal;
-use rx_forest::Key;
 use rx_resource::Resource;
+use rx_tree::Key;
 
 /// A node that has to end by its operator's rule, and how.
 #[derive(Clone, Copy)]
@@ -34,8 +35,8 @@ impl<R: Resource> Ground<R> {
 
     /// The next node that is due; None where none is. It drops from the chain those that are not.
     fn next_due(&mut self) -> Option<Due>
-        requires tied { IsTied R.Resource self.old.register.history self.old.tree }
-        ensures tied { IsTied R.Resource self.new.register.history self.new.tree }
+        requires tied { AreTied R.Resource self.old.register.history self.old.tree self.old.hubs }
+        ensures tied { AreTied R.Resource self.new.register.history self.new.tree self.new.hubs }
         ensures next { MatchOption result (AllQuiet self.new.tree.nodes) (IsDueNext self.new.tree.nodes) }
         ensures kept { WithChain self.old self.new }
     {
@@ -48,16 +49,19 @@ impl<R: Resource> Ground<R> {
         None
     }
 
-    /// Writes what is forced until nothing is.
+    /// Writes what is forced until nothing is, where nobody joined a hub so far. It takes no memory.
     pub fn settle(&mut self)
-        requires tied { IsTied R.Resource self.old.register.history self.old.tree }
+        requires tied { AreTied R.Resource self.old.register.history self.old.tree self.old.hubs }
         requires paid { IsPaid self.old.register }
+        requires unjoined { list_all joins_no_hub self.old.register.history ≡ true }
         ensures standing { IsStanding R.Resource self.new }
         ensures forced { IsForcedOn self.old.register.history self.new.register.history }
         ensures nodes { KeepsNodes self.new.register.history self.old.tree.nodes self.new.tree.nodes }
         ensures resources { self.new.tree.resources ≡ self.old.tree.resources }
         ensures limit { self.new.register.limit ≡ self.old.register.limit }
         ensures given { self.new.register.given ≡ self.old.register.given }
+        ensures hubs { self.new.hubs ≡ self.old.hubs }
+        ensures memory { TakesNoMemory self.old self.new }
     {
         while let Some(due) = self.next_due() {
             self.promise();

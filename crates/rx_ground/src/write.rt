@@ -1,29 +1,31 @@
 //! One event, written on the register and on the tree together. None of these takes memory.
 
-ghost use Rattle.std.specs.Prelude.{◌≡◌, ◌+◌, ◌<◌, ◌≤◌, true, [], ◌∷◌, length, IsSome, IsTrue, IfSome, IfNone, MatchOption, None};
+ghost use Rattle.std.specs.Prelude.{◌≡◌, ◌+◌, ◌<◌, ◌≤◌, true, [], ◌∷◌, length, None, IsSome, IsTrue, IfSome, IfNone, MatchOption};
 ghost use Rattle.rx_event.specs.declared.event.Event.{Event};
-ghost use Rattle.rx_event.specs.declared.event.Place.{Place};
 ghost use Rattle.rx_event.specs.Events.{is_root as is_root_in, is_merging};
-ghost use Rattle.rx_event.specs.Marks.{after_source, after_child};
+ghost use Rattle.rx_event.specs.Marks.{after_child};
 ghost use Rattle.rx_ground.specs.Shown.{waiting_in};
 ghost use Rattle.rx_event.specs.Tree.{at};
 ghost use Rattle.rx_event.specs.Notes.{mail_of};
-ghost use Rattle.rx_event.specs.Climb.{stops, Delivery};
 ghost use Rattle.rx_event.specs.Forced.{IsSettled};
 ghost use Rattle.rx_event.specs.Resources.{is_waiting};
 ghost use Rattle.rx_resource.specs.declared.Life.{Life};
 ghost use Rattle.rx_slots.specs.Slots.{find};
-ghost use Rattle.rx_forest.specs.Tree.{IsPlaced};
-ghost use Rattle.rx_forest.specs.Resources.{is_held_at};
-ghost use Rattle.rx_journal.specs.State.{Writes};
-ghost use Rattle.rx_ground.specs.Ties.{IsTied, IsReady, KeepsNodes, KeepsHeld, IsNewNode, IsListed, Remarks, Cuts};
+ghost use Rattle.rx_tree.specs.Owed.{owed_in};
+ghost use Rattle.rx_tree.specs.Resources.{is_held_at};
+ghost use Rattle.rx_register.specs.State.{Writes};
+ghost use Rattle.rx_ground.specs.Ties.{AreTied, IsReady, KeepsNodes, KeepsHeld, IsListed, Remarks, Cuts, left_inside};
+ghost use Rattle.rx_hub.specs.After.{end_by};
+ghost use Rattle.rx_ground.specs.Memory.{TakesNoMemory};
 
 use crate::base::Ground;
-use rx_event::{Event, Kind, Mail, Place, Terminal};
-use rx_forest::{Key, ResKey, Tree};
-use rx_journal::Register;
+use crate::route::pass_on;
+use rx_event::{Event, Mail, Terminal};
+use rx_hub::LastEnd;
 use rx_note::Note;
+use rx_register::Register;
 use rx_resource::{Handed, Resource};
+use rx_tree::{Key, ResKey, Tree};
 
 /// Queues the note of the end of a root; nothing for another node.
 fn tell_end(register: &mut Register, node: u64, terminal: Terminal, is_root: bool)
@@ -44,20 +46,6 @@ fn tell_end(register: &mut Register, node: u64, terminal: Terminal, is_root: boo
     }
 }
 
-/// Marks the node above as one whose source was opened.
-fn mark_source<R: Resource>(tree: &mut Tree<R>, above: Option<Key>)
-    requires there { IfSome above (λ key. IsSome (find tree.old.nodes key)) }
-    requires found { IfSome above (λ key. IfSome (find tree.old.nodes key) (λ node. node.marks.open_children + 1 < 18446744073709551616)) }
-    ensures marked { IfSome above (λ key. Remarks tree.old tree.new key after_source) }
-    ensures none { IfNone above (tree.new ≡ tree.old) }
-{
-    if let Some(key) = above {
-        if let Some(marks) = tree.marks(key) {
-            tree.set_marks(key, marks.after_source());
-        }
-    }
-}
-
 /// Marks the node above as one whose child ended, which stood at its source's place or not.
 fn mark_end<R: Resource>(
     tree: &mut Tree<R>,
@@ -66,8 +54,11 @@ fn mark_end<R: Resource>(
     terminal: Terminal,
 )
     requires found { IfSome above (λ key. IfSome (find tree.old.nodes key) (λ node. 0 < node.marks.open_children)) }
+    requires countable { owed_in tree.old.nodes < 9223372036854775808 }
     ensures marked { IfSome above (λ key. IfSome (find tree.old.nodes key) (λ node. Remarks tree.old tree.new key (after_child is_source (is_merging node.made) terminal))) }
     ensures none { IfNone above (tree.new ≡ tree.old) }
+    ensures rest { tree.new.nodes ≡ record tree.old.nodes { entries = tree.new.nodes.entries } }
+    ensures resources { tree.new.resources ≡ tree.old.resources }
 {
     if let Some(key) = above {
         if let (Some(made), Some(marks)) = (tree.made(key), tree.marks(key)) {
@@ -80,46 +71,23 @@ fn mark_end<R: Resource>(
 }
 
 impl<R: Resource> Ground<R> {
-    /// Opens a node, for which there is room.
-    pub fn write_open(&mut self, place: Place, kind: Kind, above: Option<Key>) -> Key
-        requires tied { IsTied R.Resource self.old.register.history self.old.tree }
-        requires ready { IsReady self.old.register (Event.Open place kind) }
-        requires placed { IsPlaced self.old.tree.nodes (length self.old.register.history) (Event.Open place kind) above }
-        requires room { 0 < self.old.tree.nodes.room }
-        requires space { 0 < self.old.space }
-        ensures written { Writes self.old.register (Event.Open place kind ∷ []) self.new.register }
-        ensures tied { IsTied R.Resource self.new.register.history self.new.tree }
-        ensures new { IsNewNode self.old.tree.nodes self.new.tree.nodes (length self.old.register.history) result }
-        ensures resources { self.new.tree.resources ≡ self.old.tree.resources }
-    {
-        self.register.promise();
-        self.tree.promise();
-        let number = self.register.len();
-        let made = Event::Open { place, kind };
-        let Ok(key) = self.tree.open(number, made, above) else {
-            unreachable!()
-        };
-        self.tree.promise();
-        mark_source(&mut self.tree, above);
-        self.register.write(made);
-        key
-    }
-
     /// Accepts a fresh resource at an open node, for which there is room.
     pub fn write_accept(&mut self, node: Key, resource: R) -> ResKey
-        requires tied { IsTied R.Resource self.old.register.history self.old.tree }
+        requires tied { AreTied R.Resource self.old.register.history self.old.tree self.old.hubs }
         requires ready { IsReady self.old.register (Event.Accept node.number (R.tag_of resource)) }
         requires open { IsSome (find self.old.tree.nodes node) }
         requires live { R.life_of resource ≡ Life.Live }
         requires unused { R.uses_of resource ≡ 0 }
         requires room { 0 < self.old.tree.resources.room }
         ensures written { Writes self.old.register (Event.Accept node.number (R.tag_of resource) ∷ []) self.new.register }
-        ensures tied { IsTied R.Resource self.new.register.history self.new.tree }
+        ensures tied { AreTied R.Resource self.new.register.history self.new.tree self.new.hubs }
         ensures number { result.number ≡ length self.old.register.history }
         ensures held { is_held_at self.new.tree result ≡ true }
         ensures nodes { self.new.tree.nodes ≡ self.old.tree.nodes }
         ensures chain { self.new.tree.chain ≡ self.old.tree.chain }
         ensures kept { KeepsHeld self.old.tree self.new.tree (length self.old.register.history) }
+        ensures hubs { self.new.hubs ≡ self.old.hubs }
+        ensures memory { TakesNoMemory self.old self.new }
     {
         self.register.promise();
         self.tree.promise();
@@ -134,13 +102,15 @@ impl<R: Resource> Ground<R> {
 
     /// Uses a held resource on a word, and answers its word.
     pub fn write_use(&mut self, res: ResKey, word: u64) -> u64
-        requires tied { IsTied R.Resource self.old.register.history self.old.tree }
+        requires tied { AreTied R.Resource self.old.register.history self.old.tree self.old.hubs }
         requires ready { IsReady self.old.register (Event.Use res.number) }
         requires held { IsTrue (is_held_at self.old.tree res) }
         ensures written { Writes self.old.register (Event.Use res.number ∷ []) self.new.register }
-        ensures tied { IsTied R.Resource self.new.register.history self.new.tree }
+        ensures tied { AreTied R.Resource self.new.register.history self.new.tree self.new.hubs }
         ensures nodes { self.new.tree.nodes ≡ self.old.tree.nodes }
         ensures kept { KeepsHeld self.old.tree self.new.tree (length self.old.register.history) }
+        ensures hubs { self.new.hubs ≡ self.old.hubs }
+        ensures memory { TakesNoMemory self.old self.new }
     {
         self.register.promise();
         self.tree.promise();
@@ -151,13 +121,15 @@ impl<R: Resource> Ground<R> {
 
     /// Removes a held resource from its node.
     pub fn write_remove(&mut self, res: ResKey)
-        requires tied { IsTied R.Resource self.old.register.history self.old.tree }
+        requires tied { AreTied R.Resource self.old.register.history self.old.tree self.old.hubs }
         requires ready { IsReady self.old.register (Event.Remove res.number) }
         requires held { IsTrue (is_held_at self.old.tree res) }
         ensures written { Writes self.old.register (Event.Remove res.number ∷ []) self.new.register }
-        ensures tied { IsTied R.Resource self.new.register.history self.new.tree }
+        ensures tied { AreTied R.Resource self.new.register.history self.new.tree self.new.hubs }
         ensures nodes { self.new.tree.nodes ≡ self.old.tree.nodes }
         ensures kept { KeepsHeld self.old.tree self.new.tree (length self.old.register.history) }
+        ensures hubs { self.new.hubs ≡ self.old.hubs }
+        ensures memory { TakesNoMemory self.old self.new }
     {
         self.register.promise();
         self.tree.promise();
@@ -165,44 +137,84 @@ impl<R: Resource> Ground<R> {
         self.register.write(Event::Remove(res.number));
     }
 
-    /// Emits an item, which reaches this root alone.
-    pub fn write_item(&mut self, leaf: u64, value: i64, root: u64)
-        requires tied { IsTied R.Resource self.old.register.history self.old.tree }
-        requires ready { IsReady self.old.register (Event.Item leaf value) }
-        requires stops { stops self.old.register.history leaf ≡ Delivery root ∷ [] }
-        ensures written { Writes self.old.register (Event.Item leaf value ∷ []) self.new.register }
-        ensures tied { IsTied R.Resource self.new.register.history self.new.tree }
-        ensures tree { self.new.tree ≡ self.old.tree }
+    /// Declines an item that was projected to this FlatMap or Switch.
+    pub fn write_decline(&mut self, merging: Key)
+        requires tied { AreTied R.Resource self.old.register.history self.old.tree self.old.hubs }
+        requires ready { IsReady self.old.register (Event.Decline merging.number) }
+        requires open { IsSome (find self.old.tree.nodes merging) }
+        ensures written { Writes self.old.register (Event.Decline merging.number ∷ []) self.new.register }
+        ensures tied { AreTied R.Resource self.new.register.history self.new.tree self.new.hubs }
+        ensures kept { KeepsNodes self.new.register.history self.old.tree.nodes self.new.tree.nodes }
+        ensures resources { self.new.tree.resources ≡ self.old.tree.resources }
+        ensures hubs { self.new.hubs ≡ self.old.hubs }
+        ensures memory { TakesNoMemory self.old self.new }
     {
         self.register.promise();
-        let place = self.register.len();
-        self.register.tell(Mail {
-            place,
-            to: root,
-            note: Note::Next(value),
-        });
-        self.register.write(Event::Item(leaf, value));
+        self.tree.promise();
+        let Some(marks) = self.tree.marks(merging) else {
+            unreachable!()
+        };
+        self.tree.set_marks(merging, marks.after_decline());
+        self.register.write(Event::Decline(merging.number));
     }
 
-    /// Moves out a node and all below it.
-    fn cut(&mut self, node: Key)
+    /// Emits an item, which goes its whole way: each root that it reaches is told of it, as often as it is
+    /// reached, each FlatMap or Switch is told to project it, and each TakeUntil fires.
+    pub fn write_item(&mut self, leaf: Key, value: i64)
+        requires tied { AreTied R.Resource self.old.register.history self.old.tree self.old.hubs }
+        requires ready { IsReady self.old.register (Event.Item leaf.number value) }
+        requires open { IsSome (find self.old.tree.nodes leaf) }
+        ensures written { Writes self.old.register (Event.Item leaf.number value ∷ []) self.new.register }
+        ensures tied { AreTied R.Resource self.new.register.history self.new.tree self.new.hubs }
+        ensures kept { KeepsNodes self.new.register.history self.old.tree.nodes self.new.tree.nodes }
+        ensures resources { self.new.tree.resources ≡ self.old.tree.resources }
+        ensures hubs { self.new.hubs ≡ self.old.hubs }
+        ensures memory { TakesNoMemory self.old self.new }
+    {
+        self.register.promise();
+        self.tree.promise();
+        pass_on(
+            &mut self.register,
+            &mut self.tree,
+            &self.hubs,
+            &mut self.route,
+            leaf,
+            value,
+        );
+        self.register.write(Event::Item(leaf.number, value));
+    }
+
+    /// Moves out a node and all below it, which gives their room back, and lets them leave the hubs. A
+    /// connection among them ended so if it ended by itself.
+    pub(crate) fn cut(&mut self, node: Key, ended: Option<LastEnd>)
+        requires tied { AreTied R.Resource self.old.register.history self.old.tree self.old.hubs }
         requires open { IsSome (find self.old.tree.nodes node) }
         ensures cut { Cuts self.old.tree self.new.tree node.number }
+        ensures owed { owed_in self.new.tree.nodes ≤ owed_in self.old.tree.nodes }
         ensures register { self.new.register ≡ self.old.register }
+        ensures room { self.old.tree.nodes.room ≤ self.new.tree.nodes.room }
+        ensures hubs { self.new.hubs ≡ left_inside self.old.register.history node.number ended self.old.hubs }
+        ensures memory { TakesNoMemory self.old self.new }
     {
+        self.register.promise();
+        self.tree.promise();
         self.tree.close_below(node, &mut self.closed);
+        self.hubs.leave_closed(&self.closed, ended);
         self.closed.clear();
     }
 
-    /// Ends an open node, and closes all below it.
+    /// Ends an open node, and closes all below it. Of a connection its hub keeps how it ended.
     pub fn write_end(&mut self, node: Key, terminal: Terminal)
-        requires tied { IsTied R.Resource self.old.register.history self.old.tree }
+        requires tied { AreTied R.Resource self.old.register.history self.old.tree self.old.hubs }
         requires ready { IsReady self.old.register (Event.End node.number terminal) }
         requires open { IsSome (find self.old.tree.nodes node) }
         ensures written { Writes self.old.register (Event.End node.number terminal ∷ []) self.new.register }
-        ensures tied { IsTied R.Resource self.new.register.history self.new.tree }
+        ensures tied { AreTied R.Resource self.new.register.history self.new.tree self.new.hubs }
         ensures kept { KeepsNodes self.new.register.history self.old.tree.nodes self.new.tree.nodes }
         ensures resources { self.new.tree.resources ≡ self.old.tree.resources }
+        ensures hubs { self.new.hubs ≡ left_inside self.old.register.history node.number
+            (end_by (length self.old.register.history) (Event.End node.number terminal)) self.old.hubs }
+        ensures memory { TakesNoMemory self.old self.new }
     {
         self.register.promise();
         self.tree.promise();
@@ -216,8 +228,9 @@ impl<R: Resource> Ground<R> {
             terminal,
             record.made.is_root(),
         );
+        let place = self.register.len();
+        self.cut(node, Some(LastEnd { place, terminal }));
         self.register.write(Event::End(node.number, terminal));
-        self.cut(node);
         self.tree.promise();
         mark_end(
             &mut self.tree,
@@ -229,31 +242,35 @@ impl<R: Resource> Ground<R> {
 
     /// Closes an open root, and all below it.
     pub fn write_close(&mut self, node: Key)
-        requires tied { IsTied R.Resource self.old.register.history self.old.tree }
+        requires tied { AreTied R.Resource self.old.register.history self.old.tree self.old.hubs }
         requires ready { IsReady self.old.register (Event.Close node.number) }
         requires open { IsSome (find self.old.tree.nodes node) }
         ensures written { Writes self.old.register (Event.Close node.number ∷ []) self.new.register }
-        ensures tied { IsTied R.Resource self.new.register.history self.new.tree }
+        ensures tied { AreTied R.Resource self.new.register.history self.new.tree self.new.hubs }
         ensures kept { KeepsNodes self.new.register.history self.old.tree.nodes self.new.tree.nodes }
         ensures resources { self.new.tree.resources ≡ self.old.tree.resources }
+        ensures hubs { self.new.hubs ≡ left_inside self.old.register.history node.number None self.old.hubs }
+        ensures memory { TakesNoMemory self.old self.new }
     {
         self.register.promise();
         self.tree.promise();
+        self.cut(node, None);
         self.register.write(Event::Close(node.number));
-        self.cut(node);
     }
 
     /// Hands out a resource that waits; None where none does.
     pub fn write_take(&mut self) -> Option<Handed<R>>
-        requires tied { IsTied R.Resource self.old.register.history self.old.tree }
+        requires tied { AreTied R.Resource self.old.register.history self.old.tree self.old.hubs }
         requires settled { IsSettled self.old.register.history }
         requires room { (r : _) → is_waiting self.old.register.history r ≡ true → IsReady self.old.register (Event.Take r) }
         ensures written { IfSome result (λ handed. Writes self.old.register (Event.Take handed.0 ∷ []) self.new.register) }
-        ensures tied { IsTied R.Resource self.new.register.history self.new.tree }
+        ensures tied { AreTied R.Resource self.new.register.history self.new.tree self.new.hubs }
         ensures nodes { self.new.tree.nodes ≡ self.old.tree.nodes }
         ensures kept { KeepsHeld self.old.tree self.new.tree (length self.old.register.history) }
         ensures none { IfNone result (self.new ≡ self.old) }
         ensures waited { MatchOption result (waiting_in self.old.tree ≡ []) (IsListed R.Resource self.old.tree) }
+        ensures hubs { self.new.hubs ≡ self.old.hubs }
+        ensures memory { TakesNoMemory self.old self.new }
     {
         self.register.promise();
         self.tree.promise();

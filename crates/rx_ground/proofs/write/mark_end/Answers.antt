@@ -1,6 +1,15 @@
-use Rattle.std.proofs.Common.{sym, ◌∙◌}
+use Rattle.std.proofs.Common.{sym, ap, ◌∙◌, arith}
+use Rattle.rx_event.specs.declared.marks.Marks.{Marks}
+use Rattle.rx_ground.proofs.Owing.{owed_marks-le}
 use Rattle.rx_ground.proofs.Settling.{found_end}
 use Rattle.rx_ground.proofs.write.mark_end.Goals as goal
 
 pub returns-in-Some-Some-clause-marked : goal.returns-in-Some-Some-clause-marked
 returns-in-Some-Some-clause-marked g c = rw c.in-Some.is (found_end c.args.tree.now c.set_marks.new.self c.in-Some.key c.in-Some-Some.made c.in-Some-Some.marks c.args.is_source c.is_merging.result c.args.terminal (sym c.made.ensures ∙ c.in-Some-Some.is-0) (sym c.marks.ensures ∙ c.in-Some-Some.is-1) c.is_merging.ensures (rw c.after_child.ensures at c.set_marks.ensures.nodes) c.set_marks.ensures.chain c.set_marks.ensures.resources)
+
+pub set_marks-requires-clause-countable : goal.set_marks-requires-clause-countable
+set_marks-requires-clause-countable g c =
+    let all = c.requires.countable in
+    let one = owed_marks-le c.args.tree.now.nodes c.in-Some.key c.in-Some-Some.marks (sym c.marks.ensures ∙ c.in-Some-Some.is-1) in
+    let same = ap (λ (m : Marks). m.owed) c.after_child.ensures in
+    omega arith

@@ -1,10 +1,10 @@
 use Rattle.std.proofs.Common.{length}
-use Rattle.rx_ground.specs.Ties.{IsTied, WithChain}
+use Rattle.rx_ground.specs.Ties.{AreTied, WithChain}
 use Rattle.rx_ground.proofs.base.Ground.next_due.Given as goal
 
 abbrev pub invariant-loop-node : goal.invariant-loop-node
 invariant-loop-node g l = record {
-  tied : IsTied g.R.Resource l.self.register.history l.self.tree;
+  tied : AreTied g.R.Resource l.self.register.history l.self.tree l.self.hubs;
   kept : WithChain l.fn.self l.self;
 }
 

@@ -1,24 +1,97 @@
-use Rattle.std.proofs.Common.{refl}
+use Rattle.std.proofs.Common.{◌≡◌, List, ◌∷◌, ◌++◌, [], ◌+◌, ◌-◌, None, length, vec_capacity, refl, sym, ap, subst, ◌∙◌}
+use Rattle.rx_event.specs.declared.event.Event.{Event}
 use Rattle.rx_event.specs.declared.event.Event.TheVariants.{Close}
 use Rattle.rx_event.specs.Lawful.{MayFollow}
 use Rattle.rx_event.proofs.Laws.Openness.{is_open_outside-close}
-use Rattle.rx_ground.specs.Ties.{IsTied}
+use Rattle.rx_register.specs.State.{State, Writes}
+use Rattle.rx_hub.specs.After.{is_inside}
+use Rattle.rx_hub.specs.Hubs.{Hubs}
+use Rattle.rx_hub.proofs.Laws.AfterCases.{hubs_closed}
+use Rattle.rx_ground.specs.Shown.{Ground}
+use Rattle.rx_ground.specs.Ties.{IsTied, AreTied, KeepsNodes, Cuts, left_inside}
+use Rattle.rx_ground.proofs.Memory.{written_memory}
 use Rattle.rx_ground.proofs.Written.{writes_silent}
 use Rattle.rx_ground.proofs.Tied.{tied_close, cut_keeps}
+use Rattle.rx_ground.proofs.Published.{tied_closed}
+use Rattle.rx_ground.proofs.base.Ground.write_close.Given.{Over}
 use Rattle.rx_ground.proofs.base.Ground.write_close.Goals as goal
 
+-- the register is the one before, until the event is written
+registered : (g : Over) (c : goal.After-write g) → c.self-2.inside.register ≡ c.self.inside.register
+registered g c = ap (λ (b : Ground g.row.R.Denot). b.register) c.self-2.view_is ∙ c.cut.ensures.register ∙
+    sym (ap (λ (b : Ground g.row.R.Denot). b.register) c.self.view_is)
+
+grown : (g : Over) (c : goal.After-write g) → c.write.new.self.history ≡ c.self.inside.register.history ++ Close c.args.node.number ∷ []
+grown g c = c.write.ensures.events ∙ ap (λ (s : State). s.history ++ Close c.args.node.number ∷ []) (registered g c)
+
+-- what is left of the tree and of the hubs
+cut_tree : (g : Over) (c : goal.After-write g) → Cuts c.self.inside.tree c.self-2.inside.tree c.args.node.number
+cut_tree g c =
+    let cuts : Cuts c.self.inside.tree c.cut.new.self.tree c.args.node.number = rw (← c.self.view_is) at c.cut.ensures.cut in
+    rw (← c.self-2.view_is) at cuts
+
+left_hubs : (g : Over) (c : goal.After-write g) → c.self-2.inside.hubs ≡ left_inside c.self.inside.register.history c.args.node.number None c.self.inside.hubs
+left_hubs g c =
+    let left : c.cut.new.self.hubs ≡ left_inside c.self.inside.register.history c.args.node.number None c.self.inside.hubs =
+    rw (← c.self.view_is) at c.cut.ensures.hubs in
+    ap (λ (b : Ground g.row.R.Denot). b.hubs) c.self-2.view_is ∙ left
+
+-- the nodes that stay open keep their keys
+nodes_kept : (g : Over) (c : goal.After-write g) →
+    KeepsNodes (c.self.inside.register.history ++ Close c.args.node.number ∷ []) c.self.inside.tree.nodes c.self-2.inside.tree.nodes
+nodes_kept g c =
+    let h = c.self.inside.register.history in
+    let tied : IsTied g.R.Resource h c.self.inside.tree = rw (← c.self.view_is) at c.requires.tied.of_tree in
+    cut_keeps h (Close c.args.node.number) c.self.inside.tree c.self-2.inside.tree tied.records c.promise-2.ensures.sound c.args.node.number
+    (is_open_outside-close h c.args.node.number) (cut_tree g c)
+
 pub returns-clause-written : goal.returns-clause-written
-returns-clause-written g c = rw (← c.self.view_is, c.cut.ensures.register) (writes_silent c.self.inside.register c.write.new.self (Close c.args.node.number) refl c.write.ensures.events c.write.ensures.pending c.write.ensures.room c.write.ensures.limit c.write.ensures.given c.write.ensures.mail_room)
+returns-clause-written g c =
+    rw (← c.self.view_is) (subst (λ (s : State). Writes s (Close c.args.node.number ∷ []) c.write.new.self) (registered g c)
+    (writes_silent c.self-2.inside.register c.write.new.self (Close c.args.node.number) refl c.write.ensures.events c.write.ensures.pending
+    c.write.ensures.room c.write.ensures.limit c.write.ensures.given c.write.ensures.mail_room))
 
 pub returns-clause-tied : goal.returns-clause-tied
 returns-clause-tied g c =
     let h = c.self.inside.register.history in
-    let tied : IsTied g.R.Resource h c.self.inside.tree = rw (← c.self.view_is) at c.requires.tied in
-    let next : MayFollow h (Close c.args.node.number) = rw (← c.self.view_is) at c.requires.ready.next in
-    rw (c.cut.ensures.register, c.write.ensures.events) (tied_close g.R.Resource h c.args.node.number c.promise.ensures.lawful next c.self.inside.tree c.cut.new.self.tree tied c.promise-2.ensures.sound c.cut.ensures.cut)
+    let e : Event = Close c.args.node.number in
+    let was : AreTied g.R.Resource h c.self.inside.tree c.self.inside.hubs = rw (← c.self.view_is) at c.requires.tied in
+    let next : MayFollow h e = rw (← c.self.view_is) at c.requires.ready.next in
+    let law = c.promise.ensures.lawful in
+    let tied = tied_close g.R.Resource h c.args.node.number law next c.self.inside.tree c.self-2.inside.tree was.of_tree c.promise-2.ensures.sound (cut_tree g c) in
+    let after = hubs_closed h c.args.node.number 0 c.self.inside.hubs.hubs was.published in
+    let left = ap (λ (hubs : Hubs). hubs.hubs) (left_hubs g c) in
+    let all = tied_closed g.R.Resource e (is_inside h c.args.node.number) None law next was refl after left (nodes_kept g c) tied in
+    subst (λ (k : List Event). AreTied g.R.Resource k c.self-2.inside.tree c.self-2.inside.hubs) (sym (grown g c)) all
 
 pub returns-clause-kept : goal.returns-clause-kept
 returns-clause-kept g c =
-    let h = c.self.inside.register.history in
-    let tied : IsTied g.R.Resource h c.self.inside.tree = rw (← c.self.view_is) at c.requires.tied in
-    rw (← c.self.view_is, c.cut.ensures.register, c.write.ensures.events) (cut_keeps h (Close c.args.node.number) c.self.inside.tree c.cut.new.self.tree tied.records c.promise-2.ensures.sound c.args.node.number (is_open_outside-close h c.args.node.number) c.cut.ensures.cut)
+    rw (← c.self.view_is) (subst (λ (k : List Event). KeepsNodes k c.self.inside.tree.nodes c.self-2.inside.tree.nodes) (sym (grown g c)) (nodes_kept g c))
+
+pub returns-clause-resources : goal.returns-clause-resources
+returns-clause-resources g c = rw (← c.self.view_is) (cut_tree g c).resources
+
+pub returns-clause-hubs : goal.returns-clause-hubs
+returns-clause-hubs g c = rw (← c.self.view_is) (left_hubs g c)
+
+pub returns-clause-memory : goal.returns-clause-memory
+returns-clause-memory g c =
+    let old = c.self.inside in
+    let mid = c.self-2.inside in
+    let after = c.cut.new.self in
+    let same_nodes : after.tree.nodes.count + after.tree.nodes.room ≡ old.tree.nodes.count + old.tree.nodes.room =
+    rw (← c.self.view_is) at c.cut.ensures.memory.nodes in
+    let nodes : mid.tree.nodes.count + mid.tree.nodes.room ≡ old.tree.nodes.count + old.tree.nodes.room = rw (← c.self-2.view_is) at same_nodes in
+    let same_space : after.tree.nodes.count + after.space ≡ old.tree.nodes.count + (vec_capacity old.closed - old.tree.nodes.count) =
+    rw (← c.self.view_is) at c.cut.ensures.memory.closing in
+    let closing : mid.tree.nodes.count + (vec_capacity mid.closed - mid.tree.nodes.count) ≡ old.tree.nodes.count + (vec_capacity old.closed - old.tree.nodes.count) =
+    rw (← c.self-2.view_is) at same_space in
+    let same_hubs : length after.hubs.hubs + after.hubs.room ≡ length old.hubs.hubs + old.hubs.room = rw (← c.self.view_is) at c.cut.ensures.memory.hubs in
+    let hubs : length mid.hubs.hubs + mid.hubs.room ≡ length old.hubs.hubs + old.hubs.room = rw (← c.self-2.view_is) at same_hubs in
+    let same_resources : after.tree.resources.count + after.tree.resources.room ≡ old.tree.resources.count + old.tree.resources.room =
+    rw (← c.self.view_is) at c.cut.ensures.memory.resources in
+    let resources : mid.tree.resources.count + mid.tree.resources.room ≡ old.tree.resources.count + old.tree.resources.room =
+    rw (← c.self-2.view_is) at same_resources in
+    written_memory (Close c.args.node.number ∷ []) (returns-clause-written g c) (rw (← c.self.view_is) nodes) (rw (← c.self.view_is) resources)
+    (rw (← c.self.view_is) closing) (rw (← c.self.view_is) hubs)
+    (rw (← c.self.view_is) (ap (λ (s : Hubs). s.slots) (left_hubs g c)))

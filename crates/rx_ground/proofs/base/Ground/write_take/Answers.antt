@@ -1,16 +1,20 @@
-use Rattle.std.proofs.Common.{◌≡◌, ◌∷◌, ◌++◌, [], List, length, refl, sym, ap, subst, ◌∙◌, true, is_some}
+use Rattle.std.proofs.Common.{◌≡◌, ◌∷◌, ◌++◌, [], List, length, refl, sym, ap, subst, ◌∙◌, true, is_some, ◌+◌, ◌-◌, arith, vec_capacity}
 use Rattle.rx_event.specs.declared.event.Event.{Event}
 use Rattle.rx_event.specs.declared.event.Event.TheVariants.{Take}
 use Rattle.rx_event.specs.Resources.{is_waiting}
 use Rattle.rx_event.specs.Forced.{IsSettled}
 use Rattle.rx_event.specs.Allowed.{taken}
 use Rattle.rx_event.specs.Lawful.{MayFollow, allowed}
-use Rattle.rx_ground.specs.Ties.{IsTied, IsReady}
+use Rattle.rx_ground.specs.Ties.{IsTied, AreTied, IsReady}
+use Rattle.rx_slots.specs.Slots.{Slots}
+use Rattle.rx_tree.specs.declared.node.Node.{Node}
+use Rattle.rx_ground.proofs.Memory.{written_memory}
 use Rattle.rx_ground.proofs.Written.{writes_silent}
 use Rattle.rx_ground.proofs.Stored.{stored_taken}
 use Rattle.rx_ground.proofs.Tied.{tied_still}
 use Rattle.rx_ground.proofs.HeldKept.{held_gone}
 use Rattle.rx_ground.proofs.Taking.{takes_waiting, takes_live, takes_listed, none_waits}
+use Rattle.rx_ground.proofs.Published.{tied_on_same}
 use Rattle.rx_ground.proofs.base.Ground.write_take.Given.{Over}
 use Rattle.rx_ground.proofs.base.Ground.write_take.Goals as goal
 
@@ -19,13 +23,13 @@ returns-in_err-number-clause-waited g c = rw (c.from_residual.ensures, ← c.sel
 
 pub write-requires-clause-next : goal.write-requires-clause-next
 write-requires-clause-next g c =
-    let tied : IsTied g.R.Resource c.self.inside.register.history c.self.inside.tree = rw (← c.self.view_is) at c.requires.tied in
+    let tied : IsTied g.R.Resource c.self.inside.register.history c.self.inside.tree = rw (← c.self.view_is) at c.requires.tied.of_tree in
     let settled : IsSettled c.self.inside.register.history = rw (← c.self.view_is) at c.requires.settled in
     allowed settled (taken (takes_waiting g.R.Resource c.self.inside.register.history c.self.inside.tree c.take_waiting.new.self c.in_ok-number.number c.in_ok-number.resource tied c.in_ok-number.ensures.some))
 
 ready : (g : Over) (c : goal.After-write-arg-1 g) → IsReady c.self.inside.register (Take c.in_ok-number.number)
 ready g c =
-    let tied : IsTied g.R.Resource c.self.inside.register.history c.self.inside.tree = rw (← c.self.view_is) at c.requires.tied in
+    let tied : IsTied g.R.Resource c.self.inside.register.history c.self.inside.tree = rw (← c.self.view_is) at c.requires.tied.of_tree in
     (rw (← c.self.view_is) at c.requires.room) c.in_ok-number.number (takes_waiting g.R.Resource c.self.inside.register.history c.self.inside.tree c.take_waiting.new.self c.in_ok-number.number c.in_ok-number.resource tied c.in_ok-number.ensures.some)
 
 pub write-requires-clause-room : goal.write-requires-clause-room
@@ -36,7 +40,7 @@ write-requires-clause-told g c = (ready g c).pending
 
 pub new-requires-clause-live : goal.new-requires-clause-live
 new-requires-clause-live g c κs within =
-    let tied : IsTied g.R.Resource c.self.inside.register.history c.self.inside.tree = rw (← c.self.view_is) at c.requires.tied in
+    let tied : IsTied g.R.Resource c.self.inside.register.history c.self.inside.tree = rw (← c.self.view_is) at c.requires.tied.of_tree in
     takes_live g.R.Resource c.self.inside.register.history c.self.inside.tree c.take_waiting.new.self c.in_ok-number.number c.in_ok-number.resource tied c.in_ok-number.ensures.some
 
 pub returns-clause-written : goal.returns-clause-written
@@ -47,14 +51,24 @@ returns-clause-tied g c =
     let h = c.self.inside.register.history in
     let old = c.self.inside.tree in
     let new = c.take_waiting.new.self in
-    let tied : IsTied g.R.Resource h old = rw (← c.self.view_is) at c.requires.tied in
+    let tied : IsTied g.R.Resource h old = rw (← c.self.view_is) at c.requires.tied.of_tree in
     let settled : IsSettled h = rw (← c.self.view_is) at c.requires.settled in
     let t = c.in_ok-number.ensures.some in
     let next : MayFollow h (Take t.key.number) = allowed settled (taken (subst (λ n. is_waiting h n ≡ true) (sym t.numbered) (takes_waiting g.R.Resource h old new c.in_ok-number.number c.in_ok-number.resource tied t))) in
-    subst (λ (k : List Event). IsTied g.R.Resource k new) (ap (λ n. h ++ Take n ∷ []) t.numbered ∙ sym c.write.ensures.events) (tied_still g.R.Resource h (Take t.key.number) c.promise.ensures.lawful next refl old tied new refl refl (λ n. refl) c.in_ok-number.ensures.nodes c.in_ok-number.ensures.chain (stored_taken g.R.Resource h c.promise.ensures.lawful old new tied.stored c.promise-2.ensures.resources_apart c.in_ok-number.ensures.nodes t.key (ap is_some t.found) t.gone t.others))
+    let was : AreTied g.R.Resource c.self.inside.register.history c.self.inside.tree c.self.inside.hubs = rw (← c.self.view_is) at c.requires.tied in
+    tied_on_same g.R.Resource (Take t.key.number) c.promise.ensures.lawful next was (sym (ap (λ n. h ++ Take n ∷ []) t.numbered ∙ sym c.write.ensures.events)) refl refl c.in_ok-number.ensures.nodes
+    (subst (λ (k : List Event). IsTied g.R.Resource k new) (ap (λ n. h ++ Take n ∷ []) t.numbered ∙ sym c.write.ensures.events) (tied_still g.R.Resource h (Take t.key.number) c.promise.ensures.lawful next old tied new refl refl (λ n. refl) c.in_ok-number.ensures.nodes c.in_ok-number.ensures.chain (stored_taken g.R.Resource h c.promise.ensures.lawful old new tied.stored c.promise-2.ensures.resources_apart c.in_ok-number.ensures.nodes t.key (ap is_some t.found) t.gone t.others)))
 
 pub returns-clause-kept : goal.returns-clause-kept
 returns-clause-kept g c = rw (← c.self.view_is) (let t = c.in_ok-number.ensures.some in held_gone c.self.inside.tree c.take_waiting.new.self (length c.self.inside.register.history) t.key c.in_ok-number.ensures.nodes t.others t.gone)
 
 pub returns-clause-waited : goal.returns-clause-waited
 returns-clause-waited g c = rw (c.new.ensures, ← c.self.view_is) (takes_listed g.R.Resource c.self.inside.tree c.take_waiting.new.self c.in_ok-number.number c.in_ok-number.resource c.in_ok-number.ensures.some)
+
+pub returns-clause-memory : goal.returns-clause-memory
+returns-clause-memory g c =
+    let nodes = c.in_ok-number.ensures.nodes in
+    let fewer = c.in_ok-number.ensures.some.count in
+    let more = c.in_ok-number.ensures.some.room in
+    written_memory (Take c.in_ok-number.number ∷ []) (rw c.new.ensures at (returns-clause-written g c)) (rw (← c.self.view_is) (ap (λ (s : Slots Node). s.count + s.room) nodes)) (rw (← c.self.view_is) (omega arith)) (rw (← c.self.view_is) (ap (λ (s : Slots Node). s.count + (vec_capacity c.self.inside.closed - s.count)) nodes)) (rw (← c.self.view_is) refl)
+    (rw (← c.self.view_is) refl)

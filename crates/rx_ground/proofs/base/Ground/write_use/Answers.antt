@@ -1,27 +1,31 @@
-use Rattle.std.proofs.Common.{◌≡◌, ◌<◌, ◌+◌, List, length, refl, sym, subst, arith, true}
+use Rattle.std.proofs.Common.{◌≡◌, ◌<◌, ◌+◌, List, length, refl, sym, subst, arith, true, ◌∷◌, [], ◌-◌, ap, vec_capacity}
 use Rattle.rx_event.specs.declared.event.Event.{Event}
 use Rattle.rx_event.specs.declared.event.Event.TheVariants.{Use}
 use Rattle.rx_event.specs.Lawful.{MayFollow}
 use Rattle.rx_resource.specs.declared.Life.TheVariants.{Live}
-use Rattle.rx_forest.specs.Resources.{store_key, stowed_of, with_resource, is_held_at, Uses}
-use Rattle.rx_ground.specs.Ties.{IsTied}
+use Rattle.rx_tree.specs.Resources.{store_key, stowed_of, with_resource, is_held_at, Uses}
+use Rattle.rx_ground.specs.Ties.{IsTied, AreTied}
+use Rattle.rx_slots.specs.Slots.{Slots}
+use Rattle.rx_tree.specs.declared.node.Node.{Node}
+use Rattle.rx_ground.proofs.Memory.{written_memory, same_places}
 use Rattle.rx_ground.proofs.Written.{writes_silent}
 use Rattle.rx_ground.proofs.Stored.{stored_used}
 use Rattle.rx_ground.proofs.Tied.{tied_still}
 use Rattle.rx_ground.proofs.HeldKept.{held_rewritten}
 use Rattle.rx_ground.proofs.Newest.{held_found, used_within, of_found, if_found}
+use Rattle.rx_ground.proofs.Published.{tied_on_same}
 use Rattle.rx_ground.proofs.base.Ground.write_use.Goals as goal
 
 pub apply-answer-requires-clause-live : goal.apply-answer-requires-clause-live
 apply-answer-requires-clause-live g c κs within =
-    let tied : IsTied g.R.Resource c.self.inside.register.history c.self.inside.tree = rw (← c.self.view_is) at c.requires.tied in
+    let tied : IsTied g.R.Resource c.self.inside.register.history c.self.inside.tree = rw (← c.self.view_is) at c.requires.tied.of_tree in
     let held : is_held_at c.self.inside.tree c.args.res ≡ true = rw (← c.self.view_is) at c.requires.held in
     let f = held_found c.self.inside.tree c.args.res held in
     if_found (stowed_of c.self.inside.tree c.args.res) f.stowed (λ s. g.R.Resource.life_of s.resource ≡ Live) f.found (tied.stored.each (store_key c.args.res) f.stowed f.found).live
 
 pub apply-answer-requires-clause-countable : goal.apply-answer-requires-clause-countable
 apply-answer-requires-clause-countable g c κs within =
-    let tied : IsTied g.R.Resource c.self.inside.register.history c.self.inside.tree = rw (← c.self.view_is) at c.requires.tied in
+    let tied : IsTied g.R.Resource c.self.inside.register.history c.self.inside.tree = rw (← c.self.view_is) at c.requires.tied.of_tree in
     let held : is_held_at c.self.inside.tree c.args.res ≡ true = rw (← c.self.view_is) at c.requires.held in
     let f = held_found c.self.inside.tree c.args.res held in
     if_found (stowed_of c.self.inside.tree c.args.res) f.stowed (λ s. g.R.Resource.uses_of s.resource + 1 < 18446744073709551616) f.found (
@@ -40,12 +44,14 @@ returns-clause-tied g c =
     let old = c.self.inside.tree in
     let new = c.apply-answer.new.self in
     let e : Event = Use c.args.res.number in
-    let tied : IsTied g.R.Resource h old = rw (← c.self.view_is) at c.requires.tied in
+    let tied : IsTied g.R.Resource h old = rw (← c.self.view_is) at c.requires.tied.of_tree in
     let next : MayFollow h e = rw (← c.self.view_is) at c.requires.ready.next in
     let held : is_held_at old c.args.res ≡ true = rw (← c.self.view_is) at c.requires.held in
     let f = held_found old c.args.res held in
     let u = of_found (stowed_of old c.args.res) f.stowed (Uses g.R.Resource old new c.args.res) f.found c.apply-answer.ensures in
-    subst (λ (k : List Event). IsTied g.R.Resource k new) (sym c.write.ensures.events) (tied_still g.R.Resource h e c.promise.ensures.lawful next refl old tied new refl refl (λ n. refl) u.nodes u.chain (stored_used g.R.Resource h c.promise.ensures.lawful old new tied.stored c.promise-2.ensures.resources_apart u.nodes (store_key c.args.res) f.stowed u.after f.found u.uses u.tag u.life u.written))
+    let was : AreTied g.R.Resource c.self.inside.register.history c.self.inside.tree c.self.inside.hubs = rw (← c.self.view_is) at c.requires.tied in
+    tied_on_same g.R.Resource e c.promise.ensures.lawful next was c.write.ensures.events refl refl u.nodes
+    (subst (λ (k : List Event). IsTied g.R.Resource k new) (sym c.write.ensures.events) (tied_still g.R.Resource h e c.promise.ensures.lawful next old tied new refl refl (λ n. refl) u.nodes u.chain (stored_used g.R.Resource h c.promise.ensures.lawful old new tied.stored c.promise-2.ensures.resources_apart u.nodes (store_key c.args.res) f.stowed u.after f.found u.uses u.tag u.life u.written)))
 
 pub returns-clause-kept : goal.returns-clause-kept
 returns-clause-kept g c =
@@ -55,3 +61,13 @@ returns-clause-kept g c =
     let f = held_found old c.args.res held in
     let u = of_found (stowed_of old c.args.res) f.stowed (Uses g.R.Resource old new c.args.res) f.found c.apply-answer.ensures in
     rw (← c.self.view_is) (held_rewritten old new (length c.self.inside.register.history) (store_key c.args.res) (with_resource u.after) u.nodes u.written (λ x h. h))
+
+pub returns-clause-memory : goal.returns-clause-memory
+returns-clause-memory g c =
+    let old = c.self.inside.tree in
+    let new = c.apply-answer.new.self in
+    let held : is_held_at old c.args.res ≡ true = rw (← c.self.view_is) at c.requires.held in
+    let f = held_found old c.args.res held in
+    let u = of_found (stowed_of old c.args.res) f.stowed (Uses g.R.Resource old new c.args.res) f.found c.apply-answer.ensures in
+    written_memory (Use c.args.res.number ∷ []) (returns-clause-written g c) (rw (← c.self.view_is) (ap (λ (s : Slots Node). s.count + s.room) u.nodes)) (rw (← c.self.view_is) (same_places old.resources new.resources u.written.rest)) (rw (← c.self.view_is) (ap (λ (s : Slots Node). s.count + (vec_capacity c.self.inside.closed - s.count)) u.nodes)) (rw (← c.self.view_is) refl)
+    (rw (← c.self.view_is) refl)

@@ -1,0 +1,218 @@
+-- What an opening leaves of the tie, where it takes the place of an open inner and where it does not.
+use Rattle.std.proofs.Common.{◌≡◌, ℕ, suc, ◌+◌, ◌<◌, ◌≤◌, Bool, true, false, List, [], ◌∷◌, ◌++◌, length, Option, Some, None, is_some, IsSome, IfSome, option_map, refl, sym, ap, subst, ◌∙◌, arith, inl, inr, ◌⊎◌}
+use Rattle.std.specs.Prelude.{IfNone}
+use Rattle.std.proofs.Math.Bool.{not, ◌&&◌}
+use Rattle.std.proofs.lemmas.Bool.{ne_eqb, cases_Bool}
+use Rattle.std.proofs.lemmas.Option.{none-some, same_Some}
+use Rattle.std.proofs.lemmas.List.Sums.{count_by-le-length}
+use Rattle.std.proofs.lemmas.List.FromFn.{length-range_with_len}
+use Rattle.rx_resource.specs.declared.Resource.{Ghosts}
+use Rattle.rx_event.specs.declared.marks.Marks.{Marks}
+use Rattle.rx_event.specs.declared.event.Place.{Place}
+use Rattle.rx_event.specs.declared.event.Place.TheVariants.{Root, Source, Inner, Notifier}
+use Rattle.rx_event.specs.declared.event.Kind.{Kind}
+use Rattle.rx_event.specs.declared.event.Event.{Event}
+use Rattle.rx_event.specs.declared.event.Event.TheVariants.{Open}
+use Rattle.rx_event.specs.Events.{parent_named, named_by, is_switch, is_inner_of}
+use Rattle.rx_event.specs.Tree.{at, is_open, places, is_open_child_of, is_within}
+use Rattle.rx_event.specs.Moments.{owed}
+use Rattle.rx_event.specs.Marks.{marks_of, open_children, after_source, after_notifier, after_inner}
+use Rattle.rx_event.specs.Lawful.{MayFollow, IsLawful}
+use Rattle.rx_event.proofs.Laws.Openness.{is_open_kept, is_open_cut, is_cut_inner, is_open_within}
+use Rattle.rx_event.proofs.Laws.Steps.{may_open, may_name}
+use Rattle.rx_event.proofs.Laws.Switches.{is_open-inner_switch, is_open-inner_first, is_open-inner_flat}
+use Rattle.rx_event.proofs.Laws.MarksTouched.{marks-source_at, marks-notifier_at, marks-inner_at_flat, marks-inner_at_first, marks-inner_at_next}
+use Rattle.rx_slots.specs.declared.Key.{Key}
+use Rattle.rx_slots.specs.Slots.{find}
+use Rattle.rx_tree.specs.declared.node.Node.{Node}
+use Rattle.rx_tree.specs.Tree.{Tree, IsSound, AreApart, IsNewest, IsPlaced}
+use Rattle.rx_tree.proofs.Laws.Keys.{some_of}
+use Rattle.rx_tree.proofs.Laws.Newest.{newest_fewer}
+use Rattle.rx_ground.specs.Ties.{IsTied, IsRecordOf, Remarks, IsNewNode, opened_marks}
+use Rattle.rx_ground.specs.Inners.{ReplacesNone, Exchanges, MakesWay}
+use Rattle.rx_ground.proofs.Records.{AreLeft, all_left, cut_left}
+use Rattle.rx_ground.proofs.Tied.{IsOpenedIn, found_still, still_there, rewritten_there, tied_root, tied_below}
+
+-- what an opening closes --------------------------------------------------------------------------
+
+-- where it takes the place of none it closes none
+pub none_closed : (h : List Event) (place : Place) (kind : Kind) → ReplacesNone h place → (n : ℕ) → n < length h → is_open (h ++ Open place kind ∷ []) n ≡ is_open h n
+none_closed h Root kind none n l = is_open_kept h (Open Root kind) n l refl
+none_closed h (Source f) kind none n l = is_open_kept h (Open (Source f) kind) n l refl
+none_closed h (Notifier f) kind none n l = is_open_kept h (Open (Notifier f) kind) n l refl
+none_closed h (Inner f) kind none n l = by_test (cases_Bool (at is_switch h f)) where
+  by_test : (at is_switch h f ≡ true) ⊎ (at is_switch h f ≡ false) → is_open (h ++ Open (Inner f) kind ∷ []) n ≡ is_open h n
+  by_test (inl switch) = is_open-inner_first h f kind (none f refl switch) n l
+  by_test (inr flat) = is_open-inner_flat h f kind flat n l
+
+-- the node above stays open
+above_open : (h : List Event) (place : Place) (kind : Kind) (p : ℕ) → MayFollow h (Open place kind) → named_by place ≡ Some p → is_open (h ++ Open place kind ∷ []) p ≡ true
+above_open h Root kind p next named = absurd (none-some p named)
+above_open h (Source f) kind p next named = let alive = may_name next named in is_open_kept h (Open (Source f) kind) p (is_open_within h p alive) refl ∙ alive
+above_open h (Notifier f) kind p next named = let alive = may_name next named in is_open_kept h (Open (Notifier f) kind) p (is_open_within h p alive) refl ∙ alive
+above_open h (Inner f) kind p next named =
+    let alive = may_name next named in
+    let same = same_Some f p named in
+    is_open_cut h (Open (Inner f) kind) p (is_open_within h p alive) ∙ rw (alive, is_cut_inner h f kind p (omega arith)) refl
+
+same_inner : (f q : ℕ) → Inner f ≡ Inner q → f ≡ q
+same_inner f q same = same_Some f q (ap named_by same)
+
+-- an opening leaves no more owed
+pub opened_owes : (replaces : Bool) (place : Place) (m : Marks) → (opened_marks replaces place m).owed ≤ m.owed
+opened_owes replaces Root m = omega arith
+opened_owes replaces (Source f) m = omega arith
+opened_owes replaces (Inner f) m = omega arith
+opened_owes replaces (Notifier f) m = omega arith
+
+-- the tree that is ready for an opening -------------------------------------------------------------
+
+module _ {T : Type 0} (g : Ghosts T) (h : List Event) (place : Place) (kind : Kind) (law : IsLawful h) (next : MayFollow h (Open place kind)) (old left : Tree T) (tied : IsTied g h old) (sound : IsSound old.nodes) (replaces : Bool) (way : MakesWay h place old left replaces) where
+  -- it has the records of the nodes that stay open
+  pub way_left : AreLeft h (Open place kind) old.nodes left.nodes old.chain left.chain
+  way_left = by_test (cases_Bool replaces) where
+    exchanged : Exchanges h place old left → AreLeft h (Open place kind) old.nodes left.nodes old.chain left.chain
+    exchanged x =
+        let switch = x.replaced.switch in
+        let c = x.inner.number in
+        let found = some_of (find old.nodes x.inner) x.replaced.inner.found in
+        let alive : is_open h c ≡ true = (tied.records.each x.inner found.0 found.1).alive in
+        let opens : (n : ℕ) → n < length h → is_open (h ++ Open place kind ∷ []) n ≡ (is_open h n && not (is_within h c n)) = λ n l. ap (λ (q : Place). is_open (h ++ Open q kind ∷ []) n) x.replaced.named ∙ is_open-inner_switch h switch c kind law x.replaced.switches x.replaced.inner.stands alive n l in
+        cut_left h (Open place kind) law next old.nodes old.chain tied.records left.nodes left.chain c sound opens x.cuts.nodes x.cuts.chain
+
+    by_test : (replaces ≡ true) ⊎ (replaces ≡ false) → AreLeft h (Open place kind) old.nodes left.nodes old.chain left.chain
+    by_test (inl takes) = exchanged (way.exchanged takes)
+    by_test (inr leaves) = subst (λ (t : Tree T). AreLeft h (Open place kind) old.nodes t.nodes old.chain t.chain) (sym (way.same leaves)) (all_left h (Open place kind) law next old.nodes old.chain tied.records (none_closed h place kind (way.none leaves)))
+
+  pub way_resources : left.resources ≡ old.resources
+  way_resources = by_test (cases_Bool replaces) where
+    by_test : (replaces ≡ true) ⊎ (replaces ≡ false) → left.resources ≡ old.resources
+    by_test (inl takes) = (way.exchanged takes).cuts.resources
+    by_test (inr leaves) = ap (λ (t : Tree T). t.resources) (way.same leaves)
+
+  -- an inner changes the marks of the node above as it takes the place of another or not
+  way_marks : (f : ℕ) → place ≡ Inner f → marks_of (h ++ Open (Inner f) kind ∷ []) f ≡ after_inner replaces (marks_of h f)
+  way_marks f named = by_test (cases_Bool replaces) where
+    may : MayFollow h (Open (Inner f) kind)
+    may = subst (λ (q : Place). MayFollow h (Open q kind)) named next
+
+    exchanged : Exchanges h place old left → marks_of (h ++ Open (Inner f) kind ∷ []) f ≡ after_inner true (marks_of h f)
+    exchanged x =
+        let same : x.replaced.switch ≡ f = same_inner x.replaced.switch f (sym x.replaced.named ∙ named) in
+        let found = some_of (find old.nodes x.inner) x.replaced.inner.found in
+        let alive : is_open h x.inner.number ≡ true = (tied.records.each x.inner found.0 found.1).alive in
+        marks-inner_at_next h f x.inner.number kind law may (ap (at is_switch h) (sym same) ∙ x.replaced.switches) (ap (λ n. at (is_inner_of n) h x.inner.number) (sym same) ∙ x.replaced.inner.stands) alive
+
+    beside : ReplacesNone h place → (at is_switch h f ≡ true) ⊎ (at is_switch h f ≡ false) → marks_of (h ++ Open (Inner f) kind ∷ []) f ≡ after_inner false (marks_of h f)
+    beside none (inl switch) = marks-inner_at_first h f kind law may (none f named switch)
+    beside none (inr flat) = marks-inner_at_flat h f kind law may flat
+
+    by_test : (replaces ≡ true) ⊎ (replaces ≡ false) → marks_of (h ++ Open (Inner f) kind ∷ []) f ≡ after_inner replaces (marks_of h f)
+    by_test (inl takes) = exchanged (way.exchanged takes) ∙ ap (λ b. after_inner b (marks_of h f)) (sym takes)
+    by_test (inr leaves) = beside (way.none leaves) (cases_Bool (at is_switch h f)) ∙ ap (λ b. after_inner b (marks_of h f)) (sym leaves)
+
+  -- the node above is there, as it was
+  pub above_found : (p : Key) (x : Node) → named_by place ≡ Some p.number → find old.nodes p ≡ Some x → find left.nodes p ≡ Some x
+  above_found p x named found = way_left.still p x found (above_open h place kind p.number next named)
+
+  pub above_there : (above : Option Key) → named_by place ≡ option_map (λ k. k.number) above → IfSome above (λ k. IsSome (find old.nodes k)) → IfSome above (λ k. IsSome (find left.nodes k))
+  above_there None named there = tt
+  above_there (Some p) named there = let x = some_of (find old.nodes p) there in ap is_some (above_found p x.0 named x.1)
+
+  -- so the new node may stand where it is to stand
+  pub way_placed : (n : ℕ) (above : Option Key) → IsPlaced old.nodes n (Open place kind) above → IsPlaced left.nodes n (Open place kind) above
+  way_placed n above placed = record { makes = placed.makes; named = placed.named; lower = placed.lower; there = above_there above placed.named placed.there }
+
+  pub way_newest : (n : ℕ) → IsNewest old n → IsNewest left n
+  way_newest n newest = newest_fewer old left n (λ k some. let x = some_of (find left.nodes k) some in ap is_some (way_left.was k x.0 x.1)) way_resources newest
+
+  -- the tree with the new node ----------------------------------------------------------------------
+
+  module _ (mid new : Tree T) (key : Key) (above : Option Key) (named : named_by place ≡ option_map (λ k. k.number) above) (there : IfSome above (λ k. IsSome (find old.nodes k))) (opened : IsOpenedIn h (Open place kind) above left mid key) where
+    -- the node above is there, with the marks that the history gives
+    pub above_there_still : IfSome above (λ k. IsSome (find mid.nodes k))
+    above_there_still = by_above above named there opened where
+      by_above : (o : Option Key) → named_by place ≡ option_map (λ k. k.number) o → IfSome o (λ k. IsSome (find old.nodes k)) → IsOpenedIn h (Open place kind) o left mid key → IfSome o (λ k. IsSome (find mid.nodes k))
+      by_above None named there opened = tt
+      by_above (Some p) named there opened =
+          let here = above_there (Some p) named there in
+          ap is_some (found_still g h law old left mid tied key (Open place kind) (Some p) opened p here) ∙ here
+
+    pub above_marks : (P : Node → Type 0) → ((p : Key) (x : Node) → named_by place ≡ Some p.number → IsRecordOf h p.number x → P x) → IfSome above (λ k. IfSome (find mid.nodes k) P)
+    above_marks P holds = by_above above named there opened where
+      by_above : (o : Option Key) → named_by place ≡ option_map (λ k. k.number) o → IfSome o (λ k. IsSome (find old.nodes k)) → IsOpenedIn h (Open place kind) o left mid key → IfSome o (λ k. IfSome (find mid.nodes k) P)
+      by_above None named there opened = tt
+      by_above (Some p) named there opened =
+          let x = some_of (find old.nodes p) there in
+          let here = above_found p x.0 named x.1 in
+          subst (λ o. IfSome o P) (sym (found_still g h law old left mid tied key (Open place kind) (Some p) opened p (ap is_some here) ∙ here)) (holds p x.0 named (tied.records.each p x.0 x.1))
+
+    -- it has few children
+    pub few_above : (most : ℕ) → length h < most → IfSome above (λ k. IfSome (find mid.nodes k) (λ node. node.marks.open_children + 1 < suc most))
+    unfolding open_children
+    few_above most less = above_marks (λ node. node.marks.open_children + 1 < suc most) (λ p x named is.
+        let count = count_by-le-length (λ m. is_open_child_of h p.number m) (places h) in
+        let all = length-range_with_len 0 (length h) in
+        let children : x.marks.open_children ≡ open_children h p.number = ap (λ (m : Marks). m.open_children) is.marks in
+        omega arith)
+
+    -- and where an inner is opened it owes something
+    pub owes_above : (f : ℕ) → place ≡ Inner f → IfSome above (λ k. IfSome (find mid.nodes k) (λ node. 0 < node.marks.owed))
+    owes_above f inner = above_marks (λ node. 0 < node.marks.owed) (λ p x named is.
+        let free = may_open (subst (λ (q : Place). MayFollow h (Open q kind)) inner next) in
+        let same : f ≡ p.number = same_Some f p.number (sym (ap named_by inner) ∙ named) in
+        let owes : 0 < owed h p.number = subst (λ n. 0 < owed h n) same free.2 in
+        let owing : x.marks.owed ≡ owed h p.number = ap (λ (m : Marks). m.owed) is.marks in
+        omega arith)
+
+    -- no other node came
+    pub opened_new : IfSome above (λ k. Remarks mid new k (opened_marks replaces place)) → IfNone above (new ≡ mid) → IsNewNode old.nodes new.nodes (length h) key
+    opened_new marked same = by_above above named there opened marked same where
+      before : (o : Option Key) → IsOpenedIn h (Open place kind) o left mid key → (k : Key) → IsSome (find mid.nodes k) → k.number < length h → IsSome (find old.nodes k)
+      before o opened k some less =
+          let here = sym (ap is_some (opened.others k (λ same. absurd (let n = ap (λ (j : Key). j.number) same in let m = opened.numbered in omega arith)))) ∙ some in
+          let x = some_of (find left.nodes k) here in
+          ap is_some (way_left.was k x.0 x.1)
+
+      by_above : (o : Option Key) → named_by place ≡ option_map (λ k. k.number) o → IfSome o (λ k. IsSome (find old.nodes k)) → IsOpenedIn h (Open place kind) o left mid key → IfSome o (λ k. Remarks mid new k (opened_marks replaces place)) → IfNone o (new ≡ mid) → IsNewNode old.nodes new.nodes (length h) key
+      by_above None named there opened marked same = subst (λ (t : Tree T). IsNewNode old.nodes t.nodes (length h) key) (sym same) (record { numbered = opened.numbered; found = ap is_some opened.found; from = before None opened })
+      by_above (Some p) named there opened marked same = record {
+        numbered = opened.numbered;
+        found = still_there p marked.nodes key (ap is_some opened.found);
+        from = λ k some less. before (Some p) opened k (rewritten_there p marked.nodes k some) less;
+      }
+
+    -- what is left is there
+    pub opened_found : IfSome above (λ k. Remarks mid new k (opened_marks replaces place)) → IfNone above (new ≡ mid) →
+        (k : Key) → IsSome (find left.nodes k) → IsSome (find new.nodes k)
+    opened_found marked same k some = by_above above opened marked same where
+      by_above : (o : Option Key) → IsOpenedIn h (Open place kind) o left mid key → IfSome o (λ p. Remarks mid new p (opened_marks replaces place)) →
+          IfNone o (new ≡ mid) → IsSome (find new.nodes k)
+      by_above None opened marked same =
+          ap (λ (t : Tree T). is_some (find t.nodes k)) same ∙ ap is_some (found_still g h law old left mid tied key (Open place kind) None opened k some) ∙ some
+      by_above (Some p) opened marked same =
+          still_there p marked.nodes k (ap is_some (found_still g h law old left mid tied key (Open place kind) (Some p) opened k some) ∙ some)
+
+-- the tie after an opening --------------------------------------------------------------------------
+
+module _ {T : Type 0} (g : Ghosts T) (h : List Event) (kind : Kind) (law : IsLawful h) (old left mid new : Tree T) (tied : IsTied g h old) (sound : IsSound old.nodes) (replaces : Bool) (key : Key) where
+  pub opened_tied : (place : Place) (above : Option Key) → MayFollow h (Open place kind) → MakesWay h place old left replaces → AreApart mid.nodes → parent_named (Open place kind) ≡ option_map (λ k. k.number) above → IfSome above (λ k. IsSome (find old.nodes k)) → IsOpenedIn h (Open place kind) above left mid key → IfSome above (λ k. Remarks mid new k (opened_marks replaces place)) → IfNone above (new ≡ mid) → IsTied g (h ++ Open place kind ∷ []) new
+  opened_tied Root None next way apart named there opened marked same =
+      let stays = way_left g h Root kind law next old left tied sound replaces way in
+      subst (IsTied g (h ++ Open Root kind ∷ [])) (sym same) (tied_root g h kind law old left mid new tied key next stays (way_resources g h Root kind law next old left tied sound replaces way) opened)
+  opened_tied Root (Some p) next way apart named there opened marked same = absurd (none-some p.number named)
+  opened_tied (Source f) None next way apart named there opened marked same = absurd (none-some f (sym named))
+  opened_tied (Source f) (Some p) next way apart named there opened marked same =
+      let at : p.number ≡ f = sym (same_Some f p.number named) in
+      tied_below g h kind law old left mid new tied key (Source f) p after_source next (way_left g h (Source f) kind law next old left tied sound replaces way) (way_resources g h (Source f) kind law next old left tied sound replaces way) named (λ n differs. ne_eqb f n (λ same. differs (at ∙ same)))
+      (subst (λ (n : ℕ). marks_of (h ++ Open (Source f) kind ∷ []) n ≡ after_source (marks_of h n)) (sym at) (marks-source_at h f kind law next)) apart (above_there g h (Source f) kind law next old left tied sound replaces way (Some p) named there) opened marked
+  opened_tied (Notifier u) None next way apart named there opened marked same = absurd (none-some u (sym named))
+  opened_tied (Notifier u) (Some p) next way apart named there opened marked same =
+      let at : p.number ≡ u = sym (same_Some u p.number named) in
+      tied_below g h kind law old left mid new tied key (Notifier u) p after_notifier next (way_left g h (Notifier u) kind law next old left tied sound replaces way) (way_resources g h (Notifier u) kind law next old left tied sound replaces way) named (λ n differs. ne_eqb u n (λ same. differs (at ∙ same)))
+      (subst (λ (n : ℕ). marks_of (h ++ Open (Notifier u) kind ∷ []) n ≡ after_notifier (marks_of h n)) (sym at) (marks-notifier_at h u kind law next)) apart (above_there g h (Notifier u) kind law next old left tied sound replaces way (Some p) named there) opened marked
+  opened_tied (Inner f) None next way apart named there opened marked same = absurd (none-some f (sym named))
+  opened_tied (Inner f) (Some p) next way apart named there opened marked same =
+      let at : p.number ≡ f = sym (same_Some f p.number named) in
+      tied_below g h kind law old left mid new tied key (Inner f) p (after_inner replaces) next (way_left g h (Inner f) kind law next old left tied sound replaces way) (way_resources g h (Inner f) kind law next old left tied sound replaces way) named (λ n differs. ne_eqb f n (λ same. differs (at ∙ same)))
+      (subst (λ (n : ℕ). marks_of (h ++ Open (Inner f) kind ∷ []) n ≡ after_inner replaces (marks_of h n)) (sym at) (way_marks g h (Inner f) kind law next old left tied sound replaces way f refl)) apart (above_there g h (Inner f) kind law next old left tied sound replaces way (Some p) named there) opened marked

@@ -1,0 +1,9 @@
+pub mod Emitted
+pub mod Members
+pub mod KeysKept
+pub mod Keys
+pub mod Numbers
+pub mod Kept
+pub mod Unforced
+pub mod Unpublished
+pub mod Unjoined

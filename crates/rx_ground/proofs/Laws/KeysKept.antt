@@ -1,0 +1,76 @@
+-- No key of an old node or resource comes back: not by one write, nor by more of them.
+use Rattle.std.proofs.Common.{◌≡◌, ℕ, ◌<◌, ◌≤◌, true, false, List, length, Option, Some, None, is_some, IsSome, refl, sym, ap, ◌∙◌, arith}
+use Rattle.std.proofs.Math.Bool.{not}
+use Rattle.std.specs.Option.{option_map_or}
+use Rattle.std.proofs.lemmas.Bool.{and_parts, and_from}
+use Rattle.rx_resource.specs.declared.Resource.{Ghosts}
+use Rattle.rx_event.specs.declared.event.Event.{Event}
+use Rattle.rx_event.specs.Lawful.{IsLawful}
+use Rattle.rx_slots.specs.declared.Key.{Key}
+use Rattle.rx_slots.specs.Slots.{Slots, find}
+use Rattle.rx_tree.specs.declared.node.Node.{Node}
+use Rattle.rx_tree.specs.declared.node.Stowed.{Stowed}
+use Rattle.rx_tree.specs.declared.node.ResKey.{ResKey}
+use Rattle.rx_tree.specs.Tree.{Tree}
+use Rattle.rx_tree.specs.Resources.{store_key, is_held, is_held_at}
+use Rattle.rx_ground.specs.Ties.{IsTied, KeepsNodes, KeepsHeld, IsNewNode}
+use Rattle.rx_ground.proofs.Stored.{stored_within}
+
+module _ {T : Type 0} where
+  -- of what is older than this, only what was there is there
+  pub record KeepsKeys (old new : Tree T) (number : ℕ) : Type 0 where
+    pub nodes : (key : Key) → IsSome (find new.nodes key) → key.number < number → IsSome (find old.nodes key)
+    pub held : (res : ResKey) → is_held_at new res ≡ true → res.number < number → is_held_at old res ≡ true
+
+  -- one change after another
+  pub keeps_on : (old mid new : Tree T) (number later : ℕ) → number ≤ later → KeepsKeys old mid number → KeepsKeys mid new later → KeepsKeys old new number
+  keeps_on old mid new number later le first then = record {
+    nodes = λ key there l. first.nodes key (then.nodes key there (omega arith)) l;
+    held = λ res held l. first.held res (then.held res held (omega arith)) l;
+  }
+
+  -- where no resource changed, what is held was held, if its node was there
+  pub held_before : (old new : Tree T) → new.resources ≡ old.resources → (res : ResKey) →
+      ((s : Stowed T) → find old.resources (store_key res) ≡ Some s → IsSome (find new.nodes s.node) → IsSome (find old.nodes s.node)) →
+      is_held_at new res ≡ true → is_held_at old res ≡ true
+  held_before old new same res from held = by_value (find old.resources (store_key res)) refl
+      (sym (ap (λ (r : Slots (Stowed T)). option_map_or (is_held new.nodes) (find r (store_key res)) false) same) ∙ held) where
+        by_value : (o : Option (Stowed T)) → find old.resources (store_key res) ≡ o → option_map_or (is_held new.nodes) o false ≡ true →
+            option_map_or (is_held old.nodes) o false ≡ true
+        by_value None none e = e
+        by_value (Some s) found e =
+            let p = and_parts (is_some (find new.nodes s.node)) (not s.removed) e in
+            and_from (is_some (find old.nodes s.node)) (not s.removed) (from s found p.0) p.1
+
+  -- a closing
+  pub keeps_closed : (h : List Event) (old new : Tree T) (number : ℕ) → KeepsNodes h old.nodes new.nodes → new.resources ≡ old.resources →
+      KeepsKeys old new number
+  keeps_closed h old new number kept same = record {
+    nodes = λ key there l. kept.from key there;
+    held = λ res held l. held_before old new same res (λ s found there. kept.from s.node there) held;
+  }
+
+  -- what changes no node
+  pub keeps_held : (old new : Tree T) (number : ℕ) → new.nodes ≡ old.nodes → KeepsHeld old new number → KeepsKeys old new number
+  keeps_held old new number same kept = record {
+    nodes = λ key there l. ap (λ (nodes : Slots Node). is_some (find nodes key)) (sym same) ∙ there;
+    held = kept.from;
+  }
+
+  -- what changes no tree
+  pub keeps_same : (old new : Tree T) (number : ℕ) → new ≡ old → KeepsKeys old new number
+  keeps_same old new number same = record {
+    nodes = λ key there l. ap (λ (tree : Tree T). is_some (find tree.nodes key)) (sym same) ∙ there;
+    held = λ res held l. ap (λ (tree : Tree T). is_held_at tree res) (sym same) ∙ held;
+  }
+
+  -- an opening: each resource is held at an older node
+  pub keeps_opened : (g : Ghosts T) (h : List Event) (old new : Tree T) (key : Key) → IsLawful h → IsTied g h old →
+      IsNewNode old.nodes new.nodes (length h) key → new.resources ≡ old.resources → KeepsKeys old new (length h)
+  keeps_opened g h old new key law tied opened same = record {
+    nodes = opened.from;
+    held = λ res held l. held_before old new same res (λ s found there. opened.from s.node there (older (store_key res) s found)) held;
+  }
+    where
+      older : (k : Key) (s : Stowed T) → find old.resources k ≡ Some s → s.node.number < length h
+      older k s found = let w = stored_within g h law old.nodes k.number s (tied.stored.each k s found) in let r = w.0 in let n = w.1 in omega arith

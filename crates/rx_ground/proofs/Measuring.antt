@@ -1,0 +1,119 @@
+-- What is counted of an item on its way.
+use Rattle.std.proofs.Common.{◌≡◌, ℕ, zero, suc, ◌+◌, ◌++◌, ◌<◌, ◌≤◌, true, false, nat_lt, List, [], ◌∷◌, length, Option, Some, None, refl, sym, ap, ◌∙◌, arith}
+use Rattle.std.proofs.Math.Bool.{not}
+use Rattle.std.specs.List.{filter_map, cons_option}
+use Rattle.std.proofs.lemmas.Bool.{lt-ltb, le-ltb}
+use Rattle.rx_event.specs.Climb.{most_visits}
+use Rattle.rx_slots.specs.declared.Key.{Key}
+use Rattle.rx_slots.specs.Slots.{Slots}
+use Rattle.rx_tree.specs.declared.node.Node.{Node}
+use Rattle.rx_flow.specs.declared.stop.Stop.{Stop}
+use Rattle.rx_flow.specs.declared.stop.Stop.TheVariants.{Delivery, Projection, Firing, Connection}
+use Rattle.rx_hub.specs.Hubs.{Hub}
+use Rattle.rx_hub.specs.Route.{Route, IsUnderWay, Arrives, stops_left, all_visits}
+use Rattle.rx_hub.specs.Walk.{visited_over, onward_over, climb_over, stops_over, arrival_at}
+use Rattle.rx_ground.specs.Passing.{IsMeasured, owed_at, told_at, sum_at}
+
+-- the limit ---------------------------------------------------------------------------------------
+
+limit_is : most_visits ≡ 1048576
+unfolding most_visits
+limit_is = refl
+
+pub filtered_few : {X Y : Type 0} (f : X → Option Y) (xs : List X) → length (filter_map f xs) ≤ length xs
+filtered_few f [] = omega arith
+filtered_few {X = X} {Y = Y} f (x ∷ xs) = by_value (f x) (filtered_few f xs) where
+  by_value : (o : Option Y) → length (filter_map f xs) ≤ length xs → length (cons_option o (filter_map f xs)) ≤ suc (length xs)
+  by_value None few = omega arith
+  by_value (Some y) few = omega arith
+
+visited_few : (left : ℕ) (nodes : Slots Node) (hubs : List Hub) (keys : List Key) → length (visited_over left nodes hubs keys) ≤ left
+visited_few zero nodes hubs keys = omega arith
+visited_few (suc left) nodes hubs [] = omega arith
+visited_few (suc left) nodes hubs (key ∷ keys) = let rest = visited_few left nodes hubs (onward_over nodes hubs key ++ keys) in omega arith
+
+few : (a b c most : ℕ) → a ≤ b → b ≤ suc c → c ≡ most → a ≤ suc most
+few a b c most x y z = omega arith
+
+pub stops_few : (nodes : Slots Node) (hubs : List Hub) (key : Key) → length (stops_over nodes hubs key) ≤ 1048577
+stops_few nodes hubs key = few (length (stops_over nodes hubs key)) (length (climb_over nodes hubs key)) most_visits 1048576
+    (filtered_few (arrival_at nodes) (climb_over nodes hubs key)) (visited_few (suc most_visits) nodes hubs (key ∷ [])) limit_is
+
+pub visits_past : (n v : ℕ) → n ≡ v → 1048576 < n → false ≡ not (nat_lt most_visits v)
+visits_past n v same many = past n v most_visits same many limit_is where
+  past : (n v most : ℕ) → n ≡ v → 1048576 < n → most ≡ 1048576 → false ≡ not (nat_lt most v)
+  past n v most same many is = sym (ap not (lt-ltb most v (omega arith)))
+
+pub visits_within : (n v : ℕ) → n ≡ v → n ≤ 1048576 → true ≡ not (nat_lt most_visits v)
+visits_within n v same less = within n v most_visits same less limit_is where
+  within : (n v most : ℕ) → n ≡ v → n ≤ 1048576 → most ≡ 1048576 → true ≡ not (nat_lt most v)
+  within n v most same less is = sym (ap not (le-ltb most v (omega arith)))
+
+-- on its way --------------------------------------------------------------------------------------
+
+-- so much was counted, and the rest is ahead
+pub record IsMeasuring (nodes : Slots Node) (hubs : List Hub) (key : Key) (room : ℕ) (route : Route) (events notes : ℕ) : Type 0 where
+  pub under_way : IsUnderWay nodes hubs route
+  pub room_is : route.room ≡ room
+  pub visits : all_visits nodes hubs route ≡ length (climb_over nodes hubs key)
+  pub owed : events + sum_at owed_at (stops_left nodes hubs route) ≡ 1 + sum_at owed_at (stops_over nodes hubs key)
+  pub told : notes + sum_at told_at (stops_left nodes hubs route) ≡ sum_at told_at (stops_over nodes hubs key)
+  pub few_events : events + length (stops_left nodes hubs route) ≤ 1048578
+  pub few_notes : notes + length (stops_left nodes hubs route) ≤ 1048577
+
+one_at : (stop : Stop) → (owed_at stop ≤ 1) × (told_at stop ≤ 1)
+one_at (Delivery key) = (omega arith, omega arith)
+one_at (Projection key) = (omega arith, omega arith)
+one_at (Firing key) = (omega arith, omega arith)
+one_at (Connection key) = (omega arith, omega arith)
+
+module _ (nodes : Slots Node) (hubs : List Hub) (key : Key) (room : ℕ) where
+  pub measuring_starts : (route : Route) → IsUnderWay nodes hubs route → route.room ≡ room → all_visits nodes hubs route ≡ length (climb_over nodes hubs key) →
+      stops_left nodes hubs route ≡ stops_over nodes hubs key → IsMeasuring nodes hubs key room route 1 0
+  measuring_starts route under_way same visits left =
+      let n = ap (length {A = Stop}) left in
+      let all = stops_few nodes hubs key in
+      record {
+        under_way = under_way;
+        room_is = same;
+        visits = visits;
+        owed = ap (λ (ss : List Stop). 1 + sum_at owed_at ss) left;
+        told = let t = ap (sum_at told_at) left in omega arith;
+        few_events = omega arith;
+        few_notes = omega arith;
+      }
+
+  pub measuring_on : (old new : Route) (events notes : ℕ) (stop : Stop) → IsMeasuring nodes hubs key room old events notes → Arrives nodes hubs old new (Some stop) →
+      IsMeasuring nodes hubs key room new (events + owed_at stop) (notes + told_at stop)
+  measuring_on old new events notes stop was arrives =
+      let one = one_at stop in
+      let a = one.0 in
+      let b = one.1 in
+      let n : length (stops_left nodes hubs old) ≡ suc (length (stops_left nodes hubs new)) = ap (length {A = Stop}) arrives.stops in
+      let o : sum_at owed_at (stops_left nodes hubs old) ≡ owed_at stop + sum_at owed_at (stops_left nodes hubs new) = ap (sum_at owed_at) arrives.stops in
+      let t : sum_at told_at (stops_left nodes hubs old) ≡ told_at stop + sum_at told_at (stops_left nodes hubs new) = ap (sum_at told_at) arrives.stops in
+      let w = was.owed in
+      let x = was.told in
+      let y = was.few_events in
+      let z = was.few_notes in
+      record {
+        under_way = arrives.under_way;
+        room_is = arrives.room ∙ was.room_is;
+        visits = arrives.visits ∙ was.visits;
+        owed = omega arith;
+        told = omega arith;
+        few_events = omega arith;
+        few_notes = omega arith;
+      }
+
+  -- at the end all was counted
+  pub measuring_ends : (old new : Route) (events notes : ℕ) → IsMeasuring nodes hubs key room old events notes → Arrives nodes hubs old new None →
+      IsMeasured (stops_over nodes hubs key) (record { events = events; notes = notes }) × (new.visits ≡ length (climb_over nodes hubs key)) × (new.room ≡ room)
+  measuring_ends old new events notes was arrives =
+      let none : stops_left nodes hubs old ≡ [] = arrives.stops ∙ arrives.ended in
+      let o = ap (sum_at owed_at) none in
+      let t = ap (sum_at told_at) none in
+      let w = was.owed in
+      let x = was.told in
+      let z = was.few_notes in
+      (record { events = omega arith; notes = omega arith; few = omega arith }, arrives.counted ∙ was.visits, arrives.room ∙ was.room_is)

@@ -1,0 +1,176 @@
+-- What all open FlatMaps and Switches owe together, by the history and by the records of a tree, and that it stays within 64 bits.
+use Rattle.std.proofs.Common.{◌≡◌, ℕ, zero, suc, ◌+◌, ◌*◌, ◌<◌, ◌≤◌, Bool, true, false, cond, List, [], ◌∷◌, ◌++◌, length, Option, Some, None, is_some, IsSome, option_map, refl, sym, ap, ◌∙◌, inl, inr, ◌⊎◌, arith, length-append}
+use Rattle.std.proofs.Math.Bool.{not, ◌&&◌}
+use Rattle.std.specs.List.{AllByRecursion, count_by, filter_map, cons_option}
+use Rattle.std.proofs.lemmas.Bool.{cases_order}
+use Rattle.std.proofs.lemmas.Option.{none-some, same_Some, slice_get_past}
+use Rattle.std.proofs.lemmas.List.Sums.{sum_by-cons}
+use Rattle.rx_resource.specs.declared.Resource.{Ghosts}
+use Rattle.rx_event.specs.declared.event.Event.{Event}
+use Rattle.rx_event.specs.declared.event.Event.TheVariants.{Item}
+use Rattle.rx_event.specs.declared.marks.Marks.{Marks}
+use Rattle.rx_event.specs.Events.{is_merging, pays}
+use Rattle.rx_event.specs.Tree.{at, is_open}
+use Rattle.rx_event.specs.Climb.{Stop, stop_at, onward, visited, most_visits, climb, stops}
+use Rattle.rx_event.specs.Moments.{moments, projections, owed, is_projection, is_projection_to, stops_of}
+use Rattle.rx_event.specs.Totals.{owed_open, owed_count}
+use Rattle.rx_event.specs.Claims.Climbs.{StopsAtOpen}
+use Rattle.rx_event.specs.Lawful.{MayFollow, IsLawful}
+use Rattle.rx_event.proofs.Laws.Places.{at-append}
+use Rattle.rx_event.proofs.Laws.Counts.{projections-push}
+use Rattle.rx_event.proofs.Laws.Openness.{is_cut, is_open_cut, is_open_within}
+use Rattle.rx_event.proofs.Laws.Steps.{by_pushes, by_events, may_emit}
+use Rattle.rx_event.proofs.Laws.Sums.{sum_by-places-push, sum_by-plus, sum_by_no_rise}
+use Rattle.rx_event.proofs.Laws.Projections.{projects_none, owed-push, owed_new, projected_open, projected_count, stops_open}
+use Rattle.rx_slots.specs.declared.Key.{Key}
+use Rattle.rx_slots.specs.Slots.{Slots, find}
+use Rattle.rx_tree.specs.declared.node.Node.{Node}
+use Rattle.rx_tree.specs.Tree.{Tree, AreApart}
+use Rattle.rx_tree.specs.Owed.{owed_in}
+use Rattle.rx_tree.proofs.Laws.Owed.{owed_part, owed_in-numbers}
+use Rattle.rx_register.specs.State.{State as Register, IsPromised}
+use Rattle.rx_ground.specs.Ties.{AreRecords, IsTied}
+
+-- what one node owes ------------------------------------------------------------------------------
+
+merging_before : (h : List Event) (e : Event) (f : ℕ) → at is_merging (h ++ e ∷ []) f ≡ false → at is_merging h f ≡ false
+merging_before h e f plain = by_place (cases_order f (length h)) where
+  past : length h ≤ f → at is_merging h f ≡ false
+  past l = rw (slice_get_past h f l) refl
+
+  by_place : (f ≡ length h) ⊎ ((f < length h) ⊎ (length h < f)) → at is_merging h f ≡ false
+  by_place (inl same) = past (omega arith)
+  by_place (inr (inl l)) = sym (at-append is_merging h (e ∷ []) f l) ∙ plain
+  by_place (inr (inr gr)) = past (omega arith)
+
+-- what is no FlatMap or Switch was never projected to
+projections_none : (h : List Event) (f : ℕ) → at is_merging h f ≡ false → projections h f ≡ 0
+unfolding projections moments
+projections_none = by_pushes (λ h. (f : ℕ) → at is_merging h f ≡ false → projections h f ≡ 0) (λ f plain. refl) (λ h e before f plain.
+    let was = merging_before h e f plain in projections-push h e f ∙ rw (before f was, projects_none h e f was) refl)
+
+-- and owes nothing
+pub owed_none : (h : List Event) (f : ℕ) → at is_merging h f ≡ false → owed h f ≡ 0
+unfolding owed
+owed_none h f plain = let none = projections_none h f plain in omega arith
+
+-- what an open node owes
+pub owed_open-open : (h : List Event) (n : ℕ) → is_open h n ≡ true → owed_open h n ≡ owed h n
+owed_open-open h n alive = by_kind (at is_merging h n) refl where
+  by_kind : (b : Bool) → at is_merging h n ≡ b → owed_open h n ≡ owed h n
+  by_kind true merges = rw (alive, merges) refl
+  by_kind false plain = rw (alive, plain) (sym (owed_none h n plain))
+
+-- what all owe ------------------------------------------------------------------------------------
+
+-- an item is projected no more often than it makes visits
+projected_visits : (k : ℕ) (h : List Event) (todo : List ℕ) → count_by is_projection (filter_map (stop_at h) (visited k h todo)) ≤ k
+projected_visits zero h todo = omega arith
+projected_visits (suc k) h [] = omega arith
+projected_visits (suc k) h (n ∷ todo) = by_stop (stop_at h n) (projected_visits k h (onward h n ++ todo)) where
+  rest : List Stop
+  rest = filter_map (stop_at h) (visited k h (onward h n ++ todo))
+
+  one : (b : Bool) → cond {A = ℕ} b 1 0 ≤ 1
+  one true = omega arith
+  one false = omega arith
+
+  by_stop : (o : Option Stop) → count_by is_projection rest ≤ k → count_by is_projection (cons_option o rest) ≤ suc k
+  by_stop None few = omega arith
+  by_stop (Some s) few = let all = sum_by-cons (λ t. cond (is_projection t) 1 0) s rest in let first = one (is_projection s) in omega arith
+
+limit_is : suc most_visits ≡ 1048577
+unfolding most_visits
+limit_is = refl
+
+projected_item : (h : List Event) (l : ℕ) → count_by is_projection (stops h l) ≤ suc most_visits
+unfolding stops climb
+projected_item h l = projected_visits (suc most_visits) h (l ∷ [])
+
+few_projected : (h : List Event) (e : Event) (most : ℕ) → suc most_visits ≡ most → count_by is_projection (stops_of h e) ≤ most
+few_projected h (Item l v) most is = let few = projected_item h l in omega arith
+few_projected h _ most is = omega arith
+
+-- an event adds what it projects at most
+owed_count-rise : (h : List Event) (e : Event) → IsLawful h → MayFollow h e →
+    owed_count (h ++ e ∷ []) ≤ owed_count h + count_by is_projection (stops_of h e)
+owed_count-rise h e law next =
+    let last = sum_by-places-push (owed_open (h ++ e ∷ [])) h e in
+    let new = owes_none (is_open (h ++ e ∷ []) (length h) && at is_merging (h ++ e ∷ []) (length h)) (owed (h ++ e ∷ []) (length h)) (owed_new h e) in
+    let less = sum_by_no_rise (λ n. owed_open h n + projected_open h (stops_of h e) n) (owed_open (h ++ e ∷ [])) (length h) (λ n l.
+    rw (is_open_cut h e n l, at-append is_merging h (e ∷ []) n l)
+    (shape (is_open h n) (is_cut h e n) (at is_merging h n) (pays n e) (owed (h ++ e ∷ []) n) (owed h n) (count_by (is_projection_to n) (stops_of h e))
+    (owed-push h e law next n))) in
+    let parts = sum_by-plus (owed_open h) (projected_open h (stops_of h e)) (length h) in
+    let projected = projected_count h (stops_of h e) (well e next) in
+    omega arith
+  where
+    owes_none : (b : Bool) (k : ℕ) → k ≡ 0 → cond b k 0 ≡ 0
+    owes_none true k none = none
+    owes_none false k none = refl
+
+    shape : (o c m p : Bool) (x y k : ℕ) → x + cond p 1 0 ≡ y + k → cond ((o && not c) && m) x 0 ≤ cond (o && m) y 0 + cond (o && m) k 0
+    shape true true m p x y k same = omega arith
+    shape true false true p x y k same = omega arith
+    shape true false false p x y k same = omega arith
+    shape false c m p x y k same = omega arith
+
+    well : (e : Event) → MayFollow h e → AllByRecursion (StopsAtOpen h) (stops_of h e)
+    well (Item l v) next = stops_open h l law (may_emit next)
+    well _ next = tt
+
+-- so all that is owed is bounded by the number of events
+owed_count-le : (h : List Event) → IsLawful h → owed_count h ≤ 1048577 * length h
+owed_count-le = by_events (λ h. owed_count h ≤ 1048577 * length h) (omega arith) (λ h e law next before.
+    let rise = owed_count-rise h e law next in
+    let few = few_projected h e 1048577 limit_is in
+    omega (arith, length-append h (e ∷ [])))
+
+-- and of a history of at most 4,294,967,295 events it is far within 64 bits
+pub owed_count-bounded : (h : List Event) → IsLawful h → length h ≤ 4294967295 → owed_count h ≤ 4503603921289215
+owed_count-bounded h law within = let all = owed_count-le h law in omega arith
+
+-- by the records of a tree ------------------------------------------------------------------------
+
+-- a node's marks say what it owes by the history
+pub owed_told : (h : List Event) (nodes : Slots Node) (chain : List Key) → AreRecords h nodes chain → (key : Key) (marks : Marks) →
+    option_map (λ (node : Node). node.marks) (find nodes key) ≡ Some marks → marks.owed ≡ owed h key.number
+owed_told h nodes chain records key marks at_key = by_value (find nodes key) refl at_key where
+  by_value : (o : Option Node) → find nodes key ≡ o → option_map (λ (node : Node). node.marks) o ≡ Some marks → marks.owed ≡ owed h key.number
+  by_value None found none = absurd (none-some marks none)
+  by_value (Some node) found same = ap (λ (m : Marks). m.owed) (sym (same_Some node.marks marks same) ∙ (records.each key node found).marks)
+
+-- what the records owe together is what the history's FlatMaps and Switches do
+pub owed_in-count : (h : List Event) (nodes : Slots Node) (chain : List Key) → AreRecords h nodes chain → AreApart nodes → owed_in nodes ≡ owed_count h
+owed_in-count h nodes chain records apart = owed_in-numbers (owed_open h) (length h) nodes apart each every where
+  each : (key : Key) (node : Node) → find nodes key ≡ Some node → (key.number < length h) × (node.marks.owed ≡ owed_open h key.number)
+  each key node found =
+      let is = records.each key node found in
+      (is_open_within h key.number is.alive, ap (λ (m : Marks). m.owed) is.marks ∙ sym (owed_open-open h key.number is.alive))
+
+  every : (k : ℕ) → k < length h → 0 < owed_open h k → (key : Key) × (key.number ≡ k) × IsSome (find nodes key)
+  every k l some = by_test (is_open h k) refl some where
+    by_test : (b : Bool) → is_open h k ≡ b → 0 < cond (b && at is_merging h k) (owed h k) 0 → (key : Key) × (key.number ≡ k) × IsSome (find nodes key)
+    by_test true alive some = let has = records.every k alive in (has.key, has.numbered, ap is_some has.found)
+    by_test false shut some = absurd (omega arith)
+
+-- what one node owes is within it
+pub owed_marks-le : (nodes : Slots Node) (key : Key) (marks : Marks) → option_map (λ (node : Node). node.marks) (find nodes key) ≡ Some marks →
+    marks.owed ≤ owed_in nodes
+owed_marks-le nodes key marks at_key = by_value (find nodes key) refl at_key where
+  by_value : (o : Option Node) → find nodes key ≡ o → option_map (λ (node : Node). node.marks) o ≡ Some marks → marks.owed ≤ owed_in nodes
+  by_value None found none = absurd (none-some marks none)
+  by_value (Some node) found same =
+      let part = owed_part nodes key node found in
+      let owes = ap (λ (m : Marks). m.owed) (same_Some node.marks marks same) in
+      omega arith
+
+-- and all of it far within 64 bits
+pub owed_in-bounded : {T : Type 0} (g : Ghosts T) (s : Register) (tree : Tree T) → IsTied g s.history tree → IsPromised s → AreApart tree.nodes →
+    owed_in tree.nodes ≤ 4503603921289215
+owed_in-bounded g s tree tied promised apart =
+    let same = owed_in-count s.history tree.nodes tree.chain tied.records apart in
+    let within = promised.within in
+    let limited = promised.limited in
+    let all = owed_count-bounded s.history promised.lawful (omega arith) in
+    omega arith

@@ -1,0 +1,311 @@
+-- The hubs of a history, before and after an event that is written.
+use Rattle.std.proofs.Common.{◌≡◌, ℕ, suc, ◌+◌, ◌<◌, Bool, true, false, List, [], ◌∷◌, ◌++◌, map, length, Option, Some, None}
+use Rattle.std.proofs.Common.{◌≢◌, is_some, nat_lt, IsTrue, IsSome, IfSome, option_map, slice_get, refl, sym, ap, subst, ◌∙◌, inl, inr, ◌⊎◌, arith}
+use Rattle.std.specs.Option.{option_map_or, option_to_list}
+use Rattle.std.specs.List.{AllByRecursion, AllPairs, Contains, list_all}
+use Rattle.std.proofs.lemmas.Bool.{false≢true, cases_Bool, lt-ltb, ltb-true, ltb_from_iff}
+use Rattle.std.proofs.lemmas.List.{length-map}
+use Rattle.std.proofs.lemmas.List.Sums.{length-filter}
+use Rattle.std.proofs.lemmas.Option.{none-some, slice_get_within, slice_get-get_or, get_or_from_slice_get}
+use Rattle.rx_resource.specs.declared.Resource.{Ghosts}
+use Rattle.rx_event.specs.declared.event.Mode.{Mode}
+use Rattle.rx_event.specs.declared.event.Place.{Place}
+use Rattle.rx_event.specs.declared.event.Kind.{Kind}
+use Rattle.rx_event.specs.declared.event.Kind.TheVariants.{Sub}
+use Rattle.rx_event.specs.declared.event.Event.{Event}
+use Rattle.rx_event.specs.declared.event.Event.TheVariants.{Open, Hub as Publish, Connect}
+use Rattle.rx_event.specs.declared.marks.Marks.{Marks}
+use Rattle.rx_event.specs.Events.{makes_hub}
+use Rattle.rx_event.specs.Allowed.{most_hubs}
+use Rattle.rx_event.specs.Lawful.{MayFollow, IsLawful}
+use Rattle.rx_event.specs.Tree.{at, places, hubs as hubs_in}
+use Rattle.rx_event.proofs.Laws.Openness.{shuts_none, is_open_within}
+use Rattle.rx_event.proofs.Laws.Places.{at_within}
+use Rattle.rx_slots.specs.declared.Key.{Key}
+use Rattle.rx_slots.specs.Slots.{Slots, find}
+use Rattle.rx_tree.specs.declared.node.Node.{Node}
+use Rattle.rx_tree.specs.Tree.{Tree, IsSound}
+use Rattle.rx_tree.proofs.Laws.Keys.{some_of}
+use Rattle.rx_hub.specs.declared.hub.LastEnd.{LastEnd}
+use Rattle.rx_hub.specs.After.{joins_hubs, hubs_after, with_made, next_key, is_inside}
+use Rattle.rx_hub.specs.Closing.{without_gone}
+use Rattle.rx_hub.specs.Hubs.{Hub, Hubs, IsPromised, AreBelow, find_hub, at_hub, connected, new_hub, published_of}
+use Rattle.rx_hub.specs.Records.{IsHubOf, AreHubsOf, numbers}
+use Rattle.rx_hub.proofs.Laws.AfterAll.{hubs_follow, pushed_from}
+use Rattle.rx_hub.proofs.Laws.AfterCases.{closes_none, hubs_stay, hubs_with_made, hubs_published, hubs_connected, hubs_exchanged}
+use Rattle.rx_hub.proofs.Laws.AfterReady.{ready_to_subscribe, ready_to_exchange}
+use Rattle.rx_hub.proofs.Laws.Walks.{found_hub}
+use Rattle.rx_ground.specs.Inners.{MakesWay, ClearsHubs, LeavesHubs}
+use Rattle.rx_ground.specs.Ties.{IsTied, AreTied, AreJoined, KeepsNodes, Remarks, joins_no_hub}
+use Rattle.rx_ground.proofs.Exchanged.{none_closed}
+use Rattle.rx_ground.proofs.Joined.{joined_without, joined_still, joined_found, joined_cut, joined_opened, joined_connected, found_named}
+use Rattle.rx_ground.proofs.Tied.{still_there}
+use Rattle.rx_ground.proofs.Laws.Members.{Contains-map, Contains-from_map, All-members, AllPairs-map}
+use Rattle.rx_ground.proofs.Laws.Numbers.{ListsJust, just_counted}
+use Rattle.rx_ground.proofs.Unjoined.{no_open_subscribers, no_open_connections}
+
+-- hubs that nobody joined -------------------------------------------------------------------------
+
+no_keys : (keys : List Key) → numbers keys ≡ [] → keys ≡ []
+no_keys [] none = refl
+no_keys (k ∷ keys) none = absurd (let l = ap (length {A = ℕ}) none in omega arith)
+
+no_key : (o : Option Key) → numbers (option_to_list o) ≡ [] → o ≡ None
+no_key None none = refl
+no_key (Some k) none = absurd (let l = ap (length {A = ℕ}) none in omega arith)
+
+-- no closing changes them
+module _ (h : List Event) (unjoined : list_all joins_no_hub h ≡ true) (gone : Key → Bool) (ended : Option LastEnd) where
+  one_unchanged : (hub : Hub) → IsHubOf h hub → without_gone gone ended hub ≡ hub
+  one_unchanged hub is = by_fields hub.connection hub.subscribers
+      (no_key hub.connection (is.connection ∙ no_open_connections h unjoined hub.number))
+      (no_keys hub.subscribers (is.subscribers ∙ no_open_subscribers h unjoined hub.number)) where
+        by_fields : (o : Option Key) (keys : List Key) → o ≡ None → keys ≡ [] →
+            without_gone gone ended (record hub { connection = o; subscribers = keys }) ≡ record hub { connection = o; subscribers = keys }
+        by_fields None [] unconnected unsubscribed = refl
+        by_fields (Some key) keys unconnected unsubscribed = absurd (none-some key (sym unconnected))
+        by_fields None (key ∷ keys) unconnected unsubscribed = absurd (let l = ap (length {A = Key}) unsubscribed in omega arith)
+
+  pub all_unchanged : (hubs : List Hub) → ((i : ℕ) (hub : Hub) → slice_get hubs i ≡ Some hub → IsHubOf h hub) → map (without_gone gone ended) hubs ≡ hubs
+  all_unchanged [] each = refl
+  all_unchanged (hub ∷ hubs) each = λ i. one_unchanged hub (each 0 hub refl) i ∷ all_unchanged hubs (λ j x at_j. each (suc j) x at_j) i
+
+-- numbers -----------------------------------------------------------------------------------------
+
+-- its number is the greatest
+pub hub_is_older : (h : List Event) (hubs : List Hub) → AreHubsOf h hubs → (i : ℕ) (hub : Hub) → slice_get hubs i ≡ Some hub → hub.number < length h
+hub_is_older h hubs of i hub at_i = slice_get_within h hub.number (Publish hub.mode) (of.each i hub at_i).made
+
+-- a hub is found just where one was made ----------------------------------------------------------
+
+pub found_made : (h : List Event) (hubs : List Hub) → AreHubsOf h hubs → (g : ℕ) → is_some (find_hub hubs g) ≡ at makes_hub h g
+found_made h hubs of g = by_hub (find_hub hubs g) refl where
+  found_if : (b : Bool) → at makes_hub h g ≡ b → find_hub hubs g ≡ None → false ≡ b
+  found_if false made none = refl
+  found_if true made none =
+      let has = of.every g made in
+      absurd (false≢true (sym (ap is_some none) ∙ ap (λ (m : ℕ). is_some (find_hub hubs m)) (sym has.numbered) ∙ found_named hubs has.index has.hub has.there))
+
+  by_hub : (o : Option Hub) → find_hub hubs g ≡ o → is_some o ≡ at makes_hub h g
+  by_hub None none = found_if (at makes_hub h g) refl none
+  by_hub (Some hub) found =
+      let at_i = found_hub hubs g hub found in
+      sym (ap (at makes_hub h) (sym at_i.1.1) ∙ ap (λ o. option_map_or makes_hub o false) (of.each at_i.0 hub at_i.1.0).made)
+
+pub hub_found : (h : List Event) (hubs : List Hub) → AreHubsOf h hubs → (g : ℕ) → is_some (option_map published_of (find_hub hubs g)) ≡ at makes_hub h g
+hub_found h hubs of g = mapped (find_hub hubs g) ∙ found_made h hubs of g where
+  mapped : (o : Option Hub) → is_some (option_map published_of o) ≡ is_some o
+  mapped None = refl
+  mapped (Some hub) = refl
+
+-- there are as many as were made ------------------------------------------------------------------
+
+pub hubs_counted : (h : List Event) (s : Hubs) → IsPromised s → AreHubsOf h s.hubs → length s.hubs ≡ length (hubs_in h)
+hubs_counted h s promised of =
+    sym (length-map s.hubs number) ∙ just_counted (at makes_hub h) (map number s.hubs) (length h) just (at_within makes_hub h) ∙
+    sym (length-filter (at makes_hub h) (places h))
+  where
+    number : Hub → ℕ
+    number hub = hub.number
+
+    made : (hub : Hub) → Contains s.hubs hub → at makes_hub h (number hub) ≡ true
+    made hub c =
+        let at_i = slice_get-get_or s.hubs c.0 hub c.1 ∙ ap (λ (x : Hub). Some x) c.2 in
+        ap (λ o. option_map_or makes_hub o false) (of.each c.0 hub at_i).made
+
+    each : (n : ℕ) → Contains (map number s.hubs) n → at makes_hub h n ≡ true
+    each n c = let m = Contains-from_map number s.hubs n c in ap (at makes_hub h) (sym m.2) ∙ made m.0 m.1
+
+    every : (n : ℕ) → at makes_hub h n ≡ true → Contains (map number s.hubs) n
+    every n is =
+        let has = of.every n is in
+        let there : Contains s.hubs has.hub = (has.index, slice_get_within s.hubs has.index has.hub has.there, get_or_from_slice_get s.hubs has.index has.hub has.hub has.there) in
+        subst (Contains (map number s.hubs)) has.numbered (Contains-map number s.hubs has.hub there)
+
+    apart : AllPairs (λ a b. number a ≢ number b) s.hubs
+    apart i j d before within same =
+        let at_i = slice_get-get_or s.hubs i d (omega arith) in
+        let at_j = slice_get-get_or s.hubs j d within in
+        absurd (let l = promised.rising i j _ _ at_i at_j before in omega arith)
+
+    just : ListsJust (at makes_hub h) (map number s.hubs)
+    just = record {
+      each = All-members (λ n. IsTrue (at makes_hub h n)) (map number s.hubs) each;
+      every = every;
+      once = AllPairs-map number (λ m n. m ≢ n) s.hubs apart;
+    }
+
+most_is : most_hubs ≡ 1023 + 1
+unfolding most_hubs
+most_is = omega arith
+
+one_more : (most less count n : ℕ) → most ≡ less + 1 → count ≡ n → nat_lt less count ≡ nat_lt most (n + 1)
+one_more most less count n limit same = ltb_from_iff (λ over. let l = ltb-true less count over in omega arith, λ over. lt-ltb less count (omega arith))
+
+-- beside 1,023 others there may be one more
+pub too_many : (h : List Event) (s : Hubs) → IsPromised s → AreHubsOf h s.hubs → (count : ℕ) → count ≡ length s.hubs →
+    nat_lt 1023 count ≡ nat_lt most_hubs (length (hubs_in h) + 1)
+too_many h s promised of count is = one_more most_hubs 1023 count (length (hubs_in h)) most_is (is ∙ hubs_counted h s promised of)
+
+-- ties --------------------------------------------------------------------------------------------
+
+-- what an opening leaves of the hubs, in the place of an open inner or not
+pub cleared : {T : Type 0} (g : Ghosts T) (h : List Event) (place : Place) (kind : Kind) (slot : ℕ) (old left : Tree T) (hubs later : Hubs) (replaces : Bool) → IsLawful h →
+    AreTied g h old hubs → MakesWay h place old left replaces → ClearsHubs h place old left hubs later replaces →
+    hubs_after h (Open place kind) slot hubs.hubs ≡ with_made (next_key h slot) (Open place kind) later.hubs
+cleared {T = T} g h place kind slot old left hubs later replaces law tied way clears = by_test (cases_Bool replaces) where
+  exchanged : LeavesHubs h place old left hubs later → hubs_after h (Open place kind) slot hubs.hubs ≡ with_made (next_key h slot) (Open place kind) later.hubs
+  exchanged x =
+      let r = x.replaced in
+      let found = some_of (find old.nodes x.inner) r.inner.found in
+      let alive = (tied.of_tree.records.each x.inner found.0 found.1).alive in
+      ap (λ (q : Place). hubs_after h (Open q kind) slot hubs.hubs) r.named ∙
+      hubs_exchanged h r.switch x.inner.number kind slot hubs.hubs law tied.published r.switches r.inner.stands alive ∙
+      (λ i. with_made (next_key h slot) (Open (sym r.named i) kind) ((sym x.leave i).hubs))
+
+  by_test : (replaces ≡ true) ⊎ (replaces ≡ false) → hubs_after h (Open place kind) slot hubs.hubs ≡ with_made (next_key h slot) (Open place kind) later.hubs
+  by_test (inl takes) = exchanged (clears.exchanged takes)
+  by_test (inr leaves) =
+      hubs_with_made h (Open place kind) slot hubs.hubs tied.published
+      (λ n o. none_closed h place kind (way.none leaves) n (is_open_within h n o) ∙ o) ∙
+      ap (λ (hs : Hubs). with_made (next_key h slot) (Open place kind) hs.hubs) (sym (clears.same leaves))
+
+-- of the rest nothing changes
+pub rest_same : {T : Type 0} (h : List Event) (place : Place) (old left : Tree T) (hubs later : Hubs) (replaces : Bool) → ClearsHubs h place old left hubs later replaces →
+    later ≡ record hubs { hubs = later.hubs }
+rest_same h place old left hubs later replaces clears = by_test (cases_Bool replaces) where
+  by_test : (replaces ≡ true) ⊎ (replaces ≡ false) → later ≡ record hubs { hubs = later.hubs }
+  by_test (inl takes) =
+      let leave = (clears.exchanged takes).leave in
+      leave ∙ ap (λ (hs : Hubs). record hubs { hubs = hs.hubs }) (sym leave)
+  by_test (inr leaves) =
+      let same = clears.same leaves in
+      same ∙ ap (λ (hs : Hubs). record hubs { hubs = hs.hubs }) (sym same)
+
+module _ {T : Type 0} (g : Ghosts T) (h : List Event) (place : Place) (old left : Tree T) (hubs later : Hubs) (replaces : Bool) (law : IsLawful h)
+    (tied : AreTied g h old hubs) (clears : ClearsHubs h place old left hubs later replaces) where
+  -- what is left of the hubs finds its records in what is left of the tree
+  pub joined_left : IsSound old.nodes → MakesWay h place old left replaces → AreJoined left.nodes later.hubs
+  joined_left sound way = by_test (cases_Bool replaces) where
+    by_test : (replaces ≡ true) ⊎ (replaces ≡ false) → AreJoined left.nodes later.hubs
+    by_test (inl takes) =
+        let x = clears.exchanged takes in
+        subst (λ (hs : Hubs). AreJoined left.nodes hs.hubs) (sym x.leave) (joined_cut g h old hubs tied law sound left x.inner.number None x.cuts)
+    by_test (inr leaves) =
+        subst (λ (hs : Hubs). AreJoined left.nodes hs.hubs) (sym (clears.same leaves))
+        (subst (λ (t : Tree T). AreJoined t.nodes hubs.hubs) (sym (way.same leaves)) tied.joined)
+
+  -- the hub that is subscribed to is there still, and its subscribers are older
+  pub ready_left : (n : ℕ) → MayFollow h (Open place (Sub n)) →
+      (hub : Hub) × (find_hub later.hubs n ≡ Some hub) × AreBelow (length h) hub.subscribers
+  ready_left n next = by_test (cases_Bool replaces) where
+    by_test : (replaces ≡ true) ⊎ (replaces ≡ false) → (hub : Hub) × (find_hub later.hubs n ≡ Some hub) × AreBelow (length h) hub.subscribers
+    by_test (inl takes) =
+        let x = clears.exchanged takes in
+        subst (λ (hs : Hubs). (hub : Hub) × (find_hub hs.hubs n ≡ Some hub) × AreBelow (length h) hub.subscribers) (sym x.leave)
+        (ready_to_exchange h place n hubs.hubs (is_inside h x.inner.number) None next tied.published)
+    by_test (inr leaves) =
+        subst (λ (hs : Hubs). (hub : Hub) × (find_hub hs.hubs n ≡ Some hub) × AreBelow (length h) hub.subscribers) (sym (clears.same leaves))
+        (ready_to_subscribe h place n hubs.hubs next tied.published)
+
+-- the hubs after a connection of one of them
+pub connected_after : (h : List Event) (n : ℕ) (key : Key) (hubs : List Hub) → AreHubsOf h hubs → key.number ≡ length h →
+    hubs_after h (Connect n) key.slot hubs ≡ at_hub n (connected key) hubs
+connected_after h n key hubs of numbered =
+    hubs_connected h n key.slot hubs of ∙ (λ i. at_hub n (connected (record { slot = key.slot; number = sym numbered i })) hubs)
+
+module _ {T : Type 0} (g : Ghosts T) where
+  -- another tree of the same history with the same nodes, beside the same hubs
+  pub tied_beside : {h : List Event} {old new : Tree T} {hubs later : Hubs} → later.hubs ≡ hubs.hubs →
+      ((key : Key) → IsSome (find old.nodes key) → IsSome (find new.nodes key)) → AreTied g h old hubs → IsTied g h new → AreTied g h new later
+  tied_beside {h = h} {old = old} {new = new} {hubs = hubs} {later = later} same still was tied = record {
+    of_tree = tied;
+    published = subst (AreHubsOf h) (sym same) was.published;
+    joined = subst (AreJoined new.nodes) (sym same) (joined_still h old.nodes new.nodes hubs.hubs was.published (λ key some alive. still key some) was.joined);
+  }
+
+  -- a tree after one more event, which closes no node and makes none, and no hub
+  pub tied_on : {h k : List Event} {old new : Tree T} {hubs : Hubs} (e : Event) → IsLawful h → MayFollow h e → AreTied g h old hubs → k ≡ h ++ e ∷ [] →
+      joins_hubs e ≡ false → shuts_none e ≡ true → ((key : Key) → IsSome (find old.nodes key) → IsSome (find new.nodes key)) →
+      IsTied g k new → AreTied g k new hubs
+  tied_on {h = h} {k = k} {old = old} {new = new} {hubs = hubs} e law next was grown joins shuts still tied = record {
+    of_tree = tied;
+    published = of;
+    joined = joined_still k old.nodes new.nodes hubs.hubs of (λ key some alive. still key some) was.joined;
+  }
+    where
+      of : AreHubsOf k hubs.hubs
+      of = subst (λ (j : List Event). AreHubsOf j hubs.hubs) (sym grown) (hubs_stay h e hubs.hubs law next was.published joins (closes_none h e shuts))
+
+  -- with the nodes as they were
+  pub tied_on_same : {h k : List Event} {old new : Tree T} {hubs : Hubs} (e : Event) → IsLawful h → MayFollow h e → AreTied g h old hubs → k ≡ h ++ e ∷ [] →
+      joins_hubs e ≡ false → shuts_none e ≡ true → new.nodes ≡ old.nodes → IsTied g k new → AreTied g k new hubs
+  tied_on_same e law next was grown joins shuts same tied =
+      tied_on e law next was grown joins shuts (λ key some. ap (λ (nodes : Slots Node). is_some (find nodes key)) same ∙ some) tied
+
+  -- and with the marks of one changed
+  pub tied_on_marked : {h k : List Event} {old new : Tree T} {hubs : Hubs} (e : Event) → IsLawful h → MayFollow h e → AreTied g h old hubs → k ≡ h ++ e ∷ [] →
+      joins_hubs e ≡ false → shuts_none e ≡ true → (u : Key) (change : Marks → Marks) → Remarks old new u change → IsTied g k new → AreTied g k new hubs
+  tied_on_marked e law next was grown joins shuts u change marked tied =
+      tied_on e law next was grown joins shuts (λ key some. still_there u marked.nodes key some) tied
+
+  -- after one that closes nodes, which leave the hubs
+  pub tied_closed : {h k : List Event} {old new : Tree T} {hubs later : Hubs} (e : Event) (gone : Key → Bool) (ended : Option LastEnd) → IsLawful h → MayFollow h e →
+      AreTied g h old hubs → k ≡ h ++ e ∷ [] → hubs_after h e 0 hubs.hubs ≡ map (without_gone gone ended) hubs.hubs →
+      later.hubs ≡ map (without_gone gone ended) hubs.hubs → KeepsNodes k old.nodes new.nodes → IsTied g k new → AreTied g k new later
+  tied_closed {h = h} {k = k} {old = old} {new = new} {hubs = hubs} {later = later} e gone ended law next was grown after left kept tied = record {
+    of_tree = tied;
+    published = of;
+    joined = joined_still k old.nodes new.nodes later.hubs of kept.still
+        (subst (AreJoined old.nodes) (sym left) (joined_without old.nodes gone ended hubs.hubs was.joined));
+  }
+    where
+      of : AreHubsOf k later.hubs
+      of = subst (λ (j : List Event). AreHubsOf j later.hubs) (sym grown)
+          (subst (AreHubsOf (h ++ e ∷ [])) (after ∙ sym left) (hubs_follow h e 0 hubs.hubs law next was.published))
+
+  -- after one that opens a node, which joins the hub that it subscribes to
+  pub tied_opened : {h k : List Event} {old new : Tree T} {hubs later : Hubs} (mid : Hubs) (place : Place) (kind : Kind) (key : Key) → IsLawful h →
+      MayFollow h (Open place kind) → AreTied g h old hubs → k ≡ h ++ Open place kind ∷ [] → later.hubs ≡ hubs_after h (Open place kind) key.slot hubs.hubs →
+      later.hubs ≡ with_made key (Open place kind) mid.hubs → AreJoined new.nodes mid.hubs → IsSome (find new.nodes key) → IsTied g k new → AreTied g k new later
+  tied_opened {h = h} {new = new} {hubs = hubs} {later = later} mid place kind key law next was grown after made joined there tied = record {
+    of_tree = tied;
+    published = subst (λ (j : List Event). AreHubsOf j later.hubs) (sym grown)
+        (subst (AreHubsOf (h ++ Open place kind ∷ [])) (sym after) (hubs_follow h (Open place kind) key.slot hubs.hubs law next was.published));
+    joined = subst (AreJoined new.nodes) (sym made) (joined_opened new.nodes key place kind mid.hubs there joined);
+  }
+
+  -- after one that makes a connection, which its hub has from then on
+  pub tied_connected : {h : List Event} {old new : Tree T} {hubs later : Hubs} (n : ℕ) (key : Key) → IsLawful h → MayFollow h (Connect n) → AreTied g h old hubs →
+      key.number ≡ length h → later.hubs ≡ at_hub n (connected key) hubs.hubs → ((k : Key) → IsSome (find old.nodes k) → IsSome (find new.nodes k)) →
+      IsSome (find new.nodes key) → IsTied g (h ++ Connect n ∷ []) new → AreTied g (h ++ Connect n ∷ []) new later
+  tied_connected {h = h} {old = old} {new = new} {hubs = hubs} n key law next was numbered made still there tied = record {
+    of_tree = tied;
+    published = subst (AreHubsOf (h ++ Connect n ∷ [])) (connected_after h n key hubs.hubs was.published numbered ∙ sym made)
+        (hubs_follow h (Connect n) key.slot hubs.hubs law next was.published);
+    joined = subst (AreJoined new.nodes) (sym made)
+        (joined_connected new.nodes key n hubs.hubs there (joined_found old.nodes new.nodes hubs.hubs still was.joined));
+  }
+
+  -- and after one that makes this hub
+  pub tied_published : {h : List Event} {old : Tree T} {hubs new : Hubs} (mode : Mode) → IsLawful h → MayFollow h (Publish mode) → AreTied g h old hubs →
+      IsTied g (h ++ Publish mode ∷ []) old → new.hubs ≡ hubs.hubs ++ new_hub (length h) mode ∷ [] → AreTied g (h ++ Publish mode ∷ []) old new
+  tied_published {h = h} {old = old} {hubs = hubs} {new = new} mode law next was tied added = record {
+    of_tree = tied;
+    published = subst (AreHubsOf (h ++ Publish mode ∷ [])) (hubs_published h mode 0 hubs.hubs was.published ∙ sym added)
+        (hubs_follow h (Publish mode) 0 hubs.hubs law next was.published);
+    joined = record {
+      subscribers = λ i hub at_i. by_place i hub (pushed_from hubs.hubs (new_hub (length h) mode) hub i (ap (λ (hs : List Hub). slice_get hs i) (sym added) ∙ at_i));
+      connection = λ i hub at_i. by_place_too i hub (pushed_from hubs.hubs (new_hub (length h) mode) hub i (ap (λ (hs : List Hub). slice_get hs i) (sym added) ∙ at_i));
+    };
+  }
+    where
+      by_place : (i : ℕ) (hub : Hub) → (slice_get hubs.hubs i ≡ Some hub) ⊎ (new_hub (length h) mode ≡ hub) →
+          AllByRecursion (λ key. IsSome (find old.nodes key)) hub.subscribers
+      by_place i hub (inl before) = was.joined.subscribers i hub before
+      by_place i hub (inr same) = subst (λ (x : Hub). AllByRecursion (λ key. IsSome (find old.nodes key)) x.subscribers) same tt
+
+      by_place_too : (i : ℕ) (hub : Hub) → (slice_get hubs.hubs i ≡ Some hub) ⊎ (new_hub (length h) mode ≡ hub) →
+          IfSome hub.connection (λ key. IsSome (find old.nodes key))
+      by_place_too i hub (inl before) = was.joined.connection i hub before
+      by_place_too i hub (inr same) = subst (λ (x : Hub). IfSome x.connection (λ key. IsSome (find old.nodes key))) same tt

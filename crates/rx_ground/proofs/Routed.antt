@@ -1,0 +1,139 @@
+-- Where an item goes by a tree and hubs is where it goes by their history, and what it wants there.
+use Rattle.std.proofs.Common.{◌≡◌, ℕ, ℤ, Bool, cond, count_by, ◌+◌, true, false, nat_lt, List, [], ◌∷◌, length, Option, Some, None, IsSome}
+use Rattle.std.proofs.Common.{IfSome, is_some, option_map, refl, sym, ap, ◌∙◌, arith}
+use Rattle.std.proofs.Math.Bool.{not}
+use Rattle.std.specs.List.{filter_map}
+use Rattle.std.specs.Option.{option_map_or}
+use Rattle.std.proofs.lemmas.List.Sums.{sum_by-cons}
+use Rattle.std.proofs.lemmas.Option.{same_Some, none-some}
+use Rattle.rx_resource.specs.declared.Resource.{Ghosts}
+use Rattle.rx_event.specs.declared.event.Event.{Event}
+use Rattle.rx_event.specs.Events.{is_leaf}
+use Rattle.rx_event.specs.Tree.{at, is_open}
+use Rattle.rx_event.specs.Moments.{is_projection}
+use Rattle.rx_event.specs.Notes.{told}
+use Rattle.rx_event.specs.Calls.{Emitting}
+use Rattle.rx_event.specs.declared.refusal.Refusal.{Refusal}
+use Rattle.rx_event.specs.declared.refusal.Refusal.TheVariants.{Full, Gone, WrongKind, TooMany}
+use Rattle.rx_event.specs.Refusals.{first_cause}
+use Rattle.rx_register.specs.Causes.{causes, by_key, is_over}
+use Rattle.rx_event.specs.Climb.{Stop as NumberedStop, Delivery as DeliveryTo, Projection as ProjectionTo, Firing as FiringOf, stops, visits, most_visits}
+use Rattle.rx_slots.specs.declared.Key.{Key}
+use Rattle.rx_slots.specs.Slots.{Slots, find}
+use Rattle.rx_tree.specs.declared.node.Node.{Node}
+use Rattle.rx_tree.specs.Tree.{Tree, IsSound}
+use Rattle.rx_flow.specs.declared.stop.Stop.{Stop}
+use Rattle.rx_flow.specs.declared.stop.Stop.TheVariants.{Delivery, Projection, Firing, Connection}
+use Rattle.rx_flow.specs.Records.{AreRecordsOf}
+use Rattle.rx_flow.specs.Claims.{numbered}
+use Rattle.rx_hub.specs.Hubs.{Hub, Hubs}
+use Rattle.rx_hub.specs.Walk.{IsWalk, stops_over}
+use Rattle.rx_hub.proofs.Laws.Walks.{all_stops_told, found_hub}
+use Rattle.rx_ground.specs.declared.route.Reach.{Reach}
+use Rattle.rx_ground.specs.Ties.{AreRecords, AreTied}
+use Rattle.rx_ground.specs.Reached.{IsReach}
+use Rattle.rx_ground.specs.Passing.{IsMeasured, owed_at, told_at, sum_at}
+
+-- the records are those of the history, whatever is due
+as_records : (h : List Event) (nodes : Slots Node) (chain : List Key) → AreRecords h nodes chain → AreRecordsOf h nodes
+as_records h nodes chain r = record {
+  each = λ key node found. let is = r.each key node found in record { alive = is.alive; made = is.made; marks = is.marks };
+  every = λ n alive. let has = r.every n alive in record { key = has.key; node = has.value; numbered = has.numbered; found = has.found };
+}
+
+-- an item may go over a tree and hubs of one history
+pub walk_tied : {T : Type 0} {g : Ghosts T} {h : List Event} {tree : Tree T} {hubs : Hubs} → AreTied g h tree hubs → IsSound tree.nodes → IsWalk h tree.nodes hubs.hubs
+walk_tied {h = h} {tree = tree} {hubs = hubs} tied sound = record {
+  sound = sound;
+  records = as_records h tree.nodes tree.chain tied.of_tree.records;
+  published = tied.published;
+  found = λ n hub at_n. let at_i = found_hub hubs.hubs n hub at_n in tied.joined.subscribers at_i.0 hub at_i.1.0;
+}
+
+-- what it wants -----------------------------------------------------------------------------------
+
+owed_sum : (ss : List Stop) → sum_at owed_at ss ≡ count_by is_projection (filter_map numbered ss)
+owed_sum [] = refl
+owed_sum (Delivery key ∷ ss) = let rest = owed_sum ss in let all = sum_by-cons (λ t. cond (is_projection t) 1 0) (DeliveryTo key.number) (filter_map numbered ss) in omega arith
+owed_sum (Projection key ∷ ss) = let rest = owed_sum ss in let all = sum_by-cons (λ t. cond (is_projection t) 1 0) (ProjectionTo key.number) (filter_map numbered ss) in omega arith
+owed_sum (Firing key ∷ ss) = let rest = owed_sum ss in let all = sum_by-cons (λ t. cond (is_projection t) 1 0) (FiringOf key.number) (filter_map numbered ss) in omega arith
+owed_sum (Connection key ∷ ss) = let rest = owed_sum ss in omega arith
+
+pub told_sum : (place : ℕ) (value : ℤ) (ss : List Stop) → length (filter_map (told place value) (filter_map numbered ss)) ≡ sum_at told_at ss
+told_sum place value [] = refl
+told_sum place value (Delivery key ∷ ss) = let rest = told_sum place value ss in omega arith
+told_sum place value (Projection key ∷ ss) = let rest = told_sum place value ss in omega arith
+told_sum place value (Firing key ∷ ss) = let rest = told_sum place value ss in omega arith
+told_sum place value (Connection key ∷ ss) = let rest = told_sum place value ss in omega arith
+
+-- what was counted on its way is what it wants
+pub reach_told : (h : List Event) (nodes : Slots Node) (hubs : List Hub) (key : Key) → IsWalk h nodes hubs → IsSome (find nodes key) → (reach : Reach) →
+    IsMeasured (stops_over nodes hubs key) reach → IsReach h nodes key reach
+reach_told h nodes hubs key walk there reach is = record {
+  there = there;
+  events = is.events ∙ ap (λ (n : ℕ). 1 + n) (owed_sum (stops_over nodes hubs key)) ∙ ap (λ (ss : List NumberedStop). 1 + count_by is_projection ss) (sym same);
+  notes = λ value. ap (λ (ss : List NumberedStop). length (filter_map (told (length h) value) ss)) same ∙ told_sum (length h) value (stops_over nodes hubs key) ∙
+      sym is.notes;
+  few = is.few;
+}
+  where
+    same : stops h key.number ≡ filter_map numbered (stops_over nodes hubs key)
+    same = all_stops_told h nodes hubs key walk there
+
+pub reach_if : (h : List Event) (nodes : Slots Node) (hubs : List Hub) (key : Key) → IsWalk h nodes hubs → IsSome (find nodes key) → (answer : Option Reach) →
+    IfSome answer (IsMeasured (stops_over nodes hubs key)) → IfSome answer (IsReach h nodes key)
+reach_if h nodes hubs key walk there None is = tt
+reach_if h nodes hubs key walk there (Some reach) is = reach_told h nodes hubs key walk there reach is
+
+-- refusals ----------------------------------------------------------------------------------------
+
+-- what stands first against an item of this key's node
+abbrev pub cause_of : List Event → ℕ → Slots Node → Key → ℤ → Option Refusal
+cause_of h limit nodes key value = first_cause (by_key (is_some (find nodes key)) (causes h limit true (Emitting key.number value)))
+
+-- of a node whose items are not refused for what it is
+abbrev by_limits : List Event → ℕ → ℕ → Option Refusal
+by_limits h limit n =
+    cond (nat_lt most_visits (visits h n)) (Some TooMany) (cond (is_over h limit (1 + count_by is_projection (stops h n))) (Some Full) None)
+
+-- by the tests in their order
+first_cause-emitting : (known : Bool) (h : List Event) (limit n : ℕ) (value : ℤ) → first_cause (by_key known (causes h limit true (Emitting n value))) ≡
+    cond known (cond (not (is_open h n)) (Some Gone) (cond (not (at is_leaf h n)) (Some WrongKind) (by_limits h limit n))) (Some Gone)
+first_cause-emitting true h limit n value = refl
+first_cause-emitting false h limit n value = refl
+
+test_is : (wide b : Bool) → b ≡ not wide → wide ≡ not b
+test_is true b e = ap not (sym e)
+test_is false b e = ap not (sym e)
+
+node_made : (made : Event) (o : Option Node) → Some made ≡ option_map (λ node. node.made) o → (x : Node) × (o ≡ Some x) × (x.made ≡ made)
+node_made made None at_none = absurd (none-some made (sym at_none))
+node_made made (Some x) at_x = (x, refl, sym (same_Some made x.made at_x))
+
+-- at a key that finds a record
+abbrev pub IsMadeBy : Slots Node → Key → Event → Type 0
+IsMadeBy nodes key made = Some made ≡ option_map (λ node. node.made) (find nodes key)
+
+module _ (h : List Event) (limit : ℕ) (nodes : Slots Node) (chain : List Key) (records : AreRecords h nodes chain) (key : Key) (value : ℤ)
+    (made : Event) (at_made : IsMadeBy nodes key made) where
+  row : (b : Bool) → b ≡ is_leaf made → cause_of h limit nodes key value ≡ cond (not b) (Some WrongKind) (by_limits h limit key.number)
+  row b is =
+      let node = node_made made (find nodes key) at_made in
+      let record_at = records.each key node.0 node.1 in
+      let known : is_some (find nodes key) ≡ true = ap is_some node.1 in
+      let made_is = record_at.made ∙ ap (λ e. Some e) node.2 in
+      let kind : at is_leaf h key.number ≡ is_leaf made = ap (λ (o : Option Event). option_map_or is_leaf o false) made_is in
+      first_cause-emitting (is_some (find nodes key)) h limit key.number value ∙ rw (known, record_at.alive, kind, ← is) refl
+
+  pub cause_of-no_leaf : false ≡ is_leaf made → cause_of h limit nodes key value ≡ Some WrongKind
+  cause_of-no_leaf other = row false other
+
+  pub cause_of-visits : true ≡ is_leaf made → false ≡ not (nat_lt most_visits (visits h key.number)) → cause_of h limit nodes key value ≡ Some TooMany
+  cause_of-visits leaf wide = let many = test_is _ false wide in row true leaf ∙ rw many refl
+
+  -- the room decides last
+  pub cause_of-room : (reach : Reach) (full : Bool) → true ≡ is_leaf made → true ≡ not (nat_lt most_visits (visits h key.number)) →
+      IsReach h nodes key reach → full ≡ is_over h limit reach.events → cause_of h limit nodes key value ≡ cond full (Some Full) None
+  cause_of-room reach full leaf narrow reached room =
+      let few = test_is _ true narrow in
+      row true leaf ∙ rw (few, ← reached.events, ← room) refl

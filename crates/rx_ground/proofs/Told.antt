@@ -1,0 +1,103 @@
+-- What the record of a node says of the causes.
+use Rattle.std.proofs.Common.{◌≡◌, ℕ, ◌+◌, ◌==◌, Bool, true, false, cond, List, [], ◌∷◌, Option, Some, None, is_some, option_map, slice_get, refl, sym, ap, ◌∙◌, arith, zero-add}
+use Rattle.std.specs.Prelude.{nat_lt}
+use Rattle.std.proofs.Math.Bool.{not, ◌&&◌, ◌||◌}
+use Rattle.std.specs.Cmp.{both_ways as same_test}
+use Rattle.std.specs.List.{list_any, count_by}
+use Rattle.std.specs.Option.{option_and_then, option_map_or}
+use Rattle.std.proofs.lemmas.Bool.{lt-ltb}
+use Rattle.std.proofs.lemmas.List.Sums.{sum_by-cons}
+use Rattle.std.proofs.lemmas.Option.{none-some, same_Some}
+use Rattle.rx_resource.specs.declared.Resource.{Ghosts}
+use Rattle.rx_event.specs.declared.marks.Marks.{Marks}
+use Rattle.rx_event.specs.declared.event.Place.{Place}
+use Rattle.rx_event.specs.declared.event.Place.TheVariants.{Root, Source, Inner, Notifier}
+use Rattle.rx_event.specs.declared.event.Event.{Event}
+use Rattle.rx_event.specs.Events.{node_of_accept, is_remove_of, has_source, is_merging, is_until, is_source_of, is_notifier_of, named_by}
+use Rattle.rx_event.specs.Tree.{at, places, is_open, is_open_child_of, has_open_child}
+use Rattle.rx_event.specs.Moments.{owed}
+use Rattle.rx_event.specs.Resources.{is_held as is_held_in}
+use Rattle.rx_event.specs.Marks.{marks_of, open_children}
+use Rattle.rx_register.specs.Causes.{is_wrong_place, is_taken_place, is_unowed_place}
+use Rattle.rx_slots.specs.declared.Key.{Key}
+use Rattle.rx_slots.specs.Slots.{find}
+use Rattle.rx_tree.specs.declared.node.Node.{Node}
+use Rattle.rx_tree.specs.declared.node.ResKey.{ResKey}
+use Rattle.rx_tree.specs.Tree.{Tree}
+use Rattle.rx_tree.specs.Resources.{store_key, is_held_at}
+use Rattle.rx_tree.proofs.Laws.Keys.{some_of}
+use Rattle.rx_ground.specs.declared.base.Record.{Record}
+use Rattle.rx_ground.specs.Ties.{IsTied, record_of}
+use Rattle.rx_ground.specs.Told.{IsTold, has_place, is_used, is_unowed}
+use Rattle.rx_ground.proofs.Newest.{held_found}
+
+module _ {T : Type 0} (g : Ghosts T) (h : List Event) (tree : Tree T) (tied : IsTied g h tree) where
+  -- a node that is there is open
+  pub there_open : (key : Key) → is_some (find tree.nodes key) ≡ true → is_open h key.number ≡ true
+  there_open key some = let x = some_of (find tree.nodes key) some in (tied.records.each key x.0 x.1).alive
+
+  -- a resource that is held in the tree is held in the history
+  pub held_in_history : (res : ResKey) → is_held_at tree res ≡ true → is_held_in h res.number ≡ true
+  unfolding is_held_in
+  held_in_history res held =
+      let f = held_found tree res held in
+      let is = tied.stored.each (store_key res) f.stowed f.found in
+      let node : is_open h f.stowed.node.number ≡ is_some (find tree.nodes f.stowed.node) = same_test _ _ is.home (there_open f.stowed.node) in
+      ap (λ o. option_map_or (is_open h) (option_and_then node_of_accept o) false && not (list_any (is_remove_of res.number) h)) is.accepted ∙
+      ap (λ b. b && not (list_any (is_remove_of res.number) h)) node ∙
+      ap (λ b. is_some (find tree.nodes f.stowed.node) && not b) (sym is.removed) ∙ f.held
+
+  -- what a record tells
+  pub told : (key : Key) (r : Record) → Some r ≡ option_map record_of (find tree.nodes key) → IsTold h tree.nodes key r
+  told key r says = by_value (find tree.nodes key) refl says where
+    by_value : (o : Option Node) → find tree.nodes key ≡ o → Some r ≡ option_map record_of o → IsTold h tree.nodes key r
+    by_value None found says = absurd (none-some r (sym says))
+    by_value (Some node) found says =
+        let is = tied.records.each key node found in
+        let same = same_Some r (record_of node) says in
+        record {
+          there = ap is_some found;
+          alive = is.alive;
+          made = is.made ∙ ap (λ (x : Record). Some x.made) (sym same);
+          marks = ap (λ (x : Record). x.marks) same ∙ is.marks;
+        }
+
+-- a test of the event that made a node
+told_at : (p : Event → Bool) (h : List Event) (n : ℕ) (made : Event) → slice_get h n ≡ Some made → at p h n ≡ p made
+told_at p h n made found = ap (λ o. option_map_or p o false) found
+
+-- what a place asks of the node that it names
+pub wrong_at : (h : List Event) (place : Place) (n : ℕ) (made : Event) → named_by place ≡ Some n → slice_get h n ≡ Some made →
+    is_wrong_place h place ≡ not (has_place made place)
+wrong_at h Root n made named found = refl
+wrong_at h (Source p) n made named found = ap (λ m. not (at has_source h m)) (same_Some p n named) ∙ ap not (told_at has_source h n made found)
+wrong_at h (Inner p) n made named found = ap (λ m. not (at is_merging h m)) (same_Some p n named) ∙ ap not (told_at is_merging h n made found)
+wrong_at h (Notifier p) n made named found = ap (λ m. not (at is_until h m)) (same_Some p n named) ∙ ap not (told_at is_until h n made found)
+
+pub taken_at : (h : List Event) (place : Place) (n : ℕ) (m : Marks) → named_by place ≡ Some n → m ≡ marks_of h n →
+    is_taken_place h place ≡ is_used m place
+taken_at h Root n m named is = refl
+taken_at h (Source p) n m named is = ap (λ k. list_any (is_source_of k) h) (same_Some p n named) ∙ ap (λ (x : Marks). x.source_opened) (sym is)
+taken_at h (Inner p) n m named is = refl
+taken_at h (Notifier p) n m named is = ap (λ k. list_any (is_notifier_of k) h) (same_Some p n named) ∙ ap (λ (x : Marks). x.notifier_opened) (sym is)
+
+pub unowed_at : (h : List Event) (place : Place) (n : ℕ) (m : Marks) → named_by place ≡ Some n → m ≡ marks_of h n →
+    is_unowed_place h place ≡ is_unowed m place
+unowed_at h Root n m named is = refl
+unowed_at h (Source p) n m named is = refl
+unowed_at h (Inner p) n m named is = ap (λ k. owed h k == 0) (same_Some p n named) ∙ ap (λ (x : Marks). x.owed == 0) (sym is)
+unowed_at h (Notifier p) n m named is = refl
+
+-- a test holds of some member just where a member is counted
+any_counted : {X : Type 0} (p : X → Bool) (xs : List X) → list_any p xs ≡ nat_lt 0 (count_by p xs)
+any_counted p [] = refl
+any_counted {X = X} p (x ∷ xs) = by_test (any_counted p xs) (p x) refl where
+  by_test : list_any p xs ≡ nat_lt 0 (count_by p xs) → (b : Bool) → p x ≡ b → (b || list_any p xs) ≡ nat_lt 0 (count_by p (x ∷ xs))
+  by_test rest true e = sym (lt-ltb 0 (count_by p (x ∷ xs)) (rw (sum_by-cons (λ y. cond {A = ℕ} (p y) 1 0) x xs, e) (omega arith)))
+  by_test rest false e = rest ∙
+      ap (nat_lt 0) (sym (sum_by-cons (λ y. cond {A = ℕ} (p y) 1 0) x xs ∙ ap (λ b. cond {A = ℕ} b 1 0 + count_by p xs) e ∙ zero-add (count_by p xs)))
+
+-- an open child is counted by the mark
+pub child_marked : (h : List Event) (n : ℕ) (m : Marks) → m ≡ marks_of h n → has_open_child h n ≡ nat_lt 0 m.open_children
+unfolding open_children
+child_marked h n m is = any_counted (is_open_child_of h n) (places h) ∙ ap (λ (x : Marks). nat_lt 0 x.open_children) (sym is)

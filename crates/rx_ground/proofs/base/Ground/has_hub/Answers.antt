@@ -1,0 +1,11 @@
+use Rattle.std.proofs.Common.{is_some, ap, ◌∙◌}
+use Rattle.rx_ground.specs.Ties.{AreTied}
+use Rattle.rx_ground.proofs.Published.{hub_found}
+use Rattle.rx_ground.proofs.base.Ground.has_hub.Goals as goal
+
+pub returns : goal.returns
+returns g c =
+    let h = c.self.inside.register.history in
+    let hubs = c.self.inside.hubs in
+    let tied : AreTied g.R.Resource h c.self.inside.tree hubs = rw (← c.self.view_is) at c.requires.standing.tied in
+    rw (← c.self.view_is) (c.is_some.ensures ∙ ap is_some c.get.ensures ∙ hub_found h hubs.hubs tied.published c.args.hub)

@@ -1,0 +1,11 @@
+use Rattle.std.proofs.Common.{sym, ◌∙◌}
+use Rattle.rx_ground.specs.Ties.{IsTied}
+use Rattle.rx_ground.proofs.Laws.Kept.{length-kept, length-nodes}
+use Rattle.rx_ground.proofs.base.Ground.open_count.Goals as goal
+
+pub returns : goal.returns
+returns g c =
+    let h = c.self.inside.register.history in
+    let tree = c.self.inside.tree in
+    let tied : IsTied g.R.Resource h tree = rw (← c.self.view_is) at c.requires.standing.tied.of_tree in
+    rw (← c.self.view_is) (c.len.ensures.counted ∙ sym (length-kept tree.nodes) ∙ length-nodes g.R.Resource h tree tied c.promise.ensures.sound.apart)

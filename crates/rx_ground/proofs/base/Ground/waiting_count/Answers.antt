@@ -1,0 +1,14 @@
+use Rattle.std.proofs.Common.{sym, ◌∙◌}
+use Rattle.std.proofs.Math.Bool.{not}
+use Rattle.rx_tree.specs.Resources.{is_held}
+use Rattle.rx_ground.specs.Ties.{IsTied}
+use Rattle.rx_ground.proofs.Laws.Kept.{length-filter_kept, length-waiting}
+use Rattle.rx_ground.proofs.base.Ground.waiting_count.Goals as goal
+
+pub returns : goal.returns
+returns g c =
+    let h = c.self.inside.register.history in
+    let tree = c.self.inside.tree in
+    let tied : IsTied g.R.Resource h tree = rw (← c.self.view_is) at c.requires.standing.tied.of_tree in
+    let listed = length-filter_kept tree.resources (λ s. not (is_held tree.nodes s)) in
+    rw (← c.self.view_is) (c.waiting.ensures ∙ sym listed ∙ length-waiting g.R.Resource h tree tied c.promise.ensures.resources_apart)

@@ -1,0 +1,117 @@
+use Rattle.std.proofs.Common.{is_some, Option, None, ◌≡◌, ℕ, List, refl, sym, subst, ◌∙◌, arith, ◌∷◌, [], ◌+◌, ◌-◌, ◌<◌, ap, vec_capacity, IfSome, IsSome, length}
+use Rattle.rx_event.specs.declared.event.Event.{Event}
+use Rattle.rx_event.specs.declared.event.Event.TheVariants.{Connect}
+use Rattle.rx_event.specs.Lawful.{MayFollow}
+use Rattle.rx_event.proofs.Laws.Openness.{is_open_kept}
+use Rattle.rx_slots.specs.declared.Key.{Key}
+use Rattle.rx_slots.specs.Slots.{Slots, find}
+use Rattle.rx_tree.specs.declared.node.Stowed.{Stowed}
+use Rattle.rx_hub.specs.After.{hubs_after}
+use Rattle.rx_hub.specs.Hubs.{Hub, Hubs, connected}
+use Rattle.rx_hub.proofs.Laws.AfterReady.{ready_to_connect}
+use Rattle.rx_ground.specs.Shown.{Ground}
+use Rattle.rx_ground.specs.Ties.{AreTied, IsNewNode}
+use Rattle.rx_ground.proofs.Tied.{IsOpenedIn, found_still, tied_top}
+use Rattle.rx_ground.proofs.Records.{all_left}
+use Rattle.rx_ground.proofs.Joined.{as_many_at}
+use Rattle.rx_ground.proofs.Memory.{written_memory}
+use Rattle.rx_ground.proofs.Written.{writes_silent}
+use Rattle.rx_ground.proofs.Newest.{newest}
+use Rattle.rx_ground.proofs.Published.{connected_after, tied_connected}
+use Rattle.rx_ground.proofs.base.Ground.write_connect.Given.{Over}
+use Rattle.rx_ground.proofs.base.Ground.write_connect.Goals as goal
+
+pub open-requires-clause-newest : goal.open-requires-clause-newest
+open-requires-clause-newest g c κs within =
+    let h = c.self.inside.register.history in
+    let was : AreTied g.R.Resource h c.self.inside.tree c.self.inside.hubs = rw (← c.self.view_is) at c.requires.tied in
+    newest g.R.Resource h c.self.inside.tree was.of_tree c.promise.ensures.lawful c.len-number.result c.len-number.ensures
+
+pub open-requires-clause-placed : goal.open-requires-clause-placed
+open-requires-clause-placed g c κs within = record { makes = refl; named = refl; lower = tt; there = tt }
+
+pub connect-requires-clause-there : goal.connect-requires-clause-there
+connect-requires-clause-there g c =
+    let h = c.self.inside.register.history in
+    let was : AreTied g.R.Resource h c.self.inside.tree c.self.inside.hubs = rw (← c.self.view_is) at c.requires.tied in
+    let next : MayFollow h (Connect c.args.hub) = rw (← c.self.view_is) at c.requires.ready.next in
+    let r = ready_to_connect h c.args.hub c.self.inside.hubs.hubs next was.published in
+    ap is_some r.1
+
+pub connect-requires-clause-unconnected : goal.connect-requires-clause-unconnected
+connect-requires-clause-unconnected g c =
+    let h = c.self.inside.register.history in
+    let was : AreTied g.R.Resource h c.self.inside.tree c.self.inside.hubs = rw (← c.self.view_is) at c.requires.tied in
+    let next : MayFollow h (Connect c.args.hub) = rw (← c.self.view_is) at c.requires.ready.next in
+    let r = ready_to_connect h c.args.hub c.self.inside.hubs.hubs next was.published in
+    subst (λ (o : Option Hub). IfSome o (λ (x : Hub). x.connection ≡ None)) (sym r.1) r.2
+
+pub returns-clause-written : goal.returns-clause-written
+returns-clause-written g c = rw (← c.self.view_is) (writes_silent c.self.inside.register c.write.new.self (Connect c.args.hub) refl c.write.ensures.events
+    c.write.ensures.pending c.write.ensures.room c.write.ensures.limit c.write.ensures.given c.write.ensures.mail_room)
+
+-- the tree has the connection's node
+opened_in : (g : Over) (c : goal.After-write g) → IsOpenedIn c.self.inside.register.history (Connect c.args.hub) None c.self.inside.tree c.open.new.self c.in-Ok.key
+opened_in g c =
+    let o = c.in-Ok.ensures in
+    record { numbered = o.numbered ∙ c.len-number.ensures; free = o.was_free; found = o.opened; others = o.kept; resources = o.resources; chain = o.chain }
+
+pub returns-clause-tied : goal.returns-clause-tied
+returns-clause-tied g c =
+    let h = c.self.inside.register.history in
+    let old = c.self.inside.tree in
+    let e : Event = Connect c.args.hub in
+    let law = c.promise.ensures.lawful in
+    let was : AreTied g.R.Resource h old c.self.inside.hubs = rw (← c.self.view_is) at c.requires.tied in
+    let next : MayFollow h e = rw (← c.self.view_is) at c.requires.ready.next in
+    let opened = opened_in g c in
+    let stays = all_left h e law next old.nodes old.chain was.of_tree.records (λ n less. is_open_kept h e n less refl) in
+    let tied = tied_top g.R.Resource h law old old c.open.new.self was.of_tree c.in-Ok.key e next refl refl refl (λ n. refl)
+    (λ r. record { removes = refl; takes = refl; uses = refl }) stays refl opened in
+    let still : (k : Key) → IsSome (find old.nodes k) → IsSome (find c.open.new.self.nodes k) =
+    λ k some. ap is_some (found_still g.R.Resource h law old old c.open.new.self was.of_tree c.in-Ok.key e None opened k some) ∙ some in
+    let made = ap (λ (hs : Hubs). hs.hubs) c.connect.ensures in
+    rw c.write.ensures.events (tied_connected g.R.Resource {later = c.connect.new.self} c.args.hub c.in-Ok.key law next was opened.numbered made still (ap is_some opened.found) tied)
+
+pub returns-clause-new : goal.returns-clause-new
+returns-clause-new g c =
+    let h = c.self.inside.register.history in
+    let old = c.self.inside.tree in
+    let o = opened_in g c in
+    let before : (k : Key) → IsSome (find c.open.new.self.nodes k) → k.number < length h → IsSome (find old.nodes k) =
+    λ k some less. ap is_some (sym (o.others k (λ same. absurd (let n = ap (λ (j : Key). j.number) same in let m = o.numbered in omega arith)))) ∙ some in
+    let new : IsNewNode old.nodes c.open.new.self.nodes (length h) c.in-Ok.key = record { numbered = o.numbered; found = ap is_some o.found; from = before } in
+    rw (← c.self.view_is) new
+
+pub returns-clause-resources : goal.returns-clause-resources
+returns-clause-resources g c = rw (← c.self.view_is) c.in-Ok.ensures.resources
+
+-- the hubs are those after the connection
+left_hubs : (g : Over) (c : goal.After-write g) → c.connect.new.self ≡ record c.self.inside.hubs {
+  hubs = hubs_after c.self.inside.register.history (Connect c.args.hub) c.in-Ok.key.slot c.self.inside.hubs.hubs;
+}
+left_hubs g c =
+    let h = c.self.inside.register.history in
+    let was : AreTied g.R.Resource h c.self.inside.tree c.self.inside.hubs = rw (← c.self.view_is) at c.requires.tied in
+    c.connect.ensures ∙ ap (λ (hs : List Hub). record c.self.inside.hubs { hubs = hs })
+    (sym (connected_after h c.args.hub c.in-Ok.key c.self.inside.hubs.hubs was.published (opened_in g c).numbered))
+
+pub returns-clause-hubs : goal.returns-clause-hubs
+returns-clause-hubs g c =
+    subst (λ (b : Ground g.row.R.Denot). c.connect.new.self ≡ record b.hubs {
+      hubs = hubs_after b.register.history (Connect c.args.hub) c.in-Ok.key.slot b.hubs.hubs;
+    }) c.self.view_is (left_hubs g c)
+
+pub returns-clause-memory : goal.returns-clause-memory
+returns-clause-memory g c =
+    let old = c.self.inside in
+    let room : 0 < old.tree.nodes.room = rw (← c.self.view_is) at c.requires.room in
+    let space : 0 < vec_capacity old.closed - old.tree.nodes.count = rw (← c.self.view_is) at c.requires.space in
+    let within = c.self.invariant.1 in
+    let more = c.in-Ok.ensures.count in
+    let less = c.in-Ok.ensures.had_room room in
+    let hubs = ap (λ (s : Hubs). length s.hubs + s.room) c.connect.ensures ∙
+    ap (λ (n : ℕ). n + old.hubs.room) (as_many_at c.args.hub (connected c.in-Ok.key) old.hubs.hubs) in
+    written_memory (Connect c.args.hub ∷ []) (returns-clause-written g c) (rw (← c.self.view_is) (omega arith))
+    (rw (← c.self.view_is) (ap (λ (s : Slots (Stowed g.row.R.Denot)). s.count + s.room) c.in-Ok.ensures.resources)) (rw (← c.self.view_is) (omega arith))
+    (rw (← c.self.view_is) hubs) (rw (← c.self.view_is) (ap (λ (s : Hubs). s.slots) c.connect.ensures))

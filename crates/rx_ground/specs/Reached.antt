@@ -1,0 +1,18 @@
+-- What an item of a leaf wants.
+use Rattle.std.specs.Prelude.{◌≡◌, ℤ, ◌+◌, ◌≤◌, List, length, count_by, IsSome}
+use Rattle.rx_event.specs.declared.event.Event.{Event}
+use Rattle.rx_event.specs.declared.event.Event.TheVariants.{Item}
+use Rattle.rx_event.specs.Climb.{stops}
+use Rattle.rx_event.specs.Moments.{is_projection}
+use Rattle.rx_event.specs.Notes.{mail_of}
+use Rattle.rx_slots.specs.declared.Key.{Key}
+use Rattle.rx_slots.specs.Slots.{Slots, find}
+use Rattle.rx_tree.specs.declared.node.Node.{Node}
+use Rattle.rx_ground.specs.declared.route.Reach.{Reach}
+
+-- an item of this open leaf wants so much: its own event with what FlatMaps and Switches then owe, and the notes that it tells
+pub record IsReach (h : List Event) (nodes : Slots Node) (leaf : Key) (reach : Reach) : Type 0 where
+  pub there : IsSome (find nodes leaf)
+  pub events : reach.events ≡ 1 + count_by is_projection (stops h leaf.number)
+  pub notes : (value : ℤ) → length (mail_of h (Item leaf.number value)) ≡ reach.notes
+  pub few : reach.notes ≤ 1048577

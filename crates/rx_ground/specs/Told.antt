@@ -1,0 +1,41 @@
+-- What a node's record says.
+use Rattle.std.specs.Prelude.{◌≡◌, ◌==◌, Bool, true, false, List, Some, is_some, slice_get}
+use Rattle.rx_event.specs.declared.marks.Marks.{Marks}
+use Rattle.rx_event.specs.declared.event.Place.{Place}
+use Rattle.rx_event.specs.declared.event.Place.TheVariants.{Root, Source, Inner, Notifier}
+use Rattle.rx_event.specs.declared.event.Event.{Event}
+use Rattle.rx_event.specs.Events.{has_source, is_merging, is_until}
+use Rattle.rx_event.specs.Tree.{is_open}
+use Rattle.rx_event.specs.Marks.{marks_of}
+use Rattle.rx_slots.specs.declared.Key.{Key}
+use Rattle.rx_slots.specs.Slots.{Slots, find}
+use Rattle.rx_tree.specs.declared.node.Node.{Node}
+use Rattle.rx_ground.specs.declared.base.Record.{Record}
+
+-- the key is an open node's, and the record says which event made it and how the history marks it
+pub record IsTold (h : List Event) (nodes : Slots Node) (key : Key) (r : Record) : Type 0 where
+  pub there : is_some (find nodes key) ≡ true
+  pub alive : is_open h key.number ≡ true
+  pub made : slice_get h key.number ≡ Some r.made
+  pub marks : r.marks ≡ marks_of h key.number
+
+-- a node that this event made has such a place
+abbrev pub has_place : Event → Place → Bool
+has_place made Root = true
+has_place made (Source p) = has_source made
+has_place made (Inner p) = is_merging made
+has_place made (Notifier p) = is_until made
+
+-- a node with these marks had its source or its notifier opened, which the place is
+abbrev pub is_used : Marks → Place → Bool
+is_used m Root = false
+is_used m (Source p) = m.source_opened
+is_used m (Inner p) = false
+is_used m (Notifier p) = m.notifier_opened
+
+-- a node with these marks owes nothing, where the place is an inner's
+abbrev pub is_unowed : Marks → Place → Bool
+is_unowed m Root = false
+is_unowed m (Source p) = false
+is_unowed m (Inner p) = m.owed == 0
+is_unowed m (Notifier p) = false

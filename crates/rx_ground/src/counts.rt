@@ -1,0 +1,185 @@
+//! What is there, counted, and room for more.
+
+ghost use Rattle.std.specs.Prelude.{◌≡◌, ◌+◌, ◌≤◌, ◌↔◌, [], length, slice_get, is_some, if◌then◌else◌, IsTrue, IsSome, IfSome, IfNone, IfErr, OnOk};
+ghost use Rattle.rx_event.specs.Notes.{notes};
+ghost use Rattle.rx_event.specs.Totals.{open_count as open_count_in, held_count, waiting_count, accepted_count, taken_count, item_count, debt};
+ghost use Rattle.rx_event.specs.declared.refusal.Refusal.{Refusal};
+ghost use Rattle.rx_slots.specs.Slots.{find};
+ghost use Rattle.rx_tree.specs.Tree.{IsFirst, IsRoot, HasNone};
+ghost use Rattle.rx_tree.specs.Resources.{is_held_at};
+ghost use Rattle.rx_register.specs.State.{IsLoadOf};
+ghost use Rattle.rx_ground.specs.Ties.{IsStanding, IsRoomier, HasRoomBeside};
+ghost use Rattle.rx_ground.specs.Memory.{HasNoRoom};
+
+use crate::base::{Ground, Wanted};
+use rx_event::{Event, Mail, Refusal};
+use rx_hub::{Hubs, Route};
+use rx_register::{Load, Register};
+use rx_resource::Resource;
+use rx_tree::{Key, ResKey, Tree};
+use std::alloc::Global;
+
+impl<R: Resource> Ground<R> {
+    /// With no events, and of at most `limit`, which is at most 4,294,967,295. It takes no memory.
+    pub fn new(alloc: Global, limit: u64) -> Self
+        requires limited { limit ≤ 4294967295 }
+        ensures standing { IsStanding R.Resource result }
+        ensures history { result.register.history ≡ [] }
+        ensures limit { result.register.limit ≡ limit }
+        ensures given { result.register.given ≡ 0 }
+        ensures nodes { result.tree.nodes.entries ≡ [] }
+        ensures resources { result.tree.resources.entries ≡ [] }
+        ensures hubs { result.hubs.hubs ≡ [] }
+        ensures no_room { HasNoRoom result }
+    {
+        Ground {
+            register: Register::new(alloc, limit),
+            tree: Tree::new(alloc),
+            hubs: Hubs::new(alloc),
+            closed: Vec::new(alloc),
+            route: Route::new(alloc),
+        }
+    }
+
+    /// How many nodes are open.
+    pub fn open_count(&self) -> u64
+        requires standing { IsStanding R.Resource self.now }
+        ensures { result ≡ open_count_in self.now.register.history }
+    {
+        self.tree.promise();
+        self.tree.len() as u64
+    }
+
+    /// How many resources are held.
+    pub fn held_count(&self) -> u64
+        requires standing { IsStanding R.Resource self.now }
+        ensures { result ≡ held_count self.now.register.history }
+    {
+        self.promise();
+        self.accepted() - self.taken() - self.waiting_count()
+    }
+
+    /// How many resources wait for their release.
+    pub fn waiting_count(&self) -> u64
+        requires standing { IsStanding R.Resource self.now }
+        ensures { result ≡ waiting_count self.now.register.history }
+    {
+        self.tree.promise();
+        self.tree.waiting()
+    }
+
+    /// How many resources were accepted.
+    pub fn accepted(&self) -> u64
+        ensures { result ≡ accepted_count self.now.register.history }
+    {
+        self.register.accepted()
+    }
+
+    /// How many resources were taken.
+    pub fn taken(&self) -> u64
+        ensures { result ≡ taken_count self.now.register.history }
+    {
+        self.register.taken()
+    }
+
+    /// How many items were emitted.
+    pub fn items(&self) -> u64
+        ensures { result ≡ item_count self.now.register.history }
+    {
+        self.register.items()
+    }
+
+    /// The event at a place, if there is one.
+    pub fn event(&self, place: u64) -> Option<Event>
+        ensures { result ≡ slice_get self.now.register.history place }
+    {
+        self.register.event(place)
+    }
+
+    /// Whether the key is an open node's.
+    pub fn contains(&self, node: Key) -> bool
+        ensures { IsTrue result ↔ IsSome (find self.now.tree.nodes node) }
+    {
+        self.tree.contains(node)
+    }
+
+    /// Whether the key is a held resource's.
+    pub fn holds(&self, res: ResKey) -> bool
+        ensures { result ≡ is_held_at self.now.tree res }
+    {
+        self.tree.holds(res)
+    }
+
+    /// The key of the open root of least number; None where no root is open.
+    pub fn first_root(&self) -> Option<Key>
+        ensures some { IfSome result (IsFirst (IsRoot self.now.tree.nodes) 0) }
+        ensures none { IfNone result (HasNone (IsRoot self.now.tree.nodes) 0) }
+    {
+        self.tree.first_root()
+    }
+
+    /// What is open, and what its closing may need: an event for each open node, two for each held
+    /// resource, one for each that waits, and one for each projected item that is owed.
+    pub(crate) fn load(&self) -> Load
+        requires standing { IsStanding R.Resource self.now }
+        ensures load { IsLoadOf self.now.register.history result }
+        ensures bound { result.debt ≤ 4294967295 }
+    {
+        self.promise();
+        let open = self.open_count();
+        let waiting = self.waiting_count();
+        let held = self.accepted() - self.taken() - waiting;
+        let owed = self.tree.owed();
+        Load {
+            open,
+            debt: open + 2 * held + waiting + owed,
+        }
+    }
+
+    /// Gets room for what a call wants, beside what is kept for closing everything.
+    ///
+    /// `NoMemory` where memory is refused; then some of the room may have been gotten, and nothing else
+    /// changed.
+    pub fn make_room(&mut self, wanted: Wanted) -> Result<(), Refusal>
+        requires standing { IsStanding R.Resource self.old }
+        requires within { length self.old.register.history + debt self.old.register.history + wanted.events ≤ self.old.register.limit }
+        requires notes { wanted.notes ≤ 4294967295 }
+        ensures ok { OnOk result (HasRoomBeside self.new wanted) }
+        ensures err { IfErr result (λ why. why ≡ Refusal.NoMemory) }
+        ensures kept { IsRoomier self.old self.new }
+        ensures standing { IsStanding R.Resource self.new }
+    {
+        self.promise();
+        let load = self.load();
+        let in_all = Wanted {
+            events: load.debt + wanted.events,
+            notes: load.open + wanted.notes,
+            nodes: wanted.nodes,
+            resources: wanted.resources,
+            hubs: wanted.hubs,
+        };
+        match self.reserve(in_all) {
+            Ok(()) => Ok(()),
+            Err(_) => Err(Refusal::NoMemory),
+        }
+    }
+
+    /// The next of the notes, which is then handed out; None where all were. It takes no memory.
+    pub fn take_mail(&mut self) -> Option<Mail>
+        requires standing { IsStanding R.Resource self.old }
+        ensures value { result ≡ slice_get (notes self.old.register.history) self.old.register.given }
+        ensures given { self.new.register.given ≡ (if is_some result then self.old.register.given + 1 else self.old.register.given) }
+        ensures history { self.new.register.history ≡ self.old.register.history }
+        ensures limit { self.new.register.limit ≡ self.old.register.limit }
+        ensures tree { self.new.tree ≡ self.old.tree }
+        ensures standing { IsStanding R.Resource self.new }
+        ensures kept { self.new ≡ record self.old {
+          register = record self.old.register
+              { given = self.new.register.given; mail_room = self.new.register.mail_room };
+        } }
+        ensures mail_room { self.new.register.mail_room ≡
+            (if is_some result then self.old.register.mail_room + 1 else self.old.register.mail_room) }
+    {
+        self.register.take_mail()
+    }
+}

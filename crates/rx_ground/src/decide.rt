@@ -1,0 +1,396 @@
+//! What stands first against a call.
+
+ghost use Rattle.std.specs.Prelude.{◌≡◌, ◌||◌, ◌&&◌, true, false, Some, None, is_some, option_map};
+ghost use Rattle.std.specs.Prelude.{if◌then◌else◌, IfSome, IfNone};
+ghost use Rattle.std.proofs.Math.Bool.{not};
+ghost use Rattle.rx_event.specs.Events.{named_by, is_merging};
+ghost use Rattle.rx_event.specs.Tree.{at};
+ghost use Rattle.rx_event.specs.Moments.{owed};
+ghost use Rattle.rx_event.specs.Calls.{Opening, OpeningUsing, Holding, Applying, Removing};
+ghost use Rattle.rx_event.specs.Calls.{Ending, Aborting, Declining, Failing, Disposing};
+ghost use Rattle.rx_event.specs.Refusals.{first_cause};
+ghost use Rattle.rx_slots.specs.Slots.{find};
+ghost use Rattle.rx_tree.specs.Resources.{is_held_at};
+ghost use Rattle.rx_register.specs.Causes.{by_key, projecting_causes, is_built_kind, end_at as end_at_in};
+ghost use Rattle.rx_register.specs.Causes.{is_without_hub as is_without_hub_in, is_wrong_place as is_wrong_place_in};
+ghost use Rattle.rx_register.specs.Causes.{is_taken_place as is_taken_place_in, is_unowed_place as is_unowed_place_in};
+ghost use Rattle.rx_register.specs.Causes.{is_crowded as is_crowded_in, is_over as is_over_in};
+ghost use Rattle.rx_ground.specs.FirstCause.{first_at, first_by_key, first_by_res_key, has_node};
+ghost use Rattle.rx_ground.specs.Ties.{IsStanding, is_there};
+ghost use Rattle.rx_ground.specs.Told.{IsTold, has_place as has_place_in};
+ghost use Rattle.rx_ground.specs.Told.{is_used as is_used_in, is_unowed as is_unowed_in};
+
+use crate::base::{Ground, Record};
+use rx_event::{Event, Kind, Marks, Place, Refusal};
+use rx_note::Terminal;
+use rx_resource::Resource;
+use rx_tree::{Key, ResKey};
+
+/// Whether nodes of this kind are opened so far: all but the subscribers of hubs.
+fn is_built(kind: Kind) -> bool
+    ensures { result ≡ is_built_kind kind }
+{
+    !matches!(kind, Kind::Sub(_))
+}
+
+/// Whether a node that this event made has such a place below it.
+fn has_place(made: Event, place: Place) -> bool
+    ensures { result ≡ has_place_in made place }
+{
+    match place {
+        Place::Root => true,
+        Place::Source(_) => made.has_source(),
+        Place::Inner(_) => made.is_merging(),
+        Place::Notifier(_) => made.is_until(),
+    }
+}
+
+/// Whether a node with these marks had its source or its notifier opened, which the place is.
+fn is_used(marks: Marks, place: Place) -> bool
+    ensures { result ≡ is_used_in marks place }
+{
+    match place {
+        Place::Root | Place::Inner(_) => false,
+        Place::Source(_) => marks.source_opened,
+        Place::Notifier(_) => marks.notifier_opened,
+    }
+}
+
+/// Whether a node with these marks owes no inner, where the place is one's.
+fn is_unowed(marks: Marks, place: Place) -> bool
+    ensures { result ≡ is_unowed_in marks place }
+{
+    match place {
+        Place::Root | Place::Source(_) | Place::Notifier(_) => false,
+        Place::Inner(_) => marks.owed == 0,
+    }
+}
+
+/// How many events the end of a node at this place has to be given, when it is opened: 0 for an inner,
+/// whose end the item was given that it was projected for, and 1 at each other place.
+pub fn end_at(place: Place) -> u64
+    ensures { result ≡ end_at_in place }
+{
+    match place {
+        Place::Inner(_) => 0,
+        Place::Root | Place::Source(_) | Place::Notifier(_) => 1,
+    }
+}
+
+impl<R: Resource> Ground<R> {
+    /// What is known of an open node; None where the key finds none.
+    #[tactic(auto, using(crate::proofs::Told::told))]
+    fn told(&self, node: Key) -> Option<Record>
+        requires { IsStanding R.Resource self.now }
+        ensures some { IfSome result (IsTold self.now.register.history self.now.tree.nodes node) }
+        ensures none { IfNone result (is_some (find self.now.tree.nodes node) ≡ false) }
+    {
+        self.record(node)
+    }
+
+    /// Whether the kind is that of a subscriber of a hub that is not there.
+    fn is_without_hub(&self, kind: Kind) -> bool
+        requires { IsStanding R.Resource self.now }
+        ensures { result ≡ is_without_hub_in self.now.register.history kind }
+    {
+        match kind {
+            Kind::Sub(hub) => !self.has_hub(hub),
+            _ => false,
+        }
+    }
+
+    /// Whether the node of this key is open, if there is a key.
+    fn is_there(&self, above: Option<Key>) -> bool
+        ensures { result ≡ is_there self.now.tree.nodes above }
+    {
+        match above {
+            Some(key) => self.contains(key),
+            None => true,
+        }
+    }
+
+    /// Whether the node above has no such place, or nodes of this kind are not there so far.
+    #[tactic(auto, using(crate::proofs::Told::wrong_at))]
+    fn is_wrong_place(&self, place: Place, above: Option<Key>, kind: Kind) -> bool
+        requires standing { IsStanding R.Resource self.now }
+        requires named { named_by place ≡ option_map (λ key. key.number) above }
+        requires there { is_there self.now.tree.nodes above ≡ true }
+        ensures { result ≡ (is_wrong_place_in self.now.register.history place || not (is_built_kind kind)) }
+    {
+        if !is_built(kind) {
+            return true;
+        }
+        match above {
+            Some(key) => match self.told(key) {
+                Some(record) => !has_place(record.made, place),
+                None => false,
+            },
+            None => false,
+        }
+    }
+
+    /// Whether the source or the notifier of the node above was opened, which the place is.
+    #[tactic(auto, using(crate::proofs::Told::taken_at))]
+    fn is_taken_place(&self, place: Place, above: Option<Key>) -> bool
+        requires standing { IsStanding R.Resource self.now }
+        requires named { named_by place ≡ option_map (λ key. key.number) above }
+        requires there { is_there self.now.tree.nodes above ≡ true }
+        ensures { result ≡ is_taken_place_in self.now.register.history place }
+    {
+        match above {
+            Some(key) => match self.told(key) {
+                Some(record) => is_used(record.marks, place),
+                None => false,
+            },
+            None => false,
+        }
+    }
+
+    /// Whether no projected item waits for an inner, where the place is one's.
+    #[tactic(auto, using(crate::proofs::Told::unowed_at))]
+    fn is_unowed_place(&self, place: Place, above: Option<Key>) -> bool
+        requires standing { IsStanding R.Resource self.now }
+        requires named { named_by place ≡ option_map (λ key. key.number) above }
+        requires there { is_there self.now.tree.nodes above ≡ true }
+        ensures { result ≡ is_unowed_place_in self.now.register.history place }
+    {
+        match above {
+            Some(key) => match self.told(key) {
+                Some(record) => is_unowed(record.marks, place),
+                None => false,
+            },
+            None => false,
+        }
+    }
+
+    /// Whether so many open nodes more would be too many.
+    fn is_crowded(&self, more: u64) -> bool
+        requires { IsStanding R.Resource self.now }
+        ensures { result ≡ is_crowded_in self.now.register.history more }
+    {
+        self.register.is_crowded(self.load(), more)
+    }
+
+    /// Whether so many events and reservations more would pass the limit, with what closing everything
+    /// needs counted in.
+    pub(crate) fn is_over(&self, more: u64) -> bool
+        requires { IsStanding R.Resource self.now }
+        ensures { result ≡ is_over_in self.now.register.history self.now.register.limit more }
+    {
+        self.register.is_over(self.load(), more)
+    }
+
+    /// What stands first against opening a node there; `above` is the key of the node that the place
+    /// names.
+    #[tactic(auto, using(crate::proofs::Told::there_open))]
+    pub fn opening_cause(&self, place: Place, above: Option<Key>, kind: Kind) -> Option<Refusal>
+        requires standing { IsStanding R.Resource self.now }
+        requires named { named_by place ≡ option_map (λ key. key.number) above }
+        ensures { result ≡ first_by_key self.now (is_there self.now.tree.nodes above) true (Opening place kind) }
+    {
+        if self.is_without_hub(kind) {
+            return Some(Refusal::NoHub);
+        }
+        if !self.is_there(above) {
+            return Some(Refusal::Gone);
+        }
+        if self.is_wrong_place(place, above, kind) {
+            return Some(Refusal::WrongKind);
+        }
+        if self.is_taken_place(place, above) {
+            return Some(Refusal::PlaceTaken);
+        }
+        if self.is_unowed_place(place, above) {
+            return Some(Refusal::NothingOwed);
+        }
+        if self.is_crowded(1) {
+            return Some(Refusal::TooMany);
+        }
+        if self.is_over(1 + end_at(place)) {
+            return Some(Refusal::Full);
+        }
+        None
+    }
+
+    /// What stands first against opening a mirroring node there with a resource.
+    #[tactic(auto, using(crate::proofs::Told::there_open))]
+    pub fn using_cause(
+        &self,
+        place: Place,
+        above: Option<Key>,
+        tag: u64,
+        is_fresh: bool,
+    ) -> Option<Refusal>
+        requires standing { IsStanding R.Resource self.now }
+        requires named { named_by place ≡ option_map (λ key. key.number) above }
+        ensures { result ≡
+            first_by_key self.now (is_there self.now.tree.nodes above) is_fresh (OpeningUsing place tag) }
+    {
+        let _ = tag;
+        if !self.is_there(above) {
+            return Some(Refusal::Gone);
+        }
+        if self.is_wrong_place(place, above, Kind::Pass) {
+            return Some(Refusal::WrongKind);
+        }
+        if self.is_taken_place(place, above) {
+            return Some(Refusal::PlaceTaken);
+        }
+        if self.is_unowed_place(place, above) {
+            return Some(Refusal::NothingOwed);
+        }
+        if !is_fresh {
+            return Some(Refusal::NotFresh);
+        }
+        if self.is_crowded(1) {
+            return Some(Refusal::TooMany);
+        }
+        if self.is_over(4 + end_at(place)) {
+            return Some(Refusal::Full);
+        }
+        None
+    }
+
+    /// What stands first against holding a resource at the node.
+    #[tactic(auto, using(crate::proofs::Told::there_open))]
+    pub fn holding_cause(&self, node: Key, tag: u64, is_fresh: bool) -> Option<Refusal>
+        requires standing { IsStanding R.Resource self.now }
+        ensures { result ≡ first_by_key self.now (has_node self.now node) is_fresh (Holding node.number tag) }
+    {
+        let _ = tag;
+        if !self.contains(node) {
+            return Some(Refusal::Gone);
+        }
+        if !is_fresh {
+            return Some(Refusal::NotFresh);
+        }
+        if self.is_over(3) {
+            return Some(Refusal::Full);
+        }
+        None
+    }
+
+    /// What stands first against using the resource.
+    #[tactic(auto, using(crate::proofs::Told::held_in_history))]
+    pub fn applying_cause(&self, res: ResKey) -> Option<Refusal>
+        requires standing { IsStanding R.Resource self.now }
+        ensures { result ≡ first_by_res_key self.now (is_held_at self.now.tree res) (Applying res.number) }
+    {
+        if !self.holds(res) {
+            return Some(Refusal::NotHeld);
+        }
+        if self.is_over(1) {
+            return Some(Refusal::Full);
+        }
+        None
+    }
+
+    /// What stands first against removing the resource from its node.
+    #[tactic(auto, using(crate::proofs::Told::held_in_history))]
+    pub fn removing_cause(&self, res: ResKey) -> Option<Refusal>
+        requires standing { IsStanding R.Resource self.now }
+        ensures { result ≡ first_by_res_key self.now (is_held_at self.now.tree res) (Removing res.number) }
+    {
+        if !self.holds(res) {
+            return Some(Refusal::NotHeld);
+        }
+        None
+    }
+
+    /// What stands first against the end of the leaf.
+    pub fn ending_cause(&self, leaf: Key, terminal: Terminal) -> Option<Refusal>
+        requires standing { IsStanding R.Resource self.now }
+        ensures { result ≡ first_at self.now leaf (Ending leaf.number terminal) }
+    {
+        let _ = terminal;
+        let Some(record) = self.told(leaf) else {
+            return Some(Refusal::Gone);
+        };
+        if !record.made.is_leaf() {
+            return Some(Refusal::WrongKind);
+        }
+        None
+    }
+
+    /// What stands first against ending the node with an error.
+    #[tactic(auto, using(crate::proofs::Told::child_marked))]
+    pub fn aborting_cause(&self, node: Key, code: u32) -> Option<Refusal>
+        requires standing { IsStanding R.Resource self.now }
+        ensures { result ≡ first_at self.now node (Aborting node.number code) }
+    {
+        let _ = code;
+        let Some(record) = self.told(node) else {
+            return Some(Refusal::Gone);
+        };
+        if !record.made.may_abort() {
+            return Some(Refusal::WrongKind);
+        }
+        if record.marks.open_children > 0 {
+            return Some(Refusal::HasChild);
+        }
+        None
+    }
+
+    /// What stands first against an answer to an item that was projected to the node.
+    fn projecting_cause(&self, merging: Key) -> Option<Refusal>
+        requires standing { IsStanding R.Resource self.now }
+        ensures { result ≡ first_cause (by_key (has_node self.now merging)
+            (projecting_causes self.now.register.history merging.number)) }
+    {
+        let Some(record) = self.told(merging) else {
+            return Some(Refusal::Gone);
+        };
+        if !record.made.is_merging() {
+            return Some(Refusal::WrongKind);
+        }
+        if record.marks.owed == 0 {
+            return Some(Refusal::NothingOwed);
+        }
+        None
+    }
+
+    /// What stands first against declining an item that was projected to the node.
+    pub fn declining_cause(&self, merging: Key) -> Option<Refusal>
+        requires standing { IsStanding R.Resource self.now }
+        ensures { result ≡ first_at self.now merging (Declining merging.number) }
+    {
+        self.projecting_cause(merging)
+    }
+
+    /// What stands first against failing at an item that was projected to the node. `code` is any `u32`.
+    pub fn failing_cause(&self, merging: Key, code: u32) -> Option<Refusal>
+        requires standing { IsStanding R.Resource self.now }
+        ensures { result ≡ first_at self.now merging (Failing merging.number code) }
+    {
+        let _ = code;
+        self.projecting_cause(merging)
+    }
+
+    /// How many projected items an open FlatMap or Switch owes; None where the key is of no such node.
+    pub fn owed(&self, merging: Key) -> Option<u64>
+        requires standing { IsStanding R.Resource self.now }
+        ensures { result ≡ (if has_node self.now merging && at is_merging self.now.register.history merging.number
+            then Some (owed self.now.register.history merging.number) else None) }
+    {
+        let record = self.told(merging)?;
+        if record.made.is_merging() {
+            Some(record.marks.owed)
+        } else {
+            None
+        }
+    }
+
+    /// What stands first against unsubscribing the root.
+    pub fn disposing_cause(&self, root: Key) -> Option<Refusal>
+        requires standing { IsStanding R.Resource self.now }
+        ensures { result ≡ first_at self.now root (Disposing root.number) }
+    {
+        let Some(record) = self.told(root) else {
+            return Some(Refusal::Gone);
+        };
+        if !record.made.is_root() {
+            return Some(Refusal::NotRoot);
+        }
+        None
+    }
+}

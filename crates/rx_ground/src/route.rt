@@ -1,0 +1,213 @@
+//! Where an item goes, and what it does on its way: up from its leaf, and from a connection on to each
+//! subscriber of its hub (Publish), the first one's climb before the second's.
+
+ghost use Rattle.std.specs.Prelude.{◌≡◌, ◌+◌, ◌<◌, ◌≤◌, ◌++◌, [], length, Some, None, is_some, nat_lt, IsSome, IfSome, IfOk, IfErr, OnOk};
+ghost use Rattle.std.specs.Option.{option_to_list};
+ghost use Rattle.std.proofs.Math.Bool.{not};
+ghost use Rattle.rx_event.specs.declared.event.Event.{Event};
+ghost use Rattle.rx_event.specs.Climb.{visits, most_visits};
+ghost use Rattle.rx_event.specs.Calls.{Emitting};
+ghost use Rattle.rx_event.specs.Lawful.{IsLawful};
+ghost use Rattle.rx_event.specs.Marks.{after_projection, after_firing};
+ghost use Rattle.rx_event.specs.Notes.{mail_of};
+ghost use Rattle.rx_slots.specs.Slots.{find};
+ghost use Rattle.rx_tree.specs.Owed.{owed_in};
+ghost use Rattle.rx_hub.specs.Route.{IsOrdered};
+ghost use Rattle.rx_hub.specs.Walk.{IsWalk, climb_over, stops_over};
+ghost use Rattle.rx_ground.specs.FirstCause.{first_at};
+ghost use Rattle.rx_ground.specs.Ties.{AreRecords, IsStanding, Remarks};
+ghost use Rattle.rx_ground.specs.Passing.{owed_at, told_at, mail_at, IsThere, IsMarkedAt, IsMeasured, IsPassing};
+ghost use Rattle.rx_ground.specs.Reached.{IsReach};
+
+use crate::base::Ground;
+use rx_event::{Mail, Refusal};
+use rx_flow::Stop;
+use rx_hub::{Hubs, Route};
+use rx_note::Note;
+use rx_register::Register;
+use rx_resource::Resource;
+use rx_tree::{Key, Tree};
+
+// How many visits one item may make.
+const MOST_VISITS: u64 = 1_048_576;
+
+/// What an item of a leaf wants, wherever it goes.
+#[derive(Clone, Copy)]
+pub struct Reach {
+    /// How many events and reservations: its own event, and an answer for each time that a FlatMap or a
+    /// Switch projects it, which owes an inner or a declining for it.
+    pub events: u64,
+    /// How many notes: one for each time that it reaches a root, or a FlatMap or a Switch.
+    pub notes: u64,
+}
+
+/// How many answers an item is owed that stops there.
+fn owed_at(stop: Stop) -> u64
+    ensures { result ≡ owed_at stop }
+{
+    match stop {
+        Stop::Projection(_) => 1,
+        Stop::Delivery(_) | Stop::Firing(_) | Stop::Connection(_) => 0,
+    }
+}
+
+/// How many notes an item tells that stops there.
+fn told_at(stop: Stop) -> u64
+    ensures { result ≡ told_at stop }
+{
+    match stop {
+        Stop::Projection(_) | Stop::Delivery(_) => 1,
+        Stop::Firing(_) | Stop::Connection(_) => 0,
+    }
+}
+
+/// What an item of this node wants, by one walk of its way; None where it would make more visits than it
+/// may.
+fn measure<R: Resource>(tree: &Tree<R>, hubs: &Hubs, route: &mut Route, node: Key) -> Option<Reach>
+    requires open { IsSome (find tree.now.nodes node) }
+    requires ordered { IsOrdered tree.now.nodes hubs.now.hubs }
+    requires room { length hubs.now.hubs ≤ route.old.room }
+    ensures reach { IfSome result (IsMeasured (stops_over tree.now.nodes hubs.now.hubs node)) }
+    ensures visits { is_some result ≡ not (nat_lt most_visits (length (climb_over tree.now.nodes hubs.now.hubs node))) }
+    ensures room { route.new.room ≡ route.old.room }
+{
+    route.start(node);
+    let mut events = 1;
+    let mut notes = 0;
+    while let Some(stop) = route.next(tree, hubs) {
+        events += owed_at(stop);
+        notes += told_at(stop);
+    }
+    if route.visits() > MOST_VISITS {
+        return None;
+    }
+    Some(Reach { events, notes })
+}
+
+/// Tells of an item at one of its stops: a root is told it, and a FlatMap or a Switch to project it.
+fn tell_at(register: &mut Register, stop: Stop, value: i64)
+    requires room { told_at stop ≤ register.old.mail_room }
+    ensures same { register.new ≡ record register.old { pending = register.new.pending; mail_room = register.new.mail_room } }
+    ensures told { register.new.pending ≡
+        register.old.pending ++ option_to_list (mail_at (length register.old.history) value stop) }
+    ensures mail_room { register.old.mail_room ≡ register.new.mail_room + told_at stop }
+{
+    let place = register.len();
+    match stop {
+        Stop::Delivery(root) => register.tell(Mail {
+            place,
+            to: root.number,
+            note: Note::Next(value),
+        }),
+        Stop::Projection(merging) => register.tell(Mail {
+            place,
+            to: merging.number,
+            note: Note::Project(value),
+        }),
+        Stop::Firing(_) | Stop::Connection(_) => {}
+    }
+}
+
+/// Marks a FlatMap or a Switch as one to which an item was projected.
+fn mark_projection<R: Resource>(tree: &mut Tree<R>, merging: Key)
+    requires open { IsSome (find tree.old.nodes merging) }
+    requires countable { owed_in tree.old.nodes < 9223372036854775808 }
+    ensures { Remarks tree.old tree.new merging after_projection }
+{
+    let Some(marks) = tree.marks(merging) else {
+        unreachable!()
+    };
+    tree.set_marks(merging, marks.after_projection());
+}
+
+/// Marks a TakeUntil as one that an item fired.
+fn mark_firing<R: Resource>(tree: &mut Tree<R>, until: Key)
+    requires open { IsSome (find tree.old.nodes until) }
+    requires countable { owed_in tree.old.nodes < 9223372036854775808 }
+    ensures { Remarks tree.old tree.new until after_firing }
+{
+    let Some(marks) = tree.marks(until) else {
+        unreachable!()
+    };
+    tree.set_marks(until, marks.after_firing());
+}
+
+/// Marks the node at which an item stops.
+fn mark_at<R: Resource>(tree: &mut Tree<R>, stop: Stop)
+    requires there { IsThere tree.old.nodes stop }
+    requires countable { owed_in tree.old.nodes < 9223372036854775808 }
+    ensures { IsMarkedAt stop tree.old tree.new }
+{
+    match stop {
+        Stop::Projection(merging) => mark_projection(tree, merging),
+        Stop::Firing(until) => mark_firing(tree, until),
+        Stop::Delivery(_) | Stop::Connection(_) => {}
+    }
+}
+
+/// Takes an item its way: at each stop it tells who is to be told of it, and marks what it changes there.
+pub(crate) fn pass_on<R: Resource>(
+    register: &mut Register,
+    tree: &mut Tree<R>,
+    hubs: &Hubs,
+    route: &mut Route,
+    leaf: Key,
+    value: i64,
+)
+    requires lawful { IsLawful register.old.history }
+    requires walk { IsWalk register.old.history tree.old.nodes hubs.now.hubs }
+    requires records { AreRecords register.old.history tree.old.nodes tree.old.chain }
+    requires open { IsSome (find tree.old.nodes leaf) }
+    requires notes { length (mail_of register.old.history (Event.Item leaf.number value)) ≤ register.old.mail_room }
+    requires pending { register.old.pending ≡ [] }
+    requires room { length hubs.now.hubs ≤ route.old.room }
+    requires countable { owed_in tree.old.nodes ≤ 4503603921289215 }
+    ensures passed { IsPassing register.old tree.old leaf.number value register.new tree.new [] }
+    ensures room { route.new.room ≡ route.old.room }
+{
+    route.start(leaf);
+    while let Some(stop) = route.next(tree, hubs) {
+        tell_at(register, stop, value);
+        mark_at(tree, stop);
+    }
+}
+
+impl<R: Resource> Ground<R> {
+    /// What an item of this node wants; None where it would make more visits than it may.
+    fn measured(&mut self, node: Key) -> Option<Reach>
+        requires standing { IsStanding R.Resource self.old }
+        requires open { IsSome (find self.old.tree.nodes node) }
+        ensures kept { self.new ≡ self.old }
+        ensures reach { IfSome result (IsReach self.old.register.history self.old.tree.nodes node) }
+        ensures visits { is_some result ≡ not (nat_lt most_visits (visits self.old.register.history node.number)) }
+    {
+        self.register.promise();
+        self.tree.promise();
+        measure(&self.tree, &self.hubs, &mut self.route, node)
+    }
+
+    /// What an item of this leaf wants, or what stands first against it: `TooMany` counts the visits of its
+    /// whole way over all hubs, and `Full` the item's event, and one more for each time that a FlatMap or a
+    /// Switch projects it. Nothing changes.
+    pub fn route(&mut self, leaf: Key, value: i64) -> Result<Reach, Refusal>
+        requires standing { IsStanding R.Resource self.old }
+        ensures kept { self.new ≡ self.old }
+        ensures ok { IfOk result (IsReach self.old.register.history self.old.tree.nodes leaf) }
+        ensures none { OnOk result (first_at self.old leaf (Emitting leaf.number value) ≡ None) }
+        ensures first { IfErr result (λ why. first_at self.old leaf (Emitting leaf.number value) ≡ Some why) }
+    {
+        let Some(made) = self.tree.made(leaf) else {
+            return Err(Refusal::Gone);
+        };
+        if !made.is_leaf() {
+            return Err(Refusal::WrongKind);
+        }
+        let Some(reach) = self.measured(leaf) else {
+            return Err(Refusal::TooMany);
+        };
+        if self.register.is_over(self.load(), reach.events) {
+            return Err(Refusal::Full);
+        }
+        Ok(reach)
+    }
+}
