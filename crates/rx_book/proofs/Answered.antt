@@ -1,18 +1,18 @@
 -- An answer is made of what was given, or of the refusal.
 use Rattle.std.proofs.Common.{◌≡◌, sym, subst}
 use Rattle.std.specs.Prelude.{Result, Ok, Err, IsErrAnd}
-use Rattle.rx_event.specs.declared.refusal.Refusal.{Refusal}
 use Rattle.rx_book.specs.State.{State}
 use Rattle.rx_book.specs.Requests.{Request}
 use Rattle.rx_book.specs.Answers.{Accepts, Answers}
 
-pub answers_ok : {A E : Type 0} {gives : A → Type 0} {refuses : E → Type 0} {old : State} {asked : Request} {new : State} {x : A} → gives x → Accepts old asked new → Answers gives refuses old asked new (Ok x)
-answers_ok ok accepted = record { ok = ok; accepted = accepted; refused = tt; kept = tt }
+module _ {A E : Type 0} {gives : A → Type 0} {refuses : E → Type 0} {old : State} {asked : Request} {new : State} where
+  pub answers_ok : {x : A} → gives x → Accepts old asked new → Answers gives refuses old asked new (Ok x)
+  answers_ok ok accepted = record { ok = ok; accepted = accepted; refused = tt; kept = tt }
 
-pub answers_err : {A E : Type 0} {gives : A → Type 0} {refuses : E → Type 0} {old : State} {asked : Request} {new : State} {e : E} → refuses e → new ≡ old → Answers gives refuses old asked new (Err e)
-answers_err refused kept = record { ok = tt; accepted = tt; refused = refused; kept = kept }
+  pub answers_err : {e : E} → refuses e → new ≡ old → Answers gives refuses old asked new (Err e)
+  answers_err refused kept = record { ok = tt; accepted = tt; refused = refused; kept = kept }
 
--- what `?` passes on
-pub passed_refusal : {A : Type 0} {gives : A → Type 0} {refuses : Refusal → Type 0} {old : State} {asked : Request} {new : State} (answer : Result A Refusal) (why : Refusal) → IsErrAnd answer (λ e. e ≡ why) → refuses why → new ≡ old → Answers gives refuses old asked new answer
-passed_refusal {refuses = refuses} (Ok x) why is refused kept = absurd is
-passed_refusal {refuses = refuses} (Err e) why is refused kept = answers_err (subst refuses (sym is) refused) kept
+  -- what `?` passes on
+  pub passed_refusal : (answer : Result A E) (why : E) → IsErrAnd answer (λ e. e ≡ why) → refuses why → new ≡ old → Answers gives refuses old asked new answer
+  passed_refusal (Ok x) why is refused kept = absurd is
+  passed_refusal (Err e) why is refused kept = answers_err (subst refuses (sym is) refused) kept

@@ -11,12 +11,13 @@ use Rattle.rx_event.specs.Events.{is_root}
 use Rattle.rx_event.specs.Tree.{at, is_open}
 use Rattle.rx_event.specs.Calls.{IsStepOf}
 use Rattle.rx_event.specs.Refusals.{first_cause, IsRefusal}
+use Rattle.rx_ground.specs.Shown.{label_of}
 use Rattle.rx_book.specs.declared.key.Key.{Key}
 use Rattle.rx_book.specs.declared.key.ResKey.{ResKey}
 use Rattle.rx_book.specs.declared.answer.Opened.{Opened}
 use Rattle.rx_book.specs.declared.answer.OpenedUsing.{OpenedUsing}
 use Rattle.rx_book.specs.declared.answer.Refused.{Refused}
-use Rattle.rx_book.specs.State.{State, has_key, has_res_key, label_of}
+use Rattle.rx_book.specs.State.{State, has_key, has_res_key}
 use Rattle.rx_book.specs.Requests.{Request, stands, take_request}
 
 -- the node is a root, and open
@@ -118,3 +119,5 @@ module _ {T : Type 0} where
     pub cases : MatchOption answer (old.waiting ≡ []) (λ handed. Contains old.waiting (label_of g handed.0 handed.1))
     pub accepted : IfSome answer (λ handed. Accepts old (take_request handed.0) new)
     pub kept : IfNone answer (new ≡ old)
+    -- so a loop that takes until nothing waits ends
+    pub fewer : IfSome answer (λ handed. length new.waiting < length old.waiting)

@@ -1,5 +1,6 @@
 pub mod State
 pub mod Requests
 pub mod Answers
+pub mod Drains
 pub mod Shown
-pub mod Shelved
+pub mod Places

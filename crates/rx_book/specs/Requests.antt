@@ -8,9 +8,8 @@ use Rattle.rx_event.specs.declared.event.Place.{Place}
 use Rattle.rx_event.specs.declared.event.Place.TheVariants.{Root, Source, Inner, Notifier}
 use Rattle.rx_event.specs.declared.event.Kind.{Kind}
 use Rattle.rx_event.specs.declared.refusal.Refusal.{Refusal}
-use Rattle.rx_event.specs.declared.refusal.Refusal.TheVariants.{Gone, NoHub, NotHeld}
-use Rattle.rx_event.specs.Calls.{Call, Opening, OpeningUsing, Holding, Applying, Removing, Emitting, Ending, Aborting, Disposing, Taking}
-use Rattle.rx_register.specs.Causes.{causes}
+use Rattle.rx_event.specs.Calls.{Call, Opening, OpeningUsing, Holding, Applying, Removing, Emitting, Ending, Aborting, Declining, Failing, Disposing, Taking}
+use Rattle.rx_register.specs.Causes.{causes, by_key_of}
 use Rattle.rx_book.specs.declared.key.Key.{Key}
 use Rattle.rx_book.specs.declared.key.ResKey.{ResKey}
 use Rattle.rx_book.specs.declared.answer.At.{At}
@@ -25,25 +24,6 @@ pub record Request : Type 0 where
   pub is_fresh : Bool
 
 -- causes ------------------------------------------------------------------------------------------
-
--- where a node's key is no open node's: that the node is gone, and of the rest an unknown hub alone
-abbrev pub by_key : Bool → (Refusal → Bool) → Refusal → Bool
-by_key true stand why = stand why
-by_key false stand NoHub = stand NoHub
-by_key false stand Gone = true
-by_key false stand _ = false
-
--- where a resource's key is no held resource's: that the resource is not held
-abbrev pub by_res_key : Bool → (Refusal → Bool) → Refusal → Bool
-by_res_key true stand why = stand why
-by_res_key false stand NotHeld = true
-by_res_key false stand _ = false
-
--- the same, by the kind of key that the call has
-abbrev pub by_key_of : Call → Bool → (Refusal → Bool) → Refusal → Bool
-by_key_of (Applying r) = by_res_key
-by_key_of (Removing r) = by_res_key
-by_key_of _ = by_key
 
 -- the causes that stand in this state against what is asked
 abbrev pub stands : State → Request → Refusal → Bool
@@ -92,6 +72,12 @@ end_request s leaf terminal = node_request s leaf (Ending leaf.number terminal)
 
 abbrev pub abort_request : State → Key → ℕ → Request
 abort_request s node code = node_request s node (Aborting node.number code)
+
+abbrev pub decline_request : State → Key → Request
+decline_request s merging = node_request s merging (Declining merging.number)
+
+abbrev pub fail_request : State → Key → ℕ → Request
+fail_request s merging code = node_request s merging (Failing merging.number code)
 
 abbrev pub dispose_request : State → Key → Request
 dispose_request s root = node_request s root (Disposing root.number)

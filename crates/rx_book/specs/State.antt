@@ -1,10 +1,8 @@
 -- What a book is to its callers.
-use Rattle.std.specs.Prelude.{◌≡◌, ◌≢◌, ℕ, ◌+◌, ◌≤◌, Bool, [], ◌&&◌, ◌==◌, Option, Some, None, List, length, map, slice_get, IsTrue}
+use Rattle.std.specs.Prelude.{◌≡◌, ◌≢◌, ℕ, ◌+◌, ◌<◌, ◌≤◌, Bool, [], ◌&&◌, ◌==◌, Option, Some, None, List, length, map, slice_get, IsTrue}
 use Rattle.std.specs.List.{All, AllPairs, Contains, list_any}
 use Rattle.std.specs.Option.{option_and_then}
 use Rattle.rx_note.specs.Notes.{IsGrammatical}
-use Rattle.rx_resource.specs.declared.Resource.{Ghosts}
-use Rattle.rx_resource.specs.declared.Life.{Life}
 use Rattle.rx_resource.specs.declared.Life.TheVariants.{Live}
 use Rattle.rx_event.specs.declared.event.Event.{Event}
 use Rattle.rx_event.specs.declared.event.Event.TheVariants.{Accept}
@@ -14,18 +12,9 @@ use Rattle.rx_event.specs.Notes.{notes, notes_to}
 use Rattle.rx_event.specs.Totals.{debt, accepted_count, taken_count}
 use Rattle.rx_event.specs.Lawful.{IsLawful}
 use Rattle.rx_event.specs.Forced.{IsSettled}
+use Rattle.rx_ground.specs.Shown.{Label}
 use Rattle.rx_book.specs.declared.key.Key.{Key}
 use Rattle.rx_book.specs.declared.key.ResKey.{ResKey}
-
--- a resource that is kept: the number of its acceptance, its tag, its life, and how often it was used
-pub record Label : Type 0 where
-  pub number : ℕ
-  pub tag : ℕ
-  pub life : Life
-  pub uses : ℕ
-
-abbrev pub label_of : {T : Type 0} → Ghosts T → ℕ → T → Label
-label_of g number x = record { number = number; tag = g.tag_of x; life = g.life_of x; uses = g.uses_of x }
 
 -- a book: its history and limit, the keys of the open nodes and of the held resources, the resources held and those waiting, and how
 -- many notes were handed out
@@ -76,5 +65,14 @@ pub record IsPromised (s : State) : Type 0 where
   pub waiting_labels : All (IsLabelOf s.history) s.waiting
   pub in_one_place : accepted_count s.history ≡ length s.held + length s.waiting + taken_count s.history
   pub room : length s.history + debt s.history ≤ s.limit
+  pub limited : s.limit ≤ 4294967295
   pub given : s.given ≤ length (notes s.history)
   pub in_order : (n : ℕ) → IsGrammatical (notes_to s.history n)
+
+-- a book went on: its limit and the notes handed out are as before, and so are the keys of all that is still there
+pub record Continues (old new : State) : Type 0 where
+  pub limit : new.limit ≡ old.limit
+  pub given : new.given ≡ old.given
+  pub longer : length old.history ≤ length new.history
+  pub keys : (k : Key) → Contains new.keys k → k.number < length old.history → Contains old.keys k
+  pub res_keys : (k : ResKey) → Contains new.res_keys k → k.number < length old.history → Contains old.res_keys k

@@ -8,11 +8,14 @@ use rx_event::Refusal;
 pub enum At {
     /// Below no node: an observer outside subscribes.
     Root,
-    /// The source of a mirroring node, of which there is at most one, ever.
+    /// The source of a mirroring node, a FlatMap, a Switch or a TakeUntil, of which there is at most one,
+    /// ever.
     Source(Key),
-    /// An inner observable of a FlatMap or a Switch; there are none yet, so it is refused `WrongKind`.
+    /// An inner observable of a FlatMap or a Switch, for an item that was projected to it. A FlatMap has
+    /// any number; of a Switch the latest alone is open.
     Inner(Key),
-    /// The notifier of a TakeUntil; there are none yet, so it is refused `WrongKind`.
+    /// The notifier of a TakeUntil, of which there is at most one, ever: an item that reaches it fires
+    /// the TakeUntil, which then ends completed, and so does its completion; its error ends it likewise.
     Notifier(Key),
 }
 
@@ -35,7 +38,7 @@ pub struct OpenedUsing {
 }
 
 /// A resource that was handed in and comes back, with the cause.
-#[derive(Drop)]
+#[derive(Debug, Drop)]
 pub struct Refused<R> {
     /// The first cause that stood against the call.
     pub why: Refusal,

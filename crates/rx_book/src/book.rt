@@ -1,20 +1,21 @@
-//! The book: a register of what happened, and a stock of what is open, held and waiting.
+//! The book: a register of what happened, and a tree of what is open, held and waiting.
 
-ghost use Rattle.std.specs.Prelude.{◌≡◌, ◌+◌, ◌<◌, ◌≤◌, true, [], length, slice_get, option_map, is_some, if◌then◌else◌, IfSome, IsTrue};
+ghost use Rattle.std.specs.Prelude.{◌≡◌, ◌+◌, ◌≤◌, ◌&&◌, [], Some, None, length, slice_get, option_map, is_some};
+ghost use Rattle.std.specs.Prelude.{if◌then◌else◌, IfSome, IsTrue};
 ghost use Rattle.std.specs.List.{find};
-ghost use Rattle.rx_event.specs.Tree.{places};
+ghost use Rattle.rx_event.specs.Events.{is_merging};
+ghost use Rattle.rx_event.specs.Tree.{at, places};
+ghost use Rattle.rx_event.specs.Moments.{owed};
 ghost use Rattle.rx_event.specs.Notes.{notes};
-ghost use Rattle.rx_event.specs.Totals.{open_count as open_count_in, held_count, waiting_count, accepted_count, taken_count, item_count};
-ghost use Rattle.rx_register.specs.Kept.{letter};
+ghost use Rattle.rx_event.specs.Totals.{open_count as open_count_in, held_count, waiting_count};
+ghost use Rattle.rx_event.specs.Totals.{accepted_count, taken_count, item_count};
 ghost use Rattle.rx_book.specs.State.{IsPromised, has_key, has_res_key};
 ghost use Rattle.rx_book.specs.Answers.{is_open_root};
 
 use crate::key::{Key, ResKey, shown_key, tree_key, tree_res_key};
-use crate::standing::{held_count_of, least_root};
-use rx_event::Event;
-use rx_register::{Mail, Register};
+use rx_event::{Event, Mail};
+use rx_ground::Ground;
 use rx_resource::Resource;
-use rx_stock::Stock;
 use std::alloc::Global;
 use std::marker::Model;
 
@@ -26,20 +27,20 @@ use std::marker::Model;
 /// A book that is dropped drops its resources unreleased.
 #[derive(Drop)]
 pub struct Book<R: Resource> {
-    pub(crate) register: Register,
-    pub(crate) stock: Stock<R>,
+    pub(crate) ground: Ground<R>,
 }
 
 impl<R: Resource> Model for Book<R> {
+    ghost use Rattle.std.specs.Prelude.{◌≡◌, []};
     ghost use Rattle.rx_book.specs.State.{State};
     ghost use Rattle.rx_book.specs.Shown.{state_of};
-    ghost use Rattle.rx_book.specs.Shelved.{IsStanding};
+    ghost use Rattle.rx_ground.specs.Ties.{IsStanding};
 
     ghost Value = { State };
 
-    ghost view = { λ b. state_of R.Resource b.register b.stock };
+    ghost view = { λ b. state_of R.Resource b.ground };
 
-    ghost invariant = { λ b. IsStanding R.Resource b.register b.stock };
+    ghost invariant = { λ b. IsStanding R.Resource b.ground × (b.ground.hubs.hubs ≡ []) };
 }
 
 impl<R: Resource> Book<R> {
@@ -50,8 +51,7 @@ impl<R: Resource> Book<R> {
         ensures { result ≡ record { history = []; limit = max_events; keys = []; res_keys = []; held = []; waiting = []; given = 0 } }
     {
         Book {
-            register: Register::new(alloc, max_events),
-            stock: Stock::new(alloc),
+            ground: Ground::new(alloc, max_events),
         }
     }
 
@@ -62,88 +62,96 @@ impl<R: Resource> Book<R> {
     pub fn promise(&self)
         ensures { IsPromised self.now }
     {
-        self.register.promise();
-        self.stock.promise();
+        self.ground.promise();
     }
 
     /// The next of the notes that the history gives, each of which is handed out once, in order.
     /// None where all were. It takes no memory.
     pub fn take_mail(&mut self) -> Option<Mail>
-        ensures value { result ≡ option_map letter (slice_get (notes self.old.history) self.old.given) }
+        ensures value { result ≡ slice_get (notes self.old.history) self.old.given }
         ensures given { self.new ≡ record self.old { given = if is_some result then self.old.given + 1 else self.old.given } }
     {
-        self.register.take_mail()
+        self.ground.take_mail()
     }
 
     /// How many nodes are open.
     pub fn open_count(&self) -> u64
         ensures { result ≡ open_count_in self.now.history }
     {
-        self.stock.promise();
-        self.stock.open_count()
+        self.ground.open_count()
     }
 
     /// How many resources are held.
     pub fn held(&self) -> u64
         ensures { result ≡ held_count self.now.history }
     {
-        held_count_of(&self.register, &self.stock)
+        self.ground.held_count()
     }
 
     /// How many resources wait for their release.
     pub fn waiting(&self) -> u64
         ensures { result ≡ waiting_count self.now.history }
     {
-        self.stock.waiting_count()
+        self.ground.waiting_count()
     }
 
     /// How many resources were accepted.
     pub fn accepted(&self) -> u64
         ensures { result ≡ accepted_count self.now.history }
     {
-        self.register.accepted()
+        self.ground.accepted()
     }
 
     /// How many resources were taken.
     pub fn taken(&self) -> u64
         ensures { result ≡ taken_count self.now.history }
     {
-        self.register.taken()
+        self.ground.taken()
     }
 
     /// How many items were emitted.
     pub fn items(&self) -> u64
         ensures { result ≡ item_count self.now.history }
     {
-        self.register.items()
+        self.ground.items()
     }
 
     /// How many events there are.
     pub fn len(&self) -> u64
         ensures { result ≡ length self.now.history }
     {
-        self.register.len()
+        self.ground.len()
     }
 
     /// The event at a place, if there is one.
     pub fn event(&self, place: u64) -> Option<Event>
         ensures { result ≡ slice_get self.now.history place }
     {
-        self.register.event(place)
+        self.ground.event(place)
     }
 
     /// Whether the key is an open node's.
     pub fn is_open(&self, node: Key) -> bool
         ensures { result ≡ has_key self.now.keys node }
     {
-        self.stock.contains(tree_key(node))
+        self.ground.contains(tree_key(node))
     }
 
     /// Whether the key is a held resource's.
     pub fn is_held(&self, res: ResKey) -> bool
         ensures { result ≡ has_res_key self.now.res_keys res }
     {
-        self.stock.holds(tree_res_key(res))
+        self.ground.holds(tree_res_key(res))
+    }
+
+    /// How many of the items that were projected to an open FlatMap or Switch were neither given an inner
+    /// nor declined: so many are owed, and hold its completion back (this project's own). None where the
+    /// key is of no such node.
+    pub fn owed(&self, merging: Key) -> Option<u64>
+        ensures { result ≡ (if has_key self.now.keys merging && at is_merging self.now.history merging.number
+            then Some (owed self.now.history merging.number) else None) }
+    {
+        self.ground.owed(tree_key(merging))
     }
 
     /// The key of the open root of least number.
@@ -151,7 +159,7 @@ impl<R: Resource> Book<R> {
         ensures least { option_map (λ k. k.number) result ≡ find (is_open_root self.now.history) (places self.now.history) }
         ensures key { IfSome result (λ k. IsTrue (has_key self.now.keys k)) }
     {
-        let root = least_root(&self.stock)?;
+        let root = self.ground.first_root()?;
         Some(shown_key(root))
     }
 }

@@ -1,90 +1,135 @@
 //! Items, ends and unsubscriptions.
 
 ghost use Rattle.rx_book.specs.Requests.{next_request, end_request, abort_request, dispose_request};
+ghost use Rattle.rx_book.specs.Requests.{decline_request, fail_request};
 ghost use Rattle.rx_book.specs.Answers.{AnswersPlace, AnswersPlaceOrWant};
 
 use crate::Book;
-use crate::admission::admit_item;
 use crate::key::{Key, tree_key};
-use crate::standing::top_key;
 use rx_event::{Refusal, Terminal};
+use rx_ground::Wanted;
 use rx_resource::Resource;
 
 impl<R: Resource> Book<R> {
-    /// A leaf emits an item (OnNext), which goes up to its root; answers the place of its event. Refused, in this order: `Gone`,
-    /// `WrongKind` where the node is no leaf, `TooMany` where the item would visit more than
-    /// 1,048,576 nodes, `Full`, `NoMemory`. A refusal changes nothing.
+    /// A leaf emits an item (OnNext), which goes up to its root, but stops on its way at the first source
+    /// of a FlatMap or a Switch: that is told to project it, and owes an inner for it (FlatMap, Switch, at
+    /// reactivex.io); and at the first notifier's place, where it fires the TakeUntil, which ends completed
+    /// at once, and tells nobody. Answers the place of the item's event. Refused, in this order: `Gone`,
+    /// `WrongKind` where the node is no leaf, `TooMany` where the item would visit more than 1,048,576
+    /// nodes, `Full`, which counts the end of the inner that is owed too, `NoMemory`. A refusal changes
+    /// nothing.
     pub fn next(&mut self, leaf: Key, value: i64) -> Result<u64, Refusal>
         ensures { AnswersPlaceOrWant self.old (next_request self.old leaf value) self.new result }
     {
-        admit_item(&mut self.register, &self.stock, tree_key(leaf), value)?;
-        Ok(self.register.next(leaf.number, value))
+        let key = tree_key(leaf);
+        let reach = self.ground.route(key, value)?;
+        self.ground.make_room(Wanted {
+            events: reach.events,
+            notes: reach.notes,
+            nodes: 0,
+            resources: 0,
+            hubs: 0,
+        })?;
+        self.ground.promise();
+        let place = self.ground.len();
+        self.ground.write_item(key, value);
+        self.ground.settle();
+        Ok(place)
     }
 
-    /// A leaf ends (OnCompleted or OnError), and each node that mirrors it after it; answers the place of
-    /// the leaf's end. Refused, in this order: `Gone`, `WrongKind`
-    /// where the node is no leaf. It takes no memory. A refusal changes nothing.
+    /// A leaf ends (OnCompleted or OnError), and after it each node that mirrors it or of which it is the
+    /// notifier. An error ends a FlatMap or a Switch above too; a completion does once its source has
+    /// completed, no inner of it is open (FlatMap, Switch) and it owes nothing (this project's own).
+    /// Answers the place of the leaf's end. Refused, in this order: `Gone`, `WrongKind` where the node is
+    /// no leaf. It takes no memory. A refusal changes nothing.
     pub fn end(&mut self, leaf: Key, terminal: Terminal) -> Result<u64, Refusal>
         ensures { AnswersPlace self.old (end_request self.old leaf terminal) self.new result }
     {
         let key = tree_key(leaf);
-        if !self.stock.contains(key) {
-            return Err(Refusal::Gone);
-        }
-        if let Some(why) = self.register.ending_cause(leaf.number, terminal) {
+        self.ground.promise();
+        if let Some(why) = self.ground.ending_cause(key, terminal) {
             return Err(why);
         }
-        self.register.promise();
-        self.stock.promise();
-        let top = top_key(&self.stock, key);
-        let place = self.register.end(leaf.number, terminal);
-        self.register.promise();
-        self.stock.close(top);
+        let place = self.ground.len();
+        self.ground.write_end(key, terminal);
+        self.ground.settle();
         Ok(place)
     }
 
-    /// Ends a node that is no leaf with an error (OnError), as an operator that fails does, and each
-    /// node that mirrors it after it; answers the place of its end. `code` is any `u32`. Refused, in
-    /// this order: `Gone`, `WrongKind` where the node is a leaf, `HasChild` where a node below it is
-    /// open. It takes no memory. A refusal changes nothing.
+    /// Ends a node that is no leaf with an error (OnError), as an operator that fails does, and after it
+    /// each node that mirrors it, of which it is the notifier, or of which it is the source or an inner;
+    /// answers the place of its end. `code` is any `u32`. Refused, in this order: `Gone`, `WrongKind` where
+    /// the node is a leaf, `HasChild` where a node below it is open: a FlatMap or a Switch that owes
+    /// something is then ended by [`Book::fail`]. It takes no memory. A refusal changes nothing.
     pub fn abort(&mut self, node: Key, code: u32) -> Result<u64, Refusal>
         ensures { AnswersPlace self.old (abort_request self.old node code) self.new result }
     {
         let key = tree_key(node);
-        if !self.stock.contains(key) {
-            return Err(Refusal::Gone);
-        }
-        self.register.promise();
-        self.stock.promise();
-        let has_child = self.stock.has_child(key);
-        if let Some(why) = self.register.aborting_cause(node.number, code, has_child) {
+        self.ground.promise();
+        if let Some(why) = self.ground.aborting_cause(key, code) {
             return Err(why);
         }
-        let top = top_key(&self.stock, key);
-        let place = self.register.abort(node.number, code);
-        self.register.promise();
-        self.stock.close(top);
+        let place = self.ground.len();
+        self.ground.write_end(key, Terminal::Error(code));
+        self.ground.settle();
         Ok(place)
     }
 
-    /// Unsubscribes a root, and closes all below it; answers the place of its event. Notes from before
-    /// are still handed out. A root that is closed already is `Gone`. Refused, in
-    /// this order: `Gone`, `NotRoot`. It takes no memory. A refusal changes nothing.
+    /// Declines an item that was projected to a FlatMap or a Switch: it gets no inner observable (that a
+    /// caller projects by hand is this project's own); answers the place of its event. Where the source
+    /// has completed, no inner is open and nothing more is owed, the node then completes. Refused, in this
+    /// order: `Gone`, `WrongKind` where the node is neither, `NothingOwed` where each projected item was
+    /// given an inner or declined. It takes no memory. A refusal changes nothing.
+    pub fn decline(&mut self, merging: Key) -> Result<u64, Refusal>
+        ensures { AnswersPlace self.old (decline_request self.old merging) self.new result }
+    {
+        let key = tree_key(merging);
+        self.ground.promise();
+        if let Some(why) = self.ground.declining_cause(key) {
+            return Err(why);
+        }
+        let place = self.ground.len();
+        self.ground.write_decline(key);
+        self.ground.settle();
+        Ok(place)
+    }
+
+    /// Ends a FlatMap or a Switch with an error, as where an item that was projected to it gives no
+    /// observable but fails, and closes all below it, its inners too; after it each node that mirrors it,
+    /// of which it is the notifier, or of which it is the source or an inner ends; answers the place of its
+    /// end. `code` is any `u32`. Refused, in this order: `Gone`, `WrongKind` where the node is neither,
+    /// `NothingOwed` where each projected item was given an inner or declined. It takes no memory. A
+    /// refusal changes nothing.
+    pub fn fail(&mut self, merging: Key, code: u32) -> Result<u64, Refusal>
+        ensures { AnswersPlace self.old (fail_request self.old merging code) self.new result }
+    {
+        let key = tree_key(merging);
+        self.ground.promise();
+        if let Some(why) = self.ground.failing_cause(key, code) {
+            return Err(why);
+        }
+        let place = self.ground.len();
+        let failure = Terminal::Error(code);
+        self.ground.write_end(key, failure);
+        self.ground.settle();
+        Ok(place)
+    }
+
+    /// Unsubscribes a root, and closes all below it, the inners of a FlatMap or a Switch too; what these
+    /// owed is owed no more. Answers the place of its event. Notes from before are still handed out. A root
+    /// that is closed already is `Gone`. Refused, in this order: `Gone`, `NotRoot`. It takes no memory. A
+    /// refusal changes nothing.
     pub fn dispose(&mut self, root: Key) -> Result<u64, Refusal>
         ensures { AnswersPlace self.old (dispose_request self.old root) self.new result }
     {
         let key = tree_key(root);
-        if !self.stock.contains(key) {
-            return Err(Refusal::Gone);
-        }
-        if let Some(why) = self.register.disposing_cause(root.number) {
+        self.ground.promise();
+        if let Some(why) = self.ground.disposing_cause(key) {
             return Err(why);
         }
-        self.register.promise();
-        self.stock.promise();
-        let place = self.register.dispose(root.number);
-        self.register.promise();
-        self.stock.close(key);
+        let place = self.ground.len();
+        self.ground.write_close(key);
+        self.ground.settle();
         Ok(place)
     }
 }

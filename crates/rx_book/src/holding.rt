@@ -5,10 +5,11 @@ ghost use Rattle.rx_book.specs.Requests.{is_fresh_in, hold_request, apply_reques
 ghost use Rattle.rx_book.specs.Answers.{AnswersPlace, AnswersWord, AnswersResKey, AnswersHanded};
 
 use crate::Book;
-use crate::admission::{admit_applying, admit_holding};
+use crate::admit::admit;
 use crate::answer::Refused;
-use crate::key::{Key, ResKey, tree_key, tree_res_key};
+use crate::key::{Key, ResKey, shown_res_key, tree_key, tree_res_key};
 use rx_event::Refusal;
+use rx_ground::Wanted;
 use rx_resource::{Handed, Life, Resource};
 
 /// Whether a resource was neither released nor used.
@@ -29,27 +30,24 @@ impl<R: Resource> Book<R> {
         let tag = resource.tag();
         let fresh = is_fresh(&resource);
         let key = tree_key(node);
-        self.stock.promise();
-        if let Err(why) = admit_holding(&mut self.register, &mut self.stock, key, tag, fresh) {
+        let cause = self.ground.holding_cause(key, tag, fresh);
+        let wanted = Wanted {
+            events: 3,
+            notes: 0,
+            nodes: 0,
+            resources: 1,
+            hubs: 0,
+        };
+        if let Err(why) = admit(&mut self.ground, cause, wanted) {
             return Err(Refused {
                 why,
                 back: resource,
             });
         }
-        let number = self.register.len();
-        match self.stock.hold(key, number, resource) {
-            Ok(()) => {
-                self.register.hold(node.number, tag, fresh);
-                Ok(ResKey {
-                    slot: node.slot,
-                    number,
-                })
-            }
-            Err(back) => Err(Refused {
-                why: Refusal::NoMemory,
-                back,
-            }),
-        }
+        self.ground.promise();
+        let res = self.ground.write_accept(key, resource);
+        self.ground.settle();
+        Ok(shown_res_key(res))
     }
 
     /// Uses a held resource on a word, and answers its word. The resource's `apply` runs inside this
@@ -60,11 +58,19 @@ impl<R: Resource> Book<R> {
         ensures { AnswersWord self.old (apply_request self.old res) self.new result }
     {
         let key = tree_res_key(res);
-        admit_applying(&mut self.register, &self.stock, key)?;
-        self.register.promise();
-        self.stock.promise();
-        self.register.apply(res.number);
-        Ok(self.stock.apply(key, word))
+        let cause = self.ground.applying_cause(key);
+        let wanted = Wanted {
+            events: 1,
+            notes: 0,
+            nodes: 0,
+            resources: 0,
+            hubs: 0,
+        };
+        admit(&mut self.ground, cause, wanted)?;
+        self.ground.promise();
+        let answer = self.ground.write_use(key, word);
+        self.ground.settle();
+        Ok(answer)
     }
 
     /// Takes a resource away from its node, which goes on without it: it then waits for its release
@@ -74,13 +80,14 @@ impl<R: Resource> Book<R> {
         ensures { AnswersPlace self.old (remove_request self.old res) self.new result }
     {
         let key = tree_res_key(res);
-        if !self.stock.holds(key) {
-            return Err(Refusal::NotHeld);
+        self.ground.promise();
+        if let Some(why) = self.ground.removing_cause(key) {
+            return Err(why);
         }
-        self.register.promise();
-        self.stock.promise();
-        self.stock.remove(key);
-        Ok(self.register.remove(res.number))
+        let place = self.ground.len();
+        self.ground.write_remove(key);
+        self.ground.settle();
+        Ok(place)
     }
 
     /// Hands out a resource that waits, for its release; which one is free. None exactly where
@@ -88,9 +95,10 @@ impl<R: Resource> Book<R> {
     pub fn take(&mut self) -> Option<Handed<R>>
         ensures { AnswersHanded R.Resource self.old self.new result }
     {
-        self.register.promise();
-        let held = self.stock.take()?;
-        self.register.take(held.number);
-        Some(Handed::new(held.number, held.resource))
+        self.ground.promise();
+        let handed = self.ground.write_take()?;
+        self.ground.settle();
+        self.ground.promise();
+        Some(handed)
     }
 }

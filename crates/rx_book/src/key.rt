@@ -1,9 +1,9 @@
 //! Names of open nodes and held resources.
 
 ghost use Rattle.std.specs.Prelude.{◌≡◌};
-ghost use Rattle.rx_book.specs.Shown.{tree_key_of, tree_res_key_of, key_shown};
+ghost use Rattle.rx_book.specs.Shown.{tree_key_of, tree_res_key_of, key_shown, res_key_shown};
 
-use rx_stock::{Key as TreeKey, ResKey as TreeResKey};
+use rx_tree::{Key as TreeKey, ResKey as TreeResKey};
 
 /// The key of an open node. It stays the node's key while the node is open, and is nobody's
 /// afterwards. One that was made up, or comes from another book, names the open node that has the
@@ -26,7 +26,7 @@ pub struct ResKey {
     pub number: u64,
 }
 
-/// The key as the stock has it.
+/// The key as the tree has it.
 pub(crate) fn tree_key(key: Key) -> TreeKey
     ensures { result ≡ tree_key_of key }
 {
@@ -36,7 +36,7 @@ pub(crate) fn tree_key(key: Key) -> TreeKey
     }
 }
 
-/// The resource's key as the stock has it.
+/// The resource's key as the tree has it.
 pub(crate) fn tree_res_key(res: ResKey) -> TreeResKey
     ensures { result ≡ tree_res_key_of res }
 {
@@ -53,5 +53,15 @@ pub(crate) fn shown_key(key: TreeKey) -> Key
     Key {
         slot: key.slot as u64,
         number: key.number,
+    }
+}
+
+/// The resource's key as callers have it.
+pub(crate) fn shown_res_key(res: TreeResKey) -> ResKey
+    ensures { result ≡ res_key_shown res }
+{
+    ResKey {
+        slot: res.slot as u64,
+        number: res.number,
     }
 }

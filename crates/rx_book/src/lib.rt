@@ -9,8 +9,15 @@
 //!
 //! - A **node** is one subscription; its **place** is at the root, where an observer outside subscribes,
 //!   or below another node. A `Leaf` is a source that the caller drives; a `Pass` mirrors its source.
-//!   With a resource it is the node of Using. Nodes and resources are numbered by the place of their
-//!   event in the history, and named by a [`Key`] and a [`ResKey`].
+//!   With a resource it is the node of Using. An `Until` mirrors its source until its notifier emits an
+//!   item or ends (TakeUntil, at reactivex.io). A `Flat` has its source's items projected to **inner**
+//!   observables, which it mirrors all (FlatMap); a `Switch` mirrors the latest of them, and unsubscribes
+//!   from the previous one (Switch). Nodes and resources are numbered by the place of their event in the
+//!   history, and named by a [`Key`] and a [`ResKey`].
+//! - A projected item is **owed** until a caller opens its inner or declines it. What is owed holds
+//!   completion back: a FlatMap completes once its source and all inners have completed and nothing is
+//!   owed, a Switch once its source and its latest inner have. That inners are opened by hand, and what
+//!   is owed counts, is this project's own.
 //! - A **resource** is **held** as long as its node is open, **waits** from then on, and is **taken** by
 //!   [`Book::take`], which gives it as an `rx_resource::Handed` that can only be released.
 //! - A **note** tells the observer at a root of an item or of the end. [`Book::take_mail`] hands the
@@ -20,6 +27,9 @@
 //!   notes handed out. `Request` says what is asked, `stands` which causes
 //!   stand against it, `Accepts` what an accepted call does, `Answers` what a call answers, and
 //!   `IsPromised` what holds of every book.
+//! - What a program that embeds a book needs beside is offered here too: [`Kind`], [`Terminal`],
+//!   [`Refusal`], [`Event`] and [`Mail`] of `rx_event`, [`Note`] of `rx_note`, and [`Resource`],
+//!   [`Life`], [`Handed`] and [`Released`] of `rx_resource`.
 //!
 //! # Promised, and not
 //!
@@ -30,32 +40,36 @@
 //!   nothing, and gives a resource that was handed in back as it came. The refusals of each call, and
 //!   their order, are exact; that want of memory is given only where memory was really refused is
 //!   tested and not proved, as no contract can say what memory is left.
-//! - `remove`, `end`, `abort`, `dispose`, `take` and `take_mail` take no memory. They are refused for no
-//!   want of room: each opening call keeps room for all that closing needs.
+//! - `remove`, `end`, `abort`, `decline`, `fail`, `dispose`, `take` and `take_mail` take no memory. They
+//!   are refused for no want of room: each opening call, and each item that is projected, keeps room for
+//!   all that closing needs.
 //! - A key is its node's as long as that is open, and nobody's afterwards, also where it was made up or
 //!   its slot has another node now.
 //! - No call searches the history. What opening, holding, emitting and using cost does not grow with
-//!   what is closed or with the length of the history; an item goes up from its leaf to the root. A call
-//!   that closes goes over the slots of the nodes until nothing is left below. `take_mail` passes over
-//!   the events since the last note, each of them once in all. No contract speaks of time.
+//!   what is closed or with the length of the history; an item goes up from its leaf to the root, to a
+//!   notifier's place or to the source of a FlatMap or a Switch. A call that closes costs what it closes.
+//!   No contract speaks of time.
 //! - Which of several waiting resources is taken is left open, and so is the word that a resource answers.
 //! - A book that is dropped drops its resources unreleased.
-//! - There are leaves and mirroring nodes so far: other kinds, and inner and notifier places, are refused
-//!   `WrongKind`.
+//! - There are no hubs yet: a subscriber of one is refused `NoHub`.
 #![tactic(auto)]
 
-mod admission;
+mod admit;
 mod answer;
 mod book;
+mod closing;
 mod ending;
 mod holding;
 mod key;
 mod opening;
-mod standing;
+mod place;
 #[cfg(test)]
 mod tests;
 
 pub use answer::{At, Opened, OpenedUsing, Refused};
 pub use book::Book;
+pub use closing::Closed;
 pub use key::{Key, ResKey};
-pub use rx_register::Mail;
+pub use rx_event::{Event, Kind, Mail, Refusal, Terminal};
+pub use rx_note::Note;
+pub use rx_resource::{Handed, Life, Released, Resource};

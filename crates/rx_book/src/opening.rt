@@ -4,80 +4,81 @@ ghost use Rattle.rx_book.specs.Requests.{open_request, using_request};
 ghost use Rattle.rx_book.specs.Answers.{AnswersOpened, AnswersOpenedUsing};
 
 use crate::Book;
-use crate::admission::{admit_opening, admit_using};
+use crate::admit::admit;
 use crate::answer::{At, Opened, OpenedUsing, Refused};
 use crate::holding::is_fresh;
-use crate::key::{ResKey, shown_key};
-use rx_event::{Event, Kind, Refusal};
+use crate::key::{shown_key, shown_res_key};
+use crate::place::spot_of;
+use rx_event::{Kind, Refusal};
+use rx_ground::{Wanted, end_at};
 use rx_resource::Resource;
 
 impl<R: Resource> Book<R> {
     /// Opens a node, as an observer that subscribes does, or an operator that subscribes to its source
-    /// (Observable Contract). The key's number is the place of the event. Refused, in this order: `Gone` where the node of the place is not open,
-    /// `WrongKind` where it has no such place or the kind is not there yet, `PlaceTaken` where that
-    /// place was opened before, `TooMany` at 1,048,576 open nodes, `Full`, `NoMemory`. A refusal
-    /// changes nothing.
+    /// (Observable Contract), to its notifier (TakeUntil) or to what an item was projected to (FlatMap,
+    /// Switch, at reactivex.io; that a caller opens inners by hand is this project's own). An inner of a
+    /// Switch takes the place of the one that is open, which is closed with all below it. The key's number
+    /// is the place of the event. Refused, in this order: `NoHub` where the kind is that of a subscriber, as
+    /// there are no hubs yet, `Gone` where the node of the place is not open, `WrongKind` where it has no
+    /// such place, `PlaceTaken` where that place was opened before, `NothingOwed` where each item that was
+    /// projected there was given an inner or declined, `TooMany` at 1,048,576 open nodes, `Full`,
+    /// `NoMemory`. A refusal changes nothing.
     pub fn open(&mut self, at: At, kind: Kind) -> Result<Opened, Refusal>
         ensures { AnswersOpened self.old (open_request self.old at kind) self.new result }
     {
-        let spot = admit_opening(&mut self.register, &self.stock, at, kind)?;
-        let number = self.register.len();
-        let made = Event::Open {
-            place: spot.place,
-            kind,
+        let spot = spot_of(at);
+        let cause = self.ground.opening_cause(spot.place, spot.above, kind);
+        let end = end_at(spot.place);
+        let wanted = Wanted {
+            events: 1 + end,
+            notes: 1,
+            nodes: 1,
+            resources: 0,
+            hubs: 0,
         };
-        match self.stock.open(number, made, spot.above) {
-            Ok(key) => {
-                self.register.open(spot.place, kind);
-                Ok(Opened {
-                    key: shown_key(key),
-                    connected: None,
-                })
-            }
-            Err(_) => Err(Refusal::NoMemory),
-        }
+        admit(&mut self.ground, cause, wanted)?;
+        self.ground.promise();
+        let key = self.ground.write_open(spot.place, kind, spot.above);
+        self.ground.settle();
+        Ok(Opened {
+            key: shown_key(key),
+            connected: None,
+        })
     }
 
-    /// Opens a mirroring node that holds a resource, which waits for its release once the node ends or
-    /// is unsubscribed (Using, at reactivex.io). Refused, in this order: `Gone`,
-    /// `WrongKind`, `PlaceTaken`, `NotFresh` where the resource was released or used, `TooMany`,
-    /// `Full`, `NoMemory`. A refusal changes nothing and gives the resource back.
+    /// Opens a mirroring node that holds a resource, which waits for its release once the node ends, is
+    /// unsubscribed (Using, at reactivex.io) or gives its place to another inner of its Switch. Refused, in
+    /// this order: `Gone`, `WrongKind`, `PlaceTaken`, `NothingOwed`, `NotFresh` where the resource was
+    /// released or used, `TooMany`, `Full`, `NoMemory`. A refusal changes nothing and gives the resource
+    /// back.
     pub fn open_using(&mut self, at: At, resource: R) -> Result<OpenedUsing, Refused<R>>
         ensures { AnswersOpenedUsing self.old (using_request R.Resource self.old at resource) resource self.new result }
     {
         let tag = resource.tag();
         let fresh = is_fresh(&resource);
-        let spot = match admit_using(&mut self.register, &mut self.stock, at, tag, fresh) {
-            Ok(spot) => spot,
-            Err(why) => return Err(Refused {
+        let spot = spot_of(at);
+        let cause = self.ground.using_cause(spot.place, spot.above, tag, fresh);
+        let end = end_at(spot.place);
+        let wanted = Wanted {
+            events: 4 + end,
+            notes: 1,
+            nodes: 1,
+            resources: 1,
+            hubs: 0,
+        };
+        if let Err(why) = admit(&mut self.ground, cause, wanted) {
+            return Err(Refused {
                 why,
                 back: resource,
-            }),
-        };
-        self.register.promise();
-        let number = self.register.len();
-        let made = Event::Open {
-            place: spot.place,
-            kind: Kind::Pass,
-        };
-        match self
-            .stock
-            .open_using(number, made, spot.above, number + 1, resource)
-        {
-            Ok(key) => {
-                self.register.open_using(spot.place, tag, fresh);
-                Ok(OpenedUsing {
-                    key: shown_key(key),
-                    res: ResKey {
-                        slot: key.slot as u64,
-                        number: number + 1,
-                    },
-                })
-            }
-            Err(back) => Err(Refused {
-                why: Refusal::NoMemory,
-                back,
-            }),
+            });
         }
+        self.ground.promise();
+        let node = self.ground.write_open(spot.place, Kind::Pass, spot.above);
+        let res = self.ground.write_accept(node, resource);
+        self.ground.settle();
+        Ok(OpenedUsing {
+            key: shown_key(node),
+            res: shown_res_key(res),
+        })
     }
 }

@@ -1,17 +1,9 @@
-//! What no clause says: the worked examples, that each call can succeed, memory refused, the drop of
-//! a book, boxes of many kinds, slots used again, and what many items and long chains cost.
+//! What no clause says and no scenario shows: the closing of a book, boxes of two kinds, and resources that
+//! are handed in used or released. What operators do, and which calls are refused, stands in the scenarios
+//! that `rx_replay` compares; memory is refused to each call where a scenario is run (`rx_script`).
 
-mod aborts;
 mod boxed;
 mod caller;
-mod calls;
-mod chain;
-mod fates;
-mod lamps;
-mod lives;
-mod load;
+mod closings;
+mod fresh;
 mod probe;
-mod scarcity;
-mod slots;
-mod uses;
-mod want;

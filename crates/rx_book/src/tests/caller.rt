@@ -1,14 +1,13 @@
 //! A caller of the book that is proved: which words it needs, and what it can promise in its turn.
 
-ghost use Rattle.std.specs.Prelude.{◌≡◌, true, IfOk, IfErr, IfSome, OnErr};
+ghost use Rattle.std.specs.Prelude.{◌≡◌, IfOk, IfErr, IfSome, OnErr};
 ghost use Rattle.rx_resource.specs.declared.Life.{Life};
 ghost use Rattle.rx_book.specs.declared.answer.At.{At};
 ghost use Rattle.rx_book.specs.Requests.{using_request};
 ghost use Rattle.rx_book.specs.Answers.{IsGivenBack};
 
-use super::lamps::new_lamp;
 use crate::{At, Book, Refused};
-use rx_resource::{Released, Resource};
+use rx_resource::{Released, Resource, Sample};
 use std::test::Fail;
 
 // Subscribes with a resource and unsubscribes at once, which nothing can refuse; then takes one of
@@ -34,7 +33,7 @@ fn use_once<R: Resource>(book: &mut Book<R>, resource: R) -> Result<Option<Relea
 #[test]
 fn a_resource_is_used_for_one_subscription(rt: HostRuntime) -> Result<(), Fail> {
     let mut book = Book::new(rt.alloc(), 1000);
-    match use_once(&mut book, new_lamp(7)) {
+    match use_once(&mut book, Sample::new(7)) {
         Ok(taken) => {
             let left = taken.ok_or("nothing waits")?;
             assert_eq!(rt; (left.number, left.tag, left.fault), (1, 7, None));

@@ -1,12 +1,10 @@
 //! A book as the tests see it: its calls with answers that can be compared. They have no contract, as
 //! a test compares values when it runs.
 
-use crate::{At, Book, Key, Mail, Opened, OpenedUsing, Refused, ResKey};
-use rx_event::{Event, Kind, Place, Refusal, Terminal};
-use rx_note::Note;
+use crate::{At, Book, Closed, Key, Opened, OpenedUsing, Refused, ResKey};
+use rx_event::{Kind, Refusal};
 use rx_resource::{Life, Resource};
 use std::alloc::Global;
-use std::process::Abort;
 
 #[derive(Drop)]
 pub(super) struct Probe<R: Resource> {
@@ -76,20 +74,16 @@ impl<R: Resource> Probe<R> {
         self.book.remove(res)
     }
 
-    pub(super) fn next(&mut self, leaf: Key, value: i64) -> Result<u64, Refusal> {
-        self.book.next(leaf, value)
-    }
-
-    pub(super) fn end(&mut self, leaf: Key, terminal: Terminal) -> Result<u64, Refusal> {
-        self.book.end(leaf, terminal)
-    }
-
-    pub(super) fn abort(&mut self, node: Key, code: u32) -> Result<u64, Refusal> {
-        self.book.abort(node, code)
-    }
-
     pub(super) fn dispose(&mut self, root: Key) -> Result<u64, Refusal> {
         self.book.dispose(root)
+    }
+
+    pub(super) fn close(&mut self) -> Closed {
+        self.book.close()
+    }
+
+    pub(super) fn finish(self) -> Closed {
+        self.book.finish()
     }
 
     // Takes a resource and releases it.
@@ -110,10 +104,6 @@ impl<R: Resource> Probe<R> {
         }
     }
 
-    pub(super) fn take_mail(&mut self) -> Option<Mail> {
-        self.book.take_mail()
-    }
-
     pub(super) fn totals(&self) -> Totals {
         Totals {
             len: self.book.len(),
@@ -125,48 +115,8 @@ impl<R: Resource> Probe<R> {
         }
     }
 
-    pub(super) fn event(&self, place: u64) -> Option<Event> {
-        self.book.event(place)
-    }
-
-    pub(super) fn is_open(&self, node: Key) -> bool {
-        self.book.is_open(node)
-    }
-
-    pub(super) fn is_held(&self, resource: ResKey) -> bool {
-        self.book.is_held(resource)
-    }
-
     pub(super) fn open_root(&self) -> Option<Key> {
         self.book.open_root()
-    }
-
-    // It has these events, and no others.
-    pub(super) fn assert_events(&self, rt: &impl Abort, expected: &[Event]) {
-        for (place, event) in expected.iter().enumerate() {
-            assert_eq!(rt; self.event(place as u64), Some(*event), "at {place}");
-        }
-        assert_eq!(rt; self.totals().len, expected.len() as u64);
-        assert_eq!(rt; self.event(expected.len() as u64), None);
-    }
-
-    // It hands out these notes, and then none.
-    pub(super) fn assert_mail(&mut self, rt: &impl Abort, expected: &[Mail]) {
-        for (i, mail) in expected.iter().enumerate() {
-            assert_eq!(rt; self.take_mail(), Some(*mail), "note {i}");
-        }
-        assert_eq!(rt; self.take_mail(), None);
-    }
-
-    // It has the same numbers, events and open root as the other one.
-    pub(super) fn assert_alike(&self, rt: &impl Abort, other: &Probe<R>) {
-        let totals = other.totals();
-        assert_eq!(rt; self.totals(), totals);
-        assert_eq!(rt; self.open_root(), other.open_root());
-        for place in 0..totals.len {
-            assert_eq!(rt; self.event(place), other.event(place), "at {place}");
-        }
-        assert_eq!(rt; self.event(totals.len), None);
     }
 }
 
@@ -219,12 +169,4 @@ pub(super) fn untouched(why: Refusal, tag: u64) -> Back {
         uses: 0,
         life: Life::Live,
     }
-}
-
-pub(super) fn opening(place: Place, kind: Kind) -> Event {
-    Event::Open { place, kind }
-}
-
-pub(super) fn mail(place: u64, to: u64, note: Note) -> Mail {
-    Mail { place, to, note }
 }

@@ -1,34 +1,67 @@
-use Rattle.std.proofs.Common.{length, true, refl, ap}
+use Rattle.std.proofs.Common.{true, length, refl, subst, ◌∙◌, arith}
+use Rattle.std.specs.Prelude.{Ok}
 use Rattle.rx_event.specs.Calls.{Applying}
-use Rattle.rx_register.specs.Kept.{Kept}
-use Rattle.rx_book.specs.Shown.{state_of, tree_res_key_of}
-use Rattle.rx_book.proofs.Options.{passed_on}
-use Rattle.rx_book.proofs.CallResources.{same_history, followed, refused_by_res_key, accepted_by_res_key, held_live, held_countable, standing_use, keeps_used}
+use Rattle.rx_register.specs.Causes.{causes}
+use Rattle.rx_ground.proofs.Laws.KeysKept.{keeps_held}
+use Rattle.rx_book.specs.State.{State}
+use Rattle.rx_book.specs.Requests.{apply_request, stands}
+use Rattle.rx_book.specs.Answers.{AnswersWord}
+use Rattle.rx_book.specs.Shown.{state_of}
 use Rattle.rx_book.proofs.Answered.{answers_ok, passed_refusal}
+use Rattle.rx_book.proofs.CausesByKey.{first_by_res_key, refused_for}
+use Rattle.rx_book.proofs.Called.{IsLetIn, let_in_roomy, state_roomier, one_ready, pays, unjoins, accepts}
+use Rattle.rx_book.proofs.book.Book.apply.Given as given
 use Rattle.rx_book.proofs.book.Book.apply.Goals as goal
+use Rattle.rx_book.proofs.book.Book.apply.Goals.{After-promise}
 
-pub returns-in_err-admit_applying : goal.returns-in_err-admit_applying
-returns-in_err-admit_applying g c =
-    rw (← c.self.view_is)
-    (passed_refusal c.from_residual.result c.in_err-admit_applying.field-0.0 c.from_residual.ensures.1 (refused_by_res_key c.self.inside.stock.tree c.args.res _ _ (rw c.tree_res_key-key.ensures at c.in_err-admit_applying.ensures.refused)) (ap (λ (r : Kept). state_of g.R.Resource r c.self.inside.stock) c.in_err-admit_applying.ensures.kept))
+pub returns-in_err-admit : goal.returns-in_err-admit
+returns-in_err-admit g c =
+    let b = c.self.inside.ground in
+    let s = state_of g.R.Resource b in
+    let stand = causes b.register.history b.register.limit true (Applying c.args.res.number) in
+    let cause = c.applying_cause-cause.result in
+    let first = first_by_res_key b.tree stand cause c.args.res (rw c.tree_res_key-key.ensures at c.applying_cause-cause.ensures) in
+    let a = c.in_err-admit in
+    let why = refused_for (stands s (apply_request s c.args.res)) cause a.field-0.0 first a.ensures.err in
+    rw (← c.self.view_is) (passed_refusal c.from_residual.result a.field-0.0 c.from_residual.ensures.1 why
+    (state_roomier g.R.Resource b c.admit.new.ground a.ensures.kept))
 
-pub apply-requires-2-clause-live : goal.apply-requires-2-clause-live
-apply-requires-2-clause-live g c κs within =
-    held_live g.R.Resource c.self.inside.register c.self.inside.stock c.tree_res_key-key.result c.self.invariant
+called : (g : given.Over) (c : After-promise g) → (let b = c.admit.new.ground in IsLetIn g.R.Resource b (apply_request (state_of g.R.Resource b) c.args.res))
+called g c =
+    let old = c.self.inside.ground in
+    let stand = causes old.register.history old.register.limit true (Applying c.args.res.number) in
+    let first = first_by_res_key old.tree stand c.applying_cause-cause.result c.args.res (rw c.tree_res_key-key.ensures at c.applying_cause-cause.ensures) in
+    let a = c.in_ok-admit.ensures in
+    let_in_roomy g.R.Resource old c.admit.new.ground (λ (s : State). apply_request s c.args.res) _ a.kept a.standing c.promise.ensures.register
+    (first ∙ a.none) tt a.ok (omega arith) (omega arith)
 
-pub apply-requires-2-clause-countable : goal.apply-requires-2-clause-countable
-apply-requires-2-clause-countable g c κs within =
-    held_countable g.R.Resource c.self.inside.register c.admit_applying.new.register c.self.inside.stock c.tree_res_key-key.result c.self.invariant c.in_ok-admit_applying.ensures.kept c.promise.ensures
+pub write_use-answer-requires-clause-ready : goal.write_use-answer-requires-clause-ready
+write_use-answer-requires-clause-ready g c κs within =
+    let l = called g (goal.at.write_use-answer-requires-clause-ready g c).After-promise in
+    rw c.tree_res_key-key.ensures (one_ready g.R.Resource c.admit.new.ground _ l _ refl)
 
-pub invariant_of-self-2 : goal.invariant_of-self-2
-invariant_of-self-2 g c =
-    let same = same_history c.self.inside.register c.admit_applying.new.register c.in_ok-admit_applying.ensures.kept in
-    standing_use g.R.Resource c.self.inside.register c.apply.new.self c.self.inside.stock c.apply-2.new.self (tree_res_key_of c.args.res) c.self.invariant c.promise-2.ensures (rw c.tree_res_key-key.ensures at c.in_ok-admit_applying.ensures.ok) (rw c.tree_res_key-key.ensures at c.apply-2.ensures) (rw same at c.apply.ensures.events) c.apply.ensures.accepted.step.lawful
+pub settle-requires-clause-paid : goal.settle-requires-clause-paid
+settle-requires-clause-paid g c κs within =
+    let l = called g (goal.at.settle-requires-clause-paid g c).After-promise in
+    pays g.R.Resource c.admit.new.ground _ l c.write_use-answer.new.self.register (rw c.tree_res_key-key.ensures at c.write_use-answer.ensures.written)
+
+pub settle-requires-clause-unjoined : goal.settle-requires-clause-unjoined
+settle-requires-clause-unjoined g c κs within =
+    let l = called g (goal.at.settle-requires-clause-unjoined g c).After-promise in
+    unjoins g.R.Resource c.admit.new.ground _ l c.write_use-answer.new.self.register (rw c.tree_res_key-key.ensures at c.write_use-answer.ensures.written) refl
 
 pub returns : goal.returns
 returns g c =
-    let old = c.self.inside.register in
-    let f = followed old c.admit_applying.new.register c.apply.new.self true (Applying c.args.res.number) c.in_ok-admit_applying.ensures.kept c.apply.ensures.accepted in
-    let kept = keeps_used g.R.Resource c.self.inside.stock c.apply-2.new.self (tree_res_key_of c.args.res) (length old.history) (rw c.tree_res_key-key.ensures at c.in_ok-admit_applying.ensures.ok) (rw c.tree_res_key-key.ensures at c.apply-2.ensures) in
-    rw (← c.self.view_is)
-    (answers_ok tt (accepted_by_res_key g.R.Resource old c.apply.new.self c.self.inside.stock c.apply-2.new.self c.args.res true (Applying c.args.res.number) refl (rw c.tree_res_key-key.ensures at c.in_ok-admit_applying.ensures.ok) f kept))
+    let R = g.R.Resource in
+    let b = c.admit.new.ground in
+    let mid = c.write_use-answer.new.self in
+    let new = c.settle.new.self in
+    let u = c.write_use-answer.ensures in
+    let s = c.settle.ensures in
+    let w = rw c.tree_res_key-key.ensures at u.written in
+    let l = called g (goal.at.returns g c).After-promise in
+    let kept = keeps_held b.tree mid.tree (length b.register.history) u.nodes u.kept in
+    let done = accepts R b _ l mid new w kept s.standing s.forced s.nodes s.resources s.limit s.given in
+    let same = state_roomier R c.self.inside.ground b c.admit.ensures.kept in
+    subst (λ (x : State). AnswersWord x (apply_request x c.args.res) (state_of R new) (Ok c.write_use-answer.result)) (same ∙ c.self.view_is)
+    (answers_ok tt done)

@@ -1,32 +1,53 @@
-use Rattle.std.proofs.Common.{refl, ap, true, [], ◌∷◌}
-use Rattle.rx_event.specs.declared.event.Event.TheVariants.{Close}
+use Rattle.std.proofs.Common.{Some, None, true, length, refl}
 use Rattle.rx_event.specs.Calls.{Disposing}
-use Rattle.rx_slots.specs.declared.Key.{Key as SlotKey}
 use Rattle.rx_register.specs.Causes.{causes}
-use Rattle.rx_book.specs.State.{has_key}
-use Rattle.rx_book.specs.Shown.{keys_of}
+use Rattle.rx_ground.proofs.Laws.KeysKept.{keeps_closed}
+use Rattle.rx_book.specs.Requests.{dispose_request}
+use Rattle.rx_book.specs.Shown.{state_of}
 use Rattle.rx_book.proofs.Answered.{answers_ok, answers_err}
-use Rattle.rx_book.proofs.CallClose.{gone_first, cause_first, key_known, key_unknown, closes_at, closing_fits, standing_close, accepts_close}
+use Rattle.rx_book.proofs.CausesByKey.{first_by_key}
+use Rattle.rx_book.proofs.Called.{IsLetIn, let_in_free, one_ready, pays, unjoins, accepts}
+use Rattle.rx_book.proofs.book.Book.dispose.Given as given
 use Rattle.rx_book.proofs.book.Book.dispose.Goals as goal
-
-pub returns-then-not-contains : goal.returns-then-not-contains
-returns-then-not-contains g c =
-    rw (← c.self.view_is)
-    (answers_err (gone_first (has_key (keys_of c.self.inside.stock.tree) c.args.root) (causes c.self.inside.register.history c.self.inside.register.limit true (Disposing c.args.root.number)) (key_unknown c.self.inside.stock.tree c.args.root c.tree_key-key.result c.tree_key-key.ensures c.contains.result c.contains.ensures.1 c.if-not-contains.true) refl) refl)
+use Rattle.rx_book.proofs.book.Book.dispose.Goals.{In_default}
 
 pub returns-in-Some : goal.returns-in-Some
 returns-in-Some g c =
-    rw (← c.self.view_is)
-    (answers_err (cause_first (has_key (keys_of c.self.inside.stock.tree) c.args.root) (causes c.self.inside.register.history c.self.inside.register.limit true (Disposing c.args.root.number)) _ (key_known c.self.inside.stock.tree c.args.root c.tree_key-key.result c.tree_key-key.ensures (c.contains.ensures.0 c.if-not-contains.false)) c.in-Some.ensures) refl)
+    let b = c.self.inside.ground in
+    let stand = causes b.register.history b.register.limit true (Disposing c.args.root.number) in
+    let first = first_by_key b.tree stand (Some c.in-Some.why) c.args.root (rw c.tree_key-key.ensures at c.in-Some.ensures) in
+    rw (← c.self.view_is) (answers_err first refl)
 
-pub close-requires-clause-room : goal.close-requires-clause-room
-close-requires-clause-room g c κs within = closing_fits g.R.Resource c.self.inside.register c.self.inside.stock c.self.invariant c.promise-2.ensures c.promise.ensures c.tree_key-key.result.number
+called : (g : given.Over) (c : In_default g) → (let b = c.self.inside.ground in IsLetIn g.R.Resource b (dispose_request (state_of g.R.Resource b) c.args.root))
+called g c =
+    let b = c.self.inside.ground in
+    let stand = causes b.register.history b.register.limit true (Disposing c.args.root.number) in
+    let first = first_by_key b.tree stand None c.args.root (rw c.tree_key-key.ensures at c.in_default.ensures) in
+    let_in_free g.R.Resource b _ c.self.invariant.0 c.promise.ensures.register first tt refl refl
 
-pub invariant_of-self : goal.invariant_of-self
-invariant_of-self g c =
-    standing_close g.R.Resource c.self.inside.register c.self.inside.stock c.self.invariant c.promise-2.ensures c.promise.ensures (Close c.args.root.number ∷ []) c.tree_key-key.result.number c.dispose-place.new.self c.close.new.self c.promise-3.ensures (closes_at c.self.inside.register.history (Close c.args.root.number ∷ []) c.dispose-place.new.self.history c.args.root.number c.tree_key-key.result.number (ap (λ (k : SlotKey). k.number) c.tree_key-key.ensures) c.dispose-place.ensures.closes) c.close.ensures.kept c.close.ensures.spilled c.close.ensures.room
+pub write_close-requires-clause-ready : goal.write_close-requires-clause-ready
+write_close-requires-clause-ready g c κs within =
+    let l = called g (goal.at.write_close-requires-clause-ready g c).In_default in
+    rw c.tree_key-key.ensures (one_ready g.R.Resource c.self.inside.ground _ l _ refl)
+
+pub settle-requires-clause-paid : goal.settle-requires-clause-paid
+settle-requires-clause-paid g c κs within =
+    let l = called g (goal.at.settle-requires-clause-paid g c).In_default in
+    pays g.R.Resource c.self.inside.ground _ l c.write_close.new.self.register (rw c.tree_key-key.ensures at c.write_close.ensures.written)
+
+pub settle-requires-clause-unjoined : goal.settle-requires-clause-unjoined
+settle-requires-clause-unjoined g c κs within =
+    let l = called g (goal.at.settle-requires-clause-unjoined g c).In_default in
+    unjoins g.R.Resource c.self.inside.ground _ l c.write_close.new.self.register (rw c.tree_key-key.ensures at c.write_close.ensures.written) refl
 
 pub returns : goal.returns
 returns g c =
-    rw (← c.self.view_is)
-    (answers_ok c.dispose-place.ensures.place (accepts_close g.R.Resource c.self.inside.register c.self.inside.stock c.self.invariant c.promise-2.ensures c.promise.ensures (Close c.args.root.number ∷ []) c.tree_key-key.result.number c.dispose-place.new.self c.close.new.self c.promise-3.ensures (closes_at c.self.inside.register.history (Close c.args.root.number ∷ []) c.dispose-place.new.self.history c.args.root.number c.tree_key-key.result.number (ap (λ (k : SlotKey). k.number) c.tree_key-key.ensures) c.dispose-place.ensures.closes) c.close.ensures.kept c.close.ensures.spilled c.close.ensures.room _ refl (key_known c.self.inside.stock.tree c.args.root c.tree_key-key.result c.tree_key-key.ensures (c.contains.ensures.0 c.if-not-contains.false)) c.dispose-place.ensures.accepted))
+    let b = c.self.inside.ground in
+    let mid = c.write_close.new.self in
+    let w = c.write_close.ensures in
+    let s = c.settle.ensures in
+    let l = called g (goal.at.returns g c).In_default in
+    let kept = keeps_closed mid.register.history b.tree mid.tree (length b.register.history) w.kept w.resources in
+    let done = accepts g.R.Resource b _ l mid c.settle.new.self (rw c.tree_key-key.ensures at w.written) kept
+    s.standing s.forced s.nodes s.resources s.limit s.given in
+    rw (← c.self.view_is) (answers_ok c.len-place.ensures done)

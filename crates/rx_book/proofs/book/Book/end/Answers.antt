@@ -1,33 +1,53 @@
-use Rattle.std.proofs.Common.{refl, ap, ◌∙◌, true, [], ◌∷◌}
-use Rattle.rx_event.specs.declared.event.Event.TheVariants.{End}
+use Rattle.std.proofs.Common.{Some, None, true, length, refl}
 use Rattle.rx_event.specs.Calls.{Ending}
-use Rattle.rx_slots.specs.declared.Key.{Key as SlotKey}
 use Rattle.rx_register.specs.Causes.{causes}
-use Rattle.rx_register.specs.Kept.{top_of}
-use Rattle.rx_book.specs.State.{has_key}
-use Rattle.rx_book.specs.Shown.{keys_of}
+use Rattle.rx_ground.proofs.Laws.KeysKept.{keeps_closed}
+use Rattle.rx_book.specs.Requests.{end_request}
+use Rattle.rx_book.specs.Shown.{state_of}
 use Rattle.rx_book.proofs.Answered.{answers_ok, answers_err}
-use Rattle.rx_book.proofs.CallClose.{gone_first, cause_first, key_known, key_unknown, closes_at, closing_fits, standing_close, accepts_close}
+use Rattle.rx_book.proofs.CausesByKey.{first_by_key}
+use Rattle.rx_book.proofs.Called.{IsLetIn, let_in_free, one_ready, pays, unjoins, accepts}
+use Rattle.rx_book.proofs.book.Book.end.Given as given
 use Rattle.rx_book.proofs.book.Book.end.Goals as goal
-
-pub returns-then-not-contains : goal.returns-then-not-contains
-returns-then-not-contains g c =
-    rw (← c.self.view_is)
-    (answers_err (gone_first (has_key (keys_of c.self.inside.stock.tree) c.args.leaf) (causes c.self.inside.register.history c.self.inside.register.limit true (Ending c.args.leaf.number c.args.terminal)) (key_unknown c.self.inside.stock.tree c.args.leaf c.tree_key-key.result c.tree_key-key.ensures c.contains.result c.contains.ensures.1 c.if-not-contains.true) refl) refl)
+use Rattle.rx_book.proofs.book.Book.end.Goals.{In_default}
 
 pub returns-in-Some : goal.returns-in-Some
 returns-in-Some g c =
-    rw (← c.self.view_is)
-    (answers_err (cause_first (has_key (keys_of c.self.inside.stock.tree) c.args.leaf) (causes c.self.inside.register.history c.self.inside.register.limit true (Ending c.args.leaf.number c.args.terminal)) _ (key_known c.self.inside.stock.tree c.args.leaf c.tree_key-key.result c.tree_key-key.ensures (c.contains.ensures.0 c.if-not-contains.false)) c.in-Some.ensures) refl)
+    let b = c.self.inside.ground in
+    let stand = causes b.register.history b.register.limit true (Ending c.args.leaf.number c.args.terminal) in
+    let first = first_by_key b.tree stand (Some c.in-Some.why) c.args.leaf (rw c.tree_key-key.ensures at c.in-Some.ensures) in
+    rw (← c.self.view_is) (answers_err first refl)
 
-pub close-requires-clause-room : goal.close-requires-clause-room
-close-requires-clause-room g c κs within = closing_fits g.R.Resource c.self.inside.register c.self.inside.stock c.self.invariant c.promise-2.ensures c.promise.ensures c.top_key-top.result.number
+called : (g : given.Over) (c : In_default g) → (let b = c.self.inside.ground in IsLetIn g.R.Resource b (end_request (state_of g.R.Resource b) c.args.leaf c.args.terminal))
+called g c =
+    let b = c.self.inside.ground in
+    let stand = causes b.register.history b.register.limit true (Ending c.args.leaf.number c.args.terminal) in
+    let first = first_by_key b.tree stand None c.args.leaf (rw c.tree_key-key.ensures at c.in_default.ensures) in
+    let_in_free g.R.Resource b _ c.self.invariant.0 c.promise.ensures.register first tt refl refl
 
-pub invariant_of-self : goal.invariant_of-self
-invariant_of-self g c =
-    standing_close g.R.Resource c.self.inside.register c.self.inside.stock c.self.invariant c.promise-2.ensures c.promise.ensures (End c.args.leaf.number c.args.terminal ∷ []) c.top_key-top.result.number c.end-place.new.self c.close.new.self c.promise-3.ensures (closes_at c.self.inside.register.history (End c.args.leaf.number c.args.terminal ∷ []) c.end-place.new.self.history (top_of c.self.inside.register.history c.args.leaf.number) c.top_key-top.result.number (c.top_key-top.ensures.top c.self.inside.register.history c.self.invariant.shelved ∙ ap (λ (k : SlotKey). top_of c.self.inside.register.history k.number) c.tree_key-key.ensures) c.end-place.ensures.closes) c.close.ensures.kept c.close.ensures.spilled c.close.ensures.room
+pub write_end-requires-clause-ready : goal.write_end-requires-clause-ready
+write_end-requires-clause-ready g c κs within =
+    let l = called g (goal.at.write_end-requires-clause-ready g c).In_default in
+    rw c.tree_key-key.ensures (one_ready g.R.Resource c.self.inside.ground _ l _ refl)
+
+pub settle-requires-clause-paid : goal.settle-requires-clause-paid
+settle-requires-clause-paid g c κs within =
+    let l = called g (goal.at.settle-requires-clause-paid g c).In_default in
+    pays g.R.Resource c.self.inside.ground _ l c.write_end.new.self.register (rw c.tree_key-key.ensures at c.write_end.ensures.written)
+
+pub settle-requires-clause-unjoined : goal.settle-requires-clause-unjoined
+settle-requires-clause-unjoined g c κs within =
+    let l = called g (goal.at.settle-requires-clause-unjoined g c).In_default in
+    unjoins g.R.Resource c.self.inside.ground _ l c.write_end.new.self.register (rw c.tree_key-key.ensures at c.write_end.ensures.written) refl
 
 pub returns : goal.returns
 returns g c =
-    rw (← c.self.view_is)
-    (answers_ok c.end-place.ensures.place (accepts_close g.R.Resource c.self.inside.register c.self.inside.stock c.self.invariant c.promise-2.ensures c.promise.ensures (End c.args.leaf.number c.args.terminal ∷ []) c.top_key-top.result.number c.end-place.new.self c.close.new.self c.promise-3.ensures (closes_at c.self.inside.register.history (End c.args.leaf.number c.args.terminal ∷ []) c.end-place.new.self.history (top_of c.self.inside.register.history c.args.leaf.number) c.top_key-top.result.number (c.top_key-top.ensures.top c.self.inside.register.history c.self.invariant.shelved ∙ ap (λ (k : SlotKey). top_of c.self.inside.register.history k.number) c.tree_key-key.ensures) c.end-place.ensures.closes) c.close.ensures.kept c.close.ensures.spilled c.close.ensures.room _ refl (key_known c.self.inside.stock.tree c.args.leaf c.tree_key-key.result c.tree_key-key.ensures (c.contains.ensures.0 c.if-not-contains.false)) c.end-place.ensures.accepted))
+    let b = c.self.inside.ground in
+    let mid = c.write_end.new.self in
+    let w = c.write_end.ensures in
+    let s = c.settle.ensures in
+    let l = called g (goal.at.returns g c).In_default in
+    let kept = keeps_closed mid.register.history b.tree mid.tree (length b.register.history) w.kept w.resources in
+    let done = accepts g.R.Resource b _ l mid c.settle.new.self (rw c.tree_key-key.ensures at w.written) kept
+    s.standing s.forced s.nodes s.resources s.limit s.given in
+    rw (← c.self.view_is) (answers_ok c.len-place.ensures done)

@@ -1,44 +1,72 @@
-use Rattle.std.proofs.Common.{◌∙◌, sym, refl, ap, inr, length, List, arith}
-use Rattle.rx_event.specs.declared.event.Event.{Event}
+use Rattle.std.proofs.Common.{length, refl, subst, ◌∙◌, arith}
+use Rattle.std.specs.Prelude.{Ok}
 use Rattle.rx_event.specs.Calls.{Holding}
-use Rattle.rx_tree.specs.Tree.{Tree}
-use Rattle.rx_book.specs.Shown.{tree_key_of}
-use Rattle.rx_book.proofs.ShownKeysKept.{frame_hold, held_there}
-use Rattle.rx_book.proofs.CallResources.{same_history, same_tree, same_waiting, same_state, followed, refused_by_key, no_cause_by_key, accepted_by_key, rewrites_before, unused_now, standing_held}
-use Rattle.rx_book.proofs.CallAdmitted.{fresh_parts, held_fresh}
+use Rattle.rx_register.specs.Causes.{causes}
+use Rattle.rx_ground.proofs.Laws.KeysKept.{keeps_held}
+use Rattle.rx_book.specs.State.{State}
+use Rattle.rx_book.specs.Requests.{hold_request, stands}
+use Rattle.rx_book.specs.Answers.{AnswersResKey}
+use Rattle.rx_book.specs.Shown.{state_of}
 use Rattle.rx_book.proofs.Answered.{answers_ok, answers_err}
+use Rattle.rx_book.proofs.CausesByKey.{first_by_key, refused_for}
+use Rattle.rx_book.proofs.Called.{IsLetIn, let_in_roomy, state_roomier, rests, one_ready, pays, unjoins, accepts}
+use Rattle.rx_book.proofs.Listed.{res_key_listed}
+use Rattle.rx_book.proofs.book.Book.hold.Given as given
 use Rattle.rx_book.proofs.book.Book.hold.Goals as goal
+use Rattle.rx_book.proofs.book.Book.hold.Goals.{After-promise}
 
 pub returns-in-Err : goal.returns-in-Err
 returns-in-Err g c =
-    rw (← c.self.view_is)
-    (answers_err (record { why = refused_by_key c.self.inside.stock.tree c.args.node _ _ (rw (c.tree_key-key.ensures, c.is_fresh-fresh.ensures, c.tag-tag.ensures) at c.in-Err.ensures.refused); back = refl }) (same_state g.R.Resource c.self.inside.register c.admit_holding.new.register c.self.inside.stock c.admit_holding.new.stock c.in-Err.ensures.kept (ap (λ (t : Tree g.row.R.Denot). t.entries) (same_tree c.self.inside.stock c.admit_holding.new.stock c.in-Err.ensures.stock)) (same_waiting c.self.inside.stock c.admit_holding.new.stock c.in-Err.ensures.stock)))
+    let b = c.self.inside.ground in
+    let s = state_of g.R.Resource b in
+    let asked = hold_request g.R.Resource s c.args.node c.args.resource in
+    let stand = causes b.register.history b.register.limit asked.is_fresh asked.call in
+    let cause = c.holding_cause-cause.result in
+    let first = first_by_key b.tree stand cause c.args.node (rw (c.tree_key-key.ensures, c.is_fresh-fresh.ensures) at c.holding_cause-cause.ensures) in
+    let why = refused_for (stands s asked) cause c.in-Err.why first c.in-Err.ensures.err in
+    rw (← c.self.view_is) (answers_err (record { why = why; back = refl }) (state_roomier g.R.Resource b c.admit.new.ground c.in-Err.ensures.kept))
 
-pub hold-requires-clause-unused : goal.hold-requires-clause-unused
-hold-requires-clause-unused g c κs within =
-    unused_now g.R.Resource c.self.inside.register c.admit_holding.new.register c.self.inside.stock c.admit_holding.new.stock _ _ c.self.invariant c.in_default.ensures.kept c.in_default.ensures.stock c.len-number.ensures
+called : (g : given.Over) (c : After-promise g) → (let b = c.admit.new.ground in IsLetIn g.R.Resource b (hold_request g.R.Resource (state_of g.R.Resource b) c.args.node c.args.resource))
+called g c =
+    let old = c.self.inside.ground in
+    let asked = λ (s : State). hold_request g.R.Resource s c.args.node c.args.resource in
+    let fresh = (asked (state_of g.R.Resource old)).is_fresh in
+    let stand = causes old.register.history old.register.limit fresh (Holding c.args.node.number (g.R.Resource.tag_of c.args.resource)) in
+    let cause = c.holding_cause-cause.result in
+    let first = first_by_key old.tree stand cause c.args.node (rw (c.tree_key-key.ensures, c.is_fresh-fresh.ensures) at c.holding_cause-cause.ensures) in
+    let a = c.in_default.ensures in
+    let_in_roomy g.R.Resource old c.admit.new.ground asked _ a.kept a.standing c.promise.ensures.register (first ∙ a.none) tt a.ok (omega arith) (omega arith)
 
-pub invariant_of-self-in-Ok : goal.invariant_of-self-in-Ok
-invariant_of-self-in-Ok g c =
-    let old = c.self.inside.register in
-    let life = g.R.Resource.life_of c.args.resource in
-    let used = g.R.Resource.uses_of c.args.resource in
-    let fresh = fresh_parts life used (sym c.is_fresh-fresh.ensures ∙ held_fresh old.history old.limit c.is_fresh-fresh.result c.tree_key-key.result.number c.tag-tag.result c.in_default.ensures.admitted.no_cause) in
-    standing_held g.R.Resource old c.hold-in-Ok.new.self c.admit_holding.new.register c.self.inside.stock c.admit_holding.new.stock c.hold.new.self (tree_key_of c.args.node) c.args.resource c.tag-tag.result c.len-number.result c.in_default.ensures.kept c.in_default.ensures.stock c.len-number.ensures c.self.invariant c.promise.ensures (rw c.tree_key-key.ensures at c.in_default.ensures.ok) (rw c.tree_key-key.ensures at c.in-Ok.ensures.held) c.in-Ok.ensures.waiting c.in-Ok.ensures.room c.in_default.ensures.space fresh (sym c.tag-tag.ensures) c.hold-in-Ok.ensures.events c.hold-in-Ok.ensures.accepted.step.lawful
+pub write_accept-res-requires-clause-ready : goal.write_accept-res-requires-clause-ready
+write_accept-res-requires-clause-ready g c κs within =
+    let l = called g (goal.at.write_accept-res-requires-clause-ready g c).After-promise in
+    rw c.tree_key-key.ensures (one_ready g.R.Resource c.admit.new.ground _ l _ refl)
 
-pub returns-in-Ok : goal.returns-in-Ok
-returns-in-Ok g c =
-    let old = c.self.inside.register in
-    let same = same_history old c.admit_holding.new.register c.in_default.ensures.kept in
-    let number = c.len-number.ensures ∙ ap (λ (h : List Event). length h) same in
-    let rewrites = rewrites_before c.self.inside.stock c.admit_holding.new.stock c.hold.new.self.tree (tree_key_of c.args.node) c.len-number.result c.args.resource c.in_default.ensures.stock (rw c.tree_key-key.ensures at c.in-Ok.ensures.held) in
-    let f = followed old c.admit_holding.new.register c.hold-in-Ok.new.self c.is_fresh-fresh.result (Holding c.args.node.number c.tag-tag.result) c.in_default.ensures.kept c.hold-in-Ok.ensures.accepted in
-    rw (← c.self.view_is)
-    (answers_ok
-    (record { number = number; listed = held_there c.self.inside.stock.tree c.hold.new.self.tree (tree_key_of c.args.node) c.len-number.result c.args.resource (rw c.tree_key-key.ensures at c.in_default.ensures.ok) rewrites })
-    (accepted_by_key g.R.Resource old c.hold-in-Ok.new.self c.self.inside.stock c.hold.new.self c.args.node _ _ refl (rw c.tree_key-key.ensures at c.in_default.ensures.ok) (rw (c.is_fresh-fresh.ensures, c.tag-tag.ensures) at f) (frame_hold c.self.inside.stock.tree c.hold.new.self.tree (tree_key_of c.args.node) c.len-number.result c.args.resource (length old.history) (omega arith) rewrites)))
+pub settle-requires-clause-paid : goal.settle-requires-clause-paid
+settle-requires-clause-paid g c κs within =
+    let l = called g (goal.at.settle-requires-clause-paid g c).After-promise in
+    pays g.R.Resource c.admit.new.ground _ l c.write_accept-res.new.self.register (rw c.tree_key-key.ensures at c.write_accept-res.ensures.written)
 
-pub returns-in-Err-hold : goal.returns-in-Err-hold
-returns-in-Err-hold g c =
-    rw (← c.self.view_is)
-    (answers_err (record { why = inr (no_cause_by_key c.self.inside.stock.tree c.args.node _ (rw c.tree_key-key.ensures at c.in_default.ensures.ok) (rw (c.tree_key-key.ensures, c.is_fresh-fresh.ensures) at c.in_default.ensures.admitted.no_cause), refl); back = c.in-Err-hold.ensures.given_back }) (same_state g.R.Resource c.self.inside.register c.admit_holding.new.register c.self.inside.stock c.hold.new.self c.in_default.ensures.kept (ap (λ (t : Tree g.row.R.Denot). t.entries) (c.in-Err-hold.ensures.err ∙ same_tree c.self.inside.stock c.admit_holding.new.stock c.in_default.ensures.stock)) (c.in-Err-hold.ensures.waiting ∙ same_waiting c.self.inside.stock c.admit_holding.new.stock c.in_default.ensures.stock)))
+pub settle-requires-clause-unjoined : goal.settle-requires-clause-unjoined
+settle-requires-clause-unjoined g c κs within =
+    let l = called g (goal.at.settle-requires-clause-unjoined g c).After-promise in
+    unjoins g.R.Resource c.admit.new.ground _ l c.write_accept-res.new.self.register (rw c.tree_key-key.ensures at c.write_accept-res.ensures.written) refl
+
+pub returns : goal.returns
+returns g c =
+    let R = g.R.Resource in
+    let b = c.admit.new.ground in
+    let mid = c.write_accept-res.new.self in
+    let new = c.settle.new.self in
+    let a = c.write_accept-res.ensures in
+    let s = c.settle.ensures in
+    let w = rw c.tree_key-key.ensures at a.written in
+    let l = called g (goal.at.returns g c).After-promise in
+    let n = length b.register.history in
+    let rest = rests R b.register mid _ l.may.lawful l.may.settled l.standing.unjoined (one_ready R b _ l _ refl) w refl refl (λ n. refl) in
+    let key = res_key_listed R mid new a.tied.of_tree rest.1 s.forced s.nodes n c.write_accept-res.result c.shown_res_key.result c.shown_res_key.ensures s.resources
+    a.number a.held in
+    let done = accepts R b _ l mid new w (keeps_held b.tree mid.tree n a.nodes a.kept) s.standing s.forced s.nodes s.resources s.limit s.given in
+    let same = state_roomier R c.self.inside.ground b c.admit.ensures.kept in
+    subst (λ (x : State). AnswersResKey x (hold_request R x c.args.node c.args.resource) c.args.resource (state_of R new) (Ok c.shown_res_key.result))
+    (same ∙ c.self.view_is) (answers_ok key done)

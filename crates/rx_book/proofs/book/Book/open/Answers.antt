@@ -1,66 +1,118 @@
-use Rattle.std.proofs.Common.{true, length, refl, sym, ap, ◌∙◌, inr}
+use Rattle.std.proofs.Common.{◌+◌, Bool, true, cond, length, Some, None, refl, sym, ap, subst, ◌∙◌, arith}
+use Rattle.std.specs.Prelude.{Ok}
+use Rattle.std.proofs.lemmas.Bool.{and_from}
+use Rattle.rx_event.specs.declared.event.Event.TheVariants.{Open}
 use Rattle.rx_event.specs.Calls.{Opening}
-use Rattle.rx_event.specs.Refusals.{first_cause}
-use Rattle.rx_register.specs.Causes.{causes}
-use Rattle.rx_register.specs.Kept.{Kept, Follows}
-use Rattle.rx_book.specs.Shown.{state_of, keys_of}
-use Rattle.rx_book.proofs.CallResources.{same_state, followed}
+use Rattle.rx_register.specs.Causes.{causes, end_at}
+use Rattle.rx_ground.specs.Ties.{IsReady}
+use Rattle.rx_ground.proofs.Laws.KeysKept.{keeps_opened}
 use Rattle.rx_book.specs.State.{State}
-use Rattle.rx_book.specs.Requests.{is_known_place, place_of, by_key}
-use Rattle.rx_book.proofs.ShelvedKeys.{unused_next}
-use Rattle.rx_book.proofs.CallAdmitted.{plain_opening}
-use Rattle.rx_book.proofs.CallOpen.{unconnected, known_there, placed_spot, shelved_same, standing_open}
-use Rattle.rx_book.proofs.ShownKeysKept.{accepts_shown, frame_opened, key_there}
-use Rattle.rx_book.proofs.Answered.{answers_ok, answers_err, passed_refusal}
+use Rattle.rx_book.specs.Requests.{open_request, stands, place_of}
+use Rattle.rx_book.specs.Answers.{AnswersOpened}
+use Rattle.rx_book.specs.Shown.{state_of}
+use Rattle.rx_book.proofs.ShownKeys.{is_known_place_is}
+use Rattle.rx_book.proofs.Answered.{answers_ok, passed_refusal}
+use Rattle.rx_book.proofs.CausesByKey.{first_by_place, refused_for, unstood}
+use Rattle.rx_book.proofs.Called.{IsLetIn, within_full, let_in_roomy, state_roomier, rests, known, one_ready, pays, unjoins, accepts}
+use Rattle.rx_book.proofs.Openings.{plain_opening, opening_counted, placed_at}
+use Rattle.rx_book.proofs.Listed.{key_listed, unconnected}
+use Rattle.rx_book.proofs.book.Book.open.Given as given
 use Rattle.rx_book.proofs.book.Book.open.Goals as goal
+use Rattle.rx_book.proofs.book.Book.open.Goals.{After-promise}
 
-pub returns-in_err-spot : goal.returns-in_err-spot
-returns-in_err-spot g c =
-    let known = ap (λ (s : State). is_known_place s.keys c.args.at) (sym c.self.view_is) ∙ known_there c.self.inside.stock.tree c.args.at in
-    rw (known, ← c.self.view_is) (passed_refusal c.from_residual.result c.in_err-spot.field-0.0 c.from_residual.ensures.1 c.in_err-spot.ensures.refused (ap (λ (r : Kept). state_of g.R.Resource r c.self.inside.stock) c.in_err-spot.ensures.kept))
+pub returns-in_err-admit : goal.returns-in_err-admit
+returns-in_err-admit g c =
+    let b = c.self.inside.ground in
+    let s = state_of g.R.Resource b in
+    let stand = causes b.register.history b.register.limit true (Opening (place_of c.args.at) c.args.kind) in
+    let cause = c.opening_cause-cause.result in
+    let first = first_by_place b.tree stand cause c.args.at
+    (rw (c.spot_of-spot.ensures.place, c.spot_of-spot.ensures.above) at c.opening_cause-cause.ensures) in
+    let a = c.in_err-admit in
+    let why = refused_for (stands s (open_request s c.args.at c.args.kind)) cause a.field-0.0 first a.ensures.err in
+    rw (← c.self.view_is) (passed_refusal c.from_residual.result a.field-0.0 c.from_residual.ensures.1 why
+    (state_roomier g.R.Resource b c.admit.new.ground a.ensures.kept))
 
-pub open-requires-clause-unused : goal.open-requires-clause-unused
-open-requires-clause-unused g c κs within =
-    rw (c.len-number.ensures, c.admit_opening.ensures.kept) (unused_next g.R.Resource c.self.inside.register.history c.self.inside.stock.tree c.self.inside.stock.waiting c.self.invariant.shelved)
+pub admit-requires-clause-within : goal.admit-requires-clause-within
+admit-requires-clause-within g c κs within = λ none.
+    let b = c.self.inside.ground in
+    let call = Opening (place_of c.args.at) c.args.kind in
+    let stand = causes b.register.history b.register.limit true call in
+    let first = first_by_place b.tree stand c.opening_cause-cause.result c.args.at
+    (rw (c.spot_of-spot.ensures.place, c.spot_of-spot.ensures.above) at c.opening_cause-cause.ensures) in
+    let within = within_full call _ true b.register.history b.register.limit refl (first ∙ none) in
+    let plain = plain_opening b.register.history b.register.limit true (place_of c.args.at) c.args.kind (unstood call _ stand (first ∙ none)).1 in
+    let added = (opening_counted b.register.history (place_of c.args.at) c.args.kind plain).0 in
+    let end = c.end_at-end.ensures ∙ ap end_at c.spot_of-spot.ensures.place in
+    omega arith
 
-pub open-requires-clause-placed : goal.open-requires-clause-placed
-open-requires-clause-placed g c κs within =
-    rw (c.len-number.ensures, c.admit_opening.ensures.kept) (placed_spot g.R.Resource c.self.inside.register.history c.self.inside.stock.tree c.self.inside.stock.waiting c.self.invariant.shelved c.args.at c.in_ok-spot.spot c.args.kind c.in_ok-spot.ensures.ok)
+called : (g : given.Over) (c : After-promise g) → (let b = c.admit.new.ground in IsLetIn g.R.Resource b (open_request (state_of g.R.Resource b) c.args.at c.args.kind))
+called g c =
+    let old = c.self.inside.ground in
+    let b = c.admit.new.ground in
+    let asked = λ (s : State). open_request s c.args.at c.args.kind in
+    let stand = causes old.register.history old.register.limit true (Opening (place_of c.args.at) c.args.kind) in
+    let cause = c.opening_cause-cause.result in
+    let first = first_by_place old.tree stand cause c.args.at
+    (rw (c.spot_of-spot.ensures.place, c.spot_of-spot.ensures.above) at c.opening_cause-cause.ensures) in
+    let a = c.in_ok-admit.ensures in
+    let plain = plain_opening old.register.history old.register.limit true (place_of c.args.at) c.args.kind
+    (unstood (Opening (place_of c.args.at) c.args.kind) _ stand (first ∙ a.none)).1 in
+    let counted = opening_counted b.register.history (place_of c.args.at) c.args.kind plain in
+    let added = counted.0 in
+    let told = counted.1 in
+    let end = c.end_at-end.ensures ∙ ap end_at c.spot_of-spot.ensures.place in
+    let_in_roomy g.R.Resource old b asked _ a.kept a.standing c.promise.ensures.register (first ∙ a.none) tt a.ok (omega arith) (omega arith)
 
-pub invariant_of-self-in-Ok : goal.invariant_of-self-in-Ok
-invariant_of-self-in-Ok g c =
-    let same = ap (λ (s : Kept). s.history) c.admit_opening.ensures.kept in
-    let old = c.self.inside.register in
-    let plain = plain_opening old.history old.limit c.in_ok-spot.spot.place c.args.kind (rw c.in_ok-spot.ensures.ok.place c.in_ok-spot.ensures.admitted.no_cause) in
-    let number = c.in-Ok.ensures.numbered ∙ c.len-number.ensures ∙ ap length same in
-    standing_open g.R.Resource old.history c.open-in-Ok.new.self c.self.inside.stock c.open.new.self c.in-Ok.key c.in_ok-spot.spot.place c.args.kind c.in_ok-spot.spot.above c.self.invariant.shelved c.self.invariant.room (rw same at c.open-in-Ok.ensures.events) c.open-in-Ok.ensures.accepted.step.lawful plain number c.in-Ok.ensures.opened c.open.ensures.waiting c.open.ensures.room
+ready : (g : given.Over) (c : After-promise g) → (let b = c.admit.new.ground in IsReady b.register (Open (place_of c.args.at) c.args.kind))
+ready g c =
+    let b = c.admit.new.ground in
+    let l = called g c in
+    one_ready g.R.Resource b _ l _ refl
 
-pub invariant_of-self-in-Err : goal.invariant_of-self-in-Err
-invariant_of-self-in-Err g c =
-    let same = ap (λ (s : Kept). s.history) c.admit_opening.ensures.kept in
-    record {
-      shelved = rw same (shelved_same g.R.Resource c.self.inside.register.history c.self.inside.stock.tree c.self.inside.stock.waiting c.self.invariant.shelved c.open.new.self.tree c.open.new.self.waiting (rw c.in-Err.ensures.err refl) c.open.ensures.waiting);
-      room = rw (same, c.open.ensures.room) c.self.invariant.room;
-    }
+pub write_open-key-requires-clause-ready : goal.write_open-key-requires-clause-ready
+write_open-key-requires-clause-ready g c κs within = rw c.spot_of-spot.ensures.place (ready g (goal.at.write_open-key-requires-clause-ready g c).After-promise)
 
-pub returns-in-Ok : goal.returns-in-Ok
-returns-in-Ok g c =
-    let same = ap (λ (s : Kept). s.history) c.admit_opening.ensures.kept in
-    let number = c.in-Ok.ensures.numbered ∙ c.len-number.ensures in
-    let whole = rw same at c.open-in-Ok.ensures.events in
-    let old = c.self.inside.register in
-    let known = known_there c.self.inside.stock.tree c.args.at ∙ c.in_ok-spot.ensures.ok.there in
-    let f : Follows old (causes old.history old.limit true (Opening (place_of c.args.at) c.args.kind)) (Opening (place_of c.args.at) c.args.kind) c.open-in-Ok.new.self = rw c.in_ok-spot.ensures.ok.place at (followed old c.admit_opening.new.register c.open-in-Ok.new.self true (Opening c.in_ok-spot.spot.place c.args.kind) c.admit_opening.ensures.kept c.open-in-Ok.ensures.accepted) in
-    let kept = frame_opened c.self.inside.stock.tree c.open.new.self.tree c.in-Ok.key _ c.in_ok-spot.spot.above _ (number ∙ ap length same) c.in-Ok.ensures.opened in
-    rw (← c.self.view_is) (rw c.shown_key.ensures (answers_ok
-    (record {
-      key = record { number = number ∙ ap length same; listed = key_there c.open.new.self.tree c.in-Ok.key _ c.in-Ok.ensures.opened.opened };
-      connection = rw whole (unconnected c.self.inside.register.history c.in_ok-spot.spot.place c.args.kind);
-      connected = tt;
-    })
-    (accepts_shown g.R.Resource old c.open-in-Ok.new.self c.self.inside.stock c.open.new.self _ (record { call = Opening (place_of c.args.at) c.args.kind; is_known = is_known_place (keys_of c.self.inside.stock.tree) c.args.at; is_fresh = true }) f (ap (λ b. first_cause (by_key b (causes old.history old.limit true (Opening (place_of c.args.at) c.args.kind)))) known ∙ f.no_cause) kept)))
+pub write_open-key-requires-clause-placed : goal.write_open-key-requires-clause-placed
+write_open-key-requires-clause-placed g c κs within =
+    let b = c.admit.new.ground in
+    let l = called g (goal.at.write_open-key-requires-clause-placed g c).After-promise in
+    let there = sym (is_known_place_is b.tree c.args.at) ∙ known g.R.Resource b _ l in
+    rw (c.spot_of-spot.ensures.place, c.spot_of-spot.ensures.above)
+    (placed_at g.R.Resource b.register.history b.tree l.standing.tied.of_tree c.args.kind c.args.at there)
 
-pub returns-in-Err : goal.returns-in-Err
-returns-in-Err g c =
-    let known = ap (λ (s : State). is_known_place s.keys c.args.at) (sym c.self.view_is) ∙ known_there c.self.inside.stock.tree c.args.at ∙ c.in_ok-spot.ensures.ok.there in
-    rw (known, ← c.self.view_is) (answers_err (inr (c.in_ok-spot.ensures.admitted.no_cause, refl)) (same_state g.R.Resource c.self.inside.register c.admit_opening.new.register c.self.inside.stock c.open.new.self c.admit_opening.ensures.kept (rw c.in-Err.ensures.err refl) c.open.ensures.waiting))
+pub settle-requires-clause-paid : goal.settle-requires-clause-paid
+settle-requires-clause-paid g c κs within =
+    let l = called g (goal.at.settle-requires-clause-paid g c).After-promise in
+    pays g.R.Resource c.admit.new.ground _ l c.write_open-key.new.self.register (rw c.spot_of-spot.ensures.place at c.write_open-key.ensures.written)
+
+pub settle-requires-clause-unjoined : goal.settle-requires-clause-unjoined
+settle-requires-clause-unjoined g c κs within =
+    let b = c.admit.new.ground in
+    let l = called g (goal.at.settle-requires-clause-unjoined g c).After-promise in
+    unjoins g.R.Resource c.admit.new.ground _ l c.write_open-key.new.self.register (rw c.spot_of-spot.ensures.place at c.write_open-key.ensures.written)
+    (and_from _ _ (plain_opening b.register.history b.register.limit true (place_of c.args.at) c.args.kind l.may.no_cause) refl)
+
+pub returns : goal.returns
+returns g c =
+    let R = g.R.Resource in
+    let b = c.admit.new.ground in
+    let h = b.register.history in
+    let mid = c.write_open-key.new.self in
+    let new = c.settle.new.self in
+    let o = c.write_open-key.ensures in
+    let s = c.settle.ensures in
+    let w = rw c.spot_of-spot.ensures.place at o.written in
+    let p = (goal.at.returns g c).After-promise in
+    let l = called g p in
+    let plain = plain_opening h b.register.limit true (place_of c.args.at) c.args.kind l.may.no_cause in
+    let rest = rests R b.register mid _ l.may.lawful l.may.settled l.standing.unjoined (ready g p) w plain refl (λ n. refl) in
+    let key = key_listed R mid new o.tied.of_tree rest.1 s.forced s.nodes (length h) c.write_open-key.result c.shown_key.result c.shown_key.ensures o.new.numbered
+    o.new.found in
+    let alone = ap (λ (x : Bool). cond x (Some (length h + 1)) None) (sym (unconnected new.register.history (length h + 1) s.standing.unjoined)) in
+    let kept = keeps_opened R h b.tree mid.tree c.write_open-key.result l.may.lawful l.standing.tied.of_tree o.new o.resources in
+    let done = accepts R b _ l mid new w kept s.standing s.forced s.nodes s.resources s.limit s.given in
+    let same = state_roomier R c.self.inside.ground b c.admit.ensures.kept in
+    subst (λ (x : State). AnswersOpened x (open_request x c.args.at c.args.kind) (state_of R new)
+    (Ok (record { key = c.shown_key.result; connected = None }))) (same ∙ c.self.view_is)
+    (answers_ok (record { key = key; connection = alone; connected = tt }) done)

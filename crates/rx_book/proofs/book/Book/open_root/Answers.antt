@@ -1,19 +1,16 @@
-use Rattle.std.proofs.Common.{◌≡◌, ◌≤◌, None, Some, arith}
-use Rattle.rx_slots.specs.Slots.{slot_count}
-use Rattle.rx_book.proofs.ShelvedRoots.{open_root, root_listed}
+use Rattle.std.proofs.Common.{sym}
+use Rattle.rx_book.proofs.ShownRoots.{open_root_none, open_root_some, root_listed}
 use Rattle.rx_book.proofs.book.Book.open_root.Goals as goal
 
 pub returns-in_err-root-clause-least : goal.returns-in_err-root-clause-least
 returns-in_err-root-clause-least g c =
-    let stock = c.self.inside.stock in
-    rw (c.from_residual.ensures, ← c.self.view_is) (open_root g.R.Resource c.self.inside.register.history stock.tree stock.waiting c.self.invariant.shelved None (slot_count stock.tree) (omega arith) c.in_err-root.ensures)
+    let b = c.self.inside.ground in
+    rw (c.from_residual.ensures, ← c.self.view_is) (sym (open_root_none g.R.Resource b.register.history b.tree c.self.invariant.0.tied.of_tree c.in_err-root.ensures.none))
 
 pub returns-clause-least : goal.returns-clause-least
 returns-clause-least g c =
-    let stock = c.self.inside.stock in
-    rw (c.shown_key.ensures, ← c.self.view_is) (open_root g.R.Resource c.self.inside.register.history stock.tree stock.waiting c.self.invariant.shelved (Some c.in_ok-root.root) (slot_count stock.tree) (omega arith) c.in_ok-root.ensures)
+    let b = c.self.inside.ground in
+    rw (c.shown_key.ensures, ← c.self.view_is) (sym (open_root_some g.R.Resource b.register.history b.tree c.self.invariant.0.tied.of_tree c.in_ok-root.root c.in_ok-root.ensures.some))
 
 pub returns-clause-key : goal.returns-clause-key
-returns-clause-key g c =
-    let stock = c.self.inside.stock in
-    rw (c.shown_key.ensures, ← c.self.view_is) (root_listed stock.tree (slot_count stock.tree) (Some c.in_ok-root.root) c.in_ok-root.ensures)
+returns-clause-key g c = rw (c.shown_key.ensures, ← c.self.view_is) (root_listed c.self.inside.ground.tree c.in_ok-root.root c.in_ok-root.ensures.some)

@@ -1,102 +1,156 @@
-use Rattle.std.proofs.Common.{◌≡◌, ◌+◌, [], length, refl, sym, ap, ◌∙◌, arith, inr}
-use Rattle.rx_event.specs.Totals.{held_count}
-use Rattle.rx_event.specs.Calls.{OpeningUsing}
+use Rattle.std.proofs.Common.{◌≡◌, ◌+◌, List, ◌∷◌, [], length, is_some, refl, sym, ap, subst, ◌∙◌, arith, length-append}
+use Rattle.std.specs.Prelude.{Ok}
 use Rattle.rx_event.specs.declared.event.Kind.TheVariants.{Pass}
-use Rattle.rx_event.specs.declared.event.Event.TheVariants.{Open}
-use Rattle.rx_register.specs.Plain.{is_plain}
-use Rattle.rx_event.specs.Refusals.{first_cause}
-use Rattle.rx_register.specs.Causes.{causes}
-use Rattle.rx_register.specs.Kept.{Kept, Follows}
-use Rattle.rx_book.specs.Shown.{keys_of}
-use Rattle.rx_book.proofs.Answered.{answers_ok, answers_err}
-use Rattle.rx_book.proofs.CallResources.{same_state, followed}
-use Rattle.rx_stock.specs.Stock.{Stock}
+use Rattle.rx_event.specs.declared.event.Event.{Event}
+use Rattle.rx_event.specs.declared.event.Event.TheVariants.{Open, Accept}
+use Rattle.rx_event.specs.Calls.{OpeningUsing}
+use Rattle.rx_slots.specs.Slots.{Slots, find}
+use Rattle.rx_tree.specs.declared.node.Node.{Node}
+use Rattle.rx_register.specs.Causes.{causes, end_at}
+use Rattle.rx_register.specs.State.{State as Register, Writes}
+use Rattle.rx_register.proofs.Laws.Paid.{Writes-append}
+use Rattle.rx_ground.specs.Ties.{IsReady}
+use Rattle.rx_ground.proofs.Laws.KeysKept.{keeps_on, keeps_held, keeps_opened}
 use Rattle.rx_book.specs.State.{State}
-use Rattle.rx_book.specs.Requests.{is_known_place, place_of, by_key, is_fresh_in}
-use Rattle.rx_book.specs.Shelved.{IsShelved}
-use Rattle.rx_book.proofs.ShelvedKeys.{unused_next}
-use Rattle.rx_book.proofs.CallAdmitted.{plain_using, used_fresh, fresh_parts}
-use Rattle.rx_book.proofs.CallOpen.{known_there, placed_spot, shelved_same, standing_using}
-use Rattle.rx_book.proofs.ShownKeysKept.{accepts_shown, frame_opened_using, key_there, res_key_there, box_added}
+use Rattle.rx_book.specs.Requests.{using_request, stands, place_of}
+use Rattle.rx_book.specs.Answers.{AnswersOpenedUsing}
+use Rattle.rx_book.specs.Shown.{state_of}
+use Rattle.rx_book.proofs.ShownKeys.{is_known_place_is}
+use Rattle.rx_book.proofs.Answered.{answers_ok, answers_err}
+use Rattle.rx_book.proofs.CausesByKey.{first_by_place, refused_for}
+use Rattle.rx_book.proofs.Called.{IsLetIn, unjoined_on, within_full, let_in_roomy, state_roomier, rests, known, first_ready, second_ready, pays, unjoins, accepts}
+use Rattle.rx_book.proofs.Openings.{placed_at}
+use Rattle.rx_book.proofs.Listed.{key_listed, res_key_listed}
+use Rattle.rx_book.proofs.book.Book.open_using.Given as given
 use Rattle.rx_book.proofs.book.Book.open_using.Goals as goal
+use Rattle.rx_book.proofs.book.Book.open_using.Goals.{After-promise}
 
 pub returns-in-Err : goal.returns-in-Err
 returns-in-Err g c =
-    let known = ap (λ (s : State). is_known_place s.keys c.args.at) (sym c.self.view_is) ∙ known_there c.self.inside.stock.tree c.args.at in
-    rw (known, ← c.self.view_is) (answers_err (record { why = rw (c.is_fresh-fresh.ensures, c.tag-tag.ensures) at c.in-Err.ensures.refused; back = refl }) (same_state g.R.Resource c.self.inside.register c.admit_using.new.register c.self.inside.stock c.admit_using.new.stock c.admit_using.ensures.kept (ap (λ (s : Stock g.row.R.Denot). s.tree.entries) c.admit_using.ensures.stock) (ap (λ (s : Stock g.row.R.Denot). s.waiting) c.admit_using.ensures.stock)))
+    let b = c.self.inside.ground in
+    let s = state_of g.R.Resource b in
+    let asked = using_request g.R.Resource s c.args.at c.args.resource in
+    let stand = causes b.register.history b.register.limit asked.is_fresh asked.call in
+    let cause = c.using_cause-cause.result in
+    let first = first_by_place b.tree stand cause c.args.at
+    (rw (c.spot_of-spot.ensures.place, c.spot_of-spot.ensures.above, c.tag-tag.ensures, c.is_fresh-fresh.ensures) at c.using_cause-cause.ensures) in
+    let why = refused_for (stands s asked) cause c.in-Err.why first c.in-Err.ensures.err in
+    rw (← c.self.view_is) (answers_err (record { why = why; back = refl }) (state_roomier g.R.Resource b c.admit.new.ground c.in-Err.ensures.kept))
 
-pub overflow_add-number : goal.overflow_add-number
-overflow_add-number g c =
-    let a = c.promise.ensures.within in
-    let b = c.promise.ensures.limited in
-    let number = c.len-number.ensures in
+pub admit-requires-clause-within : goal.admit-requires-clause-within
+admit-requires-clause-within g c κs within = λ none.
+    let b = c.self.inside.ground in
+    let asked = using_request g.R.Resource (state_of g.R.Resource b) c.args.at c.args.resource in
+    let stand = causes b.register.history b.register.limit asked.is_fresh asked.call in
+    let first = first_by_place b.tree stand c.using_cause-cause.result c.args.at
+    (rw (c.spot_of-spot.ensures.place, c.spot_of-spot.ensures.above, c.tag-tag.ensures, c.is_fresh-fresh.ensures) at c.using_cause-cause.ensures) in
+    let within = within_full asked.call _ asked.is_fresh b.register.history b.register.limit refl (first ∙ none) in
+    let end = c.end_at-end.ensures ∙ ap end_at c.spot_of-spot.ensures.place in
     omega arith
 
-pub open_using-requires-clause-unused : goal.open_using-requires-clause-unused
-open_using-requires-clause-unused g c κs within =
-    rw (c.len-number.ensures, c.admit_using.ensures.kept, c.admit_using.ensures.stock) (unused_next g.R.Resource c.self.inside.register.history c.self.inside.stock.tree c.self.inside.stock.waiting c.self.invariant.shelved)
+called : (g : given.Over) (c : After-promise g) → (let b = c.admit.new.ground in IsLetIn g.R.Resource b (using_request g.R.Resource (state_of g.R.Resource b) c.args.at c.args.resource))
+called g c =
+    let R = g.R.Resource in
+    let old = c.self.inside.ground in
+    let b = c.admit.new.ground in
+    let asked = λ (s : State). using_request R s c.args.at c.args.resource in
+    let stand = causes old.register.history old.register.limit (asked (state_of R old)).is_fresh
+    (OpeningUsing (place_of c.args.at) (R.tag_of c.args.resource)) in
+    let cause = c.using_cause-cause.result in
+    let first = first_by_place old.tree stand cause c.args.at
+    (rw (c.spot_of-spot.ensures.place, c.spot_of-spot.ensures.above, c.tag-tag.ensures, c.is_fresh-fresh.ensures) at c.using_cause-cause.ensures) in
+    let a = c.in_default.ensures in
+    let end = c.end_at-end.ensures ∙ ap end_at c.spot_of-spot.ensures.place in
+    let_in_roomy R old b asked _ a.kept a.standing c.promise.ensures.register (first ∙ a.none) tt a.ok (omega arith) (omega arith)
 
-pub open_using-requires-clause-placed : goal.open_using-requires-clause-placed
-open_using-requires-clause-placed g c κs within =
-    rw (c.len-number.ensures, c.admit_using.ensures.kept, c.admit_using.ensures.stock) (placed_spot g.R.Resource c.self.inside.register.history c.self.inside.stock.tree c.self.inside.stock.waiting c.self.invariant.shelved c.args.at c.in-Ok.spot Pass c.in-Ok.ensures.ok)
+-- the opening may be written
+opens : (g : given.Over) (c : After-promise g) → (let b = c.admit.new.ground in IsReady b.register (Open (place_of c.args.at) Pass))
+opens g c =
+    let R = g.R.Resource in
+    let b = c.admit.new.ground in
+    let l = called g c in
+    first_ready R b _ l (Open (place_of c.args.at) Pass) (Accept (length b.register.history) (R.tag_of c.args.resource)) refl refl
 
-pub overflow_add-result : goal.overflow_add-result
-overflow_add-result g c =
-    let a = c.promise.ensures.within in
-    let b = c.promise.ensures.limited in
-    let number = c.len-number.ensures in
-    omega arith
+pub write_open-node-requires-clause-ready : goal.write_open-node-requires-clause-ready
+write_open-node-requires-clause-ready g c κs within = rw c.spot_of-spot.ensures.place
+    (opens g (goal.at.write_open-node-requires-clause-ready g c).After-promise)
 
-pub invariant_of-self-in-Ok-open_using : goal.invariant_of-self-in-Ok-open_using
-invariant_of-self-in-Ok-open_using g c =
-    let old = c.self.inside.register in
-    let same = ap (λ (s : Kept). s.history) c.admit_using.ensures.kept in
-    let tree_same = ap (λ (s : Stock g.row.R.Denot). s.tree) c.admit_using.ensures.stock in
-    let waits_same = ap (λ (s : Stock g.row.R.Denot). s.waiting) c.admit_using.ensures.stock in
-    let none = c.in-Ok.ensures.admitted.no_cause in
-    let place = place_of c.args.at in
-    let shelved : IsShelved g.R.Resource old.history c.admit_using.new.stock.tree c.admit_using.new.stock.waiting = rw (tree_same, waits_same) c.self.invariant.shelved in
-    let plain = ap (λ p. is_plain (Open p Pass)) c.in-Ok.ensures.ok.place ∙ plain_using old.history old.limit _ place c.tag-tag.result none in
-    let life = g.R.Resource.life_of c.args.resource in
-    let used = g.R.Resource.uses_of c.args.resource in
-    let fresh = fresh_parts life used (sym c.is_fresh-fresh.ensures ∙ used_fresh old.history old.limit _ place c.tag-tag.result none) in
-    let number = c.in-Ok-open_using.ensures.numbered ∙ c.len-number.ensures ∙ ap length same in
-    standing_using g.R.Resource old.history c.open_using-in-Ok-open_using.new.self c.admit_using.new.stock c.open_using.new.self c.in-Ok-open_using.key c.in-Ok.spot.place c.tag-tag.result c.in-Ok.spot.above c.args.resource shelved c.in-Ok.ensures.space (rw same at c.open_using-in-Ok-open_using.ensures.events) c.open_using-in-Ok-open_using.ensures.accepted.step.lawful plain number (rw (c.len-number.ensures, same) at c.in-Ok-open_using.ensures.opened) fresh.0 (sym c.tag-tag.ensures) fresh.1 c.open_using.ensures.waiting c.open_using.ensures.room
+pub write_open-node-requires-clause-placed : goal.write_open-node-requires-clause-placed
+write_open-node-requires-clause-placed g c κs within =
+    let b = c.admit.new.ground in
+    let l = called g (goal.at.write_open-node-requires-clause-placed g c).After-promise in
+    let there = sym (is_known_place_is b.tree c.args.at) ∙ known g.R.Resource b _ l in
+    rw (c.spot_of-spot.ensures.place, c.spot_of-spot.ensures.above) (placed_at g.R.Resource b.register.history b.tree l.standing.tied.of_tree Pass c.args.at there)
 
-pub invariant_of-self-in-Err-open_using : goal.invariant_of-self-in-Err-open_using
-invariant_of-self-in-Err-open_using g c =
-    let same = ap (λ (s : Kept). s.history) c.admit_using.ensures.kept in
-    let tree_same = ap (λ (s : Stock g.row.R.Denot). s.tree) c.admit_using.ensures.stock in
-    let waits_same = ap (λ (s : Stock g.row.R.Denot). s.waiting) c.admit_using.ensures.stock in
-    let space = c.in-Ok.ensures.space in
-    let room = c.open_using.ensures.room in
-    let held = ap held_count same in
-    record {
-      shelved = rw same (shelved_same g.R.Resource c.self.inside.register.history c.self.inside.stock.tree c.self.inside.stock.waiting c.self.invariant.shelved c.open_using.new.self.tree c.open_using.new.self.waiting (rw (c.in-Err-open_using.ensures.err, tree_same) refl) (rw (c.open_using.ensures.waiting, waits_same) refl));
-      room = omega arith;
-    }
+-- and then the acceptance
+holds : (g : given.Over) (c : After-promise g) (mid : Register) → (let b = c.admit.new.ground in Writes b.register (Open (place_of c.args.at) Pass ∷ []) mid →
+    IsReady mid (Accept (length b.register.history) (g.R.Resource.tag_of c.args.resource)))
+holds g c mid w =
+    let b = c.admit.new.ground in
+    second_ready g.R.Resource b _ (called g c) (Open (place_of c.args.at) Pass) (Accept (length b.register.history) (g.R.Resource.tag_of c.args.resource)) mid
+    refl w refl
 
-pub returns-in-Ok-open_using : goal.returns-in-Ok-open_using
-returns-in-Ok-open_using g c =
-    let old = c.self.inside.register in
-    let before = c.self.inside.stock in
-    let same = ap (λ (s : Kept). s.history) c.admit_using.ensures.kept in
-    let tree_same = ap (λ (s : Stock g.row.R.Denot). s.tree) c.admit_using.ensures.stock in
-    let at : c.len-number.result ≡ length old.history = c.len-number.ensures ∙ ap length same in
-    let number = c.in-Ok-open_using.ensures.numbered ∙ at in
-    let tree = c.open_using.new.self.tree in
-    let key = c.in-Ok-open_using.key in
-    let held = res_key_there tree key _ (c.len-number.result + 1) c.in-Ok-open_using.ensures.opened.opened (box_added (c.len-number.result + 1) c.args.resource []) in
-    let call = OpeningUsing (place_of c.args.at) (g.R.Resource.tag_of c.args.resource) in
-    let fresh = is_fresh_in g.R.Resource c.args.resource in
-    let known = known_there before.tree c.args.at ∙ c.in-Ok.ensures.ok.there in
-    let f : Follows old (causes old.history old.limit fresh call) call c.open_using-in-Ok-open_using.new.self = rw (c.in-Ok.ensures.ok.place, c.is_fresh-fresh.ensures, c.tag-tag.ensures) at (followed old c.admit_using.new.register c.open_using-in-Ok-open_using.new.self _ (OpeningUsing c.in-Ok.spot.place c.tag-tag.result) c.admit_using.ensures.kept c.open_using-in-Ok-open_using.ensures.accepted) in
-    let kept = frame_opened_using before.tree tree key _ c.in-Ok.spot.above (c.len-number.result + 1) c.args.resource (length old.history) number (omega arith) (rw tree_same at c.in-Ok-open_using.ensures.opened) in
-    rw (← c.self.view_is) (rw c.shown_key.ensures (answers_ok
-    (record { key = record { number = number; listed = key_there tree key _ c.in-Ok-open_using.ensures.opened.opened }; res = record { number = ap (λ n. n + 1) at; listed = held } })
-    (accepts_shown g.R.Resource old c.open_using-in-Ok-open_using.new.self before c.open_using.new.self _ (record { call = call; is_known = is_known_place (keys_of before.tree) c.args.at; is_fresh = fresh }) f (ap (λ b. first_cause (by_key b (causes old.history old.limit fresh call))) known ∙ f.no_cause) kept)))
+pub write_accept-res-requires-clause-ready : goal.write_accept-res-requires-clause-ready
+write_accept-res-requires-clause-ready g c κs within =
+    rw c.write_open-node.ensures.new.numbered (holds g (goal.at.write_accept-res-requires-clause-ready g c).After-promise c.write_open-node.new.self.register
+    (rw c.spot_of-spot.ensures.place at c.write_open-node.ensures.written))
 
-pub returns-in-Err-open_using : goal.returns-in-Err-open_using
-returns-in-Err-open_using g c =
-    let known = ap (λ (s : State). is_known_place s.keys c.args.at) (sym c.self.view_is) ∙ known_there c.self.inside.stock.tree c.args.at ∙ c.in-Ok.ensures.ok.there in
-    rw (known, ← c.self.view_is) (answers_err (record { why = inr (rw c.is_fresh-fresh.ensures at c.in-Ok.ensures.admitted.no_cause, refl); back = c.in-Err-open_using.ensures.given_back }) (same_state g.R.Resource c.self.inside.register c.admit_using.new.register c.self.inside.stock c.open_using.new.self c.admit_using.ensures.kept (rw (c.in-Err-open_using.ensures.err, c.admit_using.ensures.stock) refl) (c.open_using.ensures.waiting ∙ ap (λ (s : Stock g.row.R.Denot). s.waiting) c.admit_using.ensures.stock)))
+pub settle-requires-clause-paid : goal.settle-requires-clause-paid
+settle-requires-clause-paid g c κs within =
+    let b = c.admit.new.ground in
+    let mid = c.write_open-node.new.self.register in
+    let last = c.write_accept-res.new.self.register in
+    let e = Open (place_of c.args.at) Pass in
+    let f = Accept (length b.register.history) (g.R.Resource.tag_of c.args.resource) in
+    let w = rw c.spot_of-spot.ensures.place at c.write_open-node.ensures.written in
+    let v = rw c.write_open-node.ensures.new.numbered at c.write_accept-res.ensures.written in
+    let l = called g (goal.at.settle-requires-clause-paid g c).After-promise in
+    pays g.R.Resource b _ l last (Writes-append b.register mid last (e ∷ []) (f ∷ []) w v)
+
+pub settle-requires-clause-unjoined : goal.settle-requires-clause-unjoined
+settle-requires-clause-unjoined g c κs within =
+    let b = c.admit.new.ground in
+    let mid = c.write_open-node.new.self.register in
+    let last = c.write_accept-res.new.self.register in
+    let e = Open (place_of c.args.at) Pass in
+    let f = Accept (length b.register.history) (g.R.Resource.tag_of c.args.resource) in
+    let w = rw c.spot_of-spot.ensures.place at c.write_open-node.ensures.written in
+    let v = rw c.write_open-node.ensures.new.numbered at c.write_accept-res.ensures.written in
+    let l = called g (goal.at.settle-requires-clause-unjoined g c).After-promise in
+    unjoins g.R.Resource b _ l last (Writes-append b.register mid last (e ∷ []) (f ∷ []) w v) refl
+
+pub returns : goal.returns
+returns g c =
+    let R = g.R.Resource in
+    let b = c.admit.new.ground in
+    let h = b.register.history in
+    let mid = c.write_open-node.new.self in
+    let last = c.write_accept-res.new.self in
+    let new = c.settle.new.self in
+    let e = Open (place_of c.args.at) Pass in
+    let f = Accept (length h) (R.tag_of c.args.resource) in
+    let o = c.write_open-node.ensures in
+    let a = c.write_accept-res.ensures in
+    let s = c.settle.ensures in
+    let w = rw c.spot_of-spot.ensures.place at o.written in
+    let v = rw o.new.numbered at a.written in
+    let p = (goal.at.returns g c).After-promise in
+    let l = called g p in
+    let longer : length mid.register.history ≡ length h + 1 = ap (λ (k : List Event). length k) w.history ∙ length-append h (e ∷ []) in
+    let rest = rests R b.register mid e l.may.lawful l.may.settled l.standing.unjoined (opens g p) w refl refl (λ n. refl) in
+    let rest_after = rests R mid.register last f rest.0 rest.1 (unjoined_on l.standing.unjoined w refl) (holds g p mid.register w) v refl refl (λ n. refl) in
+    let found = ap (λ (nodes : Slots Node). is_some (find nodes c.write_open-node.result)) a.nodes ∙ o.new.found in
+    let key = key_listed R last new a.tied.of_tree rest_after.1 s.forced s.nodes (length h) c.write_open-node.result c.shown_key.result c.shown_key.ensures
+    o.new.numbered found in
+    let number = a.number ∙ longer in
+    let res = res_key_listed R last new a.tied.of_tree rest_after.1 s.forced s.nodes (length h + 1) c.write_accept-res.result c.shown_res_key.result
+    c.shown_res_key.ensures s.resources number a.held in
+    let opened = keeps_opened R h b.tree mid.tree c.write_open-node.result l.may.lawful l.standing.tied.of_tree o.new o.resources in
+    let kept = keeps_on b.tree mid.tree last.tree (length h) (length mid.register.history) (omega arith) opened
+    (keeps_held mid.tree last.tree (length mid.register.history) a.nodes a.kept) in
+    let both = Writes-append b.register mid.register last.register (e ∷ []) (f ∷ []) w v in
+    let done = accepts R b _ l last new both kept s.standing s.forced s.nodes s.resources s.limit s.given in
+    let same = state_roomier R c.self.inside.ground b c.admit.ensures.kept in
+    subst (λ (x : State). AnswersOpenedUsing x (using_request R x c.args.at c.args.resource) c.args.resource (state_of R new)
+    (Ok (record { key = c.shown_key.result; res = c.shown_res_key.result }))) (same ∙ c.self.view_is)
+    (answers_ok (record { key = key; res = res }) done)

@@ -1,37 +1,53 @@
-use Rattle.std.proofs.Common.{ap, length, true, refl}
-use Rattle.rx_event.specs.Refusals.{first_cause}
+use Rattle.std.proofs.Common.{Some, None, true, length, refl}
 use Rattle.rx_event.specs.Calls.{Removing}
 use Rattle.rx_register.specs.Causes.{causes}
-use Rattle.rx_book.specs.Requests.{by_res_key}
-use Rattle.rx_book.specs.Shown.{tree_res_key_of}
-use Rattle.rx_book.proofs.ShownKeysKept.{frame_removed}
-use Rattle.rx_book.proofs.ShelvedKeys.{held_key}
-use Rattle.rx_book.proofs.CallResources.{unheld_by_res_key, accepted_by_res_key, room_to_remove, standing_remove}
+use Rattle.rx_ground.proofs.Laws.KeysKept.{keeps_held}
+use Rattle.rx_book.specs.Requests.{remove_request}
+use Rattle.rx_book.specs.Shown.{state_of}
 use Rattle.rx_book.proofs.Answered.{answers_ok, answers_err}
+use Rattle.rx_book.proofs.CausesByKey.{first_by_res_key}
+use Rattle.rx_book.proofs.Called.{IsLetIn, let_in_free, one_ready, pays, unjoins, accepts}
+use Rattle.rx_book.proofs.book.Book.remove.Given as given
 use Rattle.rx_book.proofs.book.Book.remove.Goals as goal
+use Rattle.rx_book.proofs.book.Book.remove.Goals.{In_default}
 
-pub returns-then-not-holds : goal.returns-then-not-holds
-returns-then-not-holds g c =
-    let old = c.self.inside.register in
-    let unheld = unheld_by_res_key c.self.inside.stock.tree c.args.res c.holds.result (rw c.tree_res_key-key.ensures at c.holds.ensures) c.if-not-holds.true in
-    rw (← c.self.view_is)
-    (answers_err (ap (λ b. first_cause (by_res_key b (causes old.history old.limit true (Removing c.args.res.number)))) unheld) refl)
+pub returns-in-Some : goal.returns-in-Some
+returns-in-Some g c =
+    let b = c.self.inside.ground in
+    let stand = causes b.register.history b.register.limit true (Removing c.args.res.number) in
+    let first = first_by_res_key b.tree stand (Some c.in-Some.why) c.args.res (rw c.tree_res_key-key.ensures at c.in-Some.ensures) in
+    rw (← c.self.view_is) (answers_err first refl)
 
-pub remove-requires-clause-room : goal.remove-requires-clause-room
-remove-requires-clause-room g c κs within =
-    room_to_remove g.R.Resource c.self.inside.register c.self.inside.stock c.tree_res_key-key.result c.self.invariant c.promise.ensures.lawful (c.holds.ensures.0 c.if-not-holds.false)
+called : (g : given.Over) (c : In_default g) → (let b = c.self.inside.ground in IsLetIn g.R.Resource b (remove_request (state_of g.R.Resource b) c.args.res))
+called g c =
+    let b = c.self.inside.ground in
+    let stand = causes b.register.history b.register.limit true (Removing c.args.res.number) in
+    let first = first_by_res_key b.tree stand None c.args.res (rw c.tree_res_key-key.ensures at c.in_default.ensures) in
+    let_in_free g.R.Resource b _ c.self.invariant.0 c.promise.ensures.register first tt refl refl
 
-pub remove-requires-2 : goal.remove-requires-2
-remove-requires-2 g c =
-    record { held = held_key g.R.Resource c.self.inside.register.history c.self.inside.stock.tree c.self.inside.stock.waiting c.self.invariant.shelved (tree_res_key_of c.args.res) (rw c.tree_res_key-key.ensures at c.holds.ensures.0 c.if-not-holds.false) }
+pub write_remove-requires-clause-ready : goal.write_remove-requires-clause-ready
+write_remove-requires-clause-ready g c κs within =
+    let l = called g (goal.at.write_remove-requires-clause-ready g c).In_default in
+    rw c.tree_res_key-key.ensures (one_ready g.R.Resource c.self.inside.ground _ l _ refl)
 
-pub invariant_of-self : goal.invariant_of-self
-invariant_of-self g c =
-    standing_remove g.R.Resource c.self.inside.register c.remove-2.new.self c.self.inside.stock c.remove.new.self (tree_res_key_of c.args.res) c.self.invariant c.promise-2.ensures (rw c.tree_res_key-key.ensures at c.holds.ensures.0 c.if-not-holds.false) (rw c.tree_res_key-key.ensures at c.remove.ensures.rest) (rw c.tree_res_key-key.ensures at c.remove.ensures.waiting) c.remove.ensures.room c.remove-2.ensures.events c.remove-2.ensures.accepted.step.lawful
+pub settle-requires-clause-paid : goal.settle-requires-clause-paid
+settle-requires-clause-paid g c κs within =
+    let l = called g (goal.at.settle-requires-clause-paid g c).In_default in
+    pays g.R.Resource c.self.inside.ground _ l c.write_remove.new.self.register (rw c.tree_res_key-key.ensures at c.write_remove.ensures.written)
+
+pub settle-requires-clause-unjoined : goal.settle-requires-clause-unjoined
+settle-requires-clause-unjoined g c κs within =
+    let l = called g (goal.at.settle-requires-clause-unjoined g c).In_default in
+    unjoins g.R.Resource c.self.inside.ground _ l c.write_remove.new.self.register (rw c.tree_res_key-key.ensures at c.write_remove.ensures.written) refl
 
 pub returns : goal.returns
 returns g c =
-    let old = c.self.inside.register in
-    let kept = frame_removed c.self.inside.stock.tree c.remove.new.self.tree (tree_res_key_of c.args.res) (length old.history) (rw c.tree_res_key-key.ensures at c.holds.ensures.0 c.if-not-holds.false) (rw c.tree_res_key-key.ensures at c.remove.ensures.rest) in
-    rw (← c.self.view_is)
-    (answers_ok c.remove-2.ensures.place (accepted_by_res_key g.R.Resource old c.remove-2.new.self c.self.inside.stock c.remove.new.self c.args.res true (Removing c.args.res.number) refl (rw c.tree_res_key-key.ensures at c.holds.ensures.0 c.if-not-holds.false) c.remove-2.ensures.accepted kept))
+    let b = c.self.inside.ground in
+    let mid = c.write_remove.new.self in
+    let w = c.write_remove.ensures in
+    let s = c.settle.ensures in
+    let l = called g (goal.at.returns g c).In_default in
+    let kept = keeps_held b.tree mid.tree (length b.register.history) w.nodes w.kept in
+    let done = accepts g.R.Resource b _ l mid c.settle.new.self (rw c.tree_res_key-key.ensures at w.written) kept
+    s.standing s.forced s.nodes s.resources s.limit s.given in
+    rw (← c.self.view_is) (answers_ok c.len-place.ensures done)

@@ -1,21 +1,55 @@
-use Rattle.std.proofs.Common.{ap, map}
-use Rattle.rx_tree.specs.Tree.{Tree}
-use Rattle.rx_stock.specs.Stock.{Stock}
-use Rattle.rx_book.specs.Shown.{state_of, label_in}
+use Rattle.std.proofs.Common.{length, refl, ◌∙◌}
+use Rattle.rx_event.specs.declared.event.Event.TheVariants.{Take}
+use Rattle.rx_ground.proofs.Laws.KeysKept.{keeps_held}
+use Rattle.rx_ground.proofs.Laws.Unforced.{unforced}
 use Rattle.rx_book.specs.Requests.{take_request}
-use Rattle.rx_book.proofs.ShownKeysKept.{accepts_shown, frame_same}
-use Rattle.rx_book.proofs.CallResources.{standing_take, last_listed}
+use Rattle.rx_book.proofs.Called.{IsLetIn, let_in_free, rests, one_ready, pays, unjoins, accepts}
+use Rattle.rx_book.proofs.Taken.{listed_waits, fewer_wait}
+use Rattle.rx_book.proofs.book.Book.take.Given as given
 use Rattle.rx_book.proofs.book.Book.take.Goals as goal
+use Rattle.rx_book.proofs.book.Book.take.Goals.{In_ok-handed}
 
-pub invariant_of-self-2 : goal.invariant_of-self-2
-invariant_of-self-2 g c =
-    let held = c.in_ok-held.held in
-    standing_take g.R.Resource c.self.inside.register c.take-2.new.self c.self.inside.stock c.take.new.self held.number held.resource c.self.invariant c.in_ok-held.ensures.some c.in_ok-held.ensures.tree c.in_ok-held.ensures.room c.take-2.ensures.events c.take-2.ensures.accepted.step.lawful
+pub write_take-requires-clause-room : goal.write_take-requires-clause-room
+write_take-requires-clause-room g c κs within = λ r waits.
+    let b = c.self.inside.ground in
+    one_ready g.R.Resource b (take_request r) (let_in_free g.R.Resource b (take_request r) c.self.invariant.0 c.promise.ensures.register refl waits refl refl) _
+    refl
+
+called : (g : given.Over) (c : In_ok-handed g) → IsLetIn g.R.Resource c.self.inside.ground (take_request c.in_ok-handed.handed.0)
+called g c =
+    let b = c.self.inside.ground in
+    let waits = listed_waits g.R.Resource b.register.history b.tree c.self.invariant.0.tied.of_tree c.promise.ensures.tree.resources_apart c.in_ok-handed.handed
+    c.in_ok-handed.ensures.waited in
+    let_in_free g.R.Resource b _ c.self.invariant.0 c.promise.ensures.register refl waits refl refl
+
+pub settle-requires-clause-paid : goal.settle-requires-clause-paid
+settle-requires-clause-paid g c κs within =
+    let l = called g (goal.at.settle-requires-clause-paid g c).In_ok-handed in
+    pays g.R.Resource c.self.inside.ground _ l c.write_take.new.self.register c.in_ok-handed.ensures.written
+
+pub settle-requires-clause-unjoined : goal.settle-requires-clause-unjoined
+settle-requires-clause-unjoined g c κs within =
+    let l = called g (goal.at.settle-requires-clause-unjoined g c).In_ok-handed in
+    unjoins g.R.Resource c.self.inside.ground _ l c.write_take.new.self.register c.in_ok-handed.ensures.written refl
 
 pub returns : goal.returns
 returns g c =
-    let held = c.in_ok-held.held in
-    rw (c.new.ensures, ← c.self.view_is) (record { cases = last_listed g.R.Resource c.self.inside.stock.waiting c.take.new.self.waiting held.number held.resource c.in_ok-held.ensures.some; accepted = accepts_shown g.R.Resource c.self.inside.register c.take-2.new.self c.self.inside.stock c.take.new.self _ (take_request held.number) c.take-2.ensures.accepted c.take-2.ensures.accepted.no_cause (frame_same c.self.inside.stock.tree c.take.new.self.tree _ (ap (λ (t : Tree g.row.R.Denot). t.entries) c.in_ok-held.ensures.tree)); kept = tt })
-
-pub returns-in_err-held : goal.returns-in_err-held
-returns-in_err-held g c = rw (c.from_residual.ensures, ← c.self.view_is) (record { cases = ap (map (label_in g.R.Resource)) c.in_err-held.ensures.none; accepted = tt; kept = ap (λ (s : Stock g.row.R.Denot). state_of g.R.Resource c.self.inside.register s) c.in_err-held.ensures.kept })
+    let R = g.R.Resource in
+    let b = c.self.inside.ground in
+    let mid = c.write_take.new.self in
+    let new = c.settle.new.self in
+    let t = c.in_ok-handed.ensures in
+    let s = c.settle.ensures in
+    let r = c.in_ok-handed.handed.0 in
+    let l = called g (goal.at.returns g c).In_ok-handed in
+    let ready = one_ready R b _ l (Take r) refl in
+    let rest = rests R b.register mid (Take r) l.may.lawful l.may.settled l.standing.unjoined ready t.written refl refl (λ n. refl) in
+    let grown = unforced rest.1 s.forced ∙ t.written.history in
+    rw (← c.self.view_is) (record {
+      cases = t.waited.listed;
+      accepted = accepts R b _ l mid new t.written (keeps_held b.tree mid.tree (length b.register.history) t.nodes t.kept) s.standing s.forced s.nodes
+          s.resources s.limit s.given;
+      kept = tt;
+      fewer = fewer_wait R b new r l.standing.tied.of_tree s.standing.tied.of_tree c.promise.ensures.tree.resources_apart c.promise-2.ensures.tree.resources_apart
+          l.may.lawful ready.next grown;
+    })

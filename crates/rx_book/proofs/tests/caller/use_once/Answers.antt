@@ -58,7 +58,7 @@ closing_accepted s k why has alive root e = shape (is_open s.history k.number) (
     shape true false why alive root e = absurd (false≢true root)
     shape false b why alive root e = absurd (false≢true alive)
 
--- src/tests/caller.rt:30:19
+-- src/tests/caller.rt:24:19
 pub unreachable-requires : goal.unreachable-requires
 unreachable-requires g c =
     let given = c.in_ok-opened.ensures in

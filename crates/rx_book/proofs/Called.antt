@@ -1,0 +1,204 @@
+-- A call, from where nothing stands against it: its events may be written, what they force is paid for, and it is accepted.
+use Rattle.std.proofs.Common.{◌≡◌, ℕ, ◌+◌, ◌≤◌, Bool, true, false, List, [], ◌∷◌, ◌++◌, length, None, refl, sym, ap, subst, ◌∙◌, arith}
+use Rattle.std.proofs.Common.{length-append, append_assoc, append-nil}
+use Rattle.std.specs.List.{list_all, list_any}
+use Rattle.std.proofs.lemmas.Bool.{and_parts, and_from}
+use Rattle.rx_resource.specs.declared.Resource.{Ghosts}
+use Rattle.rx_event.specs.declared.mail.Mail.{Mail}
+use Rattle.rx_event.specs.declared.event.Event.{Event}
+use Rattle.rx_event.specs.Moments.{is_firing_of, stops_of}
+use Rattle.rx_event.specs.Notes.{notes, mail_of}
+use Rattle.rx_event.specs.Totals.{debt}
+use Rattle.rx_event.specs.Calls.{Call, outside_of}
+use Rattle.rx_event.specs.Forced.{IsSettled}
+use Rattle.rx_event.specs.Lawful.{MayFollow, IsLawful, IsForcedOn, stays, more, forced}
+use Rattle.rx_event.specs.declared.refusal.Refusal.TheVariants.{Full}
+use Rattle.rx_event.specs.Refusals.{first_cause}
+use Rattle.rx_event.proofs.Laws.Counts.{notes-push}
+use Rattle.rx_event.proofs.Laws.Lawful.{IsLawful-push}
+use Rattle.rx_register.specs.State.{State as Register, IsPromised, Writes}
+use Rattle.rx_register.specs.Causes.{causes, added_by, by_key_of, is_over}
+use Rattle.rx_register.specs.Paid.{IsPaid, HasRoomFor, Fits, notes_added}
+use Rattle.rx_register.specs.Claims.{MayCall, MayFollowInTurn, IsReady as IsReadyFor}
+use Rattle.rx_register.proofs.Laws.NoCause.{no_cause}
+use Rattle.rx_register.proofs.Laws.Paid.{call_room, call_mail_room, paid_room, within_limit}
+use Rattle.rx_register.proofs.Laws.Calls.{call_follows, call_fits, called_paid}
+use Rattle.rx_ground.specs.declared.base.Wanted.{Wanted}
+use Rattle.rx_ground.specs.Shown.{Ground}
+use Rattle.rx_ground.specs.Ties.{IsStanding, IsRoomier, HasRoomBeside, IsReady, KeepsNodes, joins_no_hub}
+use Rattle.rx_ground.proofs.Laws.Unjoined.{unjoined-push}
+use Rattle.rx_ground.proofs.Laws.KeysKept.{KeepsKeys, keeps_on, keeps_closed}
+use Rattle.rx_ground.proofs.Laws.Unforced.{ends_or_declines, settled_on}
+use Rattle.rx_book.specs.State.{State}
+use Rattle.rx_book.specs.Requests.{Request, stands}
+use Rattle.rx_book.specs.Answers.{Accepts}
+use Rattle.rx_book.specs.Shown.{tree_key_of, tree_res_key_of, state_of}
+use Rattle.rx_book.proofs.ShownKeys.{key_finds, finding_key, res_key_finds, finding_res_key}
+use Rattle.rx_book.proofs.CausesByKey.{unstood}
+
+-- histories ---------------------------------------------------------------------------------------
+
+lawful_in_turn : (h es : List Event) → IsLawful h → MayFollowInTurn h es → IsLawful (h ++ es)
+lawful_in_turn h [] law next = subst IsLawful (sym (append-nil h)) law
+lawful_in_turn h (e ∷ es) law next = subst IsLawful (append_assoc h (e ∷ []) es) (lawful_in_turn (h ++ e ∷ []) es (IsLawful-push h e law next.0) next.1)
+
+lawful_forced : {h k : List Event} → IsLawful h → IsForcedOn h k → IsLawful k
+lawful_forced law stays = law
+lawful_forced law (more {k = k} {e = e} on f) = IsLawful-push k e (lawful_forced law on) (forced f)
+
+-- where nobody joined a hub, nobody does by events that join none
+pub unjoined_on : {s t : Register} {es : List Event} → list_all joins_no_hub s.history ≡ true → Writes s es t → list_all joins_no_hub es ≡ true →
+    list_all joins_no_hub t.history ≡ true
+unjoined_on {s = s} {t = t} {es = es} unjoined w plain = ap (list_all joins_no_hub) w.history ∙ in_turn s.history es unjoined plain where
+  in_turn : (h es : List Event) → list_all joins_no_hub h ≡ true → list_all joins_no_hub es ≡ true → list_all joins_no_hub (h ++ es) ≡ true
+  in_turn [] es first then = then
+  in_turn (x ∷ h) es first then =
+      let parts = and_parts (joins_no_hub x) (list_all joins_no_hub h) first in
+      and_from (joins_no_hub x) (list_all joins_no_hub (h ++ es)) parts.0 (in_turn h es parts.1 then)
+
+-- after an event that ends no node, declines nothing and fires none nothing is left undone
+pub rests : {T : Type 0} (g : Ghosts T) (old : Register) (mid : Ground T) (e : Event) → IsLawful old.history → IsSettled old.history → list_all joins_no_hub old.history ≡ true → IsReady old e →
+    Writes old (e ∷ []) mid.register → joins_no_hub e ≡ true → ends_or_declines e ≡ false →
+    ((n : ℕ) → list_any (is_firing_of n) (stops_of old.history e) ≡ false) → IsLawful mid.register.history × IsSettled mid.register.history
+rests g old mid e law settled unjoined ready w plain calm unfired =
+    subst (λ (k : List Event). IsLawful k × IsSettled k) (sym w.history)
+    (IsLawful-push old.history e law ready.next, settled_on old.history e law ready.next calm unfired (unjoined-push old.history e unjoined plain) settled)
+
+-- calls -------------------------------------------------------------------------------------------
+
+-- what a call was counted to add is within the limit, where nothing stands against it
+pub within_full : (call : Call) (known fresh : Bool) (h : List Event) (limit : ℕ) → causes h limit fresh call Full ≡ is_over h limit (added_by h call) →
+    first_cause (by_key_of call known (causes h limit fresh call)) ≡ None → length h + debt h + added_by h call ≤ limit
+within_full call known fresh h limit counted none =
+    let over = no_cause (causes h limit fresh call) (unstood call known (causes h limit fresh call) none).1 Full in
+    let within = within_limit h limit (added_by h call) (sym counted ∙ over) in
+    omega arith
+
+-- nothing stands against what is asked, and there is room for it
+pub record IsLetIn {T : Type 0} (g : Ghosts T) (b : Ground T) (asked : Request) : Type 0 where
+  pub standing : IsStanding g b
+  pub none : first_cause (stands (state_of g b) asked) ≡ None
+  pub may : MayCall b.register.history b.register.limit asked.is_fresh asked.call
+  pub has : HasRoomFor b.register asked.call
+
+module _ {T : Type 0} (g : Ghosts T) (b : Ground T) (asked : Request) where
+  abbrev h : List Event
+  h = b.register.history
+
+  abbrev outside : List Event
+  outside = outside_of b.register.history asked.call
+
+  let_in : IsStanding g b → IsPromised b.register → first_cause (stands (state_of g b) asked) ≡ None → IsReadyFor h asked.call →
+      HasRoomFor b.register asked.call → IsLetIn g b asked
+  let_in standing promised none ready has = record {
+    standing = standing;
+    none = none;
+    may = record { lawful = promised.lawful; settled = standing.settled; no_cause = (unstood asked.call asked.is_known _ none).1; ready = ready };
+    has = has;
+  }
+
+  -- a call that takes no memory
+  pub let_in_free : IsStanding g b → IsPromised b.register → first_cause (stands (state_of g b) asked) ≡ None → IsReadyFor h asked.call →
+      added_by h asked.call ≡ 0 → notes_added h asked.call ≡ 0 → IsLetIn g b asked
+  let_in_free standing promised none ready added noted = let_in standing promised none ready (paid_room b.register asked.call standing.paid added noted)
+
+  module _ (l : IsLetIn g b asked) where
+    -- its key is known
+    pub known : asked.is_known ≡ true
+    known = (unstood asked.call asked.is_known _ l.none).0
+
+    follows : (es : List Event) → outside ≡ es → MayFollowInTurn h es
+    follows es writes = subst (λ (xs : List Event). MayFollowInTurn h xs) writes (call_follows h b.register.limit asked.is_fresh asked.call l.may)
+
+    fits : (es : List Event) → outside ≡ es → Fits h (h ++ es) (added_by h asked.call) (notes_added h asked.call)
+    fits es writes = subst (λ (xs : List Event). Fits h (h ++ xs) (added_by h asked.call) (notes_added h asked.call)) writes
+        (call_fits h b.register.limit asked.is_fresh asked.call l.may)
+
+    room : (es : List Event) → outside ≡ es → length es ≤ b.register.room
+    room es writes = call_room b.register asked.call es l.has (fits es writes)
+
+    -- its only event may be written
+    pub one_ready : (e : Event) → outside ≡ e ∷ [] → IsReady b.register e
+    one_ready e writes =
+        let m = call_mail_room b.register asked.call (e ∷ []) l.has (fits (e ∷ []) writes) in
+        let n = ap (length {A = Mail}) (notes-push h e) in
+        record {
+          next = (follows (e ∷ []) writes).0;
+          room = let r = room (e ∷ []) writes in omega arith;
+          notes = omega (arith, length-append (notes h) (mail_of h e));
+          pending = l.standing.paid.pending;
+        }
+
+    -- and so may the first of two that tell nothing, and the second after it
+    pub first_ready : (e f : Event) → outside ≡ e ∷ f ∷ [] → mail_of h e ≡ [] → IsReady b.register e
+    first_ready e f writes silent = record {
+      next = (follows (e ∷ f ∷ []) writes).0;
+      room = let r = room (e ∷ f ∷ []) writes in omega arith;
+      notes = let n = ap (length {A = Mail}) silent in omega arith;
+      pending = l.standing.paid.pending;
+    }
+
+    pub second_ready : (e f : Event) (mid : Register) → outside ≡ e ∷ f ∷ [] → Writes b.register (e ∷ []) mid →
+        mail_of mid.history f ≡ [] → IsReady mid f
+    second_ready e f mid writes w silent = record {
+      next = subst (λ (k : List Event). MayFollow k f) (sym w.history) (follows (e ∷ f ∷ []) writes).1.0;
+      room = let r = room (e ∷ f ∷ []) writes in let left = w.room in omega arith;
+      notes = let n = ap (length {A = Mail}) silent in omega arith;
+      pending = w.pending;
+    }
+
+    -- after its events what they force is paid for
+    pub pays : (new : Register) → Writes b.register outside new → IsPaid new
+    pays new w = called_paid b.register new b.register.limit asked.is_fresh asked.call l.may l.has w
+
+    -- and still nobody joined a hub
+    pub unjoins : (new : Register) → Writes b.register outside new → list_all joins_no_hub outside ≡ true → list_all joins_no_hub new.history ≡ true
+    unjoins new w plain = unjoined_on l.standing.unjoined w plain
+
+    -- and after what they force it is accepted
+    pub accepts : (mid new : Ground T) → Writes b.register outside mid.register → KeepsKeys b.tree mid.tree (length h) →
+        IsStanding g new → IsForcedOn mid.register.history new.register.history → KeepsNodes new.register.history mid.tree.nodes new.tree.nodes →
+        new.tree.resources ≡ mid.tree.resources → new.register.limit ≡ mid.register.limit → new.register.given ≡ mid.register.given →
+        Accepts (state_of g b) asked (state_of g new)
+    accepts mid new w kept standing on nodes resources limit given = record {
+      no_cause = l.none;
+      step = record { forced = goes_on; lawful = lawful; settled = standing.settled };
+      limit = limit ∙ w.limit;
+      given = given ∙ w.given;
+      keys = λ k c older. finding_key b.tree k (all.nodes (tree_key_of k) (key_finds new.tree k c) older);
+      res_keys = λ k c older. finding_res_key b.tree k (all.held (tree_res_key_of k) (res_key_finds new.tree k c) older);
+    }
+      where
+        goes_on : IsForcedOn (h ++ outside) new.register.history
+        goes_on = subst (λ (k : List Event). IsForcedOn k new.register.history) w.history on
+
+        lawful : IsLawful new.register.history
+        lawful = lawful_forced (lawful_in_turn h outside l.may.lawful (follows outside refl)) goes_on
+
+        all : KeepsKeys b.tree new.tree (length h)
+        all = keeps_on b.tree mid.tree new.tree (length h) (length h) (omega arith) kept
+            (keeps_closed new.register.history mid.tree new.tree (length h) nodes resources)
+
+-- room --------------------------------------------------------------------------------------------
+
+-- with more room it is the same state
+pub state_roomier : {T : Type 0} (g : Ghosts T) (old new : Ground T) → IsRoomier old new → state_of g new ≡ state_of g old
+state_roomier g old new r = λ i. state_of g (record {
+  register = r.register i;
+  tree = record { nodes = r.nodes i; resources = r.resources i; chain = old.tree.chain };
+  hubs = r.hubs i;
+  space = old.space;
+})
+
+-- a call for which room was gotten, after nothing stood against it
+pub let_in_roomy : {T : Type 0} (g : Ghosts T) (old b : Ground T) (asked : State → Request) (wanted : Wanted) →
+    IsRoomier old b → IsStanding g b → IsPromised b.register →
+    first_cause (stands (state_of g old) (asked (state_of g old))) ≡ None → IsReadyFor b.register.history (asked (state_of g b)).call → HasRoomBeside b wanted →
+    added_by b.register.history (asked (state_of g b)).call ≤ wanted.events → notes_added b.register.history (asked (state_of g b)).call ≤ wanted.notes →
+    IsLetIn g b (asked (state_of g b))
+let_in_roomy g old b asked wanted roomier standing promised none ready has events notes =
+    let none_now = subst (λ (s : State). first_cause (stands s (asked s)) ≡ None) (sym (state_roomier g old b roomier)) none in
+    let_in g b (asked (state_of g b)) standing promised none_now ready (record {
+      events = let e = has.events in omega arith;
+      notes = let n = has.notes in omega arith;
+    })

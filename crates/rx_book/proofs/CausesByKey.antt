@@ -1,0 +1,61 @@
+-- Which cause stands first against a call, by the keys that callers have.
+use Rattle.std.proofs.Common.{◌≡◌, Bool, true, false, Option, Some, None, is_some, refl, sym, ap, ◌∙◌, inl, inr, ◌⊎◌, true≢false}
+use Rattle.rx_event.specs.declared.refusal.Refusal.{Refusal}
+use Rattle.rx_event.specs.declared.refusal.Refusal.TheVariants.{NoMemory, Gone, NotHeld}
+use Rattle.rx_event.specs.Calls.{Call, Applying, Removing}
+use Rattle.rx_event.specs.Refusals.{first_cause, IsRefusal}
+use Rattle.rx_slots.specs.Slots.{find}
+use Rattle.rx_tree.specs.Tree.{Tree}
+use Rattle.rx_tree.specs.Resources.{is_held_at}
+use Rattle.rx_register.specs.Causes.{by_key, by_res_key, by_key_of}
+use Rattle.rx_register.proofs.Laws.NoCause.{no_cause}
+use Rattle.rx_ground.specs.Ties.{is_there}
+use Rattle.rx_book.specs.declared.key.Key.{Key}
+use Rattle.rx_book.specs.declared.key.ResKey.{ResKey}
+use Rattle.rx_book.specs.declared.answer.At.{At}
+use Rattle.rx_book.specs.State.{has_key, has_res_key}
+use Rattle.rx_book.specs.Places.{key_above}
+use Rattle.rx_book.specs.Requests.{is_known_place}
+use Rattle.rx_book.specs.Shown.{keys_of, res_keys_of, tree_key_of, tree_res_key_of}
+use Rattle.rx_book.proofs.ShownKeys.{has_key_is, is_known_place_is, has_res_key_is}
+
+module _ {T : Type 0} (tree : Tree T) (stand : Refusal → Bool) (why : Option Refusal) where
+  -- what stands first by the tree's key stands first by the caller's
+  pub first_by_key : (k : Key) → why ≡ first_cause (by_key (is_some (find tree.nodes (tree_key_of k))) stand) →
+      first_cause (by_key (has_key (keys_of tree) k) stand) ≡ why
+  first_by_key k first = ap (λ b. first_cause (by_key b stand)) (has_key_is tree k) ∙ sym first
+
+  pub first_by_res_key : (k : ResKey) → why ≡ first_cause (by_res_key (is_held_at tree (tree_res_key_of k)) stand) →
+      first_cause (by_res_key (has_res_key (res_keys_of tree) k) stand) ≡ why
+  first_by_res_key k first = ap (λ b. first_cause (by_res_key b stand)) (has_res_key_is tree k) ∙ sym first
+
+  pub first_by_place : (at : At) → why ≡ first_cause (by_key (is_there tree.nodes (key_above at)) stand) →
+      first_cause (by_key (is_known_place (keys_of tree) at) stand) ≡ why
+  first_by_place at first = ap (λ b. first_cause (by_key b stand)) (is_known_place_is tree at) ∙ sym first
+
+-- what a call is refused for that gets room for itself
+pub refused_for : (stand : Refusal → Bool) (cause : Option Refusal) (why : Refusal) → first_cause stand ≡ cause →
+    (cause ≡ Some why) ⊎ ((cause ≡ None) × (why ≡ NoMemory)) → IsRefusal stand why
+refused_for stand cause why first (inl some) = inl (first ∙ some)
+refused_for stand cause why first (inr (none, want)) = inr (first ∙ none, want)
+
+-- where nothing stands the key is known, and nothing stands against the call by numbers
+by_known_key : (known : Bool) (stand : Refusal → Bool) → first_cause (by_key known stand) ≡ None → (known ≡ true) × (first_cause stand ≡ None)
+by_known_key true stand none = (refl, none)
+by_known_key false stand none = absurd (true≢false (no_cause (by_key false stand) none Gone))
+
+by_known_res_key : (known : Bool) (stand : Refusal → Bool) → first_cause (by_res_key known stand) ≡ None → (known ≡ true) × (first_cause stand ≡ None)
+by_known_res_key true stand none = (refl, none)
+by_known_res_key false stand none = absurd (true≢false (no_cause (by_res_key false stand) none NotHeld))
+
+by_which : (call : Call) → (by_key_of call ≡ by_key) ⊎ (by_key_of call ≡ by_res_key)
+by_which (Applying r) = inr refl
+by_which (Removing r) = inr refl
+by_which _ = inl refl
+
+pub unstood : (call : Call) (known : Bool) (stand : Refusal → Bool) → first_cause (by_key_of call known stand) ≡ None →
+    (known ≡ true) × (first_cause stand ≡ None)
+unstood call known stand none = by_way (by_which call) where
+  by_way : (by_key_of call ≡ by_key) ⊎ (by_key_of call ≡ by_res_key) → (known ≡ true) × (first_cause stand ≡ None)
+  by_way (inl is) = by_known_key known stand (ap (λ by. first_cause (by known stand)) (sym is) ∙ none)
+  by_way (inr is) = by_known_res_key known stand (ap (λ by. first_cause (by known stand)) (sym is) ∙ none)

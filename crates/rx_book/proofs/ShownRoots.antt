@@ -1,0 +1,88 @@
+-- The open root of least number.
+use Rattle.std.proofs.Common.{◌≡◌, ℕ, zero, suc, ◌+◌, ◌<◌, ◌≤◌, Bool, true, false, List, [], ◌∷◌, length, Option, Some, None, cond, IsSome, option_map, refl, sym, ap, ◌∙◌, arith, inl, inr, ◌⊎◌}
+use Rattle.std.specs.Prelude.{IsTrue, IfSome}
+use Rattle.std.specs.List.{find, range_with_len}
+use Rattle.std.specs.Option.{option_map_or}
+use Rattle.std.proofs.lemmas.Bool.{cases_order, and_parts, and_from, false_from_ne_true, false≢true}
+use Rattle.rx_resource.specs.declared.Resource.{Ghosts}
+use Rattle.rx_event.specs.declared.event.Event.{Event}
+use Rattle.rx_event.specs.Events.{is_root}
+use Rattle.rx_event.specs.Tree.{at, is_open, places}
+use Rattle.rx_event.proofs.Laws.Openness.{is_open_within}
+use Rattle.rx_slots.specs.declared.Key.{Key as TreeKey}
+use Rattle.rx_slots.specs.Slots.{find as find_in}
+use Rattle.rx_tree.specs.declared.node.Node.{Node}
+use Rattle.rx_tree.specs.Tree.{Tree, IsRoot, IsFirst, HasNone}
+use Rattle.rx_ground.specs.Ties.{IsTied}
+use Rattle.rx_book.specs.State.{has_key}
+use Rattle.rx_book.specs.Answers.{is_open_root}
+use Rattle.rx_book.specs.Shown.{key_shown, keys_of}
+use Rattle.rx_book.proofs.ShownKeys.{has_key_is}
+
+-- searches of a range -----------------------------------------------------------------------------
+
+find_nothing : (p : ℕ → Bool) → ((n : ℕ) → p n ≡ false) → (ns : List ℕ) → find p ns ≡ None
+find_nothing p none [] = refl
+find_nothing p none (n ∷ ns) = ap (λ b. cond b (Some n) (find p ns)) (none n) ∙ find_nothing p none ns
+
+-- the first number that passes is found
+find_first : (p : ℕ → Bool) (first count n : ℕ) → first ≤ n → n < first + count → p n ≡ true → ((k : ℕ) → k < n → p k ≡ false) →
+    find p (range_with_len first count) ≡ Some n
+find_first p first zero n from below passes before = absurd (omega arith)
+find_first p first (suc count) n from below passes before =
+    by_place (λ (l : first < n). find_first p (first + 1) count n (omega arith) (omega arith) passes before) (cases_order first n)
+  where
+    rest : Option ℕ
+    rest = find p (range_with_len (first + 1) count)
+
+    by_place : (first < n → rest ≡ Some n) → (first ≡ n) ⊎ ((first < n) ⊎ (n < first)) → cond (p first) (Some first) rest ≡ Some n
+    by_place later (inl same) = ap (λ b. cond b (Some first) rest) (ap p same ∙ passes) ∙ ap (λ k. Some k) same
+    by_place later (inr (inl l)) = ap (λ b. cond b (Some first) rest) (before first l) ∙ later l
+    by_place later (inr (inr g)) = absurd (omega arith)
+
+-- roots -------------------------------------------------------------------------------------------
+
+-- what is said of a root's record
+abbrev IsRootRecord : Option Node → Type 0
+IsRootRecord o = IfSome (option_map (λ node. is_root node.made) o) IsTrue × IsSome o
+
+module _ {T : Type 0} (g : Ghosts T) (h : List Event) (tree : Tree T) (tied : IsTied g h tree) where
+  -- a root's record is that of an open root
+  key_root : (key : TreeKey) → IsRoot tree.nodes key → is_open_root h key.number ≡ true
+  key_root key root = by_record (find_in tree.nodes key) refl root where
+    by_record : (o : Option Node) → find_in tree.nodes key ≡ o → IsRootRecord o → is_open_root h key.number ≡ true
+    by_record None found r = absurd (false≢true r.1)
+    by_record (Some node) found r =
+        let is = tied.records.each key node found in
+        and_from (is_open h key.number) (at is_root h key.number) is.alive (ap (λ o. option_map_or is_root o false) is.made ∙ r.0)
+
+  -- and an open root has a record
+  root_key : (n : ℕ) → is_open_root h n ≡ true → (key : TreeKey) × (key.number ≡ n) × IsRoot tree.nodes key
+  root_key n root =
+      let parts = and_parts (is_open h n) (at is_root h n) root in
+      let has = tied.records.every n parts.0 in
+      let made = (tied.records.each has.key has.value has.found).made in
+      let is_so : is_root has.value.made ≡ true = sym (ap (λ o. option_map_or is_root o false) made) ∙ ap (at is_root h) has.numbered ∙ parts.1 in
+      (has.key, has.numbered, rw has.found (is_so, refl))
+
+  -- where the tree has none, none is open
+  pub open_root_none : HasNone (IsRoot tree.nodes) 0 → find (is_open_root h) (places h) ≡ None
+  open_root_none none = find_nothing (is_open_root h) (λ n. false_from_ne_true (is_open_root h n) (no_root n)) (places h) where
+    no_root : (n : ℕ) → is_open_root h n ≡ true → ⊥
+    no_root n root = let k = root_key n root in let l = none k.0 k.2 in absurd (omega arith)
+
+  -- and the first that it has is the first open one
+  pub open_root_some : (key : TreeKey) → IsFirst (IsRoot tree.nodes) 0 key → find (is_open_root h) (places h) ≡ Some key.number
+  open_root_some key first =
+      let within = is_open_within h key.number (and_parts (is_open h key.number) (at is_root h key.number) is_so).0 in
+      find_first (is_open_root h) 0 (length h) key.number (omega arith) (omega arith) is_so (λ n less. false_from_ne_true (is_open_root h n) (not_less n less))
+    where
+      is_so : is_open_root h key.number ≡ true
+      is_so = key_root key first.one
+
+      not_less : (n : ℕ) → n < key.number → is_open_root h n ≡ true → ⊥
+      not_less n less root = let k = root_key n root in let above = first.least k.0 k.2 (omega arith) in let e = k.1 in absurd (omega arith)
+
+-- its key is known
+pub root_listed : {T : Type 0} (tree : Tree T) (key : TreeKey) → IsFirst (IsRoot tree.nodes) 0 key → has_key (keys_of tree) (key_shown key) ≡ true
+root_listed tree key first = has_key_is tree (key_shown key) ∙ first.one.1

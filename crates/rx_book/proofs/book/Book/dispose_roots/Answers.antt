@@ -1,0 +1,19 @@
+use Rattle.std.proofs.Common.{◌∙◌, arith}
+use Rattle.rx_book.proofs.Closings.{disposed_taken, disposed_accepted, root_found, root_missing, disposable, less_room}
+use Rattle.rx_book.proofs.book.Book.dispose_roots.Goals as goal
+
+pub loop-root-smaller : goal.loop-root-smaller
+loop-root-smaller g c = less_room c.loop-root.self c.dispose.new.self _ c.in-Ok.ensures.accepted c.promise-in-Ok.ensures (omega arith)
+
+pub loop-root-preserved : goal.loop-root-preserved
+loop-root-preserved g c = record {
+  kept = c.promise-in-Ok.ensures;
+  accepted = disposed_accepted _ _ _ c.in-Ok.ensures.accepted.step ∙ c.loop-root.invariant.accepted;
+  taken = disposed_taken _ _ _ c.in-Ok.ensures.accepted.step ∙ c.loop-root.invariant.taken;
+}
+
+pub unreachable-requires : goal.unreachable-requires
+unreachable-requires g c = disposable c.loop-root.self c.in-Some.root c.in-Err.field-0 c.in-Some.ensures.key (root_found c.loop-root.self.history c.in-Some.root.number c.in-Some.ensures.least) c.in-Err.ensures.refused
+
+pub returns-clause-none_open : goal.returns-clause-none_open
+returns-clause-none_open g c = root_missing c.loop-root.self.history c.in_default.ensures.least

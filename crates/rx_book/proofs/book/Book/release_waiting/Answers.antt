@@ -1,0 +1,33 @@
+use Rattle.std.proofs.Common.{sym, subst, arith}
+use Rattle.rx_book.specs.Drains.{Drains, none_taken, next_taken}
+use Rattle.rx_book.proofs.Laws.Going.{accepted_continues, continues_none, continues_more}
+use Rattle.rx_book.proofs.Closings.{taken_one, less_room, none_waits}
+use Rattle.rx_book.proofs.book.Book.release_waiting.Goals as goal
+use Rattle.rx_book.proofs.book.Book.release_waiting.Goals.{then-is_some, else-is_some}
+
+pub loop-handed-init : goal.loop-handed-init
+loop-handed-init g c = record {
+  kept = c.promise.ensures;
+  takes = none_taken;
+  continues = continues_none c.args.self.now;
+  faults = omega arith;
+}
+
+pub loop-handed-smaller : goal.loop-handed-smaller
+loop-handed-smaller g c = less_room c.loop-handed.self c.take.new.self _ c.in-Some.ensures.accepted c.promise-in-Some.ensures (omega arith)
+
+pub loop-handed-preserved : goal.loop-handed-preserved
+loop-handed-preserved g c =
+    let one = taken_one c.loop-handed.self.history c.take.new.self.history _ c.in-Some.ensures.accepted.step in
+    let faults = c.loop-handed.invariant.faults in
+    record {
+      kept = c.promise-in-Some.ensures;
+      takes = next_taken c.loop-handed.invariant.takes c.in-Some.ensures.accepted.step;
+      continues = continues_more c.args.self.now c.loop-handed.self c.take.new.self c.loop-handed.invariant.continues (accepted_continues c.loop-handed.self c.take.new.self _ c.in-Some.ensures.accepted);
+      faults = elim c.if-is_some.branch [ then-is_some w ↦ omega arith | else-is_some w ↦ omega arith ];
+    }
+
+pub returns-clause-drains : goal.returns-clause-drains
+returns-clause-drains g c =
+    let same = c.in_default.ensures.kept in
+    subst (λ b. Drains c.args.self.now.history b.history) (sym same) (record { takes = c.loop-handed.invariant.takes; none_waits = none_waits c.loop-handed.self c.loop-handed.invariant.kept c.in_default.ensures.cases })

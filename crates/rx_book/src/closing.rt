@@ -1,0 +1,89 @@
+//! Ending a book: all that is open is unsubscribed, and all that waits is released.
+
+ghost use Rattle.std.specs.Prelude.{◌≡◌, ◌+◌, ◌≤◌, ℕ, [], false};
+ghost use Rattle.rx_event.specs.Totals.{accepted_count, taken_count, held_count, waiting_count};
+ghost use Rattle.rx_book.specs.Answers.{is_open_root};
+ghost use Rattle.rx_book.specs.Drains.{Drains};
+ghost use Rattle.rx_book.specs.State.{Continues};
+
+use crate::Book;
+use rx_resource::Resource;
+
+/// What a closing did.
+#[derive(Clone, Copy, Debug, PartialEq, Eq)]
+pub struct Closed {
+    /// How many resources were released.
+    pub released: u64,
+    /// How many of those releases answered a fault, as far as a `u64` counts.
+    pub faults: u64,
+}
+
+impl<R: Resource> Book<R> {
+    /// Takes and releases all that waits, one resource after another. It takes no memory. The releases
+    /// run inside this call, and so inside whatever lock the owner of the book holds.
+    pub fn release_waiting(&mut self) -> Closed
+        ensures drains { Drains self.old.history self.new.history }
+        ensures none_waits { self.new.waiting ≡ [] }
+        ensures released { taken_count self.new.history ≡ taken_count self.old.history + result.released }
+        ensures faults { result.faults ≤ result.released }
+        ensures continues { Continues self.old self.new }
+    {
+        self.promise();
+        let before = self.taken();
+        let mut faults = 0u64;
+        while let Some(handed) = self.take() {
+            self.promise();
+            let released = handed.release();
+            if released.fault.is_some() {
+                faults = faults.saturating_add(1);
+            }
+        }
+        Closed {
+            released: self.taken() - before,
+            faults,
+        }
+    }
+
+    /// Unsubscribes all open roots. It takes no memory.
+    fn dispose_roots(&mut self)
+        ensures none_open { (n : ℕ) → is_open_root self.new.history n ≡ false }
+        ensures accepted { accepted_count self.new.history ≡ accepted_count self.old.history }
+        ensures taken { taken_count self.new.history ≡ taken_count self.old.history }
+    {
+        self.promise();
+        while let Some(root) = self.open_root() {
+            match self.dispose(root) {
+                Ok(_) => self.promise(),
+                Err(_) => unreachable!(),
+            }
+        }
+    }
+
+    /// Unsubscribes all open roots, and takes and releases all that waits then: nothing is open, held or
+    /// waiting afterwards. It takes no memory. The notes that were not handed out yet still are.
+    pub fn close(&mut self) -> Closed
+        ensures none_open { self.new.keys ≡ [] }
+        ensures none_held { self.new.held ≡ [] }
+        ensures none_waits { self.new.waiting ≡ [] }
+        ensures taken { taken_count self.new.history ≡ taken_count self.old.history + result.released }
+        ensures accepted { accepted_count self.new.history ≡ accepted_count self.old.history }
+        ensures released { result.released ≡ held_count self.old.history + waiting_count self.old.history }
+        ensures faults { result.faults ≤ result.released }
+    {
+        self.promise();
+        self.dispose_roots();
+        let closed = self.release_waiting();
+        self.promise();
+        closed
+    }
+
+    /// Ends the book: as [`Book::close`], and the book is gone. Each resource that it held or that waited
+    /// was released. It takes no memory.
+    pub fn finish(self) -> Closed
+        ensures released { result.released ≡ held_count self.history + waiting_count self.history }
+        ensures faults { result.faults ≤ result.released }
+    {
+        let mut book = self;
+        book.close()
+    }
+}
