@@ -1,8 +1,9 @@
--- Where the seats have all parts and there is no receipt, the verdict is Ok.
-use Rattle.std.proofs.Common.{◌≡◌, Result, Ok, Err, Some, None, List, [], refl, sym, ap, ◌∙◌, arith}
-use Rattle.std.specs.Prelude.{IsOk}
+-- What follows from a verdict: with all parts and no receipt it is Ok, and an Ok has the book's totals.
+use Rattle.std.proofs.Common.{◌≡◌, ◌+◌, ℕ, Result, Ok, Err, Some, None, List, [], refl, sym, ap, ◌∙◌, arith}
+use Rattle.std.specs.Prelude.{IsOk, IfOk}
 use Rattle.std.proofs.lemmas.Option.{slice_get_past}
 use Rattle.rx_event.specs.declared.event.Event.{Event}
+use Rattle.rx_event.specs.Totals.{held_count, waiting_count}
 use Rattle.rx_ledger.specs.declared.ledgers.Sums.{Sums}
 use Rattle.rx_ledger.specs.declared.receipt.Receipt.{Receipt as Slip}
 use Rattle.rx_crew.specs.declared.finishing.Totals.{Totals}
@@ -20,3 +21,8 @@ agreed h s (Err (Receipt place)) same is =
     let w = is.3 in
     let gone : None ≡ Some w.wrong = sym (slice_get_past {X = Slip} [] w.index (omega arith)) ∙ w.here in
     cc
+
+pub released_at_the_end : (h : List Event) (s : Sums) (receipts : List Slip) (verdict : Result Totals Mismatch) (released : ℕ)
+    → IsVerdict h s receipts verdict → released ≡ held_count h + waiting_count h → IfOk verdict (λ t. released ≡ t.held + t.waiting)
+released_at_the_end h s receipts (Ok totals) released is all = all ∙ ap (λ (t : Totals). t.held + t.waiting) (sym is.0)
+released_at_the_end h s receipts (Err e) released is all = tt

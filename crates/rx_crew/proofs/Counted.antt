@@ -1,10 +1,11 @@
 -- What a step adds to the totals.
-use Rattle.std.proofs.Common.{◌≡◌, ◌+◌, true, false, List, [], ◌∷◌, ◌++◌, length, refl, sym, ap, ◌∙◌, arith, append_assoc, cond}
+use Rattle.std.proofs.Common.{◌≡◌, ◌+◌, true, false, List, [], ◌∷◌, ◌++◌, length, refl, sym, ap, ◌∙◌, arith, append_assoc, cond, ℕ, map}
 use Rattle.rx_event.specs.declared.event.Event.{Event}
 use Rattle.rx_event.specs.declared.event.Event.TheVariants.{Open, Hub, Connect, Accept, Use, Remove, Item, Decline, End, Close, Take}
 use Rattle.rx_note.specs.declared.note.Terminal.TheVariants.{Error}
 use Rattle.rx_event.specs.declared.event.Kind.TheVariants.{Pass}
 use Rattle.rx_event.specs.Events.{is_item, makes_resource, is_take}
+use Rattle.rx_event.specs.Tree.{open_connections}
 use Rattle.rx_event.specs.Lawful.{stays, more, IsForcedOn}
 use Rattle.rx_event.specs.Calls.{Call, outside_of, IsStepOf}
 use Rattle.rx_event.specs.Calls.{Opening, OpeningUsing, Holding, Applying, Removing, Emitting, Ending, Aborting}
@@ -12,6 +13,7 @@ use Rattle.rx_event.specs.Calls.{Declining, Failing, Disposing, Publishing, Conn
 use Rattle.rx_event.specs.Totals.{item_count, accepted_count, taken_count}
 use Rattle.rx_event.proofs.Laws.Steps.{forced_kind, may_be_forced}
 use Rattle.rx_event.proofs.Laws.Totals.{item_count-push, accepted_count-push, taken_count-push}
+use Rattle.std.proofs.lemmas.List.{append-nil}
 use Rattle.rx_ledger.specs.declared.ledgers.Sums.{Sums}
 use Rattle.rx_crew.specs.Counting.{sums_of, counting}
 
@@ -48,6 +50,12 @@ sums-forced (more {h} {k} {e} before is_forced) = sums-push k e ∙ counts_none 
 one_more : (h : List Event) (e : Event) (s : Sums) → counts e (sums_of h) ≡ s → sums_of (h ++ e ∷ []) ≡ s
 one_more h e s counted = sums-push h e ∙ counted
 
+sums-closed : (h : List Event) (cs : List ℕ) → sums_of (h ++ map (λ c. Close c) cs) ≡ sums_of h
+sums-closed h [] = ap sums_of (append-nil h)
+sums-closed h (c ∷ cs) =
+    ap sums_of (sym (append_assoc h (Close c ∷ []) (map (λ d. Close d) cs)))
+    ∙ sums-closed (h ++ Close c ∷ []) cs ∙ one_more h (Close c) (sums_of h) (plain (Close c) (sums_of h) refl refl refl)
+
 sums-outside : (h : List Event) (call : Call) → sums_of (h ++ outside_of h call) ≡ counting call (sums_of h)
 sums-outside h (Opening place kind) = one_more h (Open place kind) (sums_of h) (plain (Open place kind) (sums_of h) refl refl refl)
 sums-outside h (OpeningUsing place tag) =
@@ -71,7 +79,7 @@ sums-outside h (Failing f code) = one_more h (End f (Error code)) (sums_of h) (p
 sums-outside h (Disposing root) = one_more h (Close root) (sums_of h) (plain (Close root) (sums_of h) refl refl refl)
 sums-outside h (Publishing mode) = one_more h (Hub mode) (sums_of h) (plain (Hub mode) (sums_of h) refl refl refl)
 sums-outside h (Connecting g) = one_more h (Connect g) (sums_of h) (plain (Connect g) (sums_of h) refl refl refl)
-sums-outside h (Disconnecting c) = one_more h (Close c) (sums_of h) (plain (Close c) (sums_of h) refl refl refl)
+sums-outside h (Disconnecting g) = sums-closed h (open_connections h g)
 sums-outside h (Taking r) =
     let more : Sums = record (sums_of h) { taken = taken_count h + 1 } in
     one_more h (Take r) more (same_sums (counts (Take r) (sums_of h)) more (omega arith) (omega arith) refl)

@@ -3,3 +3,4 @@ mod Ties
 mod Pulls
 mod Taken
 mod Agreed
+pub mod Countable

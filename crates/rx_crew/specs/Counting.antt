@@ -1,5 +1,5 @@
 -- What calls count, in all and for the seat that they are made with.
-use Rattle.std.specs.Prelude.{◌≡◌, ◌+◌, List, Result, Option, OnOk, OnErr, IfSome, IfNone}
+use Rattle.std.specs.Prelude.{◌≡◌, ◌+◌, ◌<◌, List, Result, Option, OnOk, OnErr, IfSome, IfNone}
 use Rattle.rx_event.specs.declared.event.Event.{Event}
 use Rattle.rx_event.specs.Calls.{Call, OpeningUsing, Holding, Emitting, Taking}
 use Rattle.rx_event.specs.Totals.{item_count, accepted_count, taken_count}
@@ -9,6 +9,12 @@ use Rattle.rx_ledger.specs.Shares.{Shares, sums_in}
 -- the totals of a history
 abbrev pub sums_of : List Event → Sums
 sums_of h = record { items = item_count h; accepted = accepted_count h; taken = taken_count h }
+
+-- each total is one that a thread can count
+pub record AreCountable (s : Sums) : Type 0 where
+  pub items : s.items < 18446744073709551616
+  pub accepted : s.accepted < 18446744073709551616
+  pub taken : s.taken < 18446744073709551616
 
 -- what an accepted call adds: an item counts by one, a resource that is handed in and one that is taken out, and nothing else
 abbrev pub counting : Call → Sums → Sums

@@ -7,6 +7,7 @@ ghost use Rattle.rx_crew.specs.Counting.{sums_of};
 ghost use Rattle.rx_crew.specs.Verdicts.{AllTaken, IsVerdict, FirstWrong, Stands, totals_of};
 
 use crate::desk::Desk;
+use crate::floor::Floor;
 use rx_book::Book;
 use rx_ledger::{Receipt, Seat, Sums};
 use rx_resource::Resource;
@@ -130,6 +131,30 @@ fn judge<R: Resource>(book: &Book<R>, sums: Sums, receipts: &[Receipt]) -> Resul
     compare(book, sums, receipts)
 }
 
+/// What the seats have counted together, nothing where there are none.
+fn shares_of<R: Resource, I: Ledger, A: Ledger, K: Ledger>(
+    floor: &mut Floor<R, I, A, K>,
+    seats: Vec<Seat<I, A, K>>,
+) -> Sums
+    ensures sums { result ≡ sums_in (together seats.items) }
+    ensures all { (together seats.items).parts ≡ all_parts → result ≡ sums_of floor.old.book.history }
+    ensures book { floor.new.book ≡ floor.old.book }
+{
+    let Some(mut all) = Seat::gather(seats) else {
+        return Sums {
+            items: 0,
+            accepted: 0,
+            taken: 0,
+        };
+    };
+    floor.audit(&mut all);
+    Sums {
+        items: all.items(),
+        accepted: all.accepted(),
+        taken: all.taken(),
+    }
+}
+
 /// Takes the book out of its desk, and compares what the seats have counted, and then the receipts,
 /// with it: the items first, then the accepted resources, the taken ones, and the receipts in order.
 ///
@@ -148,21 +173,7 @@ pub fn finish<R: Resource, I: Ledger, A: Ledger, K: Ledger>(
 {
     let Desk { floor, bell: _ } = desk;
     let mut floor = floor.into_inner();
-    let sums = match Seat::gather(seats) {
-        Some(mut all) => {
-            floor.audit(&mut all);
-            Sums {
-                items: all.items(),
-                accepted: all.accepted(),
-                taken: all.taken(),
-            }
-        }
-        None => Sums {
-            items: 0,
-            accepted: 0,
-            taken: 0,
-        },
-    };
+    let sums = shares_of(&mut floor, seats);
     let book = floor.into_book();
     book.promise();
     let verdict = judge(&book, sums, receipts);

@@ -3,7 +3,7 @@
 ghost use Rattle.std.specs.Prelude.{◌≡◌, true, false};
 ghost use Rattle.rx_ledger.specs.Shares.{Opens, IsWithin, all_parts, sums_in, whole};
 ghost use Rattle.rx_book.specs.State.{IsPromised};
-ghost use Rattle.rx_crew.specs.Counting.{sums_of};
+ghost use Rattle.rx_crew.specs.Counting.{sums_of, AreCountable};
 
 mod ending;
 mod holding;
@@ -16,7 +16,8 @@ use rx_resource::Resource;
 use std::sync::ledger::{Blank, Ledger};
 
 /// What lies behind a desk's lock. It has each call of the [`Book`] by the same name, which answers,
-/// refuses and does just what the book's call does; one that counts takes the caller's seat too.
+/// refuses and does just what the book's call does; one that counts takes the caller's seat too. It has
+/// no call that releases, as `close` and `finish`: a release is not to run under the lock.
 ///
 /// At each moment the totals of the ledgers are those of the book's history, beside all that a book
 /// promises. Only [`crate::Desk::new`] makes one.
@@ -80,14 +81,16 @@ impl<R: Resource, I: Ledger, A: Ledger, K: Ledger> Floor<R, I, A, K> {
     }
 
     /// Says how a seat's shares stand to the book's totals: none is above its total, and with all
-    /// parts they are the totals. It changes nothing.
+    /// parts they are the totals, of which none reaches 2^64. It changes nothing.
     pub fn audit(&mut self, seat: &mut Seat<I, A, K>)
         ensures book { self.new.book ≡ self.old.book }
         ensures shut { self.new.is_shut ≡ self.old.is_shut }
         ensures seat { seat.new ≡ seat.old }
         ensures within { IsWithin seat.old (sums_of self.old.book.history) }
         ensures all { seat.old.parts ≡ all_parts → sums_in seat.old ≡ sums_of self.old.book.history }
+        ensures countable { AreCountable (sums_of self.old.book.history) }
     {
+        self.book.promise();
         self.ledgers.audit(seat);
     }
 

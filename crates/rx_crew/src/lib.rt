@@ -7,12 +7,12 @@
 //! # Vocabulary
 //!
 //! - The [`Floor`] is what lies behind the lock: the book, the totals of the ledgers, and whether the
-//!   desk is shut. It has the book's calls by the same names.
+//!   desk is shut. It has the book's calls by the same names, but for those that release.
 //! - `Counting` of `specs/` says what a call counts, `Verdicts` what [`finish`] answers.
 //!
 //! # Promised, and not
 //!
-//! - Whenever the lock is free, the book keeps its promise (`IsKept` of `rx_book`), and the
+//! - Whenever the lock is free, the book keeps its promise (`IsPromised` of `rx_book`), and the
 //!   ledgers' totals are the numbers of items, of accepted and of taken resources in its history.
 //! - Each call of the floor answers, refuses and does just what the book's call of its name does,
 //!   leaves the shut flag, and changes the caller's seat by one count or by nothing.

@@ -4,6 +4,6 @@ mod caller;
 mod calls;
 mod day;
 mod feeds;
-mod lamps;
 mod meetings;
+mod parts;
 mod workers;

@@ -1,6 +1,6 @@
 //! A thread that releases what waits.
 
-ghost use Rattle.std.specs.Prelude.{◌≡◌, ◌+◌, ◌≤◌};
+ghost use Rattle.std.specs.Prelude.{◌≡◌, ◌⊎◌, ◌+◌, ◌≤◌};
 ghost use Rattle.rx_crew.specs.declared.working.Stop.{Stop};
 ghost use Rattle.rx_crew.specs.Counting.{CountsTaken};
 
@@ -71,7 +71,7 @@ fn release<R: Resource, G: Gate>(handed: Handed<R>, gate: &G) -> bool {
 /// of the gate and the release.
 ///
 /// It stops `Turns` after so many resources. Before that, where nothing waits, it waits for the bell,
-/// and stops `Done` once the desk is shut.
+/// and stops `Done` once the desk is shut. It is never refused.
 pub fn worker<R: Resource, I: Ledger, A: Ledger, K: Ledger, G: Gate>(
     rt: &impl Wait,
     desk: &Desk<R, I, A, K>,
@@ -82,6 +82,7 @@ pub fn worker<R: Resource, I: Ledger, A: Ledger, K: Ledger, G: Gate>(
     ensures shares { result.seat ≡ record seat { taken = seat.taken + result.released } }
     ensures most { result.released ≤ turns }
     ensures all { result.stop ≡ Stop.Turns → result.released ≡ turns }
+    ensures stop { (result.stop ≡ Stop.Done) ⊎ (result.stop ≡ Stop.Turns) }
     ensures faults { result.faults ≤ result.released }
 {
     let mut seat = seat;

@@ -1,5 +1,5 @@
--- What a thread's seat holds, and what all seats hold together. There is no public standard of this: it is bookkeeping between
--- threads.
+-- What a thread's seat holds, and what all seats hold together. There is no public standard of this:
+-- it is bookkeeping between threads.
 use Rattle.std.specs.Prelude.{◌≡◌, ℕ, ◌+◌, ◌≤◌, List, sum_by}
 use Rattle.rx_ledger.specs.declared.ledgers.Sums.{Sums}
 
@@ -32,7 +32,12 @@ new_seat = record { parts = 1; items = 0; accepted = 0; taken = 0 }
 
 -- the shares and parts of two, added up
 abbrev pub plus : Shares → Shares → Shares
-plus a b = record { parts = a.parts + b.parts; items = a.items + b.items; accepted = a.accepted + b.accepted; taken = a.taken + b.taken }
+plus a b = record {
+  parts = a.parts + b.parts;
+  items = a.items + b.items;
+  accepted = a.accepted + b.accepted;
+  taken = a.taken + b.taken;
+}
 
 -- the shares and parts of all, added up
 abbrev pub together : List Shares → Shares

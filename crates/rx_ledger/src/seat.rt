@@ -31,7 +31,12 @@ impl<I: Ledger, A: Ledger, K: Ledger> Model for Seat<I, A, K> {
 
     ghost Value = { Shares };
 
-    ghost view = { λ s. record { parts = s.parts; items = s.item_share.amount; accepted = s.accepted_share.amount; taken = s.taken_share.amount } };
+    ghost view = { λ s. record {
+      parts = s.parts;
+      items = s.item_share.amount;
+      accepted = s.accepted_share.amount;
+      taken = s.taken_share.amount;
+    } };
 
     ghost invariant = { λ s. (0 < s.parts) × (I.parts ≡ all_parts)
         × IsCount s.parts s.items s.item_share.parts s.item_share.amount

@@ -3,6 +3,7 @@
 ghost use Rattle.std.specs.Prelude.{◌≡◌};
 ghost use Rattle.rx_event.specs.Calls.{Emitting};
 ghost use Rattle.rx_book.specs.Requests.{next_request, end_request, abort_request, dispose_request};
+ghost use Rattle.rx_book.specs.Requests.{decline_request, fail_request};
 ghost use Rattle.rx_book.specs.Answers.{AnswersPlace, AnswersPlaceOrWant};
 ghost use Rattle.rx_crew.specs.Counting.{Counts};
 
@@ -39,6 +40,23 @@ impl<R: Resource, I: Ledger, A: Ledger, K: Ledger> Floor<R, I, A, K> {
         ensures shut { self.new.is_shut ≡ self.old.is_shut }
     {
         self.book.abort(node, code)
+    }
+
+    /// An item that was projected to a FlatMap or a Switch gets no inner, as [`rx_book::Book::decline`]
+    /// says.
+    pub fn decline(&mut self, merging: Key) -> Result<u64, Refusal>
+        ensures book { AnswersPlace self.old.book (decline_request self.old.book merging) self.new.book result }
+        ensures shut { self.new.is_shut ≡ self.old.is_shut }
+    {
+        self.book.decline(merging)
+    }
+
+    /// A FlatMap or a Switch ends with an error at a projected item, as [`rx_book::Book::fail`] says.
+    pub fn fail(&mut self, merging: Key, code: u32) -> Result<u64, Refusal>
+        ensures book { AnswersPlace self.old.book (fail_request self.old.book merging code) self.new.book result }
+        ensures shut { self.new.is_shut ≡ self.old.is_shut }
+    {
+        self.book.fail(merging, code)
     }
 
     /// A root is unsubscribed, as [`rx_book::Book::dispose`] says.

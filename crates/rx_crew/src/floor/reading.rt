@@ -1,11 +1,13 @@
 //! Mail, and what can be asked.
 
-ghost use Rattle.std.specs.Prelude.{◌≡◌, ◌+◌, length, slice_get, option_map, is_some, if◌then◌else◌, IfSome, IsTrue};
+ghost use Rattle.std.specs.Prelude.{◌≡◌, ◌+◌, ◌&&◌, Some, None, length, slice_get, option_map, is_some};
+ghost use Rattle.std.specs.Prelude.{if◌then◌else◌, IfSome, IsTrue};
 ghost use Rattle.std.specs.List.{find};
-ghost use Rattle.rx_event.specs.Tree.{places};
+ghost use Rattle.rx_event.specs.Events.{is_merging};
+ghost use Rattle.rx_event.specs.Tree.{at, places};
+ghost use Rattle.rx_event.specs.Moments.{owed};
 ghost use Rattle.rx_event.specs.Notes.{notes};
 ghost use Rattle.rx_event.specs.Totals.{open_count as open_count_in, held_count, waiting_count, accepted_count, taken_count, item_count};
-ghost use Rattle.rx_register.specs.Kept.{letter};
 ghost use Rattle.rx_book.specs.State.{has_key, has_res_key};
 ghost use Rattle.rx_book.specs.Answers.{is_open_root};
 
@@ -18,7 +20,7 @@ use std::sync::ledger::Ledger;
 impl<R: Resource, I: Ledger, A: Ledger, K: Ledger> Floor<R, I, A, K> {
     /// The next note, as [`rx_book::Book::take_mail`] says. It takes no memory.
     pub fn take_mail(&mut self) -> Option<Mail>
-        ensures value { result ≡ option_map letter (slice_get (notes self.old.book.history) self.old.book.given) }
+        ensures value { result ≡ slice_get (notes self.old.book.history) self.old.book.given }
         ensures given { self.new.book ≡ record self.old.book { given = if is_some result then self.old.book.given + 1 else self.old.book.given } }
         ensures shut { self.new.is_shut ≡ self.old.is_shut }
     {
@@ -93,6 +95,14 @@ impl<R: Resource, I: Ledger, A: Ledger, K: Ledger> Floor<R, I, A, K> {
         ensures { result ≡ has_res_key self.now.book.res_keys res }
     {
         self.book.is_held(res)
+    }
+
+    /// How many projected items an open FlatMap or Switch owes, as [`rx_book::Book::owed`] says.
+    pub fn owed(&self, merging: Key) -> Option<u64>
+        ensures { result ≡ (if has_key self.now.book.keys merging && at is_merging self.now.book.history merging.number
+            then Some (owed self.now.book.history merging.number) else None) }
+    {
+        self.book.owed(merging)
     }
 
     /// The key of the open root of least number.

@@ -1,13 +1,13 @@
 //! A caller of the desk that is proved: two threads at one book.
 
-ghost use Rattle.std.specs.Prelude.{◌≡◌, IfOk, IsOk};
-ghost use Rattle.rx_ledger.specs.Shares.{all_parts, Opens};
+ghost use Rattle.std.specs.Prelude.{◌≡◌, ◌+◌, IfOk, IsOk};
+ghost use Rattle.rx_ledger.specs.Shares.{all_parts, together, Opens};
 
-use super::lamps::{Lamp, Open, blanks, new_lamp};
-use crate::{Desk, Finished, finish, worker};
-use rx_book::{At, Book};
+use super::parts::{Open, blanks};
+use crate::{Desk, Finished, Mismatch, Totals, finish, worker};
+use rx_book::{At, Book, Closed};
 use rx_ledger::Seat;
-use rx_resource::Resource;
+use rx_resource::{Resource, Sample};
 use std::alloc::{AllocError, Global};
 use std::marker::Brand;
 use std::sync::Wait;
@@ -35,8 +35,23 @@ fn subscribe_once<R: Resource, I: Ledger, A: Ledger, K: Ledger>(
     seat
 }
 
+// Ends a desk whose threads are joined, with all their seats, and then its book. No lock is held any
+// more, so the releases run here.
+#[tactic(auto, using(crate::proofs::Agreed::agreed, crate::proofs::Agreed::released_at_the_end))]
+fn end_all<R: Resource, I: Ledger, A: Ledger, K: Ledger>(
+    desk: Desk<R, I, A, K>,
+    seats: Vec<Seat<I, A, K>>,
+) -> (Result<Totals, Mismatch>, Closed)
+    requires { (together seats.items).parts ≡ all_parts }
+    ensures agree { IsOk result.0 }
+    ensures released { IfOk result.0 (λ totals. result.1.released ≡ totals.held + totals.waiting) }
+{
+    let Finished { book, verdict } = finish(desk, seats, &[]);
+    let closed = book.finish();
+    (verdict, closed)
+}
+
 // One thread subscribes, another releases. With both seats the verdict is Ok, whatever was refused.
-#[tactic(auto, using(crate::proofs::Agreed::agreed))]
 fn hand_over<
     R: Resource,
     I: Ledger + Send + Sync,
@@ -49,9 +64,9 @@ fn hand_over<
     desk: Desk<R, I, A, K>,
     seat: Seat<I, A, K>,
     resource: R,
-) -> Result<Finished<R>, AllocError>
+) -> Result<(Result<Totals, Mismatch>, Closed), AllocError>
     requires { seat.parts ≡ all_parts }
-    ensures { IfOk result (λ done. IsOk done.verdict) }
+    ensures { IfOk result (λ ended. IsOk ended.0) }
 {
     let mut seats = Vec::new(alloc);
     seats.reserve(2)?;
@@ -67,29 +82,44 @@ fn hand_over<
     );
     seats.push_reserved(worked.seat);
     seats.push_reserved(mine);
-    Ok(finish(desk, seats, &[]))
+    Ok(end_all(desk, seats))
 }
 
-// Makes the desk for it, and answers how many were taken.
+// Makes the desk for it.
 fn handed_over<
     I: Ledger + Send + Sync,
     A: Ledger + Send + Sync,
     K: Ledger + Send + Sync,
     T: Threads + Wait + Sync,
->(rt: &T, alloc: Global, blanks: (Blank, Blank, Blank)) -> Result<u64, Fail>
+>(
+    rt: &T,
+    alloc: Global,
+    blanks: (Blank, Blank, Blank),
+) -> Result<(Result<Totals, Mismatch>, Closed), Fail>
     requires items { Opens I.name I.parts blanks.0.name blanks.0.parts }
     requires accepted { Opens A.name A.parts blanks.1.name blanks.1.parts }
     requires taken { Opens K.name K.parts blanks.2.name blanks.2.parts }
 {
     let book = Book::new(alloc, 1000);
-    let (desk, seat) = Desk::<Lamp, I, A, K>::new(book, blanks.0, blanks.1, blanks.2);
-    let done = hand_over(rt, alloc, desk, seat, new_lamp(7))?;
-    Ok(done.book.taken())
+    let (desk, seat) = Desk::<Sample, I, A, K>::new(book, blanks.0, blanks.1, blanks.2);
+    Ok(hand_over(rt, alloc, desk, seat, Sample::new(7))?)
 }
 
 #[test]
 fn one_thread_subscribes_and_another_releases(rt: HostRuntime) -> Result<(), Fail> {
-    let taken = handed_over::<Brand, Brand, Brand, _>(&rt, rt.alloc(), blanks())?;
-    assert_eq!(rt; taken, 1);
+    let ended = handed_over::<Brand, Brand, Brand, _>(&rt, rt.alloc(), blanks())?;
+    let totals = Totals {
+        items: 0,
+        accepted: 1,
+        taken: 1,
+        held: 0,
+        waiting: 0,
+        len: 4,
+    };
+    let closed = Closed {
+        released: 0,
+        faults: 0,
+    };
+    assert_eq!(rt; ended, (Ok(totals), closed));
     Ok(())
 }

@@ -2,12 +2,12 @@
 
 ghost use Rattle.rx_ledger.specs.Shares.{Opens};
 
-use super::lamps::{Lamp, blanks, new_lamp};
+use super::parts::blanks;
 use crate::Desk;
 use rx_book::{At, Book, Mail};
 use rx_event::{Event, Kind, Refusal, Terminal};
 use rx_note::Note;
-use rx_resource::Resource;
+use rx_resource::{Resource as _, Sample};
 use std::alloc::Global;
 use std::marker::Brand;
 use std::sync::Wait;
@@ -25,11 +25,11 @@ fn emit<I: Ledger, A: Ledger, K: Ledger>(
     requires taken { Opens K.name K.parts blanks.2.name blanks.2.parts }
 {
     let book = Book::new(alloc, 1000);
-    let (desk, mut seat) = Desk::<Lamp, I, A, K>::new(book, blanks.0, blanks.1, blanks.2);
+    let (desk, mut seat) = Desk::<Sample, I, A, K>::new(book, blanks.0, blanks.1, blanks.2);
     let mut floor = desk.floor.lock(rt);
     let root = floor.open(At::Root, Kind::Pass)?.key;
     let leaf = floor.open(At::Source(root), Kind::Leaf)?.key;
-    match floor.hold(&mut seat, root, new_lamp(4)) {
+    match floor.hold(&mut seat, root, Sample::new(4)) {
         Ok(_) => {}
         Err(_) => return Err(Fail::from("nothing was held")),
     }
@@ -72,9 +72,9 @@ fn use_up<I: Ledger, A: Ledger, K: Ledger>(
     requires taken { Opens K.name K.parts blanks.2.name blanks.2.parts }
 {
     let book = Book::new(alloc, 1000);
-    let (desk, mut seat) = Desk::<Lamp, I, A, K>::new(book, blanks.0, blanks.1, blanks.2);
+    let (desk, mut seat) = Desk::<Sample, I, A, K>::new(book, blanks.0, blanks.1, blanks.2);
     let mut floor = desk.floor.lock(rt);
-    let opened = match floor.open_using(&mut seat, At::Root, new_lamp(7)) {
+    let opened = match floor.open_using(&mut seat, At::Root, Sample::new(7)) {
         Ok(opened) => opened,
         Err(_) => return Err(Fail::from("nothing was opened")),
     };
@@ -100,7 +100,7 @@ fn use_up<I: Ledger, A: Ledger, K: Ledger>(
 fn a_resource_is_used_removed_and_taken_once(rt: HostRuntime) -> Result<(), Fail> {
     let (answers, uses, left) = use_up::<Brand, Brand, Brand>(&rt, rt.alloc(), blanks())?;
     let gone = Err(Refusal::NotHeld);
-    assert_eq!(rt; answers, [Ok(2), Ok(3), Ok(4), Ok(5), gone, Ok(7)]);
+    assert_eq!(rt; answers, [Ok(1), Ok(3), Ok(0), Ok(5), gone, Ok(7)]);
     assert_eq!(rt; (uses, left), (3, false));
     Ok(())
 }
@@ -116,12 +116,12 @@ fn asked<I: Ledger, A: Ledger, K: Ledger>(
     requires taken { Opens K.name K.parts blanks.2.name blanks.2.parts }
 {
     let book = Book::new(alloc, 1000);
-    let (desk, mut seat) = Desk::<Lamp, I, A, K>::new(book, blanks.0, blanks.1, blanks.2);
+    let (desk, mut seat) = Desk::<Sample, I, A, K>::new(book, blanks.0, blanks.1, blanks.2);
     let mut floor = desk.floor.lock(rt);
     let failed = floor.open(At::Root, Kind::Pass)?.key;
     floor.abort(failed, 9)?;
     let leaf = floor.open(At::Root, Kind::Leaf)?.key;
-    let res = match floor.hold(&mut seat, leaf, new_lamp(1)) {
+    let res = match floor.hold(&mut seat, leaf, Sample::new(1)) {
         Ok(res) => res,
         Err(_) => return Err(Fail::from("nothing was held")),
     };
@@ -152,5 +152,43 @@ fn a_floor_tells_what_its_book_has(rt: HostRuntime) -> Result<(), Fail> {
     assert_eq!(rt; told, [false, true, true, true]);
     let failure = Event::End(0, Terminal::Error(9));
     assert_eq!(rt; events, [Some(failure), None]);
+    Ok(())
+}
+
+// What a FlatMap owes before and after, and what declining and failing answer, once for each of two items.
+fn project<I: Ledger, A: Ledger, K: Ledger>(
+    rt: &impl Wait,
+    alloc: Global,
+    blanks: (Blank, Blank, Blank),
+) -> Result<([Option<u64>; 3], [Result<u64, Refusal>; 4]), Fail>
+    requires items { Opens I.name I.parts blanks.0.name blanks.0.parts }
+    requires accepted { Opens A.name A.parts blanks.1.name blanks.1.parts }
+    requires taken { Opens K.name K.parts blanks.2.name blanks.2.parts }
+{
+    let book = Book::new(alloc, 1000);
+    let (desk, mut seat) = Desk::<Sample, I, A, K>::new(book, blanks.0, blanks.1, blanks.2);
+    let mut floor = desk.floor.lock(rt);
+    let root = floor.open(At::Root, Kind::Flat)?.key;
+    let leaf = floor.open(At::Source(root), Kind::Leaf)?.key;
+    floor.next(&mut seat, leaf, 1)?;
+    floor.next(&mut seat, leaf, 2)?;
+    let before = floor.owed(root);
+    let declined = floor.decline(root);
+    let after = floor.owed(root);
+    let failed = floor.fail(root, 7);
+    let late = floor.decline(root);
+    let later = floor.fail(root, 7);
+    Ok((
+        [before, after, floor.owed(root)],
+        [declined, failed, late, later],
+    ))
+}
+
+#[test]
+fn a_projected_item_is_declined_and_another_failed(rt: HostRuntime) -> Result<(), Fail> {
+    let (owed, answers) = project::<Brand, Brand, Brand>(&rt, rt.alloc(), blanks())?;
+    assert_eq!(rt; owed, [Some(2), Some(1), None]);
+    let gone = Err(Refusal::Gone);
+    assert_eq!(rt; answers, [Ok(4), Ok(5), gone, gone]);
     Ok(())
 }

@@ -2,11 +2,12 @@
 
 ghost use Rattle.rx_ledger.specs.Shares.{Opens};
 
-use super::lamps::{Lamp, blanks, new_lamp};
+use super::parts::blanks;
 use crate::{Desk, Finished, Mismatch, Totals, finish};
 use rx_book::{At, Book};
 use rx_event::{Event, Kind};
 use rx_ledger::{Receipt, Seat};
+use rx_resource::Sample;
 use std::alloc::Global;
 use std::marker::Brand;
 use std::sync::Wait;
@@ -21,18 +22,18 @@ fn day<I: Ledger, A: Ledger, K: Ledger>(
     blanks: (Blank, Blank, Blank),
     named: (bool, bool),
     receipts: &[Receipt],
-) -> Result<Finished<Lamp>, Fail>
+) -> Result<Finished<Sample>, Fail>
     requires items { Opens I.name I.parts blanks.0.name blanks.0.parts }
     requires accepted { Opens A.name A.parts blanks.1.name blanks.1.parts }
     requires taken { Opens K.name K.parts blanks.2.name blanks.2.parts }
 {
     let book = Book::new(alloc, 1000);
-    let (desk, mut a) = Desk::<Lamp, I, A, K>::new(book, blanks.0, blanks.1, blanks.2);
+    let (desk, mut a) = Desk::<Sample, I, A, K>::new(book, blanks.0, blanks.1, blanks.2);
     let mut b = a.split().ok_or("no second seat")?;
     let opened = match desk
         .floor
         .lock(rt)
-        .open_using(&mut a, At::Root, new_lamp(7))
+        .open_using(&mut a, At::Root, Sample::new(7))
     {
         Ok(opened) => opened,
         Err(_) => return Err(Fail::from("nothing was opened")),

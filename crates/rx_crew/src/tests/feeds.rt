@@ -5,10 +5,11 @@ ghost use Rattle.rx_note.specs.declared.note.Terminal.{Terminal};
 ghost use Rattle.rx_ledger.specs.Shares.{Opens};
 ghost use Rattle.rx_crew.specs.declared.feeding.Pull.{Pull};
 
-use super::lamps::{Lamp, blanks};
+use super::parts::blanks;
 use crate::{Desk, Pull, Source, Stop, feed};
 use rx_book::{At, Book};
 use rx_event::{Event, Kind, Refusal, Terminal};
+use rx_resource::Sample;
 use std::alloc::Global;
 use std::marker::Brand;
 use std::sync::Wait;
@@ -47,7 +48,7 @@ fn fed<I: Ledger, A: Ledger, K: Ledger>(
     requires taken { Opens K.name K.parts blanks.2.name blanks.2.parts }
 {
     let book = Book::new(alloc, 1000);
-    let (desk, seat) = Desk::<Lamp, I, A, K>::new(book, blanks.0, blanks.1, blanks.2);
+    let (desk, seat) = Desk::<Sample, I, A, K>::new(book, blanks.0, blanks.1, blanks.2);
     let leaf = desk.floor.lock(rt).open(At::Root, Kind::Leaf)?.key;
     let mut source = Single { left: 2 };
     let none = feed(rt, alloc, &desk, seat, leaf, &mut source, 0);

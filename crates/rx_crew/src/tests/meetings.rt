@@ -1,15 +1,14 @@
 //! That releases run outside the lock, and at the same time. Whoever waits here gives up after a
 //! million turns.
 
-ghost use Rattle.std.specs.Prelude.{◌≡◌};
 ghost use Rattle.rx_resource.specs.declared.Life.{Life};
 ghost use Rattle.rx_ledger.specs.Shares.{Opens};
 
-use super::lamps::{Lamp, Open, blanks, new_lamp};
+use super::parts::{Open, blanks};
 use crate::{Desk, Gate, worker};
 use rx_book::{At, Book};
 use rx_ledger::Seat;
-use rx_resource::{Life, Resource};
+use rx_resource::{Life, Resource, Sample};
 use std::alloc::Global;
 use std::marker::Brand;
 use std::sync::atomic::{AtomicU64, Ordering};
@@ -163,9 +162,9 @@ fn both_release<
     requires taken { Opens K.name K.parts blanks.2.name blanks.2.parts }
 {
     let book = Book::new(alloc, 1000);
-    let (desk, mut first) = Desk::<Lamp, I, A, K>::new(book, blanks.0, blanks.1, blanks.2);
-    lay_out(rt, &desk, &mut first, new_lamp(1))?;
-    lay_out(rt, &desk, &mut first, new_lamp(2))?;
+    let (desk, mut first) = Desk::<Sample, I, A, K>::new(book, blanks.0, blanks.1, blanks.2);
+    lay_out(rt, &desk, &mut first, Sample::new(1))?;
+    lay_out(rt, &desk, &mut first, Sample::new(2))?;
     let second = first.split().ok_or("no second seat")?;
     let gate = Pair {
         entered: AtomicU64::new(0),

@@ -2,9 +2,10 @@
 
 ghost use Rattle.rx_ledger.specs.Shares.{Opens};
 
-use super::lamps::{Lamp, Open, blanks, new_lamp};
+use super::parts::{Open, blanks};
 use crate::{Desk, Stop, worker};
 use rx_book::{At, Book};
+use rx_resource::Sample;
 use std::alloc::Global;
 use std::marker::Brand;
 use std::sync::Wait;
@@ -23,12 +24,12 @@ fn worked<I: Ledger, A: Ledger, K: Ledger>(
     requires taken { Opens K.name K.parts blanks.2.name blanks.2.parts }
 {
     let book = Book::new(alloc, 1000);
-    let (desk, mut seat) = Desk::<Lamp, I, A, K>::new(book, blanks.0, blanks.1, blanks.2);
-    for tag in 2..5u64 {
+    let (desk, mut seat) = Desk::<Sample, I, A, K>::new(book, blanks.0, blanks.1, blanks.2);
+    for resource in [Sample::new(2), Sample::faulty(3, 2), Sample::new(4)] {
         let opened = match desk
             .floor
             .lock(rt)
-            .open_using(&mut seat, At::Root, new_lamp(tag))
+            .open_using(&mut seat, At::Root, resource)
         {
             Ok(opened) => opened,
             Err(_) => return Err(Fail::from("nothing was opened")),
