@@ -1,9 +1,8 @@
 -- The tests that compute decide what callers may do.
-use Rattle.std.proofs.Common.{◌≡◌, ℕ, ◌<◌, Bool, true, false, List, [], ◌∷◌, length, Some, None, refl, ap, ◌∙◌, slice_get}
+use Rattle.std.proofs.Common.{◌≡◌, ℕ, Bool, true, false, List, [], ◌∷◌, Some, None, refl, ap, ◌∙◌, slice_get}
 use Rattle.std.proofs.Math.Bool.{not, ◌&&◌}
 use Rattle.std.specs.List.{list_any}
 use Rattle.std.specs.Option.{option_and_then}
-use Rattle.std.proofs.lemmas.Option.{slice_get_within, option_and_then_some}
 use Rattle.rx_event.specs.declared.event.Event.{Event}
 use Rattle.rx_event.specs.declared.event.Event.TheVariants.{Open, Hub, Connect, Accept, Use, Remove, Item, Decline, End, Close, Take}
 use Rattle.rx_event.specs.Events.{makes_resource, node_of_accept, is_remove_of, is_take_of, removed_of, taken_of}
@@ -44,9 +43,6 @@ taken_key r (End m t) = refl
 taken_key r (Close m) = refl
 
 -- resources --------------------------------------------------------------------------------------------
-
-pub node_within : (h : List Event) (r n : ℕ) → option_and_then node_of_accept (slice_get h r) ≡ Some n → r < length h
-node_within h r n e = option_and_then_some node_of_accept (slice_get h r) n e (λ x a b. slice_get_within h r x a)
 
 pub held_at : (h : List Event) (r n : ℕ) → option_and_then node_of_accept (slice_get h r) ≡ Some n → (is_open h n && not (was_removed h r)) ≡ is_held h r
 unfolding is_held

@@ -1,5 +1,6 @@
 -- A settled history stays settled after a calm event, and after the closing of a root that closes no subscriber.
-use Rattle.std.proofs.Common.{◌≡◌, ℕ, ◌+◌, ◌<◌, ◌≤◌, Bool, true, false, List, [], ◌∷◌, ◌++◌, length, Option, Some, None, refl, sym, ap, ◌∙◌, arith, inl, inr, ◌⊎◌, slice_get, get_or, count_by, cond, length-append}
+use Rattle.std.proofs.Common.{◌≡◌, ℕ, ◌+◌, ◌<◌, ◌≤◌, Bool, true, false, List, [], ◌∷◌, ◌++◌, length}
+use Rattle.std.proofs.Common.{Option, Some, None, refl, sym, ap, ◌∙◌, arith, inl, inr, ◌⊎◌, slice_get, get_or, count_by, cond, length-append}
 use Rattle.std.proofs.Math.Bool.{◌&&◌, not}
 use Rattle.std.specs.List.{list_any, range_with_len, filter}
 use Rattle.std.specs.Option.{option_map_or}
@@ -11,10 +12,12 @@ use Rattle.rx_event.specs.declared.event.Place.TheVariants.{Root, Source, Inner,
 use Rattle.rx_event.specs.declared.event.Kind.TheVariants.{Sub}
 use Rattle.rx_event.specs.declared.event.Event.{Event}
 use Rattle.rx_event.specs.declared.event.Event.TheVariants.{Open, Hub, Connect, Accept, Use, Remove, Item, Decline, End, Close, Take}
-use Rattle.rx_event.specs.Events.{is_subscriber_of, is_connect_of, is_source_of, is_auto_hub, is_mirroring, is_merging, is_until, is_end, is_root, pays, parent_named}
+use Rattle.rx_event.specs.Events.{is_subscriber_of, is_connect_of, is_source_of}
+use Rattle.rx_event.specs.Events.{is_auto_hub, is_mirroring, is_merging, is_until, is_end, is_root, pays, parent_named}
 use Rattle.rx_event.specs.Tree.{at, parent, is_within, is_open}
 use Rattle.rx_event.specs.Moments.{is_fired, owed, stops_of, is_projection_to}
-use Rattle.rx_event.specs.Forced.{Has, ChildEnded, SourceEnded, IsConnectDue, IsDue, mirrored, fired, failed, completed, cut, left, IsForced, connecting, due, IsSettled}
+use Rattle.rx_event.specs.Forced.{Has, ChildEnded, SourceEnded, IsConnectDue, IsDue}
+use Rattle.rx_event.specs.Forced.{mirrored, fired, failed, completed, cut, left, IsForced, connecting, due, IsSettled}
 use Rattle.rx_event.specs.Lawful.{IsLawful, MayFollow}
 use Rattle.rx_event.proofs.Laws.Places.{slice_get-append, slice_get_last, at-append, at_within, cases_push}
 use Rattle.rx_event.proofs.Laws.Parents.{parent-append, parent_within, parent-lt, parent_name, within_cases, is_within-le}
@@ -82,13 +85,20 @@ has_after : (h : List Event) (e x : Event) → Has h x → Has (h ++ e ∷ []) x
 has_after h e x has = record { place = has.place; found = slice_get-append h (e ∷ []) has.place (slice_get_within h has.place x has.found) ∙ has.found }
 
 child_after : (h : List Event) (e : Event) (p : ℕ) (t : Terminal) → ChildEnded h p t → ChildEnded (h ++ e ∷ []) p t
-child_after h e p t d = record { child = d.child; below = parent-append h (e ∷ []) d.child (parent_within h d.child p d.below) ∙ d.below; ended = has_after h e (End d.child t) d.ended }
+child_after h e p t d =
+    record {
+      child = d.child;
+      below = parent-append h (e ∷ []) d.child (parent_within h d.child p d.below)
+          ∙ d.below;
+      ended = has_after h e (End d.child t) d.ended;
+    }
 
 -- a node that ended is in the history
 ended_low : (h : List Event) → IsLawful h → (c : ℕ) (t : Terminal) → Has h (End c t) → c < length h
 ended_low h law c t has = let a = ended_after h law has.place c t has.found in let b = slice_get_within h has.place (End c t) has.found in omega arith
 
-child_before : (h : List Event) (e : Event) → IsLawful h → is_end e ≡ false → (p : ℕ) (t : Terminal) → ChildEnded (h ++ e ∷ []) p t → (p < length h) × ChildEnded h p t
+child_before : (h : List Event) (e : Event) → IsLawful h → is_end e ≡ false
+    → (p : ℕ) (t : Terminal) → ChildEnded (h ++ e ∷ []) p t → (p < length h) × ChildEnded h p t
 child_before h e law none p t d =
     let ended = end_before h e d.child t none d.ended in
     let low = ended_low h law d.child t ended in
@@ -107,9 +117,12 @@ source_after h e s t d = record {
 }
 
 -- no more numbers pass where fewer did not
-none_before : (q r : ℕ → Bool) (m n : ℕ) → m ≤ n → ((k : ℕ) → k < m → q k ≡ true → r k ≡ true) → filter r (range_with_len 0 n) ≡ [] → filter q (range_with_len 0 m) ≡ []
+none_before : (q r : ℕ → Bool) (m n : ℕ) → m ≤ n → ((k : ℕ) → k < m → q k ≡ true → r k ≡ true)
+    → filter r (range_with_len 0 n) ≡ [] → filter q (range_with_len 0 m) ≡ []
 none_before q r m n l passes empty =
-    filter_none q (range_with_len 0 m) (not_true (list_any q (range_with_len 0 m)) (λ e. let f = find_number q m e in both_ways (list_any r (range_with_len 0 n)) (none_filtered r (range_with_len 0 n) empty) (any_found r n f.number (let w = f.within in omega arith) (passes f.number f.within f.holds))))
+    filter_none q (range_with_len 0 m)
+    (not_true (list_any q (range_with_len 0 m)) (λ e. let f = find_number q m e in both_ways (list_any r (range_with_len 0 n))
+    (none_filtered r (range_with_len 0 n) empty) (any_found r n f.number (let w = f.within in omega arith) (passes f.number f.within f.holds))))
 
 source_is_named : (e : Event) (f : ℕ) → is_source_of f e ≡ true → parent_named e ≡ Some f
 source_is_named (Open (Source k) kind) f s = ap (λ n. Some n) (eqb-true k f s)
@@ -156,7 +169,8 @@ open_before : (h : List Event) (e : Event) → IsQuietly h e → (n : ℕ) → n
 open_before h e c n l o = (and_parts _ _ (sym (is_open-push h e n l) ∙ o)).0
 
 -- what has the test and is open still has it and is
-passes_after : (h : List Event) (e : Event) (q : Event → Bool) → ((k : ℕ) → at q h k ≡ true → is_open h k ≡ true → is_open (h ++ e ∷ []) k ≡ true) → (k : ℕ) → k < length h → (at q h k && is_open h k) ≡ true → (at q (h ++ e ∷ []) k && is_open (h ++ e ∷ []) k) ≡ true
+passes_after : (h : List Event) (e : Event) (q : Event → Bool) → ((k : ℕ) → at q h k ≡ true → is_open h k ≡ true → is_open (h ++ e ∷ []) k ≡ true)
+    → (k : ℕ) → k < length h → (at q h k && is_open h k) ≡ true → (at q (h ++ e ∷ []) k && is_open (h ++ e ∷ []) k) ≡ true
 passes_after h e q stays k l holds =
     let w = and_parts (at q h k) (is_open h k) holds in
     both (at q (h ++ e ∷ []) k) (is_open (h ++ e ∷ []) k) (at-append q h (e ∷ []) k l ∙ w.0) (stays k w.0 w.1)
@@ -164,7 +178,8 @@ passes_after h e q stays k l holds =
 longer : (h : List Event) (e : Event) → length h ≤ length (h ++ e ∷ [])
 longer h e = omega (arith, length-append {A = Event})
 
-fired_before : (h : List Event) (e : Event) → IsQuietly h e → (u : ℕ) → is_open (h ++ e ∷ []) u ≡ true → is_fired (h ++ e ∷ []) u ≡ true → (u < length h) × (is_fired h u ≡ true)
+fired_before : (h : List Event) (e : Event) → IsQuietly h e → (u : ℕ) → is_open (h ++ e ∷ []) u ≡ true
+    → is_fired (h ++ e ∷ []) u ≡ true → (u < length h) × (is_fired h u ≡ true)
 fired_before h e c u o f = by_place (cases_order u (length h)) where
   was : is_fired h u ≡ true
   was = sym (c.fires u (open_low h e u o)) ∙ f
@@ -196,20 +211,28 @@ due_before h e c _ (completed {f} {s} o m unfailed at_s done closed none) =
     let at_old = sym (at-append (is_source_of f) h (e ∷ []) s low) ∙ at_s in
     let above = source_above h c.law s f at_old in
     let f_low : f < length h = omega arith in
-    completed (open_before h e c f f_low o) (sym (at-append is_merging h (e ∷ []) f f_low) ∙ m) (λ code d. unfailed code (child_after h e f (Error code) d)) at_old ended (λ k below. let l = parent_within h k f below in not_true (is_open h k) (λ was. both_ways (is_open (h ++ e ∷ []) k) (closed k (parent-append h (e ∷ []) k l ∙ below)) (c.children f k o below was))) (owed_before h e c f none)
-due_before h e c _ (cut {s} {t} o d) = by_event (cases_push h e (End d.connection t) d.place d.ended) (cases_push h e (Connect d.hub) d.connection d.connects) where
-  by_event : (slice_get h d.place ≡ Some (End d.connection t)) ⊎ (e ≡ End d.connection t) → (slice_get h d.connection ≡ Some (Connect d.hub)) ⊎ (e ≡ Connect d.hub) → IsDue h (End s t)
-  by_event (inr same) w = absurd (both_ways _ (no_end e c.calm) (ap is_end same))
-  by_event (inl was) (inr same) = absurd (no_connection d.hub e c.calm same)
-  by_event (inl was) (inl connects) =
-      let v = at_before (is_subscriber_of d.hub) h e s (no_subscriber d.hub e c.calm) d.subscribes in
-      cut (open_before h e c s v.0 o) (record { hub = d.hub; connection = d.connection; place = d.place; subscribes = v.1; connects = connects; later = d.later; ended = was })
+    completed (open_before h e c f f_low o) (sym (at-append is_merging h (e ∷ []) f f_low) ∙ m)
+    (λ code d. unfailed code (child_after h e f (Error code) d)) at_old ended
+    (λ k below. let l = parent_within h k f below in
+    not_true (is_open h k) (λ was. both_ways (is_open (h ++ e ∷ []) k) (closed k (parent-append h (e ∷ []) k l ∙ below)) (c.children f k o below was)))
+    (owed_before h e c f none)
+due_before h e c _ (cut {s} {t} o d) =
+    by_event (cases_push h e (End d.connection t) d.place d.ended) (cases_push h e (Connect d.hub) d.connection d.connects) where
+      by_event : (slice_get h d.place ≡ Some (End d.connection t)) ⊎ (e ≡ End d.connection t)
+          → (slice_get h d.connection ≡ Some (Connect d.hub)) ⊎ (e ≡ Connect d.hub) → IsDue h (End s t)
+      by_event (inr same) w = absurd (both_ways _ (no_end e c.calm) (ap is_end same))
+      by_event (inl was) (inr same) = absurd (no_connection d.hub e c.calm same)
+      by_event (inl was) (inl connects) =
+          let v = at_before (is_subscriber_of d.hub) h e s (no_subscriber d.hub e c.calm) d.subscribes in
+          cut (open_before h e c s v.0 o)
+          (record { hub = d.hub; connection = d.connection; place = d.place; subscribes = v.1; connects = connects; later = d.later; ended = was })
 due_before h e c _ (left {c = k} {g} o at_k a none) = by_event (cases_push h e (Connect g) k at_k) where
   by_event : (slice_get h k ≡ Some (Connect g)) ⊎ (e ≡ Connect g) → IsDue h (Close k)
   by_event (inr same) = absurd (no_connection g e c.calm same)
   by_event (inl was) =
       left (open_before h e c k (slice_get_within h k (Connect g) was) o) was (at_before is_auto_hub h e g (no_hub e c.calm) a).1
-      (none_before (λ n. at (is_subscriber_of g) h n && is_open h n) (λ n. at (is_subscriber_of g) (h ++ e ∷ []) n && is_open (h ++ e ∷ []) n) (length h) (length (h ++ e ∷ [])) (longer h e) (passes_after h e (is_subscriber_of g) (c.subscribers g)) none)
+      (none_before (λ n. at (is_subscriber_of g) h n && is_open h n) (λ n. at (is_subscriber_of g) (h ++ e ∷ []) n && is_open (h ++ e ∷ []) n)
+      (length h) (length (h ++ e ∷ [])) (longer h e) (passes_after h e (is_subscriber_of g) (c.subscribers g)) none)
 
 connect_before : (h : List Event) (e : Event) → IsQuietly h e → (g : ℕ) → IsConnectDue (h ++ e ∷ []) g → IsConnectDue h g
 connect_before h e c g d =
@@ -221,7 +244,8 @@ connect_before h e c g d =
       subscribes = v.1;
       subscribed = open_before h e c s v.0 d.subscribed;
       waits = λ t w. d.waits t (source_after h e s t w);
-      unconnected = none_before (λ n. at (is_connect_of g) h n && is_open h n) (λ n. at (is_connect_of g) (h ++ e ∷ []) n && is_open (h ++ e ∷ []) n) (length h) (length (h ++ e ∷ [])) (longer h e) (passes_after h e (is_connect_of g) (c.connections g)) d.unconnected;
+      unconnected = none_before (λ n. at (is_connect_of g) h n && is_open h n) (λ n. at (is_connect_of g) (h ++ e ∷ []) n && is_open (h ++ e ∷ []) n)
+          (length h) (length (h ++ e ∷ [])) (longer h e) (passes_after h e (is_connect_of g) (c.connections g)) d.unconnected;
     }
 
 -- what was settled stays settled
@@ -317,9 +341,11 @@ outside : (h : List Event) (n k : ℕ) → is_open h k ≡ true → (is_within h
 outside h n k o out = is_open_outside-close h n k ∙ both (is_open h k) (not (is_within h n k)) o (is_false (is_within h n k) (not_true (is_within h n k) out))
 
 inside : (h : List Event) (n f : ℕ) → is_open (h ++ Close n ∷ []) f ≡ true → is_within h n f ≡ true → ⊥
-inside h n f o within = both_ways (is_within h n f) (not_not (is_within h n f) (and_parts (is_open h f) (not (is_within h n f)) (sym (is_open_outside-close h n f) ∙ o)).1) within
+inside h n f o within =
+    both_ways (is_within h n f) (not_not (is_within h n f) (and_parts (is_open h f) (not (is_within h n f)) (sym (is_open_outside-close h n f) ∙ o)).1) within
 
-settled_close : (h : List Event) (n : ℕ) → IsNext h (Close n) → at is_root h n ≡ true → ((k : ℕ) → n ≤ k → open_subscribed h k ≡ None) → IsSettled (h ++ Close n ∷ [])
+settled_close : (h : List Event) (n : ℕ) → IsNext h (Close n) → at is_root h n ≡ true
+    → ((k : ℕ) → n ≤ k → open_subscribed h k ≡ None) → IsSettled (h ++ Close n ∷ [])
 settled_close h n c root quiet = settled_quietly h (Close n) (record {
   law = c.law;
   settled = c.settled;
@@ -338,7 +364,9 @@ settled_close h n c root quiet = settled_quietly h (Close n) (record {
     by_case (inr w) = inside h n f o (ap (is_within h n) (same_Some f w.0 (sym below ∙ w.1)) ∙ w.2)
 
   subscribers : (g k : ℕ) → at (is_subscriber_of g) h k ≡ true → is_open h k ≡ true → is_open (h ++ Close n ∷ []) k ≡ true
-  subscribers g k at_k was = outside h n k was (λ within. none-some g (sym (quiet k (is_within-le h n k within)) ∙ (ap (λ (b : Bool). cond b (hub_subscribed_at h k) None) was ∙ at_subscriber h k g at_k)))
+  subscribers g k at_k was =
+      outside h n k was (λ within. none-some g (sym (quiet k (is_within-le h n k within))
+      ∙ (ap (λ (b : Bool). cond b (hub_subscribed_at h k) None) was ∙ at_subscriber h k g at_k)))
 
   connections : (g k : ℕ) → at (is_connect_of g) h k ≡ true → is_open h k ≡ true → is_open (h ++ Close n ∷ []) k ≡ true
   connections g k at_k was = outside h n k was (λ within. by_case (within_cases h n k within)) where
@@ -361,7 +389,8 @@ settled_after h (End n t) c q = settled_calm h (End n t) c q
 settled_after h (Take r) c q = settled_calm h (Take r) c q
 
 -- nothing more is fired where the marks are the same
-pub fired_kept : (h : List Event) (e : Event) (old new : List Bool) → length h < length old → IsTable old (is_fired h) → IsTable new (is_fired (h ++ e ∷ [])) → new ≡ old → (u : ℕ) → u ≤ length h → is_fired (h ++ e ∷ []) u ≡ is_fired h u
+pub fired_kept : (h : List Event) (e : Event) (old new : List Bool) → length h < length old → IsTable old (is_fired h)
+    → IsTable new (is_fired (h ++ e ∷ [])) → new ≡ old → (u : ℕ) → u ≤ length h → is_fired (h ++ e ∷ []) u ≡ is_fired h u
 fired_kept h e old new room was is same u l =
     let len = ap length same in
     sym (is u (omega arith)) ∙ ap (λ (t : List Bool). get_or t u false) same ∙ was u (omega arith)

@@ -1,6 +1,6 @@
 -- The log of visits, followed entry by entry, says how often each node is visited.
-use Rattle.std.proofs.Common.{◌≡◌, ℕ, zero, suc, ◌+◌, ◌*◌, ◌-◌, ◌<◌, ◌≤◌, List, [], ◌∷◌, length, take, drop, get_or, refl, sym, ap, ◌∙◌, arith, take-append-drop}
-use Rattle.std.proofs.lemmas.Option.{same_Some, none-some}
+use Rattle.std.proofs.Common.{◌≡◌, ℕ, suc, ◌+◌, ◌*◌, ◌-◌, ◌<◌, ◌≤◌, List}
+use Rattle.std.proofs.Common.{[], ◌∷◌, length, take, drop, get_or, refl, sym, ap, ◌∙◌, arith, take-append-drop}
 use Rattle.std.specs.List.{sum_by}
 use Rattle.std.proofs.Math.Nat.{mul-le-mul_left}
 use Rattle.std.proofs.Math.Seq.{drop-cons}
@@ -30,31 +30,19 @@ pub record IsFlowing (h : List Event) (leaf i : ℕ) (log : List Visit) (so_many
   pub few : so_many ≤ 1048576
   pub often : IsOften log
 
-one_often : (leaf : ℕ) → IsOften (record { node = leaf; count = 1 } ∷ [])
-one_often leaf zero v e = let c : 1 ≡ v.count = ap (λ (u : Visit). u.count) (same_Some (record { node = leaf; count = 1 }) v e) in omega arith
-one_often leaf (suc i) v e = absurd (none-some v e)
-
-pub flow_starts : (h : List Event) (leaf : ℕ) → IsFlowing h leaf 0 (record { node = leaf; count = 1 } ∷ []) 1
-flow_starts h leaf = record {
-  upper = λ number d. (let a = sum_by-cons (times (flow d h number)) (record { node = leaf; count = 1 }) [] in omega arith);
-  lower = λ number e k same. (let a = sum_by-cons (times (flow e h number)) (record { node = leaf; count = 1 }) [] in let s : k ≡ e = omega arith in rw s (omega arith));
-  within = omega arith;
-  total = refl;
-  few = omega arith;
-  often = one_often leaf;
-}
-
 count_all : (xs : List ℕ) → sum_by (λ n. 1) xs ≡ length xs
 count_all [] = refl
 count_all (x ∷ xs) = let s = sum_by-cons (λ n. 1) x xs in let r = count_all xs in omega arith
 
 -- the entry that is followed next, apart from those behind it
-next_entry : (f : ℕ → ℕ) (log : List Visit) (i : ℕ) (v : Visit) → i < length log → v ≡ get_or log i v → sum_by (times f) (drop i log) ≡ v.count * f v.node + sum_by (times f) (drop (i + 1) log)
+next_entry : (f : ℕ → ℕ) (log : List Visit) (i : ℕ) (v : Visit) → i < length log → v ≡ get_or log i v
+    → sum_by (times f) (drop i log) ≡ v.count * f v.node + sum_by (times f) (drop (i + 1) log)
 next_entry f log i v l is =
     let one : i + 1 ≡ suc i = omega arith in
     rw (one, drop-cons log i v l, ← is) (sum_by-cons (times f) v (drop (suc i) log))
 
-followed_entry : (f : ℕ → ℕ) (log : List Visit) (i : ℕ) (v : Visit) → i < length log → v ≡ get_or log i v → sum_by (times f) (take (i + 1) log) ≡ sum_by (times f) (take i log) + v.count * f v.node
+followed_entry : (f : ℕ → ℕ) (log : List Visit) (i : ℕ) (v : Visit) → i < length log → v ≡ get_or log i v
+    → sum_by (times f) (take (i + 1) log) ≡ sum_by (times f) (take i log) + v.count * f v.node
 followed_entry f log i v l is = sum_by_more (times f) log i v l ∙ ap (λ (u : Visit). sum_by (times f) (take i log) + u.count * f u.node) (sym is)
 
 whole_sum : (f : ℕ → ℕ) (log : List Visit) (i : ℕ) → sum_by (times f) (take i log) + sum_by (times f) (drop i log) ≡ sum_by (times f) log
@@ -91,7 +79,11 @@ flow_ends h leaf i log total l s = record {
     sums number = visits_whole 1048577 h (leaf ∷ []) i (λ f. sum_by (times f) log) whole (let t = s.total in let f = s.few in omega arith) number
 
 -- one entry more
-pub flow_step : (h : List Event) (leaf i : ℕ) (log new : List Visit) (total : ℕ) (v : Visit) (next : List ℕ) → i < length log → v ≡ get_or log i v → next ≡ onward h v.node → take (i + 1) new ≡ take (i + 1) log → ((number : ℕ → ℕ) → sum_by (times number) (drop (i + 1) new) ≡ sum_by (times number) (drop (i + 1) log) + v.count * sum_by number next) → IsOften new → length log ≤ length new → total + v.count * length next ≤ 1048576 → IsFlowing h leaf i log total → IsFlowing h leaf (i + 1) new (total + v.count * length next)
+pub flow_step : (h : List Event) (leaf i : ℕ) (log new : List Visit) (total : ℕ) (v : Visit) (next : List ℕ) → i < length log
+    → v ≡ get_or log i v → next ≡ onward h v.node → take (i + 1) new ≡ take (i + 1) log
+    → ((number : ℕ → ℕ) → sum_by (times number) (drop (i + 1) new) ≡ sum_by (times number) (drop (i + 1) log) + v.count * sum_by number next)
+    → IsOften new → length log ≤ length new → total + v.count * length next ≤ 1048576
+    → IsFlowing h leaf i log total → IsFlowing h leaf (i + 1) new (total + v.count * length next)
 flow_step h leaf i log new total v next l is is_next kept more often grows few s = record {
   upper = upper;
   lower = lower;
@@ -117,7 +109,8 @@ flow_step h leaf i log new total v next l is is_next kept more often grows few s
         let f = followed number in
         omega arith
 
-    lower : (number : ℕ → ℕ) (e k : ℕ) → k ≡ e + (i + 1) → sum_by (times number) (take (i + 1) new) + sum_by (times (flow e h number)) (drop (i + 1) new) ≤ flow k h number leaf
+    lower : (number : ℕ → ℕ) (e k : ℕ) → k ≡ e + (i + 1)
+        → sum_by (times number) (take (i + 1) new) + sum_by (times (flow e h number)) (drop (i + 1) new) ≤ flow k h number leaf
     lower number e k same =
         let w = s.lower number (suc e) k (omega arith) in
         let a = next_entry (flow (suc e) h number) log i v l is in
@@ -138,7 +131,8 @@ flow_step h leaf i log new total v next l is is_next kept more often grows few s
         omega arith
 
 -- too many visits
-pub flow_over : (h : List Event) (leaf i : ℕ) (log : List Visit) (total : ℕ) (v : Visit) (next : List ℕ) → i < length log → v ≡ get_or log i v → next ≡ onward h v.node → 1048576 < total + v.count * length next → IsFlowing h leaf i log total → 1048576 < visits h leaf
+pub flow_over : (h : List Event) (leaf i : ℕ) (log : List Visit) (total : ℕ) (v : Visit) (next : List ℕ) → i < length log → v ≡ get_or log i v
+    → next ≡ onward h v.node → 1048576 < total + v.count * length next → IsFlowing h leaf i log total → 1048576 < visits h leaf
 unfolding visits climb most_visits
 flow_over h leaf i log total v next l is is_next many s = rw (visits_many 1048577 (2 + i) h (leaf ∷ []) enough) (omega arith) where
   one : ℕ → ℕ
@@ -175,5 +169,6 @@ length_few (v ∷ log) often =
     omega arith
 
 -- what is left is no more than may be
-pub few_left : (h : List Event) (leaf i : ℕ) (log : List Visit) (total : ℕ) → IsFlowing h leaf i log total → sum_by (times (λ n. 1)) (drop (i + 1) log) ≤ 1048576
+pub few_left : (h : List Event) (leaf i : ℕ) (log : List Visit) (total : ℕ)
+    → IsFlowing h leaf i log total → sum_by (times (λ n. 1)) (drop (i + 1) log) ≤ 1048576
 few_left h leaf i log total s = let a = whole_sum (λ n. 1) log (i + 1) in let t = s.total in let f = s.few in omega arith

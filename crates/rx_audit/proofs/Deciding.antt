@@ -1,5 +1,6 @@
 -- The tests that compute decide the rules: ends, sources and connections.
-use Rattle.std.proofs.Common.{◌≡◌, ℕ, zero, suc, ◌+◌, ◌<◌, ◌≤◌, Bool, true, false, List, [], ◌∷◌, Option, Some, None, refl, sym, ap, ◌∙◌, arith, cond, drop, slice_get, inl, inr, ◌⊎◌}
+use Rattle.std.proofs.Common.{◌≡◌, ℕ, zero, suc, ◌+◌, ◌<◌, ◌≤◌, Bool, true, false, List, []}
+use Rattle.std.proofs.Common.{◌∷◌, Option, Some, None, refl, sym, ap, ◌∙◌, arith, cond, drop, slice_get, inl, inr, ◌⊎◌}
 use Rattle.std.proofs.Math.Bool.{not, ◌&&◌, ◌||◌}
 use Rattle.std.specs.List.{list_any, range_with_len, filter}
 use Rattle.std.specs.Option.{option_map_or, option_and_then}
@@ -15,7 +16,8 @@ use Rattle.rx_event.specs.Events.{is_subscriber_of, is_connect_of, ended_of, fai
 use Rattle.rx_event.specs.Tree.{at, places, parent, is_open}
 use Rattle.rx_event.specs.Forced.{Has, ChildEnded, SourceEnded}
 use Rattle.rx_event.specs.Sames.{same_terminal}
-use Rattle.rx_audit.specs.Rules.{is_key, has_ended, has_failed, has_completed, hub_subscribed_at, hub_connected_at, joins, ends_source, ends_source_so, is_cut, is_cut_so, ends_child_so, fails_child, open_subscribed, open_connected, has_key}
+use Rattle.rx_audit.specs.Rules.{is_key, has_ended, has_failed, has_completed, hub_subscribed_at, hub_connected_at}
+use Rattle.rx_audit.specs.Rules.{joins, ends_source, ends_source_so, is_cut, is_cut_so, ends_child_so, fails_child, open_subscribed, open_connected, has_key}
 
 -- tests ----------------------------------------------------------------------------------------------
 
@@ -81,7 +83,8 @@ find_first q (x ∷ h) e = by_first (find_first q h) (cases_Bool (q x)) where
 pub find_after : (q : Event → Bool) (k : ℕ) (h : List Event) → list_any q (drop k h) ≡ true → Found q k h
 find_after q zero h e = find_first q h e
 find_after q (suc k) [] e = absurd (false≢true e)
-find_after q (suc k) (x ∷ h) e = let f = find_after q k h e in record { place = suc f.place; event = f.event; after = (let a = f.after in omega arith); found = f.found; holds = f.holds }
+find_after q (suc k) (x ∷ h) e = let f = find_after q k h e in
+    record { place = suc f.place; event = f.event; after = (let a = f.after in omega arith); found = f.found; holds = f.holds }
 
 pub find : (q : Event → Bool) (h : List Event) → list_any q h ≡ true → Found q 0 h
 find q h e = find_first q h e
@@ -201,7 +204,9 @@ pub child_ended : (h : List Event) (p : ℕ) (t : Terminal) → list_any (ends_c
 child_ended h p t e = let f = find (ends_child_so h p t) h e in child_at h p t f.place f.event f.found f.holds
 
 pub child_ended_of : (h : List Event) (p : ℕ) (t : Terminal) → ChildEnded h p t → list_any (ends_child_so h p t) h ≡ true
-child_ended_of h p t d = any_passes_from_place (ends_child_so h p t) h d.ended.place (End d.child t) d.ended.found (both (is_key (parent h d.child) p) (same_terminal t t) (is_key_of (parent h d.child) p d.below) (terminal_self t))
+child_ended_of h p t d =
+    any_passes_from_place (ends_child_so h p t) h d.ended.place (End d.child t) d.ended.found
+    (both (is_key (parent h d.child) p) (same_terminal t t) (is_key_of (parent h d.child) p d.below) (terminal_self t))
 
 pub child_failed_of : (h : List Event) (p c : ℕ) → ChildEnded h p (Error c) → list_any (fails_child h p) h ≡ true
 child_failed_of h p c d = any_passes_from_place (fails_child h p) h d.ended.place (End d.child (Error c)) d.ended.found (is_key_of (parent h d.child) p d.below)
@@ -306,7 +311,8 @@ same_subscribed (Close m) g = refl
 same_subscribed (Take r) g = refl
 
 pub subscriber_at : (h : List Event) (s g : ℕ) → hub_subscribed_at h s ≡ Some g → at (is_subscriber_of g) h s ≡ true
-subscriber_at h s g e = option_and_then_some hub_subscribed (slice_get h s) g e (λ x a b. ap (λ o. option_map_or (is_subscriber_of g) o false) a ∙ subscribed_is x g b)
+subscriber_at h s g e =
+    option_and_then_some hub_subscribed (slice_get h s) g e (λ x a b. ap (λ o. option_map_or (is_subscriber_of g) o false) a ∙ subscribed_is x g b)
 
 pub at_subscriber : (h : List Event) (s g : ℕ) → at (is_subscriber_of g) h s ≡ true → hub_subscribed_at h s ≡ Some g
 at_subscriber h s g e = by_event (slice_get h s) e where
@@ -333,7 +339,15 @@ source_at : (h : List Event) (s : ℕ) (t : Terminal) (i : ℕ) (e : Event) → 
 source_at h s t i (End c u) l at_i holds =
     let w = and_parts (joins (hub_subscribed_at h s) (hub_connected_at h c)) (same_terminal u t) holds in
     let j = joined (hub_subscribed_at h s) (hub_connected_at h c) w.0 in
-    record { hub = j.0; connection = c; place = i; subscribes = subscriber_at h s j.0 j.1.0; connects = connection_at h c j.0 j.1.1; later = l; ended = at_i ∙ ap (λ v. Some (End c v)) (terminal_is u t w.1) }
+    record {
+      hub = j.0;
+      connection = c;
+      place = i;
+      subscribes = subscriber_at h s j.0 j.1.0;
+      connects = connection_at h c j.0 j.1.1;
+      later = l;
+      ended = at_i ∙ ap (λ v. Some (End c v)) (terminal_is u t w.1);
+    }
 source_at h s t i (Open place kind) l at_i holds = absurd (false≢true holds)
 source_at h s t i (Hub mode) l at_i holds = absurd (false≢true holds)
 source_at h s t i (Connect g) l at_i holds = absurd (false≢true holds)
@@ -351,14 +365,19 @@ source_ended h s t e = let f = find_after (ends_source_so h s t) (suc s) h e in 
 
 pub source_ended_of : (h : List Event) (s : ℕ) (t : Terminal) → SourceEnded h s t → is_cut_so h s t ≡ true
 unfolding is_cut_so
-source_ended_of h s t d = any_after (ends_source_so h s t) (suc s) d.place h (End d.connection t) d.later d.ended (both (joins (hub_subscribed_at h s) (hub_connected_at h d.connection)) (same_terminal t t) (joins_of (hub_subscribed_at h s) (hub_connected_at h d.connection) d.hub (at_subscriber h s d.hub d.subscribes) (at_connection h d.connection d.hub d.connects)) (terminal_self t))
+source_ended_of h s t d =
+    any_after (ends_source_so h s t) (suc s) d.place h (End d.connection t) d.later d.ended
+    (both (joins (hub_subscribed_at h s) (hub_connected_at h d.connection)) (same_terminal t t)
+    (joins_of (hub_subscribed_at h s) (hub_connected_at h d.connection) d.hub
+    (at_subscriber h s d.hub d.subscribes) (at_connection h d.connection d.hub d.connects)) (terminal_self t))
 
 no_join : {C : Type 0} (o : Option ℕ) → joins o None ≡ true → C
 no_join None e = absurd (false≢true e)
 no_join (Some g) e = absurd (false≢true e)
 
 cut_at : (h : List Event) (s i : ℕ) (e : Event) → s < i → slice_get h i ≡ Some e → ends_source h s e ≡ true → (t : Terminal) × SourceEnded h s t
-cut_at h s i (End c u) l at_i holds = (u, source_at h s u i (End c u) l at_i (both (joins (hub_subscribed_at h s) (hub_connected_at h c)) (same_terminal u u) holds (terminal_self u)))
+cut_at h s i (End c u) l at_i holds =
+    (u, source_at h s u i (End c u) l at_i (both (joins (hub_subscribed_at h s) (hub_connected_at h c)) (same_terminal u u) holds (terminal_self u)))
 cut_at h s i (Open place kind) l at_i holds = no_join (hub_subscribed_at h s) holds
 cut_at h s i (Hub mode) l at_i holds = no_join (hub_subscribed_at h s) holds
 cut_at h s i (Connect g) l at_i holds = no_join (hub_subscribed_at h s) holds
@@ -376,7 +395,9 @@ cut_ended h s e = let f = find_after (ends_source h s) (suc s) h e in cut_at h s
 
 pub is_cut_of : (h : List Event) (s : ℕ) (t : Terminal) → SourceEnded h s t → is_cut h s ≡ true
 unfolding is_cut
-is_cut_of h s t d = any_after (ends_source h s) (suc s) d.place h (End d.connection t) d.later d.ended (joins_of (hub_subscribed_at h s) (hub_connected_at h d.connection) d.hub (at_subscriber h s d.hub d.subscribes) (at_connection h d.connection d.hub d.connects))
+is_cut_of h s t d = any_after (ends_source h s) (suc s) d.place h (End d.connection t) d.later d.ended
+    (joins_of (hub_subscribed_at h s) (hub_connected_at h d.connection) d.hub
+    (at_subscriber h s d.hub d.subscribes) (at_connection h d.connection d.hub d.connects))
 
 -- keys of open nodes ---------------------------------------------------------------------------------
 
@@ -406,14 +427,17 @@ and_false : (b : Bool) → (b && false) ≡ false
 and_false true = refl
 and_false false = refl
 
-pub guarded : (key : Event → Option ℕ) (test : ℕ → Event → Bool) (g : ℕ) → ((e : Event) → is_key (key e) g ≡ test g e) → (b : Bool) (o : Option Event) → is_key (cond b (option_and_then key o) None) g ≡ (option_map_or (test g) o false && b)
+pub guarded : (key : Event → Option ℕ) (test : ℕ → Event → Bool) (g : ℕ) → ((e : Event) → is_key (key e) g ≡ test g e)
+    → (b : Bool) (o : Option Event) → is_key (cond b (option_and_then key o) None) g ≡ (option_map_or (test g) o false && b)
 guarded key test g same true None = refl
 guarded key test g same true (Some e) = same e ∙ sym (and_true (test g e))
 guarded key test g same false None = refl
 guarded key test g same false (Some e) = sym (and_false (test g e))
 
 pub subscribed_key : (h : List Event) (g : ℕ) → has_key (open_subscribed h) h g ≡ list_any (λ n. at (is_subscriber_of g) h n && is_open h n) (places h)
-subscribed_key h g = list_any-same (λ k. is_key (open_subscribed h k) g) (λ n. at (is_subscriber_of g) h n && is_open h n) (λ k. guarded hub_subscribed is_subscriber_of g (λ e. same_subscribed e g) (is_open h k) (slice_get h k)) (places h)
+subscribed_key h g = list_any-same (λ k. is_key (open_subscribed h k) g) (λ n. at (is_subscriber_of g) h n && is_open h n)
+    (λ k. guarded hub_subscribed is_subscriber_of g (λ e. same_subscribed e g) (is_open h k) (slice_get h k)) (places h)
 
 pub connected_key : (h : List Event) (g : ℕ) → has_key (open_connected h) h g ≡ list_any (λ n. at (is_connect_of g) h n && is_open h n) (places h)
-connected_key h g = list_any-same (λ k. is_key (open_connected h k) g) (λ n. at (is_connect_of g) h n && is_open h n) (λ k. guarded hub_connected is_connect_of g (λ e. same_connected e g) (is_open h k) (slice_get h k)) (places h)
+connected_key h g = list_any-same (λ k. is_key (open_connected h k) g) (λ n. at (is_connect_of g) h n && is_open h n)
+    (λ k. guarded hub_connected is_connect_of g (λ e. same_connected e g) (is_open h k) (slice_get h k)) (places h)

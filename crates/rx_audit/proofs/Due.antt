@@ -1,5 +1,6 @@
 -- The tests that compute decide what is due, what is forced, and what is settled.
-use Rattle.std.proofs.Common.{◌≡◌, ℕ, ◌<◌, Bool, true, false, List, [], length, Option, Some, None, refl, sym, ap, ◌∙◌, arith, ◌==◌, cond, slice_get, inl, inr, ◌⊎◌, nat_lt, IsTrue, ◌↔◌}
+use Rattle.std.proofs.Common.{◌≡◌, ℕ, ◌<◌, Bool, true, false, List, [], length, Option, Some}
+use Rattle.std.proofs.Common.{None, refl, sym, ap, ◌∙◌, arith, ◌==◌, cond, slice_get, inl, inr, ◌⊎◌, nat_lt, IsTrue, ◌↔◌}
 use Rattle.std.proofs.Math.Bool.{not, ◌&&◌, ◌||◌}
 use Rattle.std.specs.List.{list_any}
 use Rattle.std.specs.Option.{option_map_or, option_and_then}
@@ -16,9 +17,18 @@ use Rattle.rx_event.specs.Tree.{at, places, parent, is_open, is_open_child_of, h
 use Rattle.rx_event.specs.Moments.{is_fired, owed}
 use Rattle.rx_event.specs.Forced.{Has, IsConnectDue, IsDue, mirrored, fired, failed, completed, cut, left, IsForced, connecting, due, IsSettled}
 use Rattle.rx_event.proofs.Laws.Parents.{parent_within}
-use Rattle.rx_audit.specs.Rules.{is_key, has_ended, has_failed, has_completed, source_named_at, hub_subscribed_at, hub_connected_at, is_cut, is_cut_so, ends_child_so, fails_child, completes_source, open_subscribed, open_connected, open_waiting, has_key, connect_due, any_connect_due, passes_on, completes, is_left, is_owing, must_go, makes_due, any_due, completion_due, end_due_by_kind, open_end_due, end_due, close_due, is_forced}
-use Rattle.rx_audit.proofs.Surveying.{any_found, at_within}
-use Rattle.rx_audit.proofs.Deciding.{both, left as or_left, right as or_right, either, not_not, is_false, not_true, key_is, is_key_of, find, FoundNumber, find_number, ended_has, has_ended_of, failed_has, has_failed_of, completed_has, has_completed_of, child_ended, child_ended_of, child_failed, child_failed_of, subscriber_at, at_subscriber, connection_at, at_connection, source_ended, source_ended_of, cut_ended, is_cut_of, filter_none, none_filtered, subscribed_key, connected_key}
+use Rattle.rx_event.proofs.Laws.Places.{at_within}
+use Rattle.rx_audit.specs.Rules.{is_key, has_ended, has_failed, has_completed, source_named_at}
+use Rattle.rx_audit.specs.Rules.{hub_subscribed_at, hub_connected_at, is_cut, is_cut_so, ends_child_so}
+use Rattle.rx_audit.specs.Rules.{fails_child, completes_source, open_subscribed, open_connected}
+use Rattle.rx_audit.specs.Rules.{open_waiting, has_key, connect_due, any_connect_due, passes_on, completes, is_left, is_owing, must_go, makes_due, any_due}
+use Rattle.rx_audit.specs.Rules.{completion_due, end_due_by_kind, open_end_due, end_due, close_due, is_forced}
+use Rattle.rx_audit.proofs.Surveying.{any_found}
+use Rattle.rx_audit.proofs.Deciding.{both, left as or_left, right as or_right, either, not_not, is_false, not_true}
+use Rattle.rx_audit.proofs.Deciding.{key_is, is_key_of, find, FoundNumber, find_number, ended_has, has_ended_of}
+use Rattle.rx_audit.proofs.Deciding.{failed_has, has_failed_of, completed_has, has_completed_of, child_ended}
+use Rattle.rx_audit.proofs.Deciding.{child_ended_of, child_failed, child_failed_of, subscriber_at, at_subscriber, connection_at, at_connection, source_ended}
+use Rattle.rx_audit.proofs.Deciding.{source_ended_of, cut_ended, is_cut_of, filter_none, none_filtered, subscribed_key, connected_key}
 
 -- connections ------------------------------------------------------------------------------------------
 
@@ -45,7 +55,8 @@ connect_is_due h g e =
       subscribes = subscriber_at h s.number g q.2;
       subscribed = q.1;
       waits = λ t d. both_ways (is_cut h s.number) q.0 (is_cut_of h s.number t d);
-      unconnected = filter_none (λ n. at (is_connect_of g) h n && is_open h n) (places h) (sym (connected_key h g) ∙ not_not (has_key (open_connected h) h g) w.1);
+      unconnected = filter_none (λ n. at (is_connect_of g) h n && is_open h n) (places h)
+          (sym (connected_key h g) ∙ not_not (has_key (open_connected h) h g) w.1);
     }
 
 pub connect_due_of : (h : List Event) (g : ℕ) → IsConnectDue h g → connect_due h g ≡ true
@@ -54,9 +65,11 @@ connect_due_of h g d =
     let s = d.subscriber in
     let uncut : is_cut h s ≡ false = not_true (is_cut h s) (λ c. let w = cut_ended h s c in d.waits w.0 w.1) in
     let waits = is_waiting h s g uncut d.subscribed (at_subscriber h s g d.subscribes) in
-    let here : has_key (open_waiting h) h g ≡ true = any_found (λ k. is_key (open_waiting h k) g) (length h) s (at_within (is_subscriber_of g) h s d.subscribes) (is_key_of (open_waiting h s) g waits) in
+    let here : has_key (open_waiting h) h g ≡ true =
+    any_found (λ k. is_key (open_waiting h k) g) (length h) s (at_within (is_subscriber_of g) h s d.subscribes) (is_key_of (open_waiting h s) g waits) in
     let none = none_filtered (λ n. at (is_connect_of g) h n && is_open h n) (places h) d.unconnected in
-    both (at is_auto_hub h g && has_key (open_waiting h) h g) (not (has_key (open_connected h) h g)) (both (at is_auto_hub h g) (has_key (open_waiting h) h g) d.auto here) (is_false (has_key (open_connected h) h g) (connected_key h g ∙ none))
+    both (at is_auto_hub h g && has_key (open_waiting h) h g) (not (has_key (open_connected h) h g))
+    (both (at is_auto_hub h g) (has_key (open_waiting h) h g) d.auto here) (is_false (has_key (open_connected h) h g) (connected_key h g ∙ none))
 
 pub some_connect_due : (h : List Event) → any_connect_due h ≡ true → (g : ℕ) × IsConnectDue h g
 unfolding any_connect_due
@@ -81,9 +94,12 @@ none_owed h f e = rw e refl
 
 -- some child is open
 pub child_closed : (h : List Event) (f : ℕ) → not (has_open_child h f) ≡ true → (c : ℕ) → parent h c ≡ Some f → is_open h c ≡ false
-child_closed h f e c below = not_true (is_open h c) (λ o. both_ways (has_open_child h f) (not_not (has_open_child h f) e) (any_found (is_open_child_of h f) (length h) c (parent_within h c f below) (both (is_open h c) (option_map_or (λ q. q == f) (parent h c) false) o (rw below (self f))))) where
-  self : (n : ℕ) → (n == n) ≡ true
-  self n = is_key_of (Some n) n refl
+child_closed h f e c below =
+    not_true (is_open h c) (λ o. both_ways (has_open_child h f) (not_not (has_open_child h f) e)
+    (any_found (is_open_child_of h f) (length h) c (parent_within h c f below)
+    (both (is_open h c) (option_map_or (λ q. q == f) (parent h c) false) o (rw below (self f))))) where
+      self : (n : ℕ) → (n == n) ≡ true
+      self n = is_key_of (Some n) n refl
 
 pub no_child_open : (h : List Event) (f : ℕ) → ((c : ℕ) → parent h c ≡ Some f → is_open h c ≡ false) → not (has_open_child h f) ≡ true
 no_child_open h f closed = is_false (has_open_child h f) (not_true (has_open_child h f) (λ e. open_one (find_number (is_open_child_of h f) (length h) e))) where
@@ -97,12 +113,15 @@ no_child_open h f closed = is_false (has_open_child h f) (not_true (has_open_chi
       both_ways (is_open h s.number) (closed s.number (below (parent h s.number) w.1)) w.0
 
 is_left_of : (h : List Event) (g : ℕ) → at is_auto_hub h g ≡ true → open_subscribers h g ≡ [] → is_left h g ≡ true
-is_left_of h g a none = both (at is_auto_hub h g) (not (has_key (open_subscribed h) h g)) a (is_false (has_key (open_subscribed h) h g) (subscribed_key h g ∙ none_filtered (λ n. at (is_subscriber_of g) h n && is_open h n) (places h) none))
+is_left_of h g a none =
+    both (at is_auto_hub h g) (not (has_key (open_subscribed h) h g)) a
+    (is_false (has_key (open_subscribed h) h g) (subscribed_key h g ∙ none_filtered (λ n. at (is_subscriber_of g) h n && is_open h n) (places h) none))
 
 leaves : (h : List Event) (c g : ℕ) → is_open h c ≡ true → slice_get h c ≡ Some (Connect g) → is_left h g ≡ true → IsDue h (Close c)
 leaves h c g o at_c l =
     let w = and_parts (at is_auto_hub h g) (not (has_key (open_subscribed h) h g)) l in
-    left o at_c w.0 (filter_none (λ n. at (is_subscriber_of g) h n && is_open h n) (places h) (sym (subscribed_key h g) ∙ not_not (has_key (open_subscribed h) h g) w.1))
+    left o at_c w.0 (filter_none (λ n. at (is_subscriber_of g) h n && is_open h n)
+    (places h) (sym (subscribed_key h g) ∙ not_not (has_key (open_subscribed h) h g) w.1))
 
 leaves_at : (h : List Event) (c : ℕ) → is_open h c ≡ true → option_map_or (is_left h) (hub_connected_at h c) false ≡ true → IsDue h (Close c)
 leaves_at h c o e = by_hub (hub_connected_at h c) refl e where
@@ -143,7 +162,8 @@ is_source (Close m) f s = absurd (false≢true s)
 is_source (Take r) f s = absurd (false≢true s)
 
 source_at_is : (h : List Event) (k f : ℕ) → source_named_at h k ≡ Some f → at (is_source_of f) h k ≡ true
-source_at_is h k f e = option_and_then_some source_named (slice_get h k) f e (λ x a b. ap (λ o. option_map_or (is_source_of f) o false) a ∙ source_named_is x f b)
+source_at_is h k f e =
+    option_and_then_some source_named (slice_get h k) f e (λ x a b. ap (λ o. option_map_or (is_source_of f) o false) a ∙ source_named_is x f b)
 
 is_source_at : (h : List Event) (k f : ℕ) → at (is_source_of f) h k ≡ true → source_named_at h k ≡ Some f
 is_source_at h k f e = by_event (slice_get h k) e where
@@ -159,11 +179,16 @@ pub record SomeDue (h : List Event) : Type 0 where
 -- some rule gives an event, or none does -----------------------------------------------------------------
 
 -- a child that ended with an error is a cause by itself
-failed_or_completed : (h : List Event) (f s : ℕ) → is_open h f ≡ true → at is_merging h f ≡ true → at (is_source_of f) h s ≡ true → has_completed h s ≡ true → not (has_open_child h f) ≡ true → not (is_owing h f) ≡ true → SomeDue h
+failed_or_completed : (h : List Event) (f s : ℕ) → is_open h f ≡ true → at is_merging h f ≡ true → at (is_source_of f) h s ≡ true
+    → has_completed h s ≡ true → not (has_open_child h f) ≡ true → not (is_owing h f) ≡ true → SomeDue h
 failed_or_completed h f s o m at_s done children owing = by_child (cases_Bool (list_any (fails_child h f) h)) where
   by_child : (list_any (fails_child h f) h ≡ true) ⊎ (list_any (fails_child h f) h ≡ false) → SomeDue h
   by_child (inl e) = let w = child_failed h f e in record { event = End f (Error w.0); is = failed o m w.1 }
-  by_child (inr n) = record { event = End f Completed; is = completed o m (λ c d. both_ways (list_any (fails_child h f) h) n (child_failed_of h f c d)) at_s (completed_has h s done) (child_closed h f children) (owes_none h f owing) }
+  by_child (inr n) = record {
+    event = End f Completed;
+    is = completed o m (λ c d. both_ways (list_any (fails_child h f) h) n (child_failed_of h f c d)) at_s
+        (completed_has h s done) (child_closed h f children) (owes_none h f owing);
+  }
 
 passed_on : (h : List Event) (k p : ℕ) → parent h k ≡ Some p → passes_on h k p ≡ true → SomeDue h
 passed_on h k p below e = by_kind (either (at is_mirroring h p && has_ended h k) (at is_merging h p && has_failed h k) w.1) where
@@ -203,22 +228,24 @@ gone h k e = by_rule (either ((at is_until h k && is_fired h k) || is_cut h k) (
 
 made_due : (h : List Event) (k : ℕ) → makes_due h k ≡ true → SomeDue h
 unfolding makes_due
-made_due h k e = by_part (either (option_map_or (passes_on h k) (parent h k) false || option_map_or (completes h k) (source_named_at h k) false) (must_go h k) e) where
-  by_parent : (o : Option ℕ) → parent h k ≡ o → option_map_or (passes_on h k) o false ≡ true → SomeDue h
-  by_parent None is e = absurd (false≢true e)
-  by_parent (Some p) is e = passed_on h k p is e
+made_due h k e = by_part
+    (either (option_map_or (passes_on h k) (parent h k) false || option_map_or (completes h k) (source_named_at h k) false) (must_go h k) e) where
+      by_parent : (o : Option ℕ) → parent h k ≡ o → option_map_or (passes_on h k) o false ≡ true → SomeDue h
+      by_parent None is e = absurd (false≢true e)
+      by_parent (Some p) is e = passed_on h k p is e
 
-  by_source : (o : Option ℕ) → source_named_at h k ≡ o → option_map_or (completes h k) o false ≡ true → SomeDue h
-  by_source None is e = absurd (false≢true e)
-  by_source (Some f) is e = completed_now h k f is e
+      by_source : (o : Option ℕ) → source_named_at h k ≡ o → option_map_or (completes h k) o false ≡ true → SomeDue h
+      by_source None is e = absurd (false≢true e)
+      by_source (Some f) is e = completed_now h k f is e
 
-  by_above : (option_map_or (passes_on h k) (parent h k) false ≡ true) ⊎ (option_map_or (completes h k) (source_named_at h k) false ≡ true) → SomeDue h
-  by_above (inl m) = by_parent (parent h k) refl m
-  by_above (inr m) = by_source (source_named_at h k) refl m
+      by_above : (option_map_or (passes_on h k) (parent h k) false ≡ true) ⊎ (option_map_or (completes h k) (source_named_at h k) false ≡ true) → SomeDue h
+      by_above (inl m) = by_parent (parent h k) refl m
+      by_above (inr m) = by_source (source_named_at h k) refl m
 
-  by_part : ((option_map_or (passes_on h k) (parent h k) false || option_map_or (completes h k) (source_named_at h k) false) ≡ true) ⊎ (must_go h k ≡ true) → SomeDue h
-  by_part (inl m) = by_above (either (option_map_or (passes_on h k) (parent h k) false) (option_map_or (completes h k) (source_named_at h k) false) m)
-  by_part (inr m) = gone h k m
+      by_part : ((option_map_or (passes_on h k) (parent h k) false || option_map_or (completes h k) (source_named_at h k) false) ≡ true)
+          ⊎ (must_go h k ≡ true) → SomeDue h
+      by_part (inl m) = by_above (either (option_map_or (passes_on h k) (parent h k) false) (option_map_or (completes h k) (source_named_at h k) false) m)
+      by_part (inr m) = gone h k m
 
 pub some_due : (h : List Event) → any_due h ≡ true → SomeDue h
 unfolding any_due
@@ -230,23 +257,56 @@ due_at h k l e = any_found (makes_due h) (length h) k l e
 
 by_passing : (h : List Event) (k p : ℕ) → parent h k ≡ Some p → passes_on h k p ≡ true → makes_due h k ≡ true
 unfolding makes_due
-by_passing h k p below e = or_left (option_map_or (passes_on h k) (parent h k) false || option_map_or (completes h k) (source_named_at h k) false) (must_go h k) (or_left (option_map_or (passes_on h k) (parent h k) false) (option_map_or (completes h k) (source_named_at h k) false) (rw below e))
+by_passing h k p below e =
+    or_left (option_map_or (passes_on h k) (parent h k) false || option_map_or (completes h k) (source_named_at h k) false) (must_go h k)
+    (or_left (option_map_or (passes_on h k) (parent h k) false) (option_map_or (completes h k) (source_named_at h k) false) (rw below e))
 
 by_completing : (h : List Event) (k f : ℕ) → source_named_at h k ≡ Some f → completes h k f ≡ true → makes_due h k ≡ true
 unfolding makes_due
-by_completing h k f named e = or_left (option_map_or (passes_on h k) (parent h k) false || option_map_or (completes h k) (source_named_at h k) false) (must_go h k) (or_right (option_map_or (passes_on h k) (parent h k) false) (option_map_or (completes h k) (source_named_at h k) false) (ap (λ o. option_map_or (completes h k) o false) named ∙ e))
+by_completing h k f named e =
+    or_left (option_map_or (passes_on h k) (parent h k) false || option_map_or (completes h k) (source_named_at h k) false)
+    (must_go h k) (or_right (option_map_or (passes_on h k) (parent h k) false)
+    (option_map_or (completes h k) (source_named_at h k) false) (ap (λ o. option_map_or (completes h k) o false) named ∙ e))
 
 by_going : (h : List Event) (k : ℕ) → must_go h k ≡ true → makes_due h k ≡ true
 unfolding makes_due
 by_going h k e = or_right (option_map_or (passes_on h k) (parent h k) false || option_map_or (completes h k) (source_named_at h k) false) (must_go h k) e
 
 pub any_due_of : (h : List Event) (e : Event) → IsDue h e → any_due h ≡ true
-any_due_of h (End p t) (mirrored o m d) = due_at h d.child (parent_within h d.child p d.below) (by_passing h d.child p d.below (both (is_open h p) ((at is_mirroring h p && has_ended h d.child) || (at is_merging h p && has_failed h d.child)) o (or_left (at is_mirroring h p && has_ended h d.child) (at is_merging h p && has_failed h d.child) (both (at is_mirroring h p) (has_ended h d.child) m (has_ended_of h d.child t d.ended)))))
-any_due_of h (End u Completed) (fired o m f) = due_at h u (at_within is_until h u m) (by_going h u (both (is_open h u) ((at is_until h u && is_fired h u) || is_cut h u || option_map_or (is_left h) (hub_connected_at h u) false) o (or_left ((at is_until h u && is_fired h u) || is_cut h u) (option_map_or (is_left h) (hub_connected_at h u) false) (or_left (at is_until h u && is_fired h u) (is_cut h u) (both (at is_until h u) (is_fired h u) m f)))))
-any_due_of h (End f (Error c)) (failed o m d) = due_at h d.child (parent_within h d.child f d.below) (by_passing h d.child f d.below (both (is_open h f) ((at is_mirroring h f && has_ended h d.child) || (at is_merging h f && has_failed h d.child)) o (or_right (at is_mirroring h f && has_ended h d.child) (at is_merging h f && has_failed h d.child) (both (at is_merging h f) (has_failed h d.child) m (has_failed_of h d.child c d.ended)))))
-any_due_of h (End f Completed) (completed {s = s} o m n at_s done children owing) = due_at h s (at_within (is_source_of f) h s at_s) (by_completing h s f (is_source_at h s f at_s) (both (has_completed h s && is_open h f && at is_merging h f && not (has_open_child h f)) (not (is_owing h f)) (both (has_completed h s && is_open h f && at is_merging h f) (not (has_open_child h f)) (both (has_completed h s && is_open h f) (at is_merging h f) (both (has_completed h s) (is_open h f) (has_completed_of h s done) o) m) (no_child_open h f children)) (none_owed h f owing)))
-any_due_of h (End s t) (cut o d) = due_at h s (at_within (is_subscriber_of d.hub) h s d.subscribes) (by_going h s (both (is_open h s) ((at is_until h s && is_fired h s) || is_cut h s || option_map_or (is_left h) (hub_connected_at h s) false) o (or_left ((at is_until h s && is_fired h s) || is_cut h s) (option_map_or (is_left h) (hub_connected_at h s) false) (or_right (at is_until h s && is_fired h s) (is_cut h s) (is_cut_of h s t d)))))
-any_due_of h (Close c) (left {g = g} o at_c a none) = due_at h c (slice_get_within h c (Connect g) at_c) (by_going h c (both (is_open h c) ((at is_until h c && is_fired h c) || is_cut h c || option_map_or (is_left h) (hub_connected_at h c) false) o (or_right ((at is_until h c && is_fired h c) || is_cut h c) (option_map_or (is_left h) (hub_connected_at h c) false) (ap (λ o. option_map_or (is_left h) o false) (at_connection h c g at_c) ∙ is_left_of h g a none))))
+any_due_of h (End p t) (mirrored o m d) =
+    due_at h d.child (parent_within h d.child p d.below)
+    (by_passing h d.child p d.below
+    (both (is_open h p) ((at is_mirroring h p && has_ended h d.child) || (at is_merging h p && has_failed h d.child)) o
+    (or_left (at is_mirroring h p && has_ended h d.child) (at is_merging h p && has_failed h d.child)
+    (both (at is_mirroring h p) (has_ended h d.child) m (has_ended_of h d.child t d.ended)))))
+any_due_of h (End u Completed) (fired o m f) =
+    due_at h u (at_within is_until h u m)
+    (by_going h u (both (is_open h u) ((at is_until h u && is_fired h u) || is_cut h u || option_map_or (is_left h) (hub_connected_at h u) false) o
+    (or_left ((at is_until h u && is_fired h u) || is_cut h u) (option_map_or (is_left h) (hub_connected_at h u) false)
+    (or_left (at is_until h u && is_fired h u) (is_cut h u) (both (at is_until h u) (is_fired h u) m f)))))
+any_due_of h (End f (Error c)) (failed o m d) =
+    due_at h d.child (parent_within h d.child f d.below)
+    (by_passing h d.child f d.below
+    (both (is_open h f) ((at is_mirroring h f && has_ended h d.child) || (at is_merging h f && has_failed h d.child)) o
+    (or_right (at is_mirroring h f && has_ended h d.child) (at is_merging h f && has_failed h d.child)
+    (both (at is_merging h f) (has_failed h d.child) m (has_failed_of h d.child c d.ended)))))
+any_due_of h (End f Completed) (completed {s = s} o m n at_s done children owing) =
+    due_at h s (at_within (is_source_of f) h s at_s)
+    (by_completing h s f (is_source_at h s f at_s)
+    (both (has_completed h s && is_open h f && at is_merging h f && not (has_open_child h f)) (not (is_owing h f))
+    (both (has_completed h s && is_open h f && at is_merging h f) (not (has_open_child h f))
+    (both (has_completed h s && is_open h f) (at is_merging h f) (both (has_completed h s) (is_open h f) (has_completed_of h s done) o) m)
+    (no_child_open h f children)) (none_owed h f owing)))
+any_due_of h (End s t) (cut o d) =
+    due_at h s (at_within (is_subscriber_of d.hub) h s d.subscribes)
+    (by_going h s (both (is_open h s) ((at is_until h s && is_fired h s) || is_cut h s || option_map_or (is_left h) (hub_connected_at h s) false) o
+    (or_left ((at is_until h s && is_fired h s) || is_cut h s) (option_map_or (is_left h) (hub_connected_at h s) false)
+    (or_right (at is_until h s && is_fired h s) (is_cut h s) (is_cut_of h s t d)))))
+any_due_of h (Close c) (left {g = g} o at_c a none) =
+    due_at h c (slice_get_within h c (Connect g) at_c)
+    (by_going h c (both (is_open h c) ((at is_until h c && is_fired h c) || is_cut h c || option_map_or (is_left h) (hub_connected_at h c) false) o
+    (or_right ((at is_until h c && is_fired h c) || is_cut h c) (option_map_or (is_left h) (hub_connected_at h c) false)
+    (ap (λ o. option_map_or (is_left h) o false) (at_connection h c g at_c) ∙ is_left_of h g a none))))
 any_due_of h (Open place kind) d = elim d [ ]
 any_due_of h (Hub mode) d = elim d [ ]
 any_due_of h (Connect g) d = elim d [ ]
@@ -273,7 +333,8 @@ due_unsettles h c e s = let w = some_due h e in s.none w.event (due (no_connect_
 
 -- one event ------------------------------------------------------------------------------------------------
 
-source_done : (h : List Event) (f i : ℕ) (e : Event) → slice_get h i ≡ Some e → completes_source h f e ≡ true → (s : ℕ) × ((at (is_source_of f) h s ≡ true) × Has h (End s Completed))
+source_done : (h : List Event) (f i : ℕ) (e : Event) → slice_get h i ≡ Some e
+    → completes_source h f e ≡ true → (s : ℕ) × ((at (is_source_of f) h s ≡ true) × Has h (End s Completed))
 source_done h f i (End s Completed) at_i holds = (s, (holds, record { place = i; found = at_i }))
 source_done h f i (End s (Error code)) at_i holds = absurd (false≢true holds)
 source_done h f i (Open place kind) at_i holds = absurd (false≢true holds)
@@ -288,21 +349,28 @@ source_done h f i (Close m) at_i holds = absurd (false≢true holds)
 source_done h f i (Take r) at_i holds = absurd (false≢true holds)
 
 completion_is_due : (h : List Event) (n : ℕ) → is_open h n ≡ true → completion_due h n ≡ true → IsDue h (End n Completed)
-completion_is_due h n o e = by_kind (either (at is_until h n && is_fired h n) (at is_merging h n && not (list_any (fails_child h n) h) && list_any (completes_source h n) h && not (has_open_child h n) && not (is_owing h n)) e) where
-  by_kind : ((at is_until h n && is_fired h n) ≡ true) ⊎ ((at is_merging h n && not (list_any (fails_child h n) h) && list_any (completes_source h n) h && not (has_open_child h n) && not (is_owing h n)) ≡ true) → IsDue h (End n Completed)
-  by_kind (inl m) = let v = and_parts (at is_until h n) (is_fired h n) m in fired o v.0 v.1
-  by_kind (inr m) =
-      let a = and_parts (at is_merging h n && not (list_any (fails_child h n) h) && list_any (completes_source h n) h && not (has_open_child h n)) (not (is_owing h n)) m in
-      let b = and_parts (at is_merging h n && not (list_any (fails_child h n) h) && list_any (completes_source h n) h) (not (has_open_child h n)) a.0 in
-      let c = and_parts (at is_merging h n && not (list_any (fails_child h n) h)) (list_any (completes_source h n) h) b.0 in
-      let d = and_parts (at is_merging h n) (not (list_any (fails_child h n) h)) c.0 in
-      let f = find (completes_source h n) h c.1 in
-      let s = source_done h n f.place f.event f.found f.holds in
-      completed o d.0 (λ code k. both_ways (list_any (fails_child h n) h) (not_not (list_any (fails_child h n) h) d.1) (child_failed_of h n code k)) s.1.0 s.1.1 (child_closed h n b.1) (owes_none h n a.1)
+completion_is_due h n o e =
+    by_kind (either (at is_until h n && is_fired h n)
+    (at is_merging h n && not (list_any (fails_child h n) h) && list_any (completes_source h n) h && not (has_open_child h n) && not (is_owing h n)) e) where
+      by_kind : ((at is_until h n && is_fired h n) ≡ true)
+          ⊎ ((at is_merging h n && not (list_any (fails_child h n) h) && list_any (completes_source h n) h && not (has_open_child h n) && not (is_owing h n))
+          ≡ true) → IsDue h (End n Completed)
+      by_kind (inl m) = let v = and_parts (at is_until h n) (is_fired h n) m in fired o v.0 v.1
+      by_kind (inr m) =
+          let a = and_parts (at is_merging h n && not (list_any (fails_child h n) h) && list_any (completes_source h n) h && not (has_open_child h n))
+          (not (is_owing h n)) m in
+          let b = and_parts (at is_merging h n && not (list_any (fails_child h n) h) && list_any (completes_source h n) h) (not (has_open_child h n)) a.0 in
+          let c = and_parts (at is_merging h n && not (list_any (fails_child h n) h)) (list_any (completes_source h n) h) b.0 in
+          let d = and_parts (at is_merging h n) (not (list_any (fails_child h n) h)) c.0 in
+          let f = find (completes_source h n) h c.1 in
+          let s = source_done h n f.place f.event f.found f.holds in
+          completed o d.0 (λ code k. both_ways (list_any (fails_child h n) h) (not_not (list_any (fails_child h n) h) d.1) (child_failed_of h n code k))
+          s.1.0 s.1.1 (child_closed h n b.1) (owes_none h n a.1)
 
 kind_is_due : (h : List Event) (n : ℕ) (t : Terminal) → is_open h n ≡ true → end_due_by_kind h n t ≡ true → IsDue h (End n t)
 kind_is_due h n Completed o e = completion_is_due h n o e
-kind_is_due h n (Error code) o e = let w = and_parts (at is_merging h n) (list_any (ends_child_so h n (Error code)) h) e in failed o w.0 (child_ended h n (Error code) w.1)
+kind_is_due h n (Error code) o e = let w = and_parts (at is_merging h n) (list_any (ends_child_so h n (Error code)) h) e in
+    failed o w.0 (child_ended h n (Error code) w.1)
 
 pub end_is_due : (h : List Event) (n : ℕ) (t : Terminal) → end_due h n t ≡ true → IsDue h (End n t)
 unfolding end_due
@@ -320,17 +388,36 @@ end_is_due h n t e = by_rule (either ((at is_mirroring h n && list_any (ends_chi
 
 by_end_kind : (h : List Event) (n : ℕ) (t : Terminal) → is_open h n ≡ true → end_due_by_kind h n t ≡ true → end_due h n t ≡ true
 unfolding end_due
-by_end_kind h n t o e = both (is_open h n) (open_end_due h n t) o (or_left ((at is_mirroring h n && list_any (ends_child_so h n t) h) || end_due_by_kind h n t) (is_cut_so h n t) (or_right (at is_mirroring h n && list_any (ends_child_so h n t) h) (end_due_by_kind h n t) e))
+by_end_kind h n t o e =
+    both (is_open h n) (open_end_due h n t) o (or_left ((at is_mirroring h n && list_any (ends_child_so h n t) h) || end_due_by_kind h n t)
+    (is_cut_so h n t) (or_right (at is_mirroring h n && list_any (ends_child_so h n t) h) (end_due_by_kind h n t) e))
 
 pub end_due_of : (h : List Event) (n : ℕ) (t : Terminal) → IsDue h (End n t) → end_due h n t ≡ true
 unfolding end_due
-end_due_of h n t (mirrored o m d) = both (is_open h n) (open_end_due h n t) o (or_left ((at is_mirroring h n && list_any (ends_child_so h n t) h) || end_due_by_kind h n t) (is_cut_so h n t) (or_left (at is_mirroring h n && list_any (ends_child_so h n t) h) (end_due_by_kind h n t) (both (at is_mirroring h n) (list_any (ends_child_so h n t) h) m (child_ended_of h n t d))))
-end_due_of h n Completed (fired o m f) = by_end_kind h n Completed o (or_left (at is_until h n && is_fired h n) (at is_merging h n && not (list_any (fails_child h n) h) && list_any (completes_source h n) h && not (has_open_child h n) && not (is_owing h n)) (both (at is_until h n) (is_fired h n) m f))
-end_due_of h n (Error c) (failed o m d) = by_end_kind h n (Error c) o (both (at is_merging h n) (list_any (ends_child_so h n (Error c)) h) m (child_ended_of h n (Error c) d))
+end_due_of h n t (mirrored o m d) =
+    both (is_open h n) (open_end_due h n t) o
+    (or_left ((at is_mirroring h n && list_any (ends_child_so h n t) h) || end_due_by_kind h n t)
+    (is_cut_so h n t) (or_left (at is_mirroring h n && list_any (ends_child_so h n t) h) (end_due_by_kind h n t)
+    (both (at is_mirroring h n) (list_any (ends_child_so h n t) h) m (child_ended_of h n t d))))
+end_due_of h n Completed (fired o m f) =
+    by_end_kind h n Completed o
+    (or_left (at is_until h n && is_fired h n) (at is_merging h n && not (list_any (fails_child h n) h) && list_any
+    (completes_source h n) h && not (has_open_child h n) && not (is_owing h n)) (both (at is_until h n) (is_fired h n) m f))
+end_due_of h n (Error c) (failed o m d) =
+    by_end_kind h n (Error c) o (both (at is_merging h n) (list_any (ends_child_so h n (Error c)) h) m (child_ended_of h n (Error c) d))
 end_due_of h n Completed (completed {s = s} o m none at_s done children owing) =
     let unfailed : list_any (fails_child h n) h ≡ false = not_true (list_any (fails_child h n) h) (λ e. let w = child_failed h n e in none w.0 w.1) in
-    by_end_kind h n Completed o (or_right (at is_until h n && is_fired h n) (at is_merging h n && not (list_any (fails_child h n) h) && list_any (completes_source h n) h && not (has_open_child h n) && not (is_owing h n)) (both (at is_merging h n && not (list_any (fails_child h n) h) && list_any (completes_source h n) h && not (has_open_child h n)) (not (is_owing h n)) (both (at is_merging h n && not (list_any (fails_child h n) h) && list_any (completes_source h n) h) (not (has_open_child h n)) (both (at is_merging h n && not (list_any (fails_child h n) h)) (list_any (completes_source h n) h) (both (at is_merging h n) (not (list_any (fails_child h n) h)) m (is_false (list_any (fails_child h n) h) unfailed)) (any_passes_from_place (completes_source h n) h done.place (End s Completed) done.found at_s)) (no_child_open h n children)) (none_owed h n owing)))
-end_due_of h n t (cut o d) = both (is_open h n) (open_end_due h n t) o (or_right ((at is_mirroring h n && list_any (ends_child_so h n t) h) || end_due_by_kind h n t) (is_cut_so h n t) (source_ended_of h n t d))
+    by_end_kind h n Completed o
+    (or_right (at is_until h n && is_fired h n) (at is_merging h n && not (list_any (fails_child h n) h) && list_any (completes_source h n) h && not
+    (has_open_child h n) && not (is_owing h n))
+    (both (at is_merging h n && not (list_any (fails_child h n) h) && list_any (completes_source h n) h && not (has_open_child h n))
+    (not (is_owing h n)) (both (at is_merging h n && not (list_any (fails_child h n) h) && list_any (completes_source h n) h)
+    (not (has_open_child h n)) (both (at is_merging h n && not (list_any (fails_child h n) h)) (list_any (completes_source h n) h)
+    (both (at is_merging h n) (not (list_any (fails_child h n) h)) m (is_false (list_any (fails_child h n) h) unfailed))
+    (any_passes_from_place (completes_source h n) h done.place (End s Completed) done.found at_s)) (no_child_open h n children)) (none_owed h n owing)))
+end_due_of h n t (cut o d) =
+    both (is_open h n) (open_end_due h n t) o
+    (or_right ((at is_mirroring h n && list_any (ends_child_so h n t) h) || end_due_by_kind h n t) (is_cut_so h n t) (source_ended_of h n t d))
 
 pub close_is_due : (h : List Event) (c : ℕ) → close_due h c ≡ true → IsDue h (Close c)
 unfolding close_due
@@ -338,14 +425,18 @@ close_is_due h c e = let w = and_parts (is_open h c) (option_map_or (is_left h) 
 
 pub close_due_of : (h : List Event) (c : ℕ) → IsDue h (Close c) → close_due h c ≡ true
 unfolding close_due
-close_due_of h c (left {g = g} o at_c a none) = both (is_open h c) (option_map_or (is_left h) (hub_connected_at h c) false) o (ap (λ o. option_map_or (is_left h) o false) (at_connection h c g at_c) ∙ is_left_of h g a none)
+close_due_of h c (left {g = g} o at_c a none) =
+    both (is_open h c) (option_map_or (is_left h) (hub_connected_at h c) false) o
+    (ap (λ o. option_map_or (is_left h) o false) (at_connection h c g at_c) ∙ is_left_of h g a none)
 
 -- forced -------------------------------------------------------------------------------------------------
 
 pub forced_is : (h : List Event) (e : Event) → is_forced h e ≡ true → IsForced h e
 forced_is h (Connect g) e = connecting (connect_is_due h g e)
-forced_is h (End n t) e = let w = and_parts (not (any_connect_due h)) (end_due h n t) e in due (no_connect_due h (not_not (any_connect_due h) w.0)) (end_is_due h n t w.1)
-forced_is h (Close c) e = let w = and_parts (not (any_connect_due h)) (close_due h c) e in due (no_connect_due h (not_not (any_connect_due h) w.0)) (close_is_due h c w.1)
+forced_is h (End n t) e = let w = and_parts (not (any_connect_due h)) (end_due h n t) e in
+    due (no_connect_due h (not_not (any_connect_due h) w.0)) (end_is_due h n t w.1)
+forced_is h (Close c) e = let w = and_parts (not (any_connect_due h)) (close_due h c) e in
+    due (no_connect_due h (not_not (any_connect_due h) w.0)) (close_is_due h c w.1)
 forced_is h (Open place kind) e = absurd (false≢true e)
 forced_is h (Hub mode) e = absurd (false≢true e)
 forced_is h (Accept m tag) e = absurd (false≢true e)

@@ -1,5 +1,7 @@
 -- What one event adds to what was found.
-use Rattle.std.proofs.Common.{◌≡◌, ℕ, zero, suc, ◌+◌, ◌*◌, ◌-◌, nat_lt, ◌⊎◌, inl, inr, ◌<◌, ◌≤◌, Bool, true, false, List, [], ◌∷◌, ◌++◌, length, Option, Some, None, refl, sym, ap, ◌∙◌, arith, get_or, cond, count_by, add-zero, replicate, ℤ, take, drop, length-append}
+use Rattle.std.proofs.Common.{◌≡◌, ℕ, zero, suc, ◌+◌, ◌*◌, ◌-◌, nat_lt, ◌⊎◌, inl, inr, ◌<◌, ◌≤◌, Bool, true, false, List, [], ◌∷◌}
+use Rattle.std.proofs.Common.{◌++◌, length, Option, Some, None, refl, sym, ap, ◌∙◌, arith, get_or, cond, count_by, add-zero, replicate, ℤ, take, drop}
+use Rattle.std.proofs.Common.{length-append}
 use Rattle.std.proofs.Math.Seq.{take-append_seam}
 use Rattle.std.proofs.Math.Bool.{◌||◌}
 use Rattle.std.specs.List.{list_any, filter_map, sum_by, cons_option}
@@ -10,9 +12,9 @@ use Rattle.rx_event.specs.declared.event.Place.TheVariants.{Root, Source, Inner,
 use Rattle.rx_event.specs.declared.event.Event.{Event}
 use Rattle.rx_event.specs.declared.event.Event.TheVariants.{Open, Hub, Connect, Accept, Use, Remove, Item, Decline, End, Close, Take}
 use Rattle.rx_event.specs.Climb.{Stop, Delivery, Projection, Firing, stop_at, climb, stops, visits}
-use Rattle.rx_event.specs.Moments.{Moment, moments, is_fired, projections, owed, stops_of, is_firing_of, is_projection_to}
-use Rattle.rx_event.proofs.Laws.Lawful.{moments-push}
+use Rattle.rx_event.specs.Moments.{moments, is_fired, projections, owed, stops_of, is_firing_of, is_projection_to}
 use Rattle.rx_event.proofs.Laws.Counts.{projections-push}
+use Rattle.rx_event.proofs.Laws.MarksAfter.{is_fired-push}
 use Rattle.rx_event.specs.Tree.{is_open}
 use Rattle.rx_event.proofs.Laws.Openness.{is_open_past}
 use Rattle.rx_audit.specs.Tables.{IsMarked, IsTable, IsTally, IsTold, IsCounted, marks_with, counts_with}
@@ -26,44 +28,45 @@ use Rattle.rx_audit.proofs.Keys.{length-marks_with, length-counts_with, marks_wi
 
 -- firings and projections --------------------------------------------------------------------------
 
-pub is_fired-push : (h : List Event) (e : Event) (u : ℕ) → is_fired (h ++ e ∷ []) u ≡ (is_fired h u || list_any (is_firing_of u) (stops_of h e))
-unfolding is_fired
-is_fired-push h e u =
-    let g : Moment → Bool = λ m. list_any (is_firing_of u) (stops_of m.before m.event) in
-    ap (list_any g) (moments-push h e) ∙ list_any-append g (moments h) ((record { before = h; event = e }) ∷ []) ∙ ap (λ b. list_any g (moments h) || b) (or_false (list_any (is_firing_of u) (stops_of h e)))
-  where
-    or_false : (b : Bool) → (b || false) ≡ b
-    or_false true = refl
-    or_false false = refl
-
-firing_cons : (u : ℕ) (o : Option Stop) (rest : List Stop) → list_any (is_firing_of u) (cons_option o rest) ≡ (is_key (option_and_then fired_by o) u || list_any (is_firing_of u) rest)
+firing_cons : (u : ℕ) (o : Option Stop) (rest : List Stop) → list_any (is_firing_of u)
+    (cons_option o rest) ≡ (is_key (option_and_then fired_by o) u || list_any (is_firing_of u) rest)
 firing_cons u None rest = refl
 firing_cons u (Some (Delivery n)) rest = refl
 firing_cons u (Some (Projection f)) rest = refl
 firing_cons u (Some (Firing v)) rest = refl
 
-firing_stops : (s : ℕ → Option Stop) (u : ℕ) (nodes : List ℕ) → list_any (is_firing_of u) (filter_map s nodes) ≡ list_any (λ n. is_key (option_and_then fired_by (s n)) u) nodes
+firing_stops : (s : ℕ → Option Stop) (u : ℕ) (nodes : List ℕ)
+    → list_any (is_firing_of u) (filter_map s nodes) ≡ list_any (λ n. is_key (option_and_then fired_by (s n)) u) nodes
 firing_stops s u [] = refl
 firing_stops s u (n ∷ nodes) = firing_cons u (s n) (filter_map s nodes) ∙ ap (λ b. is_key (option_and_then fired_by (s n)) u || b) (firing_stops s u nodes)
 
-projection_cons : (f : ℕ) (o : Option Stop) (rest : List Stop) → count_by (is_projection_to f) (cons_option o rest) ≡ cond (is_key (option_and_then projected_by o) f) 1 0 + count_by (is_projection_to f) rest
+projection_cons : (f : ℕ) (o : Option Stop) (rest : List Stop) → count_by (is_projection_to f) (cons_option o rest)
+    ≡ cond (is_key (option_and_then projected_by o) f) 1 0 + count_by (is_projection_to f) rest
 projection_cons f None rest = omega arith
 projection_cons f (Some (Delivery n)) rest = sum_by-cons (λ x. cond (is_projection_to f x) 1 0) (Delivery n) rest
 projection_cons f (Some (Projection g)) rest = sum_by-cons (λ x. cond (is_projection_to f x) 1 0) (Projection g) rest
 projection_cons f (Some (Firing v)) rest = sum_by-cons (λ x. cond (is_projection_to f x) 1 0) (Firing v) rest
 
-projection_stops : (s : ℕ → Option Stop) (f : ℕ) (nodes : List ℕ) → count_by (is_projection_to f) (filter_map s nodes) ≡ count_by (λ n. is_key (option_and_then projected_by (s n)) f) nodes
+projection_stops : (s : ℕ → Option Stop) (f : ℕ) (nodes : List ℕ)
+    → count_by (is_projection_to f) (filter_map s nodes) ≡ count_by (λ n. is_key (option_and_then projected_by (s n)) f) nodes
 projection_stops s f [] = refl
 projection_stops s f (n ∷ nodes) =
-    projection_cons f (s n) (filter_map s nodes) ∙ ap (λ (k : ℕ). cond (is_key (option_and_then projected_by (s n)) f) 1 0 + k) (projection_stops s f nodes) ∙ sym (sum_by-cons (λ m. cond (is_key (option_and_then projected_by (s m)) f) 1 0) n nodes)
+    projection_cons f (s n) (filter_map s nodes) ∙ ap (λ (k : ℕ). cond (is_key (option_and_then projected_by (s n)) f) 1 0 + k)
+    (projection_stops s f nodes) ∙ sym (sum_by-cons (λ m. cond (is_key (option_and_then projected_by (s m)) f) 1 0) n nodes)
 
 -- visits, counted and listed
 any_count : (q : ℕ → Bool) (xs : List ℕ) → list_any q xs ≡ nat_lt 0 (sum_by (λ n. cond (q n) 1 0) xs)
 any_count q [] = refl
 any_count q (x ∷ xs) = by_first (any_count q xs) (cases_Bool (q x)) where
-  by_first : list_any q xs ≡ nat_lt 0 (sum_by (λ n. cond (q n) 1 0) xs) → (q x ≡ true) ⊎ (q x ≡ false) → (q x || list_any q xs) ≡ nat_lt 0 (sum_by (λ n. cond (q n) 1 0) (x ∷ xs))
-  by_first rest (inl y) = let s : sum_by (λ n. cond (q n) 1 0) (x ∷ xs) ≡ 1 + sum_by (λ n. cond (q n) 1 0) xs = sum_by-cons (λ n. cond (q n) 1 0) x xs ∙ ap (λ b. cond b 1 0 + sum_by (λ n. cond (q n) 1 0) xs) y in ap (λ b. b || list_any q xs) y ∙ sym (ap (nat_lt 0) s ∙ lt-ltb 0 (1 + sum_by (λ n. cond (q n) 1 0) xs) (omega arith))
-  by_first rest (inr z) = let s : sum_by (λ n. cond (q n) 1 0) (x ∷ xs) ≡ 0 + sum_by (λ n. cond (q n) 1 0) xs = sum_by-cons (λ n. cond (q n) 1 0) x xs ∙ ap (λ b. cond b 1 0 + sum_by (λ n. cond (q n) 1 0) xs) z in let t : 0 + sum_by (λ n. cond (q n) 1 0) xs ≡ sum_by (λ n. cond (q n) 1 0) xs = omega arith in ap (λ b. b || list_any q xs) z ∙ rest ∙ sym (ap (nat_lt 0) (s ∙ t))
+  by_first : list_any q xs ≡ nat_lt 0 (sum_by (λ n. cond (q n) 1 0) xs) → (q x ≡ true)
+      ⊎ (q x ≡ false) → (q x || list_any q xs) ≡ nat_lt 0 (sum_by (λ n. cond (q n) 1 0) (x ∷ xs))
+  by_first rest (inl y) = let s : sum_by (λ n. cond (q n) 1 0) (x ∷ xs) ≡ 1 + sum_by (λ n. cond (q n) 1 0) xs =
+      sum_by-cons (λ n. cond (q n) 1 0) x xs ∙ ap (λ b. cond b 1 0 + sum_by (λ n. cond (q n) 1 0) xs) y in
+      ap (λ b. b || list_any q xs) y ∙ sym (ap (nat_lt 0) s ∙ lt-ltb 0 (1 + sum_by (λ n. cond (q n) 1 0) xs) (omega arith))
+  by_first rest (inr z) = let s : sum_by (λ n. cond (q n) 1 0) (x ∷ xs) ≡ 0 + sum_by (λ n. cond (q n) 1 0) xs =
+      sum_by-cons (λ n. cond (q n) 1 0) x xs ∙ ap (λ b. cond b 1 0 + sum_by (λ n. cond (q n) 1 0) xs) z in
+      let t : 0 + sum_by (λ n. cond (q n) 1 0) xs ≡ sum_by (λ n. cond (q n) 1 0) xs = omega arith in
+      ap (λ b. b || list_any q xs) z ∙ rest ∙ sym (ap (nat_lt 0) (s ∙ t))
 
 any_log : (q : ℕ → Bool) (log : List Visit) → IsOften log → list_any (λ v. q v.node) log ≡ nat_lt 0 (sum_by (times (λ n. cond (q n) 1 0)) log)
 any_log q [] often = refl
@@ -71,9 +74,16 @@ any_log q (v ∷ log) often = by_first (any_log q log (λ i u e. often (suc i) u
   here : sum_by (times (λ n. cond (q n) 1 0)) (v ∷ log) ≡ v.count * cond (q v.node) 1 0 + sum_by (times (λ n. cond (q n) 1 0)) log
   here = sum_by-cons (times (λ n. cond (q n) 1 0)) v log
 
-  by_first : list_any (λ v. q v.node) log ≡ nat_lt 0 (sum_by (times (λ n. cond (q n) 1 0)) log) → (q v.node ≡ true) ⊎ (q v.node ≡ false) → (q v.node || list_any (λ v. q v.node) log) ≡ nat_lt 0 (sum_by (times (λ n. cond (q n) 1 0)) (v ∷ log))
-  by_first rest (inl y) = let p = often 0 v refl in let s : sum_by (times (λ n. cond (q n) 1 0)) (v ∷ log) ≡ v.count * 1 + sum_by (times (λ n. cond (q n) 1 0)) log = here ∙ ap (λ b. v.count * cond b 1 0 + sum_by (times (λ n. cond (q n) 1 0)) log) y in ap (λ b. b || list_any (λ v. q v.node) log) y ∙ sym (ap (nat_lt 0) s ∙ lt-ltb 0 (v.count * 1 + sum_by (times (λ n. cond (q n) 1 0)) log) (omega arith))
-  by_first rest (inr z) = let s : sum_by (times (λ n. cond (q n) 1 0)) (v ∷ log) ≡ v.count * 0 + sum_by (times (λ n. cond (q n) 1 0)) log = here ∙ ap (λ b. v.count * cond b 1 0 + sum_by (times (λ n. cond (q n) 1 0)) log) z in let t : v.count * 0 + sum_by (times (λ n. cond (q n) 1 0)) log ≡ sum_by (times (λ n. cond (q n) 1 0)) log = omega arith in ap (λ b. b || list_any (λ v. q v.node) log) z ∙ rest ∙ sym (ap (nat_lt 0) (s ∙ t))
+  by_first : list_any (λ v. q v.node) log ≡ nat_lt 0 (sum_by (times (λ n. cond (q n) 1 0)) log) → (q v.node ≡ true)
+      ⊎ (q v.node ≡ false) → (q v.node || list_any (λ v. q v.node) log) ≡ nat_lt 0 (sum_by (times (λ n. cond (q n) 1 0)) (v ∷ log))
+  by_first rest (inl y) = let p = often 0 v refl in
+      let s : sum_by (times (λ n. cond (q n) 1 0)) (v ∷ log) ≡ v.count * 1 + sum_by (times (λ n. cond (q n) 1 0)) log =
+      here ∙ ap (λ b. v.count * cond b 1 0 + sum_by (times (λ n. cond (q n) 1 0)) log) y in
+      ap (λ b. b || list_any (λ v. q v.node) log) y ∙ sym (ap (nat_lt 0) s ∙ lt-ltb 0 (v.count * 1 + sum_by (times (λ n. cond (q n) 1 0)) log) (omega arith))
+  by_first rest (inr z) = let s : sum_by (times (λ n. cond (q n) 1 0)) (v ∷ log) ≡ v.count * 0 + sum_by (times (λ n. cond (q n) 1 0)) log =
+      here ∙ ap (λ b. v.count * cond b 1 0 + sum_by (times (λ n. cond (q n) 1 0)) log) z in
+      let t : v.count * 0 + sum_by (times (λ n. cond (q n) 1 0)) log ≡ sum_by (times (λ n. cond (q n) 1 0)) log = omega arith in
+      ap (λ b. b || list_any (λ v. q v.node) log) z ∙ rest ∙ sym (ap (nat_lt 0) (s ∙ t))
 
 same_any : (h : List Event) (leaf : ℕ) (log : List Visit) (q : ℕ → Bool) → IsReached h leaf log → list_any (λ v. q v.node) log ≡ list_any q (climb h leaf)
 same_any h leaf log q r = any_log q log r.often ∙ ap (nat_lt 0) (r.sums (λ n. cond (q n) 1 0)) ∙ sym (any_count q (climb h leaf))
@@ -84,7 +94,9 @@ cond_times false c = omega arith
 
 times_cond : (q : ℕ → Bool) (log : List Visit) → sum_by (λ v. cond (q v.node) v.count 0) log ≡ sum_by (times (λ n. cond (q n) 1 0)) log
 times_cond q [] = refl
-times_cond q (v ∷ log) = sum_by-cons (λ v. cond (q v.node) v.count 0) v log ∙ ap (λ (k : ℕ). k + sum_by (λ v. cond (q v.node) v.count 0) log) (cond_times (q v.node) v.count) ∙ ap (λ (k : ℕ). v.count * cond (q v.node) 1 0 + k) (times_cond q log) ∙ sym (sum_by-cons (times (λ n. cond (q n) 1 0)) v log)
+times_cond q (v ∷ log) =
+    sum_by-cons (λ v. cond (q v.node) v.count 0) v log ∙ ap (λ (k : ℕ). k + sum_by (λ v. cond (q v.node) v.count 0) log) (cond_times (q v.node) v.count)
+    ∙ ap (λ (k : ℕ). v.count * cond (q v.node) 1 0 + k) (times_cond q log) ∙ sym (sum_by-cons (times (λ n. cond (q n) 1 0)) v log)
 
 pub few_times : (h : List Event) (leaf : ℕ) (log : List Visit) → IsReached h leaf log → sum_by (times (λ n. 1)) log ≤ 1048576
 unfolding visits
@@ -93,22 +105,32 @@ few_times h leaf log r = let s = r.sums (λ n. 1) in let e = count_all (climb h 
   count_all [] = refl
   count_all (x ∷ xs) = let s = sum_by-cons (λ n. 1) x xs in let r = count_all xs in omega arith
 
-pub has_stops : (h : List Event) (leaf : ℕ) (log : List Visit) (fired fired_now : List Bool) (projected projected_now : List ℕ) → IsReached h leaf log → IsTold fired fired_now (λ n u. is_key (option_and_then fired_by (stop_at h n)) u) log → IsCounted projected projected_now (λ n f. is_key (option_and_then projected_by (stop_at h n)) f) log → HasStops h leaf fired fired_now projected projected_now
+pub has_stops : (h : List Event) (leaf : ℕ) (log : List Visit) (fired fired_now : List Bool) (projected projected_now : List ℕ)
+    → IsReached h leaf log → IsTold fired fired_now (λ n u. is_key (option_and_then fired_by (stop_at h n)) u) log
+    → IsCounted projected projected_now (λ n f. is_key (option_and_then projected_by (stop_at h n)) f) log
+    → HasStops h leaf fired fired_now projected projected_now
 has_stops h leaf log fired fired_now projected projected_now r told counted = record {
   fires = λ k l. told k l ∙ ap (λ b. get_or fired k false || b) (same_any h leaf log (λ n. is_key (option_and_then fired_by (stop_at h n)) k) r);
-  projects = λ k l. counted k l ∙ ap (λ a. get_or projected k 0 + a) (times_cond (λ n. is_key (option_and_then projected_by (stop_at h n)) k) log ∙ r.sums (λ n. cond (is_key (option_and_then projected_by (stop_at h n)) k) 1 0));
+  projects = λ k l. counted k l ∙ ap (λ a. get_or projected k 0 + a)
+      (times_cond (λ n. is_key (option_and_then projected_by (stop_at h n)) k) log
+      ∙ r.sums (λ n. cond (is_key (option_and_then projected_by (stop_at h n)) k) 1 0));
 }
 
 -- what an item finds
-pub fired_item : (h : List Event) (l : ℕ) (e : Event) (old new : List Bool) (projected projected_now : List ℕ) → stops_of h e ≡ stops h l → length new ≡ length old → IsTable old (is_fired h) → HasStops h l old new projected projected_now → IsTable new (is_fired (h ++ e ∷ []))
+pub fired_item : (h : List Event) (l : ℕ) (e : Event) (old new : List Bool) (projected projected_now : List ℕ) → stops_of h e ≡ stops h l
+    → length new ≡ length old → IsTable old (is_fired h) → HasStops h l old new projected projected_now → IsTable new (is_fired (h ++ e ∷ []))
 unfolding stops
 fired_item h l e old new projected projected_now is same tied told u m =
-    told.fires u (omega arith) ∙ ap (λ b. b || list_any (λ n. is_key (option_and_then fired_by (stop_at h n)) u) (climb h l)) (tied u (omega arith)) ∙ ap (λ b. is_fired h u || b) (sym (ap (list_any (is_firing_of u)) is ∙ firing_stops (stop_at h) u (climb h l))) ∙ sym (is_fired-push h e u)
+    told.fires u (omega arith) ∙ ap (λ b. b || list_any (λ n. is_key (option_and_then fired_by (stop_at h n)) u) (climb h l)) (tied u (omega arith))
+    ∙ ap (λ b. is_fired h u || b) (sym (ap (list_any (is_firing_of u)) is ∙ firing_stops (stop_at h) u (climb h l))) ∙ sym (is_fired-push h e u)
 
-pub projected_item : (h : List Event) (l : ℕ) (e : Event) (old new : List ℕ) (fired fired_now : List Bool) → stops_of h e ≡ stops h l → length new ≡ length old → IsTally old (projections h) → HasStops h l fired fired_now old new → IsTally new (projections (h ++ e ∷ []))
+pub projected_item : (h : List Event) (l : ℕ) (e : Event) (old new : List ℕ) (fired fired_now : List Bool) → stops_of h e ≡ stops h l
+    → length new ≡ length old → IsTally old (projections h) → HasStops h l fired fired_now old new → IsTally new (projections (h ++ e ∷ []))
 unfolding stops
 projected_item h l e old new fired fired_now is same tied told f m =
-    told.projects f (omega arith) ∙ ap (λ a. a + count_by (λ n. is_key (option_and_then projected_by (stop_at h n)) f) (climb h l)) (tied f (omega arith)) ∙ ap (λ a. projections h f + a) (sym (ap (count_by (is_projection_to f)) is ∙ projection_stops (stop_at h) f (climb h l))) ∙ sym (projections-push h e f)
+    told.projects f (omega arith) ∙ ap (λ a. a + count_by (λ n. is_key (option_and_then projected_by (stop_at h n)) f) (climb h l)) (tied f (omega arith))
+    ∙ ap (λ a. projections h f + a) (sym (ap (count_by (is_projection_to f)) is ∙ projection_stops (stop_at h) f (climb h l)))
+    ∙ sym (projections-push h e f)
 
 no_stops : (h : List Event) (e : Event) → ((l : ℕ) (v : ℤ) → e ≡ Item l v → ⊥) → stops_of h e ≡ []
 no_stops h (Item l v) n = absurd (n l v refl)
@@ -123,29 +145,37 @@ no_stops h (End m t) n = refl
 no_stops h (Close m) n = refl
 no_stops h (Take r) n = refl
 
-pub fired_same : (h : List Event) (e : Event) (old : List Bool) → ((l : ℕ) (v : ℤ) → e ≡ Item l v → ⊥) → IsTable old (is_fired h) → IsTable old (is_fired (h ++ e ∷ []))
-fired_same h e old not_item tied u m = tied u m ∙ sym (is_fired-push h e u ∙ ap (λ xs. is_fired h u || list_any (is_firing_of u) xs) (no_stops h e not_item) ∙ or_false (is_fired h u)) where
-  or_false : (b : Bool) → (b || false) ≡ b
-  or_false true = refl
-  or_false false = refl
+pub fired_same : (h : List Event) (e : Event) (old : List Bool) → ((l : ℕ) (v : ℤ) → e ≡ Item l v → ⊥)
+    → IsTable old (is_fired h) → IsTable old (is_fired (h ++ e ∷ []))
+fired_same h e old not_item tied u m =
+    tied u m ∙ sym (is_fired-push h e u ∙ ap (λ xs. is_fired h u || list_any (is_firing_of u) xs) (no_stops h e not_item) ∙ or_false (is_fired h u)) where
+      or_false : (b : Bool) → (b || false) ≡ b
+      or_false true = refl
+      or_false false = refl
 
-pub projected_same : (h : List Event) (e : Event) (old : List ℕ) → ((l : ℕ) (v : ℤ) → e ≡ Item l v → ⊥) → IsTally old (projections h) → IsTally old (projections (h ++ e ∷ []))
-projected_same h e old not_item tied f m = tied f m ∙ sym (projections-push h e f ∙ ap (λ xs. projections h f + count_by (is_projection_to f) xs) (no_stops h e not_item) ∙ add-zero (projections h f))
+pub projected_same : (h : List Event) (e : Event) (old : List ℕ) → ((l : ℕ) (v : ℤ) → e ≡ Item l v → ⊥)
+    → IsTally old (projections h) → IsTally old (projections (h ++ e ∷ []))
+projected_same h e old not_item tied f m =
+    tied f m ∙ sym (projections-push h e f ∙ ap (λ xs. projections h f + count_by (is_projection_to f) xs) (no_stops h e not_item) ∙ add-zero (projections h f))
 
-pub table_more : (key : Event → Option ℕ) (ms : List Bool) (h : List Event) (e : Event) → IsTable ms (λ n. list_any (λ x. is_key (key x) n) h) → IsTable (marks_with ms (key e)) (λ n. list_any (λ x. is_key (key x) n) (h ++ e ∷ []))
+pub table_more : (key : Event → Option ℕ) (ms : List Bool) (h : List Event) (e : Event) → IsTable ms (λ n. list_any (λ x. is_key (key x) n) h)
+    → IsTable (marks_with ms (key e)) (λ n. list_any (λ x. is_key (key x) n) (h ++ e ∷ []))
 table_more key ms h e tied n l =
     let m : n < length ms = omega (arith, length-marks_with ms (key e)) in
-    marks_with_at ms (key e) n m ∙ ap (λ b. b || is_key (key e) n) (tied n m) ∙ sym (list_any-append (λ x. is_key (key x) n) h (e ∷ []) ∙ ap (λ b. list_any (λ x. is_key (key x) n) h || b) (or_false (is_key (key e) n)))
+    marks_with_at ms (key e) n m ∙ ap (λ b. b || is_key (key e) n) (tied n m)
+    ∙ sym (list_any-append (λ x. is_key (key x) n) h (e ∷ []) ∙ ap (λ b. list_any (λ x. is_key (key x) n) h || b) (or_false (is_key (key e) n)))
   where
     or_false : (b : Bool) → (b || false) ≡ b
     or_false true = refl
     or_false false = refl
 
-pub tally_more : (key : Event → Option ℕ) (cs : List ℕ) (h : List Event) (e : Event) → IsTally cs (λ n. count_by (λ x. is_key (key x) n) h) → IsTally (counts_with cs (key e)) (λ n. count_by (λ x. is_key (key x) n) (h ++ e ∷ []))
+pub tally_more : (key : Event → Option ℕ) (cs : List ℕ) (h : List Event) (e : Event) → IsTally cs (λ n. count_by (λ x. is_key (key x) n) h)
+    → IsTally (counts_with cs (key e)) (λ n. count_by (λ x. is_key (key x) n) (h ++ e ∷ []))
 tally_more key cs h e tied n l =
     let m : n < length cs = omega (arith, length-counts_with cs (key e)) in
     let g : Event → ℕ = λ x. cond (is_key (key x) n) 1 0 in
-    counts_with_at cs (key e) n m ∙ ap (λ a. a + cond (is_key (key e) n) 1 0) (tied n m) ∙ sym (sum_by-append g h (e ∷ []) ∙ ap (λ (k : ℕ). sum_by g h + k) (sum_by-cons g e [] ∙ add-zero _))
+    counts_with_at cs (key e) n m ∙ ap (λ a. a + cond (is_key (key e) n) 1 0) (tied n m)
+    ∙ sym (sum_by-append g h (e ∷ []) ∙ ap (λ (k : ℕ). sum_by g h + k) (sum_by-cons g e [] ∙ add-zero _))
 
 -- fields of what was found ----------------------------------------------------------------------------
 
@@ -153,17 +183,29 @@ tally_more key cs h e tied n l =
 pub back : {X : Type 0} (len : ℕ) (new old : List X) → len ≡ length old → length new ≡ length old → take len (new ++ drop (length new) old) ≡ new
 back len new old e same = let k : len ≡ length new = omega arith in rw (k, take-append_seam new (drop (length new) old)) refl
 
-pub table_field : (key : Event → Option ℕ) (len size : ℕ) (old new slice : List Bool) (k : Option ℕ) (h : List Event) (e : Event) → len ≡ length old → length old ≡ size → slice ≡ old → k ≡ key e → new ≡ marks_with slice k → IsTable old (λ n. list_any (λ x. is_key (key x) n) h) → IsTable (take len (new ++ drop (length new) old)) (λ n. list_any (λ x. is_key (key x) n) (h ++ e ∷ [])) × (length (take len (new ++ drop (length new) old)) ≡ size)
+pub table_field : (key : Event → Option ℕ) (len size : ℕ) (old new slice : List Bool) (k : Option ℕ) (h : List Event) (e : Event)
+    → len ≡ length old → length old ≡ size → slice ≡ old → k ≡ key e → new ≡ marks_with slice k
+    → IsTable old (λ n. list_any (λ x. is_key (key x) n) h) → IsTable (take len (new ++ drop (length new) old))
+    (λ n. list_any (λ x. is_key (key x) n) (h ++ e ∷ [])) × (length (take len (new ++ drop (length new) old)) ≡ size)
 table_field key len size old new slice k h e is_len is_size is_slice is_key_of is_new tied =
     let is : new ≡ marks_with old (key e) = is_new ∙ ap (λ s. marks_with s k) is_slice ∙ ap (marks_with old) is_key_of in
     let same : length new ≡ length old = ap length is ∙ length-marks_with old (key e) in
     rw (back len new old is_len same) (rw is (table_more key old h e tied), same ∙ is_size)
 
-pub tally_field : (key : Event → Option ℕ) (len size : ℕ) (old new slice : List ℕ) (k : Option ℕ) (h : List Event) (e : Event) → len ≡ length old → length old ≡ size → slice ≡ old → k ≡ key e → new ≡ counts_with slice k → IsTally old (λ n. count_by (λ x. is_key (key x) n) h) → ((n : ℕ) → get_or old n 0 ≤ length h) → IsTally (take len (new ++ drop (length new) old)) (λ n. count_by (λ x. is_key (key x) n) (h ++ e ∷ [])) × (length (take len (new ++ drop (length new) old)) ≡ size) × ((n : ℕ) → get_or (take len (new ++ drop (length new) old)) n 0 ≤ length (h ++ e ∷ []))
+pub tally_field : (key : Event → Option ℕ) (len size : ℕ) (old new slice : List ℕ) (k : Option ℕ) (h : List Event) (e : Event) → len ≡ length old
+    → length old ≡ size → slice ≡ old → k ≡ key e → new ≡ counts_with slice k → IsTally old (λ n. count_by (λ x. is_key (key x) n) h)
+    → ((n : ℕ) → get_or old n 0 ≤ length h) → IsTally (take len (new ++ drop (length new) old))
+    (λ n. count_by (λ x. is_key (key x) n) (h ++ e ∷ [])) × (length (take len (new ++ drop (length new) old)) ≡ size)
+    × ((n : ℕ) → get_or (take len (new ++ drop (length new) old)) n 0 ≤ length (h ++ e ∷ []))
 tally_field key len size old new slice k h e is_len is_size is_slice is_key_of is_new tied few =
     let is : new ≡ counts_with old (key e) = is_new ∙ ap (λ s. counts_with s k) is_slice ∙ ap (counts_with old) is_key_of in
     let same : length new ≡ length old = ap length is ∙ length-counts_with old (key e) in
-    rw (back len new old is_len same) (rw is (tally_more key old h e tied), same ∙ is_size, rw is (λ n. let f = few n in let g = counts_few old (key e) n in omega (arith, length-append {A = Event})))
+    rw (back len new old is_len same) (
+      rw is (tally_more key old h e tied),
+      same
+          ∙ is_size,
+      rw is (λ n. let f = few n in let g = counts_few old (key e) n in omega (arith, length-append {A = Event})),
+    )
 
 pub no_table : (size : ℕ) (f : ℕ → Bool) → ((n : ℕ) → f n ≡ false) → IsMarked (replicate size false) f
 no_table zero f none n = sym (none n)
@@ -206,16 +248,19 @@ pays_key f (Take r) = refl
 
 count_by-same : {X : Type 0} (p q : X → Bool) → ((x : X) → p x ≡ q x) → (xs : List X) → count_by p xs ≡ count_by q xs
 count_by-same p q same [] = refl
-count_by-same p q same (x ∷ xs) = sum_by-cons (λ y. cond (p y) 1 0) x xs ∙ ap (λ b. cond b 1 0 + count_by p xs) (same x) ∙ ap (λ (k : ℕ). cond (q x) 1 0 + k) (count_by-same p q same xs) ∙ sym (sum_by-cons (λ y. cond (q y) 1 0) x xs)
+count_by-same p q same (x ∷ xs) = sum_by-cons (λ y. cond (p y) 1 0) x xs ∙ ap (λ b. cond b 1 0 + count_by p xs) (same x)
+    ∙ ap (λ (k : ℕ). cond (q x) 1 0 + k) (count_by-same p q same xs) ∙ sym (sum_by-cons (λ y. cond (q y) 1 0) x xs)
 
 pub owing_by_counts : (h : List Event) (f paid projected : ℕ) → paid ≡ payments h f → projected ≡ projections h f → nat_lt paid projected ≡ is_owing h f
 unfolding is_owing owed
-owing_by_counts h f paid projected e p = ap (λ k. nat_lt k projected) (e ∙ count_by-same (λ x. is_key (paid_of x) f) (pays f) (pays_key f) h) ∙ ap (λ k. nat_lt (count_by (pays f) h) k) p ∙ less (count_by (pays f) h) (projections h f) where
-  less : (a b : ℕ) → nat_lt a b ≡ nat_lt 0 (b - a)
-  less a b = by_order (cases_lt a b) where
-    by_order : (a < b) ⊎ (b ≤ a) → nat_lt a b ≡ nat_lt 0 (b - a)
-    by_order (inl l) = lt-ltb a b l ∙ sym (lt-ltb 0 (b - a) (omega arith))
-    by_order (inr g) = let z : b - a ≡ 0 = omega arith in le-ltb a b g ∙ sym (ap (nat_lt 0) z)
+owing_by_counts h f paid projected e p =
+    ap (λ k. nat_lt k projected) (e ∙ count_by-same (λ x. is_key (paid_of x) f) (pays f) (pays_key f) h)
+    ∙ ap (λ k. nat_lt (count_by (pays f) h) k) p ∙ less (count_by (pays f) h) (projections h f) where
+      less : (a b : ℕ) → nat_lt a b ≡ nat_lt 0 (b - a)
+      less a b = by_order (cases_lt a b) where
+        by_order : (a < b) ⊎ (b ≤ a) → nat_lt a b ≡ nat_lt 0 (b - a)
+        by_order (inl l) = lt-ltb a b l ∙ sym (lt-ltb 0 (b - a) (omega arith))
+        by_order (inr g) = let z : b - a ≡ 0 = omega arith in le-ltb a b g ∙ sym (ap (nat_lt 0) z)
 
 -- sources and notifiers --------------------------------------------------------------------------------
 

@@ -36,7 +36,8 @@ visits_many (suc k) (suc d) h (n ∷ todo) l =
 pub record IsWhole (h : List Event) (todo : List ℕ) (steps : ℕ) (number : ℕ → ℕ) (amount : ℕ) : Type 0 where
   pub same : (d : ℕ) → steps ≤ d → sum_by (flow (suc d) h number) todo ≡ amount
 
-whole-step : (h : List Event) (n : ℕ) (todo : List ℕ) (steps : ℕ) (number : ℕ → ℕ) (amount : ℕ) → IsWhole h (n ∷ todo) steps number amount → (d : ℕ) → steps ≤ d → number n + sum_by (flow (suc d) h number) (onward h n ++ todo) ≡ amount
+whole-step : (h : List Event) (n : ℕ) (todo : List ℕ) (steps : ℕ) (number : ℕ → ℕ) (amount : ℕ) → IsWhole h (n ∷ todo) steps number amount
+    → (d : ℕ) → steps ≤ d → number n + sum_by (flow (suc d) h number) (onward h n ++ todo) ≡ amount
 whole-step h n todo steps number amount w d l =
     let here = w.same d l in
     let later = w.same (suc d) (omega arith) in
@@ -47,13 +48,18 @@ whole-step h n todo steps number amount w d l =
     let o = flow-sum-more d h number (onward h n) in
     omega arith
 
-pub visits_whole : (k : ℕ) (h : List Event) (todo : List ℕ) (steps : ℕ) (amount : (ℕ → ℕ) → ℕ) → ((number : ℕ → ℕ) → IsWhole h todo steps number (amount number)) → amount (λ n. 1) ≤ k → (number : ℕ → ℕ) → sum_by number (visited k h todo) ≡ amount number
+pub visits_whole : (k : ℕ) (h : List Event) (todo : List ℕ) (steps : ℕ) (amount : (ℕ → ℕ) → ℕ)
+    → ((number : ℕ → ℕ) → IsWhole h todo steps number (amount number)) → amount (λ n. 1) ≤ k
+    → (number : ℕ → ℕ) → sum_by number (visited k h todo) ≡ amount number
 visits_whole zero h [] steps amount w l number = (w number).same steps (omega arith)
 visits_whole (suc k) h [] steps amount w l number = (w number).same steps (omega arith)
-visits_whole zero h (n ∷ todo) steps amount w l number = absurd (let s = whole-step h n todo steps (λ n. 1) (amount (λ n. 1)) (w (λ n. 1)) steps (omega arith) in omega arith)
+visits_whole zero h (n ∷ todo) steps amount w l number =
+    absurd (let s = whole-step h n todo steps (λ n. 1) (amount (λ n. 1)) (w (λ n. 1)) steps (omega arith) in omega arith)
 visits_whole (suc k) h (n ∷ todo) steps amount w l number =
     let rest : (ℕ → ℕ) → ℕ = λ f. sum_by (flow (suc steps) h f) (onward h n ++ todo) in
     let here : (f : ℕ → ℕ) → f n + rest f ≡ amount f = λ f. whole-step h n todo steps f (amount f) (w f) steps (omega arith) in
-    let whole : (f : ℕ → ℕ) → IsWhole h (onward h n ++ todo) steps f (rest f) = λ f. record { same = λ d l. (let s = whole-step h n todo steps f (amount f) (w f) d l in let t = here f in omega arith) } in
+    let whole : (f : ℕ → ℕ) → IsWhole h (onward h n ++ todo) steps f (rest f) =
+    λ f. record { same = λ d l. (let s = whole-step h n todo steps f (amount f) (w f) d l in let t = here f in omega arith) } in
     let few : rest (λ n. 1) ≤ k = (let t = here (λ n. 1) in omega arith) in
-    sum_by-cons number n (visited k h (onward h n ++ todo)) ∙ ap (λ (m : ℕ). number n + m) (visits_whole k h (onward h n ++ todo) steps rest whole few number) ∙ here number
+    sum_by-cons number n (visited k h (onward h n ++ todo))
+    ∙ ap (λ (m : ℕ). number n + m) (visits_whole k h (onward h n ++ todo) steps rest whole few number) ∙ here number

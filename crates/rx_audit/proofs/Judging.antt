@@ -1,5 +1,6 @@
 -- From the tests to the verdict.
-use Rattle.std.proofs.Common.{◌≡◌, ℕ, ℤ, zero, suc, ◌+◌, ◌<◌, ◌≤◌, Bool, true, false, List, [], ◌∷◌, ◌++◌, length, take, Option, Some, None, refl, sym, ap, ◌∙◌, arith, ◌==◌, slice_get, get_or, inl, inr, ◌⊎◌, IsTrue, ◌↔◌, length-append}
+use Rattle.std.proofs.Common.{◌≡◌, ℕ, ℤ, zero, suc, ◌+◌, ◌<◌, ◌≤◌, Bool, true, false, List, [], ◌∷◌, ◌++◌, length}
+use Rattle.std.proofs.Common.{take, Option, Some, None, refl, sym, ap, ◌∙◌, arith, ◌==◌, slice_get, get_or, inl, inr, ◌⊎◌, IsTrue, ◌↔◌, length-append}
 use Rattle.std.proofs.Math.Bool.{not, ◌&&◌}
 use Rattle.std.specs.Option.{option_map_or, option_and_then}
 use Rattle.std.proofs.lemmas.Bool.{cases_order, and_parts, both_ways, false≢true, eqb-true, eq-eqb}
@@ -31,39 +32,50 @@ use Rattle.rx_audit.proofs.Deciding.{both}
 use Rattle.rx_audit.proofs.Due.{some_connect_due, no_connect_due, forced_is, is_forced_of}
 use Rattle.rx_audit.proofs.Permitting.{open_may, open_may_of, open_fits, item_may, item_may_of, simply_may, simply_may_of}
 
-pub room_test : (next : List Event) (n : ℕ) (b : Bool) → 1048576 < n + 2 → b ≡ any_connect_due next → (IsTrue (not b)) ↔ ((g : ℕ) → IsConnectDue next g → n + 2 ≤ 1048576)
+pub room_test : (next : List Event) (n : ℕ) (b : Bool) → 1048576 < n + 2
+    → b ≡ any_connect_due next → (IsTrue (not b)) ↔ ((g : ℕ) → IsConnectDue next g → n + 2 ≤ 1048576)
 room_test next n true l e = (λ f. absurd (false≢true f), λ fits. absurd (let w = some_connect_due next (sym e) in let k = fits w.0 w.1 in omega arith))
 room_test next n false l e = (λ f g d. absurd (no_connect_due next (sym e) g d), λ fits. refl)
 
 -- openings ---------------------------------------------------------------------------------------------
 
-pub open_test : (h next : List Event) (e : Event) (place : Place) (kind : Kind) (b : Bool) → e ≡ Open place kind → next ≡ h ++ e ∷ [] → open_allowed h place kind ≡ true → (IsTrue b) ↔ ((g : ℕ) → IsConnectDue next g → length (open_nodes h) + 2 ≤ 1048576) → (IsTrue b) ↔ IsAllowed h e
+pub open_test : (h next : List Event) (e : Event) (place : Place) (kind : Kind) (b : Bool) → e ≡ Open place kind → next ≡ h ++ e ∷ []
+    → open_allowed h place kind ≡ true → (IsTrue b) ↔ ((g : ℕ) → IsConnectDue next g → length (open_nodes h) + 2 ≤ 1048576) → (IsTrue b) ↔ IsAllowed h e
 open_test h next e place kind b is_e is_next may w =
     let same : next ≡ h ++ Open place kind ∷ [] = is_next ∙ ap (λ x. h ++ x ∷ []) is_e in
     let v : (IsTrue b) ↔ ((g : ℕ) → IsConnectDue (h ++ Open place kind ∷ []) g → length (open_nodes h) + 2 ≤ 1048576) = rw same at w in
     rw is_e (λ t. open_may h place kind may (v.0 t), λ a. v.1 (open_fits h place kind a))
 
-pub open_refused : (h : List Event) (e : Event) (place : Place) (kind : Kind) → e ≡ Open place kind → open_allowed h place kind ≡ false → (IsTrue false) ↔ IsAllowed h e
-open_refused h e place kind is_e refused = rw is_e (λ t. absurd (false≢true t), λ a. absurd (both_ways (open_allowed h place kind) refused (open_may_of h place kind a)))
+pub open_refused : (h : List Event) (e : Event) (place : Place) (kind : Kind)
+    → e ≡ Open place kind → open_allowed h place kind ≡ false → (IsTrue false) ↔ IsAllowed h e
+open_refused h e place kind is_e refused =
+    rw is_e (λ t. absurd (false≢true t), λ a. absurd (both_ways (open_allowed h place kind) refused (open_may_of h place kind a)))
 
-pub named_after_open : (h next : List Event) (e : Event) (place : Place) (kind : Kind) → e ≡ Open place kind → next ≡ h ++ e ∷ [] → AreHubsNamed h → AreHubsNamed next
+pub named_after_open : (h next : List Event) (e : Event) (place : Place) (kind : Kind)
+    → e ≡ Open place kind → next ≡ h ++ e ∷ [] → AreHubsNamed h → AreHubsNamed next
 named_after_open h next e place kind is_e is_next named = rw (is_next, is_e) (record { each = each }) where
   each : (c g : ℕ) → hub_connected_at (h ++ Open place kind ∷ []) c ≡ Some g → g < length (h ++ Open place kind ∷ [])
   each c g s = by_place (cases_order c (length h)) where
     older : c < length h → g < length (h ++ Open place kind ∷ [])
-    older l = let m = named.each c g (sym (ap (option_and_then hub_connected) (slice_get-append h (Open place kind ∷ []) c l)) ∙ s) in omega (arith, length-append {A = Event})
+    older l = let m = named.each c g (sym (ap (option_and_then hub_connected) (slice_get-append h (Open place kind ∷ []) c l)) ∙ s) in
+        omega (arith, length-append {A = Event})
 
     by_place : (c ≡ length h) ⊎ ((c < length h) ⊎ (length h < c)) → g < length (h ++ Open place kind ∷ [])
-    by_place (inl same) = absurd (none-some g (sym (ap (option_and_then hub_connected) (ap (slice_get (h ++ Open place kind ∷ [])) same ∙ slice_get_last h (Open place kind))) ∙ s))
+    by_place (inl same) =
+        absurd (none-some g (sym
+        (ap (option_and_then hub_connected) (ap (slice_get (h ++ Open place kind ∷ [])) same ∙ slice_get_last h (Open place kind))) ∙ s))
     by_place (inr (inl l)) = older l
-    by_place (inr (inr l)) = absurd (none-some g (sym (ap (option_and_then hub_connected) (slice_get_past (h ++ Open place kind ∷ []) c (omega (arith, length-append {A = Event})))) ∙ s))
+    by_place (inr (inr l)) =
+        absurd (none-some g (sym
+        (ap (option_and_then hub_connected) (slice_get_past (h ++ Open place kind ∷ []) c (omega (arith, length-append {A = Event})))) ∙ s))
 
 -- items and the rest -------------------------------------------------------------------------------------
 
 pub item_answer : (h : List Event) (e : Event) (l : ℕ) (v : ℤ) (b : Bool) → e ≡ Item l v → b ≡ item_allowed h l → (IsTrue b) ↔ IsAllowed h e
 item_answer h e l v b is_e is = rw is_e (λ t. item_may h l v (sym is ∙ t), λ a. is ∙ item_may_of h l v a)
 
-pub simple_answer : (h : List Event) (e : Event) (b : Bool) → ((place : Place) (kind : Kind) → e ≡ Open place kind → ⊥) → ((l : ℕ) (v : ℤ) → e ≡ Item l v → ⊥) → b ≡ allowed_simply h e → (IsTrue b) ↔ IsAllowed h e
+pub simple_answer : (h : List Event) (e : Event) (b : Bool) → ((place : Place) (kind : Kind) → e ≡ Open place kind → ⊥)
+    → ((l : ℕ) (v : ℤ) → e ≡ Item l v → ⊥) → b ≡ allowed_simply h e → (IsTrue b) ↔ IsAllowed h e
 simple_answer h e b no_open no_item is = (λ t. simply_may h e (sym is ∙ t), λ a. is ∙ simply_may_of h e no_open no_item a)
 
 -- what may follow ----------------------------------------------------------------------------------------
@@ -112,11 +124,11 @@ opened_first h (End m t) e = absurd (false≢true e)
 opened_first h (Close m) e = absurd (false≢true e)
 opened_first h (Take r) e = absurd (false≢true e)
 
-pub opened_answer : (h : List Event) (e : Event) → opened_with h e ≡ true → (IsTrue true) ↔ MayFollow h e
-opened_answer h e f = (λ t. opened_first h e f, λ m. refl)
-
-first_opened : (h : List Event) (n : ℕ) (place : Place) → slice_get h n ≡ Some (Open place Pass) → length h ≡ n + 1 → is_open h n ≡ true → (at opens_pass h n && (length h == n + 1) && is_open h n) ≡ true
-first_opened h n place at_n len o = both (at opens_pass h n && (length h == n + 1)) (is_open h n) (both (at opens_pass h n) (length h == n + 1) (ap (λ o. option_map_or opens_pass o false) at_n) (eq-eqb (length h) (n + 1) len)) o
+first_opened : (h : List Event) (n : ℕ) (place : Place) → slice_get h n ≡ Some (Open place Pass)
+    → length h ≡ n + 1 → is_open h n ≡ true → (at opens_pass h n && (length h == n + 1) && is_open h n) ≡ true
+first_opened h n place at_n len o =
+    both (at opens_pass h n && (length h == n + 1)) (is_open h n)
+    (both (at opens_pass h n) (length h == n + 1) (ap (λ o. option_map_or opens_pass o false) at_n) (eq-eqb (length h) (n + 1) len)) o
 
 -- where operators have something left to do, just what is forced and the acceptance after an opening may follow
 pub unsettled_answer : (h : List Event) (e : Event) (b : Bool) → is_forced h e ≡ false → ¬ IsSettled h → b ≡ opened_with h e → (IsTrue b) ↔ MayFollow h e
@@ -141,16 +153,23 @@ get_at [] i d l = absurd (omega arith)
 get_at (x ∷ h) zero d l = refl
 get_at (x ∷ h) (suc i) d l = get_at h i d (omega arith)
 
-pub unlawful_here : (h : List Event) (i : ℕ) (d : Event) (b : Bool) → i < length h → IsLawful (take i h) → b ≡ false → (IsTrue b) ↔ MayFollow (take i h) (get_or h i d) → IsFoundUnlawful h i
+pub unlawful_here : (h : List Event) (i : ℕ) (d : Event) (b : Bool) → i < length h → IsLawful (take i h)
+    → b ≡ false → (IsTrue b) ↔ MayFollow (take i h) (get_or h i d) → IsFoundUnlawful h i
 unlawful_here h i d b l law refused w = record { before = law; event = get_or h i d; found = get_at h i d l; breaks = λ m. both_ways b refused (w.1 m) }
 
-pub lawful_more : (h : List Event) (i : ℕ) (d : Event) (b : Bool) → i < length h → IsLawful (take i h) → b ≡ true → (IsTrue b) ↔ MayFollow (take i h) (get_or h i d) → IsLawful (take (i + 1) h)
+pub lawful_more : (h : List Event) (i : ℕ) (d : Event) (b : Bool) → i < length h → IsLawful (take i h)
+    → b ≡ true → (IsTrue b) ↔ MayFollow (take i h) (get_or h i d) → IsLawful (take (i + 1) h)
 lawful_more h i d b l law follows w = rw (take_more h i d l) (IsLawful-push (take i h) (get_or h i d) law (w.0 follows))
 
-pub settled_more : (h : List Event) (i : ℕ) (d : Event) (b : Bool) → i < length h → IsLawful (take i h) → IsSettled (take i h) → b ≡ true → (IsTrue b) ↔ MayFollow (take i h) (get_or h i d) → IsQuiet (take i h) (get_or h i d) → is_fired (take i h) (length (take i h)) ≡ false → ((u : ℕ) → u ≤ length (take i h) → is_fired (take i h ++ get_or h i d ∷ []) u ≡ is_fired (take i h) u) → IsSettled (take (i + 1) h)
-settled_more h i d b l law settled follows w quiet unfired fires = rw (take_more h i d l) (settled_after (take i h) (get_or h i d) (record { law = law; settled = settled; follows = w.0 follows; unfired = unfired; fires = fires }) quiet)
+pub settled_more : (h : List Event) (i : ℕ) (d : Event) (b : Bool) → i < length h → IsLawful (take i h) → IsSettled (take i h) → b ≡ true
+    → (IsTrue b) ↔ MayFollow (take i h) (get_or h i d) → IsQuiet (take i h) (get_or h i d) → is_fired (take i h) (length (take i h)) ≡ false
+    → ((u : ℕ) → u ≤ length (take i h) → is_fired (take i h ++ get_or h i d ∷ []) u ≡ is_fired (take i h) u) → IsSettled (take (i + 1) h)
+settled_more h i d b l law settled follows w quiet unfired fires =
+    rw (take_more h i d l)
+    (settled_after (take i h) (get_or h i d) (record { law = law; settled = settled; follows = w.0 follows; unfired = unfired; fires = fires }) quiet)
 
-pub found_more : (h : List Event) (i : ℕ) (d : Event) (size : ℕ) (found : Found) → i < length h → size ≡ length h → IsFound (take i h ++ get_or h i d ∷ []) size found → IsFound (take (i + 1) h) (length h) found
+pub found_more : (h : List Event) (i : ℕ) (d : Event) (size : ℕ) (found : Found) → i < length h → size ≡ length h
+    → IsFound (take i h ++ get_or h i d ∷ []) size found → IsFound (take (i + 1) h) (length h) found
 found_more h i d size found l same f = rw (take_more h i d l, ← same) f
 
 pub sized_as : (n size : ℕ) (survey : Survey) → size ≡ n → IsSized size survey → IsSized n survey

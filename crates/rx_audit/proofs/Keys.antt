@@ -1,13 +1,14 @@
 -- Marks and counts by a key.
-use Rattle.std.proofs.Common.{◌≡◌, ℕ, zero, suc, ◌+◌, ◌<◌, ◌≤◌, Bool, true, false, List, [], ◌∷◌, length, Option, Some, None, refl, sym, ap, ◌∙◌, arith, ◌==◌, ◌≢◌, get_or, set, get_or-set_other, get_or-set_same, ◌⊎◌, inl, inr, cond, take, add_assoc, add-zero}
+use Rattle.std.proofs.Common.{◌≡◌, ℕ, zero, suc, ◌+◌, ◌<◌, ◌≤◌, Bool, true, false, List, [], ◌∷◌, length, Option, Some, None}
+use Rattle.std.proofs.Common.{refl, sym, ap, ◌∙◌, arith, ◌==◌, ◌≢◌, get_or, set, get_or-set_other, get_or-set_same, ◌⊎◌, inl, inr, cond, take}
+use Rattle.std.proofs.Common.{add-zero}
 use Rattle.std.proofs.Math.Bool.{◌||◌}
 use Rattle.std.proofs.Math.ListN.{length-set}
 use Rattle.std.proofs.lemmas.Bool.{cases_order, eq-eqb, ne_eqb}
-use Rattle.std.specs.List.{list_any, sum_by}
+use Rattle.std.specs.List.{list_any}
 use Rattle.rx_audit.specs.declared.reach.Visit.{Visit}
 use Rattle.std.proofs.lemmas.List.Folds.{list_any_more}
-use Rattle.std.proofs.lemmas.List.Sums.{sum_by_more}
-use Rattle.rx_audit.specs.Tables.{marks_with, counts_with, counts_plus, IsTold, IsCounted}
+use Rattle.rx_audit.specs.Tables.{marks_with, counts_with, IsTold}
 use Rattle.rx_audit.specs.Rules.{is_key}
 
 or_false : (b : Bool) → (b || false) ≡ b
@@ -55,42 +56,14 @@ or_assoc true b c = refl
 or_assoc false b c = refl
 
 -- one visit more
-pub told_more : (old ms : List Bool) (has : ℕ → ℕ → Bool) (log : List Visit) (i : ℕ) (v : Visit) (key : Option ℕ) → i < length log → v ≡ get_or log i v → length ms ≡ length old → ((k : ℕ) → has v.node k ≡ is_key key k) → IsTold old ms has (take i log) → IsTold old (marks_with ms key) has (take (i + 1) log)
+pub told_more : (old ms : List Bool) (has : ℕ → ℕ → Bool) (log : List Visit) (i : ℕ) (v : Visit) (key : Option ℕ)
+    → i < length log → v ≡ get_or log i v → length ms ≡ length old → ((k : ℕ) → has v.node k ≡ is_key key k)
+    → IsTold old ms has (take i log) → IsTold old (marks_with ms key) has (take (i + 1) log)
 told_more old ms has log i v key l e same keyed told k m =
-    marks_with_at ms key k (omega arith) ∙ ap (λ b. b || is_key key k) (told k m) ∙ or_assoc (get_or old k false) (list_any (λ v. has v.node k) (take i log)) (is_key key k) ∙ ap (λ b. get_or old k false || b) (sym (list_any_more (λ (v : Visit). has v.node k) log i v l ∙ ap (λ b. list_any (λ v. has v.node k) (take i log) || b) (ap (λ (u : Visit). has u.node k) (sym e) ∙ keyed k)))
-
-pub length-counts_plus : (cs : List ℕ) (k : Option ℕ) (by : ℕ) → length (counts_plus cs k by) ≡ length cs
-length-counts_plus cs None by = refl
-length-counts_plus cs (Some r) by = simp length-set
-
-counts_plus_at : (cs : List ℕ) (k : Option ℕ) (by n : ℕ) → n < length cs → get_or (counts_plus cs k by) n 0 ≡ get_or cs n 0 + cond (is_key k n) by 0
-counts_plus_at cs None by n l = sym (add-zero (get_or cs n 0))
-counts_plus_at cs (Some r) by n l = by_order (cases_order r n) where
-  other : (r ≡ n → ⊥) → get_or (set cs r (get_or cs r 0 + by)) n 0 ≡ get_or cs n 0 + cond (r == n) by 0
-  other d = let ne : n ≢ r = λ e. d (sym e) in rw get_or-set_other (rw (ne_eqb r n d) (sym (add-zero (get_or cs n 0))))
-
-  by_order : (r ≡ n) ⊎ ((r < n) ⊎ (n < r)) → get_or (set cs r (get_or cs r 0 + by)) n 0 ≡ get_or cs n 0 + cond (r == n) by 0
-  by_order (inl same) = rw (eq-eqb r n same, same) (rw get_or-set_same refl)
-  by_order (inr (inl m)) = other (λ e. omega arith)
-  by_order (inr (inr m)) = other (λ e. omega arith)
-
-pub counted_more : (old cs : List ℕ) (has : ℕ → ℕ → Bool) (log : List Visit) (i : ℕ) (v : Visit) (key : Option ℕ) → i < length log → v ≡ get_or log i v → length cs ≡ length old → ((k : ℕ) → has v.node k ≡ is_key key k) → IsCounted old cs has (take i log) → IsCounted old (counts_plus cs key v.count) has (take (i + 1) log)
-counted_more old cs has log i v key l e same keyed told k m =
-    let f : Visit → ℕ = λ u. cond (has u.node k) u.count 0 in
-    counts_plus_at cs key v.count k (omega arith) ∙ ap (λ a. a + cond (is_key key k) v.count 0) (told k m) ∙ add_assoc (get_or old k 0) (sum_by f (take i log)) (cond (is_key key k) v.count 0) ∙ ap (λ a. get_or old k 0 + a) (sym (sum_by_more f log i v l ∙ ap (λ a. sum_by f (take i log) + a) (ap f (sym e) ∙ ap (λ b. cond b v.count 0) (keyed k))))
-
-pub counts_plus_few : (cs : List ℕ) (k : Option ℕ) (by n : ℕ) → get_or (counts_plus cs k by) n 0 ≤ get_or cs n 0 + by
-counts_plus_few cs None by n = omega arith
-counts_plus_few cs (Some r) by n = by_order (cases_order r n) where
-  at_set : (cs : List ℕ) (n : ℕ) → get_or (set cs n (get_or cs n 0 + by)) n 0 ≤ get_or cs n 0 + by
-  at_set [] n = omega arith
-  at_set (c ∷ cs) zero = omega arith
-  at_set (c ∷ cs) (suc n) = at_set cs n
-
-  by_order : (r ≡ n) ⊎ ((r < n) ⊎ (n < r)) → get_or (set cs r (get_or cs r 0 + by)) n 0 ≤ get_or cs n 0 + by
-  by_order (inl same) = rw same (at_set cs n)
-  by_order (inr (inl m)) = let ne : n ≢ r = omega arith in rw get_or-set_other (omega arith)
-  by_order (inr (inr m)) = let ne : n ≢ r = omega arith in rw get_or-set_other (omega arith)
+    marks_with_at ms key k (omega arith) ∙ ap (λ b. b || is_key key k) (told k m) ∙ or_assoc (get_or old k false)
+    (list_any (λ v. has v.node k) (take i log)) (is_key key k) ∙ ap (λ b. get_or old k false || b)
+    (sym (list_any_more (λ (v : Visit). has v.node k) log i v l
+    ∙ ap (λ b. list_any (λ v. has v.node k) (take i log) || b) (ap (λ (u : Visit). has u.node k) (sym e) ∙ keyed k)))
 
 pub counts_few : (cs : List ℕ) (k : Option ℕ) (n : ℕ) → get_or (counts_with cs k) n 0 ≤ get_or cs n 0 + 1
 counts_few cs None n = omega arith

@@ -1,5 +1,6 @@
 -- The log of visits, entry by entry.
-use Rattle.std.proofs.Common.{◌≡◌, ℕ, zero, suc, ◌+◌, ◌*◌, ◌<◌, ◌≤◌, List, [], ◌∷◌, ◌++◌, length, take, drop, set, get_or, Some, slice_get, refl, sym, ap, arith, length-take-le}
+use Rattle.std.proofs.Common.{◌≡◌, ℕ, zero, suc, ◌+◌, ◌*◌, ◌<◌, ◌≤◌, List, [], ◌∷◌, ◌++◌}
+use Rattle.std.proofs.Common.{length, take, drop, set, get_or, Some, slice_get, refl, sym, ap, arith, length-take-le}
 use Rattle.std.specs.List.{sum_by}
 use Rattle.std.proofs.Math.Nat.{mul-le-mul_left}
 use Rattle.std.proofs.lemmas.Option.{same_Some, none-some}
@@ -8,7 +9,8 @@ use Rattle.rx_audit.specs.declared.reach.Visit.{Visit}
 use Rattle.rx_audit.specs.Flow.{times, IsOften}
 
 -- an entry with so many more
-pub entry_more : (log : List Visit) (k at more : ℕ) (v : Visit) → k ≤ at → slice_get log at ≡ Some v → (number : ℕ → ℕ) → sum_by (times number) (drop k (set log at (record v { count = v.count + more }))) ≡ sum_by (times number) (drop k log) + more * number v.node
+pub entry_more : (log : List Visit) (k at more : ℕ) (v : Visit) → k ≤ at → slice_get log at ≡ Some v → (number : ℕ → ℕ)
+    → sum_by (times number) (drop k (set log at (record v { count = v.count + more }))) ≡ sum_by (times number) (drop k log) + more * number v.node
 entry_more [] k at more v l is number = absurd (none-some v is)
 entry_more (x ∷ log) zero zero more v l is number =
     let same = same_Some x v is in
@@ -57,7 +59,8 @@ often_push (x ∷ log) w l often zero v e = often zero v e
 often_push (x ∷ log) w l often (suc i) v e = often_push log w l (λ j u f. often (suc j) u f) i v e
 
 -- so many for each of the first nodes, and one node more
-pub times_more : (count : ℕ) (nodes : List ℕ) (i d : ℕ) (number : ℕ → ℕ) → i < length nodes → count * sum_by number (take (i + 1) nodes) ≡ count * sum_by number (take i nodes) + count * number (get_or nodes i d)
+pub times_more : (count : ℕ) (nodes : List ℕ) (i d : ℕ) (number : ℕ → ℕ) → i < length nodes
+    → count * sum_by number (take (i + 1) nodes) ≡ count * sum_by number (take i nodes) + count * number (get_or nodes i d)
 times_more count nodes i d number l = let s = sum_by_more number nodes i d l in rw s (omega arith)
 
 count_all : (xs : List ℕ) → sum_by (λ n. 1) xs ≡ length xs

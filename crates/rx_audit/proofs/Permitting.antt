@@ -1,5 +1,6 @@
 -- The tests that compute decide which events callers may add.
-use Rattle.std.proofs.Common.{◌≡◌, ℕ, ℤ, ◌+◌, ◌<◌, ◌≤◌, Bool, true, false, List, [], ◌∷◌, ◌++◌, length, Option, Some, None, refl, sym, ap, ◌∙◌, arith, ◌==◌, slice_get, inl, inr, ◌⊎◌, nat_lt, nat_le, is_some, MatchOption}
+use Rattle.std.proofs.Common.{◌≡◌, ℕ, ℤ, ◌+◌, ◌<◌, ◌≤◌, Bool, true, false, List, [], ◌∷◌, ◌++◌, length, Option}
+use Rattle.std.proofs.Common.{Some, None, refl, sym, ap, ◌∙◌, arith, ◌==◌, slice_get, inl, inr, ◌⊎◌, nat_lt, nat_le, is_some, MatchOption}
 use Rattle.std.proofs.Math.Bool.{not, ◌&&◌, ◌||◌}
 use Rattle.std.specs.List.{list_any, list_all, filter}
 use Rattle.std.proofs.lemmas.List.Filters.{length-filter_both}
@@ -20,15 +21,19 @@ use Rattle.rx_event.specs.Tree.{at, places, hubs, is_open, open_nodes, ancestors
 use Rattle.rx_event.specs.Climb.{visits, most_visits}
 use Rattle.rx_event.specs.Moments.{owed}
 use Rattle.rx_event.specs.Forced.{IsConnectDue}
-use Rattle.rx_event.specs.Allowed.{most_nodes, most_hubs, IsFree, IsInOrderAt, IsInOrder, IsHubbed, may_abort, IsAllowed, opened, published, connected, accepted, used, removed, emitted, declined, leaf_ended, aborted, projection_failed, root_closed, disconnected, taken}
+use Rattle.rx_event.specs.Allowed.{most_nodes, most_hubs, IsFree, IsInOrderAt, IsInOrder, IsHubbed, may_abort, IsAllowed, opened}
+use Rattle.rx_event.specs.Allowed.{published, connected, accepted, used, removed, emitted, declined, leaf_ended, aborted, projection_failed, root_closed}
+use Rattle.rx_event.specs.Allowed.{disconnected, taken}
 use Rattle.rx_audit.specs.Rules.{hub_connected_at, has_key, open_connected, is_owing}
-use Rattle.rx_audit.specs.Allowing.{connects_later, is_in_order_at, is_in_order, is_hubbed, is_free, failure_allowed, failing_allowed, end_allowed, close_allowed, connect_allowed, decline_allowed, allowed_simply, item_allowed, open_allowed}
+use Rattle.rx_audit.specs.Allowing.{connects_later, is_in_order_at, is_in_order, is_hubbed, is_free, failure_allowed}
+use Rattle.rx_audit.specs.Allowing.{failing_allowed, end_allowed, close_allowed, connect_allowed, decline_allowed, allowed_simply, item_allowed, open_allowed}
 use Rattle.rx_audit.proofs.Deciding.{both, left, right, either, not_not, is_false, connection_at, at_connection, filter_none, none_filtered, connected_key}
 use Rattle.rx_audit.proofs.Due.{child_closed, no_child_open}
 
 -- items ------------------------------------------------------------------------------------------------
 
-pub item_test : {X : Type 0} (h : List Event) (l : ℕ) (o : Option X) (P : X → Type 0) → ((x : X) → P x → visits h l ≤ 1048576) → MatchOption o (1048576 < visits h l) P → (is_open h l && at is_leaf h l) ≡ true → is_some o ≡ item_allowed h l
+pub item_test : {X : Type 0} (h : List Event) (l : ℕ) (o : Option X) (P : X → Type 0) → ((x : X) → P x → visits h l ≤ 1048576)
+    → MatchOption o (1048576 < visits h l) P → (is_open h l && at is_leaf h l) ≡ true → is_some o ≡ item_allowed h l
 unfolding item_allowed
 item_test h l None P few m leaf = rw leaf (sym (lt-leb (visits h l) 1048576 m))
 item_test h l (Some x) P few m leaf = rw leaf (sym (le-leb (visits h l) 1048576 (few x m)))
@@ -46,7 +51,8 @@ item_may h l v e =
 
 pub item_may_of : (h : List Event) (l : ℕ) (v : ℤ) → IsAllowed h (Item l v) → item_allowed h l ≡ true
 unfolding item_allowed most_visits
-item_may_of h l v (emitted o m few) = both (is_open h l && at is_leaf h l) (nat_le (visits h l) 1048576) (both (is_open h l) (at is_leaf h l) o m) (le-leb (visits h l) 1048576 few)
+item_may_of h l v (emitted o m few) =
+    both (is_open h l && at is_leaf h l) (nat_le (visits h l) 1048576) (both (is_open h l) (at is_leaf h l) o m) (le-leb (visits h l) 1048576 few)
 
 -- what is owed -----------------------------------------------------------------------------------------
 
@@ -109,8 +115,12 @@ failing h n c o e = both (is_open h n) (at is_leaf h n || failing_allowed h n (E
 end_may_of : (h : List Event) (n : ℕ) (t : Terminal) → IsAllowed h (End n t) → end_allowed h n t ≡ true
 unfolding end_allowed
 end_may_of h n t (leaf_ended o m) = both (is_open h n) (at is_leaf h n || failing_allowed h n t) o (left (at is_leaf h n) (failing_allowed h n t) m)
-end_may_of h n (Error c) (aborted o m closed) = failing h n c o (left (at has_source h n && not (has_open_child h n)) (at is_merging h n && is_owing h n) (both (at has_source h n) (not (has_open_child h n)) (abort_at h n ∙ m) (no_child_open h n closed)))
-end_may_of h n (Error c) (projection_failed o m w) = failing h n c o (right (at has_source h n && not (has_open_child h n)) (at is_merging h n && is_owing h n) (both (at is_merging h n) (is_owing h n) m (is_owed h n w)))
+end_may_of h n (Error c) (aborted o m closed) =
+    failing h n c o (left (at has_source h n && not (has_open_child h n)) (at is_merging h n && is_owing h n)
+    (both (at has_source h n) (not (has_open_child h n)) (abort_at h n ∙ m) (no_child_open h n closed)))
+end_may_of h n (Error c) (projection_failed o m w) =
+    failing h n c o (right (at has_source h n && not (has_open_child h n))
+    (at is_merging h n && is_owing h n) (both (at is_merging h n) (is_owing h n) m (is_owed h n w)))
 
 close_may : (h : List Event) (n : ℕ) → close_allowed h n ≡ true → IsAllowed h (Close n)
 unfolding close_allowed
@@ -128,24 +138,34 @@ close_may h n e = by_kind (either (at is_root h n) (option_map_or (at is_manual_
 
 close_may_of : (h : List Event) (n : ℕ) → IsAllowed h (Close n) → close_allowed h n ≡ true
 unfolding close_allowed
-close_may_of h n (root_closed o m) = both (is_open h n) (at is_root h n || option_map_or (at is_manual_hub h) (hub_connected_at h n) false) o (left (at is_root h n) (option_map_or (at is_manual_hub h) (hub_connected_at h n) false) m)
-close_may_of h n (disconnected {g = g} o at_n m) = both (is_open h n) (at is_root h n || option_map_or (at is_manual_hub h) (hub_connected_at h n) false) o (right (at is_root h n) (option_map_or (at is_manual_hub h) (hub_connected_at h n) false) (ap (λ o. option_map_or (at is_manual_hub h) o false) (at_connection h n g at_n) ∙ m))
+close_may_of h n (root_closed o m) =
+    both (is_open h n) (at is_root h n || option_map_or (at is_manual_hub h) (hub_connected_at h n) false) o
+    (left (at is_root h n) (option_map_or (at is_manual_hub h) (hub_connected_at h n) false) m)
+close_may_of h n (disconnected {g = g} o at_n m) =
+    both (is_open h n) (at is_root h n || option_map_or (at is_manual_hub h) (hub_connected_at h n) false) o
+    (right (at is_root h n) (option_map_or (at is_manual_hub h) (hub_connected_at h n) false)
+    (ap (λ o. option_map_or (at is_manual_hub h) o false) (at_connection h n g at_n) ∙ m))
 
 connect_may : (h : List Event) (g : ℕ) → connect_allowed h g ≡ true → IsAllowed h (Connect g)
 unfolding connect_allowed most_nodes
 connect_may h g e =
     let a = and_parts (at is_manual_hub h g && not (has_key (open_connected h) h g)) (nat_lt (length (open_nodes h)) 1048576) e in
     let b = and_parts (at is_manual_hub h g) (not (has_key (open_connected h) h g)) a.0 in
-    connected b.0 (filter_none (λ n. at (is_connect_of g) h n && is_open h n) (places h) (sym (connected_key h g) ∙ not_not (has_key (open_connected h) h g) b.1)) (ltb-true (length (open_nodes h)) 1048576 a.1)
+    connected b.0 (filter_none (λ n. at (is_connect_of g) h n && is_open h n) (places h)
+    (sym (connected_key h g) ∙ not_not (has_key (open_connected h) h g) b.1)) (ltb-true (length (open_nodes h)) 1048576 a.1)
 
 connect_may_of : (h : List Event) (g : ℕ) → IsAllowed h (Connect g) → connect_allowed h g ≡ true
 unfolding connect_allowed most_nodes
 connect_may_of h g (connected m none few) =
-    both (at is_manual_hub h g && not (has_key (open_connected h) h g)) (nat_lt (length (open_nodes h)) 1048576) (both (at is_manual_hub h g) (not (has_key (open_connected h) h g)) m (is_false (has_key (open_connected h) h g) (connected_key h g ∙ none_filtered (λ n. at (is_connect_of g) h n && is_open h n) (places h) none))) (lt-ltb (length (open_nodes h)) 1048576 few)
+    both (at is_manual_hub h g && not (has_key (open_connected h) h g)) (nat_lt (length (open_nodes h)) 1048576)
+    (both (at is_manual_hub h g) (not (has_key (open_connected h) h g)) m
+    (is_false (has_key (open_connected h) h g) (connected_key h g ∙ none_filtered (λ n. at (is_connect_of g) h n && is_open h n) (places h) none)))
+    (lt-ltb (length (open_nodes h)) 1048576 few)
 
 decline_may : (h : List Event) (f : ℕ) → decline_allowed h f ≡ true → IsAllowed h (Decline f)
 unfolding decline_allowed
-decline_may h f e = let a = and_parts (is_open h f && at is_merging h f) (is_owing h f) e in let b = and_parts (is_open h f) (at is_merging h f) a.0 in declined b.0 b.1 (owes h f a.1)
+decline_may h f e = let a = and_parts (is_open h f && at is_merging h f) (is_owing h f) e in
+    let b = and_parts (is_open h f) (at is_merging h f) a.0 in declined b.0 b.1 (owes h f a.1)
 
 decline_may_of : (h : List Event) (f : ℕ) → IsAllowed h (Decline f) → decline_allowed h f ≡ true
 unfolding decline_allowed
@@ -172,7 +192,8 @@ simply_may h (Take r) e = taken e
 simply_may h (Open place kind) e = absurd (false≢true e)
 simply_may h (Item l v) e = absurd (false≢true e)
 
-pub simply_may_of : (h : List Event) (e : Event) → ((place : Place) (kind : Kind) → e ≡ Open place kind → ⊥) → ((l : ℕ) (v : ℤ) → e ≡ Item l v → ⊥) → IsAllowed h e → allowed_simply h e ≡ true
+pub simply_may_of : (h : List Event) (e : Event) → ((place : Place) (kind : Kind) → e ≡ Open place kind → ⊥)
+    → ((l : ℕ) (v : ℤ) → e ≡ Item l v → ⊥) → IsAllowed h e → allowed_simply h e ≡ true
 simply_may_of h (Hub mode) no_open no_item a = hub_may_of h mode a
 simply_may_of h (Connect g) no_open no_item a = connect_may_of h g a
 simply_may_of h (Accept n tag) no_open no_item (accepted o) = o
@@ -199,16 +220,20 @@ all_at q (x ∷ xs) a all any = by_first (all_at q xs a w.1) (either (a == x) (l
 
 all_of : (q : ℕ → Bool) (xs : List ℕ) → ((a : ℕ) → list_any (λ x. a == x) xs ≡ true → q a ≡ true) → list_all q xs ≡ true
 all_of q [] each = refl
-all_of q (x ∷ xs) each = both (q x) (list_all q xs) (each x (left (x == x) (list_any (λ y. x == y) xs) (eq-eqb x x refl))) (all_of q xs (λ a m. each a (right (a == x) (list_any (λ y. a == y) xs) m)))
+all_of q (x ∷ xs) each =
+    both (q x) (list_all q xs) (each x (left (x == x) (list_any (λ y. x == y) xs) (eq-eqb x x refl)))
+    (all_of q xs (λ a m. each a (right (a == x) (list_any (λ y. a == y) xs) m)))
 
 in_order_at : (h : List Event) (g p : ℕ) → is_in_order_at h g p ≡ true → IsInOrderAt h g p
 unfolding is_in_order_at
-in_order_at h g p e a k within at_a = ltb-true g k (sym (ap (λ o. option_map_or (λ k. nat_lt g k) o true) (at_connection h a k at_a)) ∙ all_at (connects_later h g) (ancestors h p) a e within)
+in_order_at h g p e a k within at_a =
+    ltb-true g k (sym (ap (λ o. option_map_or (λ k. nat_lt g k) o true) (at_connection h a k at_a)) ∙ all_at (connects_later h g) (ancestors h p) a e within)
 
 in_order_at_of : (h : List Event) (g p : ℕ) → IsInOrderAt h g p → is_in_order_at h g p ≡ true
 unfolding is_in_order_at
 in_order_at_of h g p order = all_of (connects_later h g) (ancestors h p) (λ a within. by_hub a within (hub_connected_at h a) refl) where
-  by_hub : (a : ℕ) → list_any (λ x. a == x) (ancestors h p) ≡ true → (o : Option ℕ) → hub_connected_at h a ≡ o → option_map_or (λ k. nat_lt g k) (hub_connected_at h a) true ≡ true
+  by_hub : (a : ℕ) → list_any (λ x. a == x) (ancestors h p) ≡ true → (o : Option ℕ)
+      → hub_connected_at h a ≡ o → option_map_or (λ k. nat_lt g k) (hub_connected_at h a) true ≡ true
   by_hub a within None is = ap (λ o. option_map_or (λ k. nat_lt g k) o true) is
   by_hub a within (Some k) is = ap (λ o. option_map_or (λ k. nat_lt g k) o true) is ∙ lt-ltb g k (order a k within (connection_at h a k is))
 
@@ -242,17 +267,25 @@ hubbed_of h place Until o = refl
 
 free : (h : List Event) (place : Place) → is_free h place ≡ true → IsFree h place
 free h Root e = tt
-free h (Source p) e = let a = and_parts (is_open h p && at has_source h p) (not (list_any (is_source_of p) h)) e in let b = and_parts (is_open h p) (at has_source h p) a.0 in (b.0, b.1, not_not (list_any (is_source_of p) h) a.1)
-free h (Inner p) e = let a = and_parts (is_open h p && at is_merging h p) (is_owing h p) e in let b = and_parts (is_open h p) (at is_merging h p) a.0 in (b.0, b.1, owes h p a.1)
-free h (Notifier p) e = let a = and_parts (is_open h p && at is_until h p) (not (list_any (is_notifier_of p) h)) e in let b = and_parts (is_open h p) (at is_until h p) a.0 in (b.0, b.1, not_not (list_any (is_notifier_of p) h) a.1)
+free h (Source p) e = let a = and_parts (is_open h p && at has_source h p) (not (list_any (is_source_of p) h)) e in
+    let b = and_parts (is_open h p) (at has_source h p) a.0 in (b.0, b.1, not_not (list_any (is_source_of p) h) a.1)
+free h (Inner p) e = let a = and_parts (is_open h p && at is_merging h p) (is_owing h p) e in
+    let b = and_parts (is_open h p) (at is_merging h p) a.0 in (b.0, b.1, owes h p a.1)
+free h (Notifier p) e = let a = and_parts (is_open h p && at is_until h p) (not (list_any (is_notifier_of p) h)) e in
+    let b = and_parts (is_open h p) (at is_until h p) a.0 in (b.0, b.1, not_not (list_any (is_notifier_of p) h) a.1)
 
 free_of : (h : List Event) (place : Place) → IsFree h place → is_free h place ≡ true
 free_of h Root o = refl
-free_of h (Source p) o = both (is_open h p && at has_source h p) (not (list_any (is_source_of p) h)) (both (is_open h p) (at has_source h p) o.0 o.1) (is_false (list_any (is_source_of p) h) o.2)
+free_of h (Source p) o =
+    both (is_open h p && at has_source h p) (not (list_any (is_source_of p) h))
+    (both (is_open h p) (at has_source h p) o.0 o.1) (is_false (list_any (is_source_of p) h) o.2)
 free_of h (Inner p) o = both (is_open h p && at is_merging h p) (is_owing h p) (both (is_open h p) (at is_merging h p) o.0 o.1) (is_owed h p o.2)
-free_of h (Notifier p) o = both (is_open h p && at is_until h p) (not (list_any (is_notifier_of p) h)) (both (is_open h p) (at is_until h p) o.0 o.1) (is_false (list_any (is_notifier_of p) h) o.2)
+free_of h (Notifier p) o =
+    both (is_open h p && at is_until h p) (not (list_any (is_notifier_of p) h))
+    (both (is_open h p) (at is_until h p) o.0 o.1) (is_false (list_any (is_notifier_of p) h) o.2)
 
-pub open_may : (h : List Event) (place : Place) (kind : Kind) → open_allowed h place kind ≡ true → ((g : ℕ) → IsConnectDue (h ++ Open place kind ∷ []) g → length (open_nodes h) + 2 ≤ 1048576) → IsAllowed h (Open place kind)
+pub open_may : (h : List Event) (place : Place) (kind : Kind) → open_allowed h place kind ≡ true
+    → ((g : ℕ) → IsConnectDue (h ++ Open place kind ∷ []) g → length (open_nodes h) + 2 ≤ 1048576) → IsAllowed h (Open place kind)
 unfolding open_allowed most_nodes
 open_may h place kind e fits =
     let a = and_parts (is_free h place && is_hubbed h place kind) (nat_lt (length (open_nodes h)) 1048576) e in
@@ -262,15 +295,19 @@ open_may h place kind e fits =
 
 pub open_may_of : (h : List Event) (place : Place) (kind : Kind) → IsAllowed h (Open place kind) → open_allowed h place kind ≡ true
 unfolding open_allowed most_nodes
-open_may_of h place kind (opened f o few fits) = both (is_free h place && is_hubbed h place kind) (nat_lt (length (open_nodes h)) 1048576) (both (is_free h place) (is_hubbed h place kind) (free_of h place f) (hubbed_of h place kind o)) (lt-ltb (length (open_nodes h)) 1048576 (omega arith))
+open_may_of h place kind (opened f o few fits) =
+    both (is_free h place && is_hubbed h place kind) (nat_lt (length (open_nodes h)) 1048576)
+    (both (is_free h place) (is_hubbed h place kind) (free_of h place f) (hubbed_of h place kind o)) (lt-ltb (length (open_nodes h)) 1048576 (omega arith))
 
-pub open_fits : (h : List Event) (place : Place) (kind : Kind) → IsAllowed h (Open place kind) → (g : ℕ) → IsConnectDue (h ++ Open place kind ∷ []) g → length (open_nodes h) + 2 ≤ 1048576
+pub open_fits : (h : List Event) (place : Place) (kind : Kind) → IsAllowed h (Open place kind)
+    → (g : ℕ) → IsConnectDue (h ++ Open place kind ∷ []) g → length (open_nodes h) + 2 ≤ 1048576
 unfolding most_nodes
 open_fits h place kind (opened f o few fits) = fits
 
 -- no more nodes are open than there are events
 pub few_open : (h : List Event) → length (open_nodes h) ≤ length h
 few_open h =
-    let both : length (filter (is_open h) (places h)) + length (filter (λ k. not (is_open h k)) (places h)) ≡ length (places h) = length-filter_both (is_open h) (λ k. not (is_open h k)) (λ k. refl) (places h) in
+    let both : length (filter (is_open h) (places h)) + length (filter (λ k. not (is_open h k)) (places h)) ≡ length (places h) =
+    length-filter_both (is_open h) (λ k. not (is_open h k)) (λ k. refl) (places h) in
     let all : length (places h) ≡ length h = length-range_with_len 0 (length h) in
     omega arith

@@ -1,5 +1,6 @@
 -- The marks of nodes that stay open.
-use Rattle.std.proofs.Common.{◌≡◌, ℕ, ◌+◌, ◌<◌, ◌≤◌, Bool, true, false, List, [], ◌∷◌, ◌++◌, length, Option, Some, None, refl, sym, ap, ◌∙◌, arith, ◌≢◌, get_or, set, get_or-set_other, get_or-set_same, below_more, ◌⊎◌, inl, inr, length-append, nat_lt}
+use Rattle.std.proofs.Common.{◌≡◌, ℕ, ◌+◌, ◌<◌, ◌≤◌, Bool, true, false, List, [], ◌∷◌, ◌++◌, length, Option, Some, None, refl}
+use Rattle.std.proofs.Common.{sym, ap, ◌∙◌, arith, ◌≢◌, get_or, set, get_or-set_other, get_or-set_same, below_more, ◌⊎◌, inl, inr, length-append, nat_lt}
 use Rattle.std.proofs.Math.Bool.{not, ◌&&◌}
 use Rattle.std.proofs.lemmas.Bool.{cases_order, ltb-true, false≢true}
 use Rattle.std.proofs.lemmas.Option.{cond_some, option_and_then_some}
@@ -22,10 +23,13 @@ shared true false b l = refl
 shared true true b l = refl
 
 -- a node stays open where it is open, is not shut, and its parent stays open
-pub stays_open_step : (h : List Event) (e : Event) (n : ℕ) → stays_open h e n ≡ ((is_open h n && not (shuts h n e)) && option_map_or (stays_open h e) (parent h n) true)
+pub stays_open_step : (h : List Event) (e : Event) (n : ℕ) → stays_open h e n
+    ≡ ((is_open h n && not (shuts h n e)) && option_map_or (stays_open h e) (parent h n) true)
 unfolding stays_open
 stays_open_step h e n = rw (is_open_step h n, ancestors_step h n) (by_parent (parent h n)) where
-  by_parent : (o : Option ℕ) → ((is_standing h n && option_map_or (is_open h) o true) && (not (shuts h n e) && list_all (λ a. not (shuts h a e)) (option_map_or (ancestors h) o []))) ≡ (((is_standing h n && option_map_or (is_open h) o true) && not (shuts h n e)) && option_map_or (stays_open h e) o true)
+  by_parent : (o : Option ℕ)
+      → ((is_standing h n && option_map_or (is_open h) o true) && (not (shuts h n e) && list_all (λ a. not (shuts h a e)) (option_map_or (ancestors h) o [])))
+      ≡ (((is_standing h n && option_map_or (is_open h) o true) && not (shuts h n e)) && option_map_or (stays_open h e) o true)
   by_parent None = shared (is_standing h n) true (not (shuts h n e)) true
   by_parent (Some p) = shared (is_standing h n) (is_open h p) (not (shuts h n e)) (list_all (λ a. not (shuts h a e)) (ancestors h p))
 
@@ -54,17 +58,21 @@ pub top_open : (h : List Event) (e : Event) (n : ℕ) → parent h n ≡ None �
 top_open h e n below s = stays_open_step h e n ∙ rw (below, s) (and_true _ ∙ and_true (is_open h n))
 
 -- a pass over the marks: those before i are f, the rest g
-pub done_cleared : (f : ℕ → Bool) (ms : List Bool) (i : ℕ) → i < length ms → ((k : ℕ) → k < i → get_or ms k false ≡ f k) → f i ≡ false → (k : ℕ) → k < i + 1 → get_or (set ms i false) k false ≡ f k
+pub done_cleared : (f : ℕ → Bool) (ms : List Bool) (i : ℕ) → i < length ms → ((k : ℕ) → k < i → get_or ms k false ≡ f k)
+    → f i ≡ false → (k : ℕ) → k < i + 1 → get_or (set ms i false) k false ≡ f k
 done_cleared f ms i l done gone = below_more _ _ (λ k m. let ne : k ≢ i = omega arith in rw get_or-set_other (done k m)) (rw get_or-set_same (sym gone))
 
-pub rest_cleared : (g : ℕ → Bool) (ms : List Bool) (i : ℕ) → ((k : ℕ) → i ≤ k → get_or ms k false ≡ g k) → (k : ℕ) → i + 1 ≤ k → get_or (set ms i false) k false ≡ g k
+pub rest_cleared : (g : ℕ → Bool) (ms : List Bool) (i : ℕ) → ((k : ℕ) → i ≤ k → get_or ms k false ≡ g k)
+    → (k : ℕ) → i + 1 ≤ k → get_or (set ms i false) k false ≡ g k
 rest_cleared g ms i rest k m = let ne : k ≢ i = omega arith in rw get_or-set_other (rest k (omega arith))
 
-pub done_kept : (f g : ℕ → Bool) (ms : List Bool) (i : ℕ) → ((k : ℕ) → k < i → get_or ms k false ≡ f k) → ((k : ℕ) → i ≤ k → get_or ms k false ≡ g k) → f i ≡ g i → (k : ℕ) → k < i + 1 → get_or ms k false ≡ f k
+pub done_kept : (f g : ℕ → Bool) (ms : List Bool) (i : ℕ) → ((k : ℕ) → k < i → get_or ms k false ≡ f k)
+    → ((k : ℕ) → i ≤ k → get_or ms k false ≡ g k) → f i ≡ g i → (k : ℕ) → k < i + 1 → get_or ms k false ≡ f k
 done_kept f g ms i done rest same = below_more _ _ done (rest i (omega arith) ∙ sym same)
 
 -- both parts, where the pass is over
-pub all_done : (h : List Event) (e : Event) (ms : List Bool) (i : ℕ) → length h ≤ i → ((k : ℕ) → k < i → get_or ms k false ≡ stays_open h e k) → ((k : ℕ) → i ≤ k → get_or ms k false ≡ is_open h k) → IsMarked ms (stays_open h e)
+pub all_done : (h : List Event) (e : Event) (ms : List Bool) (i : ℕ) → length h ≤ i → ((k : ℕ) → k < i → get_or ms k false ≡ stays_open h e k)
+    → ((k : ℕ) → i ≤ k → get_or ms k false ≡ is_open h k) → IsMarked ms (stays_open h e)
 all_done h e ms i l done rest k = by_place (cases_order k i) where
   past : i ≤ k → get_or ms k false ≡ stays_open h e k
   past m = let closed : is_open h k ≡ false = is_open_past h k (omega arith) in rest k m ∙ closed ∙ sym (stays_closed h e k closed)
@@ -109,24 +117,29 @@ is_open_newest : (h : List Event) (e : Event) → is_open (h ++ e ∷ []) (lengt
 unfolding parent
 is_open_newest h e =
     rw (is_open_step (h ++ e ∷ []) (length h), is_shut_last h e, slice_get_last h e)
-    (same_parts (makes_node e) _ _ (option_map_or-same (is_open (h ++ e ∷ [])) (stays_open h e) (option_and_then (if_less (length h)) (parent_named e)) true (λ p o. is_open_older h e p (less (parent_named e) p o))))
+    (same_parts (makes_node e) _ _
+    (option_map_or-same (is_open (h ++ e ∷ [])) (stays_open h e)
+    (option_and_then (if_less (length h)) (parent_named e)) true (λ p o. is_open_older h e p (less (parent_named e) p o))))
   where
     same_parts : (a b c : Bool) → b ≡ c → ((a && true) && b) ≡ (a && c)
     same_parts true b c e = e
     same_parts false b c e = refl
 
     less : (o : Option ℕ) (p : ℕ) → option_and_then (if_less (length h)) o ≡ Some p → p < length h
-    less o p e = option_and_then_some (if_less (length h)) o p e (λ x a b. let w = cond_some (nat_lt x (length h)) x p b in rw (← w.1) (ltb-true x (length h) w.0))
+    less o p e = option_and_then_some (if_less (length h)) o p e
+        (λ x a b. let w = cond_some (nat_lt x (length h)) x p b in rw (← w.1) (ltb-true x (length h) w.0))
 
 -- the marks after the event
-pub marked_after : (h : List Event) (e : Event) (ms : List Bool) → IsMarked ms (stays_open h e) → length h < length ms → IsMarked (set ms (length h) (opens h e)) (is_open (h ++ e ∷ []))
+pub marked_after : (h : List Event) (e : Event) (ms : List Bool) → IsMarked ms (stays_open h e)
+    → length h < length ms → IsMarked (set ms (length h) (opens h e)) (is_open (h ++ e ∷ []))
 marked_after h e ms tied room n = by_place (cases_order n (length h)) where
   by_place : (n ≡ length h) ⊎ ((n < length h) ⊎ (length h < n)) → get_or (set ms (length h) (opens h e)) n false ≡ is_open (h ++ e ∷ []) n
   by_place (inl same) = rw same (rw get_or-set_same (sym (is_open_newest h e)))
   by_place (inr (inl l)) = let ne : n ≢ length h = omega arith in rw get_or-set_other (tied n ∙ sym (is_open_older h e n l))
   by_place (inr (inr l)) =
       let ne : n ≢ length h = omega arith in
-      rw get_or-set_other (tied n ∙ stays_closed h e n (is_open_past h n (omega arith)) ∙ sym (is_open_past (h ++ e ∷ []) n (omega (arith, length-append {A = Event}))))
+      rw get_or-set_other (tied n ∙ stays_closed h e n (is_open_past h n (omega arith))
+      ∙ sym (is_open_past (h ++ e ∷ []) n (omega (arith, length-append {A = Event}))))
 
 pub no_shut : (b : Bool) → false ≡ not b → b ≡ true
 no_shut true e = refl
@@ -139,4 +152,6 @@ list_all_within P p holds (x ∷ xs) a = rw (holds x a.0) (list_all_within P p h
 -- before the first node that the event takes away each stays as it is
 pub stays_before : (h : List Event) (e : Event) (first : ℕ) → ((k : ℕ) → k < first → shuts h k e ≡ false) → (n : ℕ) → n < first → stays_open h e n ≡ is_open h n
 unfolding stays_open
-stays_before h e first none n l = rw (list_all_within (λ a. a ≤ n) (λ a. not (shuts h a e)) (λ a le. ap not (none a (omega arith))) (ancestors h n) (ancestors-le h n)) (and_true (is_open h n))
+stays_before h e first none n l =
+    rw (list_all_within (λ a. a ≤ n) (λ a. not (shuts h a e)) (λ a le. ap not (none a (omega arith))) (ancestors h n) (ancestors-le h n))
+    (and_true (is_open h n))

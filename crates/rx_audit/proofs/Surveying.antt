@@ -1,8 +1,10 @@
 -- Marks of the keys of a range of numbers.
-use Rattle.std.proofs.Common.{◌≡◌, ℕ, zero, suc, ◌+◌, ◌<◌, ◌≤◌, Bool, true, false, List, [], ◌∷◌, length, Option, Some, None, refl, sym, ap, ◌∙◌, arith, get_or, set, replicate, drop, add-zero, ◌≢◌, ◌==◌, cond, take, slice_get, length-take, get_or-set_other, get_or-set_same, ◌⊎◌, inl, inr}
-use Rattle.std.proofs.lemmas.Bool.{cases_lt, cases_order, ne_eqb, false≢true}
+use Rattle.std.proofs.Common.{◌≡◌, ℕ, zero, suc, ◌+◌, ◌<◌, ◌≤◌, Bool, true, false, List, [], ◌∷◌}
+use Rattle.std.proofs.Common.{length, Option, Some, None, refl, sym, ap, ◌∙◌, arith, get_or, set}
+use Rattle.std.proofs.Common.{replicate, drop, add-zero, ◌≢◌, ◌==◌, cond, take, slice_get, length-take, get_or-set_other, get_or-set_same, ◌⊎◌, inl, inr}
+use Rattle.std.proofs.lemmas.Bool.{cases_lt, cases_order, ne_eqb}
 use Rattle.std.proofs.lemmas.List.{get_or_past}
-use Rattle.std.proofs.lemmas.Option.{slice_get_past, option_and_then_some}
+use Rattle.std.proofs.lemmas.Option.{option_and_then_some}
 use Rattle.std.proofs.Math.Seq.{drop-length}
 use Rattle.std.proofs.lemmas.List.Folds.{list_any_at}
 use Rattle.std.proofs.lemmas.List.FromFn.{length-range_with_len, get_or-range_with_len}
@@ -14,9 +16,10 @@ use Rattle.rx_event.specs.declared.event.Event.TheVariants.{Open, Hub, Connect, 
 use Rattle.rx_event.specs.Events.{is_auto_hub, is_manual_hub, hub_connected}
 use Rattle.rx_event.specs.Lawful.{IsLawful, MayFollow, forced, allowed}
 use Rattle.rx_event.specs.Forced.{connecting, due}
-use Rattle.rx_event.specs.Tree.{at, places, parent, is_open, has_open_child, is_open_child_of}
+use Rattle.rx_event.specs.Tree.{places, parent, is_open, has_open_child, is_open_child_of}
 use Rattle.rx_event.proofs.Laws.Lawful.{lawful_at}
 use Rattle.rx_event.specs.Allowed.{connected}
+use Rattle.rx_event.proofs.Laws.Places.{at_within}
 use Rattle.rx_audit.specs.Survey.{AreHubsNamed}
 use Rattle.rx_audit.specs.Tables.{IsMarked, IsTable, marks_with}
 use Rattle.rx_audit.specs.Rules.{is_key, has_key, open_parent, hub_connected_at, hub_subscribed_at, hub_ended, hub_ended_at, joins, is_cut}
@@ -36,7 +39,8 @@ pub any_range_from : (q : ℕ → Bool) (a n : ℕ) → list_any q (range_with_l
 any_range_from q a zero = or_false (q a) ∙ ap q (sym (add-zero a))
 any_range_from q a (suc n) =
     let next : (a + 1) + n ≡ a + suc n = omega arith in
-    ap (λ b. q a || b) (any_range_from q (a + 1) n ∙ ap (λ k. list_any q (range_with_len (a + 1) n) || q k) next) ∙ sym (or_assoc (q a) (list_any q (range_with_len (a + 1) n)) (q (a + suc n)))
+    ap (λ b. q a || b) (any_range_from q (a + 1) n ∙ ap (λ k. list_any q (range_with_len (a + 1) n) || q k) next)
+    ∙ sym (or_assoc (q a) (list_any q (range_with_len (a + 1) n)) (q (a + suc n)))
 
 pub any_range : (q : ℕ → Bool) (n : ℕ) → list_any q (range_with_len 0 (n + 1)) ≡ (list_any q (range_with_len 0 n) || q n)
 any_range q n =
@@ -47,21 +51,17 @@ any_range q n =
 pub range_none : (key : ℕ → Option ℕ) (size : ℕ) → IsTable (replicate size false) (λ n. list_any (λ k. is_key (key k) n) (range_with_len 0 0))
 range_none key size n l = no_table size (λ n. false) (λ n. refl) n
 
-pub range_more : (key : ℕ → Option ℕ) (ms : List Bool) (i : ℕ) → IsTable ms (λ n. list_any (λ k. is_key (key k) n) (range_with_len 0 i)) → IsTable (marks_with ms (key i)) (λ n. list_any (λ k. is_key (key k) n) (range_with_len 0 (i + 1)))
+pub range_more : (key : ℕ → Option ℕ) (ms : List Bool) (i : ℕ) → IsTable ms (λ n. list_any (λ k. is_key (key k) n) (range_with_len 0 i))
+    → IsTable (marks_with ms (key i)) (λ n. list_any (λ k. is_key (key k) n) (range_with_len 0 (i + 1)))
 range_more key ms i tied n l =
     let m : n < length ms = omega (arith, length-marks_with ms (key i)) in
     marks_with_at ms (key i) n m ∙ ap (λ b. b || is_key (key i) n) (tied n m) ∙ sym (any_range (λ k. is_key (key k) n) i)
 
-pub range_whole : (key : ℕ → Option ℕ) (h : List Event) (ms : List Bool) (i : ℕ) → i ≡ length h → IsTable ms (λ n. list_any (λ k. is_key (key k) n) (range_with_len 0 i)) → IsTable ms (has_key key h)
+pub range_whole : (key : ℕ → Option ℕ) (h : List Event) (ms : List Bool) (i : ℕ) → i ≡ length h
+    → IsTable ms (λ n. list_any (λ k. is_key (key k) n) (range_with_len 0 i)) → IsTable ms (has_key key h)
 range_whole key h ms i e tied = rw (← e) tied
 
 -- connections ------------------------------------------------------------------------------------------
-
-pub at_within : (q : Event → Bool) (h : List Event) (n : ℕ) → at q h n ≡ true → n < length h
-at_within q h n holds = by_order (cases_lt n (length h)) where
-  by_order : (n < length h) ⊎ (length h ≤ n) → n < length h
-  by_order (inl l) = l
-  by_order (inr g) = absurd (false≢true (sym (ap (λ o. option_map_or q o false) (slice_get_past h n g)) ∙ holds))
 
 is_connect : (e : Event) (g : ℕ) → hub_connected e ≡ Some g → e ≡ Connect g
 is_connect (Connect k) g s = cc
@@ -83,13 +83,16 @@ connect_below h g (allowed s (connected m c f)) = at_within is_manual_hub h g m
 
 pub connected_below : (h : List Event) → IsLawful h → (c g : ℕ) → hub_connected_at h c ≡ Some g → g < length h
 connected_below h law c g e =
-    option_and_then_some hub_connected (slice_get h c) g e (λ x a b. let l = connect_below (take c h) g (lawful_at h law c (Connect g) (a ∙ ap (λ y. Some y) (is_connect x g b))) in omega (arith, length-take {A = Event}))
+    option_and_then_some hub_connected (slice_get h c) g e
+    (λ x a b. let l = connect_below (take c h) g (lawful_at h law c (Connect g) (a ∙ ap (λ y. Some y) (is_connect x g b))) in
+    omega (arith, length-take {A = Event}))
 
 pub hubs_named : (h : List Event) → IsLawful h → AreHubsNamed h
 hubs_named h law = record { each = connected_below h law }
 
 -- all marks after one key more, where the key is within
-pub marked_more : (ms : List Bool) (key : Option ℕ) (n : ℕ) → ((r : ℕ) → key ≡ Some r → r < length ms) → get_or (marks_with ms key) n false ≡ (get_or ms n false || is_key key n)
+pub marked_more : (ms : List Bool) (key : Option ℕ) (n : ℕ) → ((r : ℕ) → key ≡ Some r → r < length ms)
+    → get_or (marks_with ms key) n false ≡ (get_or ms n false || is_key key n)
 marked_more ms key n within = by_order (cases_lt n (length ms)) where
   past : (key : Option ℕ) → ((r : ℕ) → key ≡ Some r → r < length ms) → length ms ≤ n → is_key key n ≡ false
   past None w l = refl
@@ -118,9 +121,11 @@ or_swap true false = refl
 or_swap false true = refl
 or_swap false false = refl
 
-pub ended_more : (h : List Event) (k : ℕ) (ms : List Bool) → AreHubsNamed h → length h ≤ length ms → IsMarked ms (ended_from h (suc k)) → IsMarked (marks_with ms (hub_ended_at h k)) (ended_from h k)
+pub ended_more : (h : List Event) (k : ℕ) (ms : List Bool) → AreHubsNamed h → length h ≤ length ms
+    → IsMarked ms (ended_from h (suc k)) → IsMarked (marks_with ms (hub_ended_at h k)) (ended_from h k)
 ended_more h k ms named room tied n =
-    marked_more ms (hub_ended_at h k) n within ∙ ap (λ b. b || is_key (hub_ended_at h k) n) (tied n) ∙ or_swap (ended_from h (suc k) n) (is_key (hub_ended_at h k) n) ∙ ap (λ b. b || ended_from h (suc k) n) (keyed (slice_get h k)) ∙ sym (any_drop (λ e. is_key (hub_ended h e) n) h k)
+    marked_more ms (hub_ended_at h k) n within ∙ ap (λ b. b || is_key (hub_ended_at h k) n) (tied n) ∙ or_swap (ended_from h (suc k) n)
+    (is_key (hub_ended_at h k) n) ∙ ap (λ b. b || ended_from h (suc k) n) (keyed (slice_get h k)) ∙ sym (any_drop (λ e. is_key (hub_ended h e) n) h k)
   where
     keyed : (o : Option Event) → is_key (option_and_then (hub_ended h) o) n ≡ option_map_or (λ e. is_key (hub_ended h e) n) o false
     keyed None = refl
@@ -142,7 +147,8 @@ ended_more h k ms named room tied n =
     within : (r : ℕ) → hub_ended_at h k ≡ Some r → r < length ms
     within r s = option_and_then_some (hub_ended h) (slice_get h k) r s (λ e a b. ended_connection e r b)
 
-pub is_cut_here : (h : List Event) (k : ℕ) (ms : List Bool) → IsMarked ms (ended_from h (suc k)) → option_map_or (λ g. get_or ms g false) (hub_subscribed_at h k) false ≡ is_cut h k
+pub is_cut_here : (h : List Event) (k : ℕ) (ms : List Bool) → IsMarked ms (ended_from h (suc k))
+    → option_map_or (λ g. get_or ms g false) (hub_subscribed_at h k) false ≡ is_cut h k
 unfolding is_cut
 is_cut_here h k ms tied = by_hub (hub_subscribed_at h k) where
   none : (es : List Event) → false ≡ list_any (λ e. joins None (hub_ended h e)) es
@@ -153,7 +159,8 @@ is_cut_here h k ms tied = by_hub (hub_subscribed_at h k) where
   by_hub None = none (drop (suc k) h)
   by_hub (Some g) = tied g
 
-pub cut_more : (h : List Event) (i k : ℕ) (cut : List Bool) (b : Bool) → i ≡ k + 1 → k < length cut → b ≡ is_cut h k → ((n : ℕ) → i ≤ n → n < length h → get_or cut n false ≡ is_cut h n) → (n : ℕ) → k ≤ n → n < length h → get_or (set cut k b) n false ≡ is_cut h n
+pub cut_more : (h : List Event) (i k : ℕ) (cut : List Bool) (b : Bool) → i ≡ k + 1 → k < length cut → b ≡ is_cut h k
+    → ((n : ℕ) → i ≤ n → n < length h → get_or cut n false ≡ is_cut h n) → (n : ℕ) → k ≤ n → n < length h → get_or (set cut k b) n false ≡ is_cut h n
 cut_more h i k cut b e l is tied n m w = by_order (cases_order n k) where
   by_order : (n ≡ k) ⊎ ((n < k) ⊎ (k < n)) → get_or (set cut k b) n false ≡ is_cut h n
   by_order (inl same) = rw same (rw get_or-set_same is)
@@ -173,7 +180,9 @@ open_child_key h p = list_any-same (λ k. is_key (open_parent h k) p) (is_open_c
   one false o = refl
 
 pub any_found : (q : ℕ → Bool) (n k : ℕ) → k < n → q k ≡ true → list_any q (range_with_len 0 n) ≡ true
-any_found q n k l holds = list_any_at q (range_with_len 0 n) k 0 (rw (length-range_with_len 0 n) l) (ap q (get_or-range_with_len 0 n k 0 l ∙ let z : 0 + k ≡ k = omega arith in z) ∙ holds)
+any_found q n k l holds =
+    list_any_at q (range_with_len 0 n) k 0 (rw (length-range_with_len 0 n) l)
+    (ap q (get_or-range_with_len 0 n k 0 l ∙ let z : 0 + k ≡ k = omega arith in z) ∙ holds)
 
 pub any_none : (q : ℕ → Bool) (k : ℕ) → list_any q (range_with_len 0 k) ≡ false → q k ≡ false → list_any q (range_with_len 0 (k + 1)) ≡ false
 any_none q k none not_k = any_range q k ∙ rw (none, not_k) refl

@@ -54,7 +54,8 @@ close_allowed h n = is_open h n && (at is_root h n || option_map_or (at is_manua
 
 -- with the limits' numbers, so that the program's constants are what they are
 unfoldable pub connect_allowed : List Event → ℕ → Bool
-connect_allowed h g = at is_manual_hub h g && not (has_key (open_connected h) h g) && nat_lt (length (open_nodes h)) 1048576
+connect_allowed h g =
+    at is_manual_hub h g && not (has_key (open_connected h) h g) && nat_lt (length (open_nodes h)) 1048576
 
 unfoldable pub decline_allowed : List Event → ℕ → Bool
 decline_allowed h f = is_open h f && at is_merging h f && is_owing h f

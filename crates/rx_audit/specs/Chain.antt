@@ -26,4 +26,5 @@ pub record IsChained (h : List Event) (chain : Subscribers) : Type 0 where
   pub first_size : length chain.first.items ≡ length h
   pub after_size : length chain.after.items ≡ length h
   pub first : (g : ℕ) → g < length h → slice_index_or chain.first.items g 0 ≡ subscriber_from h g 0
-  pub after : (g k : ℕ) → g < length h → k < length h → subscribes h g k ≡ true → slice_index_or chain.after.items k 0 ≡ subscriber_from h g (suc k)
+  pub after : (g k : ℕ) → g < length h → k < length h → subscribes h g k ≡ true
+      → slice_index_or chain.after.items k 0 ≡ subscriber_from h g (suc k)

@@ -4,7 +4,8 @@ use Rattle.rx_event.specs.declared.event.Event.{Event}
 use Rattle.rx_event.specs.Climb.{onward, climb, visits}
 use Rattle.rx_audit.specs.declared.reach.Visit.{Visit}
 
--- the sum of a number for each node that is visited from n, each as often as it is reached, as far as so many steps lead
+-- the sum of a number for each node that is visited from n, each as often as it is reached,
+-- as far as so many steps lead
 abbrev pub flow : ℕ → List Event → (ℕ → ℕ) → ℕ → ℕ
 flow zero h number n = 0
 flow (suc steps) h number n = number n + sum_by (flow steps h number) (onward h n)

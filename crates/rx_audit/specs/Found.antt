@@ -48,6 +48,11 @@ abbrev pub HasFewVisits : List Event → Event → Type 0
 HasFewVisits h e = (leaf : ℕ) (value : ℤ) → e ≡ Item leaf value → visits h leaf ≤ 1048576
 
 -- an item of the leaf fires and projects these
-pub record HasStops (h : List Event) (leaf : ℕ) (fired fired_now : List Bool) (projected projected_now : List ℕ) : Type 0 where
-  pub fires : (k : ℕ) → k < length fired → slice_index_or fired_now k false ≡ (slice_index_or fired k false || list_any (λ n. is_key (option_and_then fired_by (stop_at h n)) k) (climb h leaf))
-  pub projects : (k : ℕ) → k < length projected → slice_index_or projected_now k 0 ≡ slice_index_or projected k 0 + count_by (λ n. is_key (option_and_then projected_by (stop_at h n)) k) (climb h leaf)
+pub record HasStops (h : List Event) (leaf : ℕ) (fired fired_now : List Bool)
+    (projected projected_now : List ℕ) : Type 0 where
+  pub fires : (k : ℕ) → k < length fired → slice_index_or fired_now k false
+      ≡ (slice_index_or fired k false
+      || list_any (λ n. is_key (option_and_then fired_by (stop_at h n)) k) (climb h leaf))
+  pub projects : (k : ℕ) → k < length projected → slice_index_or projected_now k 0
+      ≡ slice_index_or projected k 0
+      + count_by (λ n. is_key (option_and_then projected_by (stop_at h n)) k) (climb h leaf)

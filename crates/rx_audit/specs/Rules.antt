@@ -12,7 +12,10 @@ use Rattle.rx_event.specs.declared.event.Event.TheVariants.{Open, Hub, Connect, 
 use Rattle.rx_note.specs.declared.note.Terminal.TheVariants.{Completed, Error}
 use Rattle.rx_event.specs.Climb.{Stop, Projection, Firing}
 use Rattle.rx_event.specs.Tree.{at, places, parent, is_open, shuts, ancestors, if_less, has_open_child}
-use Rattle.rx_event.specs.Events.{makes_node, is_root, parent_named, source_named, notifier_named, ended_of, failed_of, completed_of, removed_of, taken_of, hub_connected, hub_subscribed, is_source_of, is_auto_hub, is_mirroring, is_merging, is_until}
+use Rattle.rx_event.specs.Events.{makes_node, is_root, parent_named, source_named}
+use Rattle.rx_event.specs.Events.{notifier_named, ended_of, failed_of, completed_of}
+use Rattle.rx_event.specs.Events.{removed_of, taken_of, hub_connected, hub_subscribed, is_source_of, is_auto_hub}
+use Rattle.rx_event.specs.Events.{is_mirroring, is_merging, is_until}
 use Rattle.rx_event.specs.Moments.{is_fired, owed}
 use Rattle.rx_note.specs.declared.note.Terminal.{Terminal}
 use Rattle.rx_event.specs.Sames.{same_terminal}
@@ -136,7 +139,8 @@ passes_on h k p = is_open h p && ((at is_mirroring h p && has_ended h k) || (at 
 
 -- f completes now that its source k has
 abbrev pub completes : List Event → ℕ → ℕ → Bool
-completes h k f = has_completed h k && is_open h f && at is_merging h f && not (has_open_child h f) && not (is_owing h f)
+completes h k f =
+    has_completed h k && is_open h f && at is_merging h f && not (has_open_child h f) && not (is_owing h f)
 
 -- hub g has lost its subscribers
 abbrev pub is_left : List Event → ℕ → Bool
@@ -147,11 +151,15 @@ source_named_at h k = option_and_then source_named (slice_get h k)
 
 -- node k itself has to end or to close
 abbrev pub must_go : List Event → ℕ → Bool
-must_go h k = is_open h k && ((at is_until h k && is_fired h k) || is_cut h k || option_map_or (is_left h) (hub_connected_at h k) false)
+must_go h k =
+    is_open h k
+    && ((at is_until h k && is_fired h k) || is_cut h k || option_map_or (is_left h) (hub_connected_at h k) false)
 
 -- number k is why something is due
 unfoldable pub makes_due : List Event → ℕ → Bool
-makes_due h k = option_map_or (passes_on h k) (parent h k) false || option_map_or (completes h k) (source_named_at h k) false || must_go h k
+makes_due h k =
+    option_map_or (passes_on h k) (parent h k) false || option_map_or (completes h k) (source_named_at h k) false
+    || must_go h k
 
 unfoldable pub any_due : List Event → Bool
 any_due h = list_any (makes_due h) (places h)
@@ -173,7 +181,10 @@ completes_source h f _ = false
 
 -- what the rules ask of an open node beside its openness, for each kind of end
 abbrev pub completion_due : List Event → ℕ → Bool
-completion_due h n = (at is_until h n && is_fired h n) || (at is_merging h n && not (list_any (fails_child h n) h) && list_any (completes_source h n) h && not (has_open_child h n) && not (is_owing h n))
+completion_due h n =
+    (at is_until h n && is_fired h n)
+    || (at is_merging h n && not (list_any (fails_child h n) h) && list_any (completes_source h n) h
+    && not (has_open_child h n) && not (is_owing h n))
 
 abbrev pub failure_due : List Event → ℕ → ℕ → Bool
 failure_due h n code = at is_merging h n && list_any (ends_child_so h n (Error code)) h
@@ -183,7 +194,8 @@ end_due_by_kind h n Completed = completion_due h n
 end_due_by_kind h n (Error code) = failure_due h n code
 
 abbrev pub open_end_due : List Event → ℕ → Terminal → Bool
-open_end_due h n t = (at is_mirroring h n && list_any (ends_child_so h n t) h) || end_due_by_kind h n t || is_cut_so h n t
+open_end_due h n t =
+    (at is_mirroring h n && list_any (ends_child_so h n t) h) || end_due_by_kind h n t || is_cut_so h n t
 
 unfoldable pub end_due : List Event → ℕ → Terminal → Bool
 end_due h n t = is_open h n && open_end_due h n t

@@ -36,8 +36,12 @@ counts_plus counts (Some n) by = slice_set counts n (slice_index_or counts n 0 +
 
 -- each number's mark is set where it was, or one of the visits has the number as its key
 abbrev pub IsTold : List Bool → List Bool → (ℕ → ℕ → Bool) → List Visit → Type 0
-IsTold old new has log = (k : ℕ) → k < length old → slice_index_or new k false ≡ (slice_index_or old k false || list_any (λ v. has v.node k) log)
+IsTold old new has log =
+    (k : ℕ) → k < length old → slice_index_or new k false
+    ≡ (slice_index_or old k false || list_any (λ v. has v.node k) log)
 
 -- each number's count is more by the visits that have the number as their key
 abbrev pub IsCounted : List ℕ → List ℕ → (ℕ → ℕ → Bool) → List Visit → Type 0
-IsCounted old new has log = (k : ℕ) → k < length old → slice_index_or new k 0 ≡ slice_index_or old k 0 + sum_by (λ v. if has v.node k then v.count else 0) log
+IsCounted old new has log =
+    (k : ℕ) → k < length old → slice_index_or new k 0
+    ≡ slice_index_or old k 0 + sum_by (λ v. if has v.node k then v.count else 0) log

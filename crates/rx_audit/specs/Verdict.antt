@@ -12,8 +12,8 @@ use Rattle.rx_audit.specs.Known.{IsFoundHere}
 use Rattle.rx_audit.specs.declared.verdict.Verdict.{Verdict}
 use Rattle.rx_audit.specs.declared.verdict.Verdict.TheVariants.{Lawful, Unlawful, Unsettled}
 
--- each event may follow those before it, operators have nothing left to do, and the lists are those of the open nodes, the held
--- and the waiting resources, each by rising number
+-- each event may follow those before it, operators have nothing left to do, and the lists are those of the open nodes,
+-- the held and the waiting resources, each by rising number
 pub record IsFoundLawful (h : List Event) (nodes kept left_over : List ℕ) : Type 0 where
   pub lawful : IsLawful h
   pub settled : IsSettled h

@@ -9,7 +9,9 @@ ghost use Rattle.rx_event.specs.Resources.{is_held, is_waiting};
 ghost use Rattle.rx_audit.specs.Known.{IsFoundHere, IsSurveyed};
 ghost use Rattle.rx_audit.specs.Survey.{AreHubsNamed, IsSized};
 ghost use Rattle.rx_audit.specs.Rules.{was_removed, was_taken};
-ghost use Rattle.rx_audit.specs.Allowing.{connects_later, is_in_order_at, is_in_order, is_hubbed, is_free, failure_allowed, end_allowed, close_allowed, connect_allowed, decline_allowed, allowed_simply, item_allowed, open_allowed};
+ghost use Rattle.rx_audit.specs.Allowing.{connects_later, is_in_order_at, is_in_order, is_hubbed, is_free};
+ghost use Rattle.rx_audit.specs.Allowing.{failure_allowed, end_allowed, close_allowed, connect_allowed};
+ghost use Rattle.rx_audit.specs.Allowing.{decline_allowed, allowed_simply, item_allowed, open_allowed};
 
 use crate::event_tests::at;
 use crate::found::{self, Found};

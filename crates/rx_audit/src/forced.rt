@@ -6,7 +6,10 @@ ghost use Rattle.rx_event.specs.Tree.{at};
 ghost use Rattle.rx_event.specs.Forced.{IsSettled};
 ghost use Rattle.rx_audit.specs.Known.{IsFoundHere, IsSurveyed};
 ghost use Rattle.rx_event.specs.Sames.{same_terminal};
-ghost use Rattle.rx_audit.specs.Rules.{connect_due, any_connect_due, passes_on, completes, is_left, must_go, source_named_at, makes_due, any_due, ends_child_so, fails_child, completes_source, ends_source_so, is_cut_so, completion_due, end_due_by_kind, open_end_due, end_due, close_due, is_forced, hub_connected_at};
+ghost use Rattle.rx_audit.specs.Rules.{connect_due, any_connect_due, passes_on, completes, is_left, must_go};
+ghost use Rattle.rx_audit.specs.Rules.{source_named_at, makes_due, any_due, ends_child_so, fails_child};
+ghost use Rattle.rx_audit.specs.Rules.{completes_source, ends_source_so, is_cut_so, completion_due, end_due_by_kind};
+ghost use Rattle.rx_audit.specs.Rules.{open_end_due, end_due, close_due, is_forced, hub_connected_at};
 
 use crate::event_tests::at;
 use crate::found::{self, Found};

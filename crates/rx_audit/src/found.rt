@@ -84,7 +84,8 @@ pub fn nothing_found(alloc: Global, size: usize) -> Result<Found, AllocError>
 fn mark_fired(past: &[Event], log: &[Visit], fired: &mut [bool]) -> bool
     ensures len { length fired.new ≡ length fired.old }
     ensures none { result ≡ false → fired.new ≡ fired.old }
-    ensures told { IsTold fired.old fired.new (λ n u. is_key (option_and_then fired_by (stop_at past.now n)) u) log.now }
+    ensures told { IsTold fired.old fired.new
+        (λ n u. is_key (option_and_then fired_by (stop_at past.now n)) u) log.now }
 {
     let mut any = false;
     for visit in log {
@@ -99,8 +100,10 @@ fn mark_fired(past: &[Event], log: &[Visit], fired: &mut [bool]) -> bool
 fn count_projected(past: &[Event], log: &[Visit], projected: &mut [u128])
     requires { (n : ℕ) → slice_index_or projected.old n 0 + sum_by (times (λ n. 1)) log.now < 2 ^ 128 }
     ensures len { length projected.new ≡ length projected.old }
-    ensures counted { IsCounted projected.old projected.new (λ n f. is_key (option_and_then projected_by (stop_at past.now n)) f) log.now }
-    ensures few { (n : ℕ) → slice_index_or projected.new n 0 ≤ slice_index_or projected.old n 0 + sum_by (times (λ n. 1)) log.now }
+    ensures counted { IsCounted projected.old projected.new
+        (λ n f. is_key (option_and_then projected_by (stop_at past.now n)) f) log.now }
+    ensures few { (n : ℕ) → slice_index_or projected.new n 0
+        ≤ slice_index_or projected.old n 0 + sum_by (times (λ n. 1)) log.now }
 {
     for visit in log {
         count_more(projected, projected_at(past, visit.node), visit.count);
@@ -174,7 +177,9 @@ pub fn follow(
     requires room { length past.now < length found.old.live.items }
     requires visits { HasFewVisits past.now event }
     ensures found { OnOk result (IsFound (past.now ++ event ∷ []) (length found.old.live.items) found.new) }
-    ensures fires { IfOk result (λ fires. fires ≡ false → (u : ℕ) → u ≤ length past.now → is_fired (past.now ++ event ∷ []) u ≡ is_fired past.now u) }
+    ensures fires { IfOk result
+        (λ fires. fires ≡ false → (u : ℕ) → u ≤ length past.now
+        → is_fired (past.now ++ event ∷ []) u ≡ is_fired past.now u) }
 {
     let fires = find_item(
         alloc,

@@ -35,8 +35,6 @@ mod openness;
 mod reach;
 mod subscribers;
 mod survey;
-#[cfg(test)]
-mod tests;
 mod verdict;
 
 pub use verdict::{NoMemory, Verdict, audit};

@@ -57,7 +57,8 @@ fn reach(
     requires often { IsOften log.old.items }
     requires some { 0 < count }
     ensures kept { OnOk result (take (followed + 1) log.new.items ≡ take (followed + 1) log.old.items) }
-    ensures more { OnOk result ((number : ℕ → ℕ) → sum_by (times number) (drop (followed + 1) log.new.items) ≡ sum_by (times number) (drop (followed + 1) log.old.items) + count * number node) }
+    ensures more { OnOk result ((number : ℕ → ℕ) → sum_by (times number) (drop (followed + 1) log.new.items)
+        ≡ sum_by (times number) (drop (followed + 1) log.old.items) + count * number node) }
     ensures often { OnOk result (IsOften log.new.items) }
     ensures grows { OnOk result (length log.old.items ≤ length log.new.items) }
 {
@@ -84,7 +85,8 @@ fn spread(
     requires often { IsOften log.old.items }
     requires some { 0 < count }
     ensures kept { OnOk result (take (followed + 1) log.new.items ≡ take (followed + 1) log.old.items) }
-    ensures more { OnOk result ((number : ℕ → ℕ) → sum_by (times number) (drop (followed + 1) log.new.items) ≡ sum_by (times number) (drop (followed + 1) log.old.items) + count * sum_by number next.now) }
+    ensures more { OnOk result ((number : ℕ → ℕ) → sum_by (times number) (drop (followed + 1) log.new.items)
+        ≡ sum_by (times number) (drop (followed + 1) log.old.items) + count * sum_by number next.now) }
     ensures often { OnOk result (IsOften log.new.items) }
     ensures grows { OnOk result (length log.old.items ≤ length log.new.items) }
 {
@@ -137,7 +139,8 @@ pub fn reached(
     leaf: u64,
 ) -> Result<Option<Vec<Visit>>, AllocError>
     requires { IsMarked live.now (is_open past.now) }
-    ensures { IfOk result (λ o. MatchOption o (1048576 < visits past.now leaf) (λ log. IsReached past.now leaf log.items)) }
+    ensures { IfOk result
+        (λ o. MatchOption o (1048576 < visits past.now leaf) (λ log. IsReached past.now leaf log.items)) }
 {
     let first = Visit {
         node: leaf,

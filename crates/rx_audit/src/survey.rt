@@ -4,7 +4,8 @@ ghost use Rattle.std.specs.Prelude.{◌≡◌, ◌<◌, ◌≤◌, false, Some, 
 ghost use Rattle.rx_event.specs.Tree.{is_open, has_open_child};
 ghost use Rattle.rx_audit.specs.Tables.{IsMarked, IsTable, IsTableBelow};
 ghost use Rattle.rx_audit.specs.Survey.{AreHubsNamed, IsSized, IsSurvey};
-ghost use Rattle.rx_audit.specs.Rules.{open_parent, hub_subscribed_at, hub_connected_at, open_subscribed, open_connected, open_waiting, has_key, is_cut, hub_ended_at};
+ghost use Rattle.rx_audit.specs.Rules.{open_parent, hub_subscribed_at, hub_connected_at, open_subscribed};
+ghost use Rattle.rx_audit.specs.Rules.{open_connected, open_waiting, has_key, is_cut, hub_ended_at};
 ghost use Rattle.std.specs.Option.{option_map_or};
 
 use crate::found::unmarked;

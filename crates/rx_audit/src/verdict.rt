@@ -67,7 +67,8 @@ fn leaves_room(
     requires found_room { length next.now ≤ length found.now.live.items }
     requires sized { IsSized (length survey.old.parents.items) survey.old }
     requires room { length next.now ≤ length survey.old.parents.items }
-    ensures answer { IfOk result (λ b. IsTrue b ↔ ((g : ℕ) → IsConnectDue next.now g → length (open_nodes past.now) + 2 ≤ 1048576)) }
+    ensures answer { IfOk result
+        (λ b. IsTrue b ↔ ((g : ℕ) → IsConnectDue next.now g → length (open_nodes past.now) + 2 ≤ 1048576)) }
     ensures sized { IsSized (length survey.old.parents.items) survey.new }
 {
     if past.len() <= MOST_NODES - 2 {
@@ -276,7 +277,8 @@ fn first_unlawful(
 ) -> Result<Option<u64>, AllocError>
     requires found { IsFound [] (length events.now) found.old }
     requires sized { IsSized (length events.now) survey.old }
-    ensures answer { IfOk result (λ place. MatchOption place (IsAllFound events.now found.new) (IsFoundUnlawful events.now)) }
+    ensures answer { IfOk result
+        (λ place. MatchOption place (IsAllFound events.now found.new) (IsFoundUnlawful events.now)) }
     ensures sized { IsSized (length survey.old.parents.items) survey.new }
 {
     let mut known = false;

@@ -21,7 +21,8 @@ const PIECE: usize = 4096;
 pub fn read_all<R: Read>(alloc: Global, reader: &mut Watched<'_, R>) -> Result<Vec<u8>, ScriptError>
     requires fresh { IsFresh reader.old }
 
-    ensures ok { IfOk result (λ v. GivesWhole (R.remaining (device_of reader.old)) (R.remaining (device_of reader.new)) v.items) }
+    ensures ok { IfOk result
+        (λ v. GivesWhole (R.remaining (device_of reader.old)) (R.remaining (device_of reader.new)) v.items) }
     ensures unhurt { OnOk result (has_failed reader.new ≡ false) }
     ensures stopped { OnOk result (has_stopped reader.new ≡ true) }
     ensures same_device { KeepsDevice reader.old reader.new }

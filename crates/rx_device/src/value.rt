@@ -36,7 +36,8 @@ fn parse(alloc: Global, input: &[u8]) -> Result<Value, ScriptError>
 pub fn read_value<R: Read>(alloc: Global, reader: &mut Watched<'_, R>) -> Result<Value, ScriptError>
     requires fresh { IsFresh reader.old }
 
-    ensures ok { IfOk result (λ v. GivesJson (R.remaining (device_of reader.old)) (R.remaining (device_of reader.new)) (view v)) }
+    ensures ok { IfOk result
+        (λ v. GivesJson (R.remaining (device_of reader.old)) (R.remaining (device_of reader.new)) (view v)) }
     ensures unhurt { OnOk result (has_failed reader.new ≡ false) }
     ensures stopped { OnOk result (has_stopped reader.new ≡ true) }
     ensures same_device { KeepsDevice reader.old reader.new }

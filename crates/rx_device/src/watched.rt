@@ -39,8 +39,10 @@ impl<R: Read> Watched<'_, R> {
         ensures same_device { KeepsDevice self.old self.new }
         ensures turns { turns_of self.new ≡ min (turns_of self.old + 1) (2 ^ 64 - 1) }
         ensures within { IfSome result (λ n. n ≤ length buffer.new) }
-        ensures bytes { IfSome result (λ n. Consumes (R.remaining (device_of self.old)) (R.remaining (device_of self.new)) (take n buffer.new)) }
-        ensures end { IfSome result (λ n. n ≡ 0 → IsAtEnd (R.remaining (device_of self.new)) × (has_stopped self.new ≡ true)) }
+        ensures bytes { IfSome result
+            (λ n. Consumes (R.remaining (device_of self.old)) (R.remaining (device_of self.new)) (take n buffer.new)) }
+        ensures end { IfSome result
+            (λ n. n ≡ 0 → IsAtEnd (R.remaining (device_of self.new)) × (has_stopped self.new ≡ true)) }
         ensures failed { IfNone result (has_failed self.new ≡ true) }
         ensures unhurt { IfSome result (λ _. has_failed self.new ≡ has_failed self.old) }
     {
@@ -64,7 +66,8 @@ impl<W: Write> Watched<'_, W> {
     pub(crate) fn write(&mut self, text: &[u8]) -> Option<usize>
         requires { 0 < length text.now }
         ensures same_device { KeepsDevice self.old self.new }
-        ensures written { IfSome result (λ n. Appends (W.contents (device_of self.old)) (W.contents (device_of self.new)) (take n text.now)) }
+        ensures written { IfSome result
+            (λ n. Appends (W.contents (device_of self.old)) (W.contents (device_of self.new)) (take n text.now)) }
         ensures some { IfSome result (λ n. (0 < n) × (n ≤ length text.now)) }
         ensures kept { IfNone result (Keeps (W.contents (device_of self.old)) (W.contents (device_of self.new))) }
         ensures failed { IfNone result (HasWriteFault self.new) }

@@ -1,6 +1,6 @@
 //! Writing a text to a device.
 
-ghost use Rattle.std.specs.Prelude.{◌≡◌, ◌≤◌, OnOk, OnErr};
+ghost use Rattle.std.specs.Prelude.{◌≡◌, OnOk, OnErr};
 ghost use Rattle.std.specs.Io.KnownBytes.{Appends};
 ghost use Rattle.rx_device.specs.Device.{device_of, KeepsDevice, has_failed, HasWriteFault, AppendsPrefix};
 
@@ -14,8 +14,10 @@ pub struct WriteFault;
 /// Writes the whole text, or a front of it where the writer fails or takes no byte.
 pub fn write_text<W: Write>(writer: &mut Watched<'_, W>, text: &[u8]) -> Result<(), WriteFault>
     ensures same_device { KeepsDevice writer.old writer.new }
-    ensures ok { OnOk result (Appends (W.contents (device_of writer.old)) (W.contents (device_of writer.new)) text.now) }
-    ensures err { OnErr result (AppendsPrefix (W.contents (device_of writer.old)) (W.contents (device_of writer.new)) text.now) }
+    ensures ok { OnOk result
+        (Appends (W.contents (device_of writer.old)) (W.contents (device_of writer.new)) text.now) }
+    ensures err { OnErr result
+        (AppendsPrefix (W.contents (device_of writer.old)) (W.contents (device_of writer.new)) text.now) }
     ensures unhurt { OnOk result (has_failed writer.new ≡ has_failed writer.old) }
     ensures failed { OnErr result (HasWriteFault writer.new) }
 {

@@ -25,7 +25,8 @@ kind_compact Switch = refl
 kind_compact Until = refl
 kind_compact (Sub hub) = refl
 
-place_compact : (place : Place) (kind : Kind) → items_text true (items_of (place_parts place ++ kind_parts kind)) ≡ codes "," ++ place_text place ++ codes "," ++ kind_text kind ++ codes "]"
+place_compact : (place : Place) (kind : Kind) → items_text true (items_of (place_parts place ++ kind_parts kind))
+    ≡ codes "," ++ place_text place ++ codes "," ++ kind_text kind ++ codes "]"
 unfolding serde_json_on_literals
 place_compact Root kind = ap (λ s. codes ",\"root\"" ++ s) (kind_compact kind)
 place_compact (Source n) kind = ap (λ s. codes ",\"source\"," ++ (decimal n ++ s)) (kind_compact kind) ∙ simp append_assoc

@@ -12,7 +12,9 @@ use Rattle.rx_event.specs.declared.event.Kind.TheVariants.{Leaf, Pass, Flat, Swi
 use Rattle.rx_event.specs.declared.event.Mode.TheVariants.{Auto, Manual}
 use Rattle.rx_event.specs.declared.event.Event.{Event}
 use Rattle.rx_event.specs.declared.event.Event.TheVariants.{Open, Hub, Connect, Accept, Use, Remove, Item, Decline, End, Close, Take}
-use Rattle.rx_dump.specs.History.{has_count, word_at, number_at, value_at, only_number, plain_kind, kind_from, place_below, open_below, open_by, open_of, terminal_by, end_of, mode_by, hub_of, accept_of, item_of, event_by, event_of, each_event, history_of}
+use Rattle.rx_dump.specs.History.{has_count, word_at, number_at, value_at, only_number, plain_kind, kind_from, place_below}
+use Rattle.rx_dump.specs.History.{open_below, open_by, open_of, terminal_by, end_of, mode_by, hub_of, accept_of, item_of, event_by, event_of, each_event}
+use Rattle.rx_dump.specs.History.{history_of}
 use Rattle.rx_dump.specs.Claims.Dumps.{kind_parts, event_data, history_data, is_in_range}
 
 kind_after_two : (a b : Data) (kind : Kind) → kind_from 2 (array (items_of (a ∷ b ∷ kind_parts kind))) ≡ Some kind

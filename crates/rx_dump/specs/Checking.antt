@@ -1,4 +1,5 @@
--- What a check makes of its input, said of the bytes that a reader had and has left, and of those that a writer held and holds.
+-- What a check makes of its input, said of the bytes that a reader had and has left,
+-- and of those that a writer held and holds.
 use Rattle.std.specs.Prelude.{◌≡◌, ℕ, None, Some, Option, List}
 use Rattle.serde_json.specs.Data.{Data}
 use Rattle.rx_event.specs.declared.event.Event.{Event}
@@ -14,7 +15,8 @@ pub record IsVerdictOn (d : Data) (v : Verdict) : Type 0 where
   pub reading : history_of d ≡ Some history
   pub verdict : IsVerdict history v
 
--- the reader gave a dump, the verdict is that on its history, and the text was written in this way: whole, or a front of it
+-- the reader gave a dump, the verdict is that on its history, and the text was written in this way:
+-- whole, or a front of it
 pub record Judges (v : Verdict) (given left : Option (List ℕ)) (Writes : List ℕ → Type 0) : Type 0 where
   pub value : Data
   pub gave : GivesJson given left value

@@ -1,5 +1,6 @@
 -- The history that a JSON value is: a dump is an array of events, and an event an array: what it is, then its parts.
-use Rattle.std.specs.Prelude.{ℕ, suc, ◌+◌, ◌^◌, ◌==◌, ℤ, List, [], ◌∷◌, codes, Bool, false, nat_lt, if◌then◌else◌, Option, Some, None, option_map, option_and_then}
+use Rattle.std.specs.Prelude.{ℕ, suc, ◌+◌, ◌^◌, ◌==◌, ℤ, List, [], ◌∷◌, codes}
+use Rattle.std.specs.Prelude.{Bool, false, nat_lt, if◌then◌else◌, Option, Some, None, option_map, option_and_then}
 use Rattle.std.specs.Option.{option_map_or}
 use Rattle.std.specs.Str.{bytes_eq}
 use Rattle.serde_json.specs.Data.{Data, Items, no_items, item}
@@ -55,7 +56,9 @@ plain_kind word =
 unfoldable pub kind_from : ℕ → Data → Option Kind
 kind_from i d =
     if has_count (i + 1) d then option_and_then plain_kind (word_at i d)
-    else if has_count (i + 2) d then option_and_then (λ word. if bytes_eq word (codes "sub") then option_map Sub (number_at (i + 1) d) else None) (word_at i d)
+    else if has_count (i + 2) d
+    then option_and_then (λ word.
+    if bytes_eq word (codes "sub") then option_map Sub (number_at (i + 1) d) else None) (word_at i d)
     else None
 
 -- a place below a node
@@ -68,7 +71,8 @@ place_below word n =
 
 -- ["open",PLACE,n,KIND]
 unfoldable pub open_below : List ℕ → Data → Option Event
-open_below word d = option_and_then (λ n. option_and_then (λ place. option_map (Open place) (kind_from 3 d)) (place_below word n)) (number_at 2 d)
+open_below word d =
+    option_and_then (λ n. option_and_then (λ place. option_map (Open place) (kind_from 3 d)) (place_below word n)) (number_at 2 d)
 
 -- ["open","root",KIND], or below a node
 unfoldable pub open_by : List ℕ → Data → Option Event
@@ -91,7 +95,8 @@ terminal_by word d =
     else None
 
 unfoldable pub end_of : Data → Option Event
-end_of d = option_and_then (λ n. option_map (End n) (option_and_then (λ word. terminal_by word d) (word_at 2 d))) (number_at 1 d)
+end_of d =
+    option_and_then (λ n. option_map (End n) (option_and_then (λ word. terminal_by word d) (word_at 2 d))) (number_at 1 d)
 
 -- the other events of more than one number --------------------------------------------------------
 
@@ -107,7 +112,8 @@ hub_of d = if has_count 2 d then option_map Hub (option_and_then mode_by (word_a
 
 -- ["accept",node,tag]
 unfoldable pub accept_of : Data → Option Event
-accept_of d = if has_count 3 d then option_and_then (λ n. option_map (Accept n) (number_at 2 d)) (number_at 1 d) else None
+accept_of d =
+    if has_count 3 d then option_and_then (λ n. option_map (Accept n) (number_at 2 d)) (number_at 1 d) else None
 
 -- ["item",leaf,value]
 unfoldable pub item_of : Data → Option Event

@@ -12,7 +12,9 @@ unfoldable pub numbers_line : List ℕ → List ℕ → List ℕ
 numbers_line name numbers = name ++ codes ":" ++ flat_map number_text numbers ++ codes "\n"
 
 unfoldable pub verdict_text : Verdict → List ℕ
-verdict_text (Lawful live held waiting) = codes "lawful\n" ++ numbers_line (codes "live") live.items ++ numbers_line (codes "held") held.items ++ numbers_line (codes "waiting") waiting.items
+verdict_text (Lawful live held waiting) =
+    codes "lawful\n" ++ numbers_line (codes "live") live.items ++ numbers_line (codes "held") held.items
+    ++ numbers_line (codes "waiting") waiting.items
 verdict_text (Unlawful place) = codes "unlawful " ++ decimal place ++ codes "\n"
 verdict_text Unsettled = codes "unsettled\n"
 

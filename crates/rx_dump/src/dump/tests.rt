@@ -1,4 +1,4 @@
-//! Dumps written out, and read back.
+//! A dump written out, and read back.
 
 use super::push_dump;
 use crate::history::history_of;
@@ -30,28 +30,7 @@ fn assert_dump(
 }
 
 #[test]
-fn nothing_happened(rt: HostRuntime) -> Result<(), Fail> {
-    assert_dump(&rt, rt.alloc(), &[], "[]\n")
-}
-
-#[test]
-fn a_whole_life(rt: HostRuntime) -> Result<(), Fail> {
-    let history = [
-        opening(Place::Root, Kind::Pass),
-        Event::Accept(0, 0),
-        opening(Place::Source(0), Kind::Leaf),
-        Event::Item(2, 5),
-        Event::End(2, Terminal::Completed),
-        Event::End(0, Terminal::Completed),
-        Event::Take(1),
-    ];
-    let expected =
-        "[[\"open\",\"root\",\"pass\"],[\"accept\",0,0],[\"open\",\"source\",0,\"leaf\"],[\"item\",2,5],[\"end\",2,\"completed\"],[\"end\",0,\"completed\"],[\"take\",1]]\n";
-    assert_dump(&rt, rt.alloc(), &history, expected)
-}
-
-#[test]
-fn each_form_of_an_event_is_written(rt: HostRuntime) -> Result<(), Fail> {
+fn each_form_of_an_event_is_written_and_read_back(rt: HostRuntime) -> Result<(), Fail> {
     let history = [
         Event::Hub(Mode::Auto),
         Event::Hub(Mode::Manual),

@@ -2,7 +2,8 @@
 
 ghost use Rattle.std.specs.Prelude.{◌≡◌, ◌+◌, ◌^◌, ◌<◌};
 ghost use Rattle.serde_json.specs.View.{view};
-ghost use Rattle.rx_dump.specs.History.{plain_kind, kind_from, place_below, open_below, open_by, open_of, terminal_by, end_of, mode_by, hub_of, accept_of, item_of, event_by, event_of};
+ghost use Rattle.rx_dump.specs.History.{plain_kind, kind_from, place_below, open_below, open_by, open_of, terminal_by};
+ghost use Rattle.rx_dump.specs.History.{end_of, mode_by, hub_of, accept_of, item_of, event_by, event_of};
 
 use super::parts::{has_count, number_at, only_number, value_at, word_at};
 use rx_event::{Event, Kind, Mode, Place, Terminal};

@@ -10,7 +10,8 @@ pub loop-g-smaller : goal.loop-g-smaller
 loop-g-smaller c = parent-lt c.args.past.now c.loop-g.a c.in-Some.above (sym c.in-Some.ensures)
 
 pub loop-g-preserved : goal.loop-g-preserved
-loop-g-preserved c = c.loop-g.invariant ∙ order_above c.args.past.now c.args.g c.loop-g.a c.in-Some.above (sym c.in-Some.ensures) (sym c.if-not-connects_later.ensures)
+loop-g-preserved c = c.loop-g.invariant
+    ∙ order_above c.args.past.now c.args.g c.loop-g.a c.in-Some.above (sym c.in-Some.ensures) (sym c.if-not-connects_later.ensures)
 
 pub returns-in-None : goal.returns-in-None
 returns-in-None c = sym (c.loop-g.invariant ∙ order_top c.args.past.now c.args.g c.loop-g.a (sym c.in-None.ensures) (sym c.if-not-connects_later.ensures))

@@ -15,7 +15,14 @@ returns-in_default c = record {
 }
 
 pub returns-in-Item-clause-fired : goal.returns-in-Item-clause-fired
-returns-in-Item-clause-fired c = on_ok_weaker c.find_stops.result (λ found. fired_item c.args.past.now c.in-Item.leaf c.args.event c.args.fired.now c.find_stops.new.fired c.args.projected.now c.find_stops.new.projected (ap (stops_of c.args.past.now) c.in-Item.is) c.find_stops.ensures.fired_len c.requires.fired found) c.find_stops.ensures.found
+returns-in-Item-clause-fired c =
+    on_ok_weaker c.find_stops.result
+    (λ found. fired_item c.args.past.now c.in-Item.leaf c.args.event c.args.fired.now c.find_stops.new.fired c.args.projected.now c.find_stops.new.projected
+    (ap (stops_of c.args.past.now) c.in-Item.is) c.find_stops.ensures.fired_len c.requires.fired found) c.find_stops.ensures.found
 
 pub returns-in-Item-clause-projected : goal.returns-in-Item-clause-projected
-returns-in-Item-clause-projected c = on_ok_weaker c.find_stops.result (λ found. projected_item c.args.past.now c.in-Item.leaf c.args.event c.args.projected.now c.find_stops.new.projected c.args.fired.now c.find_stops.new.fired (ap (stops_of c.args.past.now) c.in-Item.is) c.find_stops.ensures.projected_len c.requires.projected found) c.find_stops.ensures.found
+returns-in-Item-clause-projected c =
+    on_ok_weaker c.find_stops.result
+    (λ found. projected_item c.args.past.now c.in-Item.leaf c.args.event c.args.projected.now
+    c.find_stops.new.projected c.args.fired.now c.find_stops.new.fired (ap (stops_of c.args.past.now) c.in-Item.is)
+    c.find_stops.ensures.projected_len c.requires.projected found) c.find_stops.ensures.found

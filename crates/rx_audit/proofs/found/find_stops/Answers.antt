@@ -13,7 +13,9 @@ count_projected-requires c =
 pub returns-clause-found : goal.returns-clause-found
 returns-clause-found c =
     let r : IsReached c.args.past.now c.args.leaf c.in-Some.log.items = rw c.in-Some.is at c.in_ok-log.ensures in
-    has_stops c.args.past.now c.args.leaf c.in-Some.log.items c.args.fired.now c.mark_fired-fires.new.fired c.args.projected.now c.count_projected.new.projected r (rw c.as_slice.ensures.value at c.mark_fired-fires.ensures.told) (rw c.as_slice-in-Some.ensures.value at c.count_projected.ensures.counted)
+    has_stops c.args.past.now c.args.leaf c.in-Some.log.items c.args.fired.now c.mark_fired-fires.new.fired
+    c.args.projected.now c.count_projected.new.projected r (rw c.as_slice.ensures.value at c.mark_fired-fires.ensures.told)
+    (rw c.as_slice-in-Some.ensures.value at c.count_projected.ensures.counted)
 
 pub returns-clause-few : goal.returns-clause-few
 returns-clause-few c =

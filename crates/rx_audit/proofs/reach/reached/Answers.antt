@@ -22,7 +22,8 @@ returns-then-more-from c =
     let v = c.index-visit.result.now in
     let len : c.len-in-loop-i.result ≡ length next.items = c.len-in-loop-i.ensures ∙ next.ok.0 in
     let product : c.from.result * c.len-in-loop-i.result ≡ v.count * length next.items = rw (c.from.ensures, len) refl in
-    flow_over c.args.past.now c.args.leaf c.loop-i.i c.loop-i.log.items c.loop-i.total v next.items (omega arith) c.index-visit.ensures c.in_ok-next.ensures (omega arith) c.loop-i.invariant
+    flow_over c.args.past.now c.args.leaf c.loop-i.i c.loop-i.log.items c.loop-i.total v next.items
+    (omega arith) c.index-visit.ensures c.in_ok-next.ensures (omega arith) c.loop-i.invariant
 
 pub spread-requires-clause-few : goal.spread-requires-clause-few
 spread-requires-clause-few c =
@@ -34,7 +35,9 @@ spread-requires-clause-few c =
     rw c.as_slice.ensures.value (omega arith)
 
 pub spread-requires-clause-some : goal.spread-requires-clause-some
-spread-requires-clause-some c = c.loop-i.invariant.often c.loop-i.i c.index-visit.result.now (read_at c.loop-i.log.items c.loop-i.i c.index-visit.result.now (omega arith) c.index-visit.ensures)
+spread-requires-clause-some c =
+    c.loop-i.invariant.often c.loop-i.i c.index-visit.result.now
+    (read_at c.loop-i.log.items c.loop-i.i c.index-visit.result.now (omega arith) c.index-visit.ensures)
 
 pub loop-i-preserved : goal.loop-i-preserved
 loop-i-preserved c =
@@ -47,8 +50,12 @@ loop-i-preserved c =
     let product : c.from.result * c.len-in-loop-i.result ≡ v.count * length next.items = rw (c.from.ensures, len) refl in
     let most = inv.few in
     let few : c.loop-i.total + v.count * length next.items ≤ 1048576 = omega arith in
-    let more : (number : ℕ → ℕ) → sum_by (times number) (drop (i + 1) c.spread.new.log.items) ≡ sum_by (times number) (drop (i + 1) log) + v.count * sum_by number next.items = λ number. c.in_ok-spread.ensures.more number ∙ ap (λ (xs : List ℕ). sum_by (times number) (drop (i + 1) log) + v.count * sum_by number xs) c.as_slice.ensures.value in
-    rw product (flow_step c.args.past.now c.args.leaf i log c.spread.new.log.items c.loop-i.total v next.items (omega arith) c.index-visit.ensures c.in_ok-next.ensures c.in_ok-spread.ensures.kept more c.in_ok-spread.ensures.often c.in_ok-spread.ensures.grows few inv)
+    let more : (number : ℕ → ℕ) → sum_by (times number) (drop (i + 1) c.spread.new.log.items) ≡ sum_by (times number)
+    (drop (i + 1) log) + v.count * sum_by number next.items = λ number. c.in_ok-spread.ensures.more number
+    ∙ ap (λ (xs : List ℕ). sum_by (times number) (drop (i + 1) log) + v.count * sum_by number xs) c.as_slice.ensures.value in
+    rw product (flow_step c.args.past.now c.args.leaf i log c.spread.new.log.items c.loop-i.total v next.items
+    (omega arith) c.index-visit.ensures c.in_ok-next.ensures c.in_ok-spread.ensures.kept
+    more c.in_ok-spread.ensures.often c.in_ok-spread.ensures.grows few inv)
 
 pub onward-requires-clause-chain : goal.onward-requires-clause-chain
 onward-requires-clause-chain c = λ x e. c.in_ok-chain.ensures x.now (sym c.as_ref-lists.ensures.value ∙ ap option_copied e)

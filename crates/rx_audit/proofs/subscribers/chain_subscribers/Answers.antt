@@ -11,14 +11,16 @@ loop-k-preserved-then-g-past c =
     let k = c.loop-k.k - 1 in
     let next : suc k ≡ c.loop-k.k = omega arith in
     let so_far : IsChaining c.args.past.now (suc k) c.loop-k.first.items c.loop-k.after.items = rw next c.loop-k.invariant in
-    chain_more c.args.past.now k c.in-Some.g c.index.result.now c.loop-k.first.items c.loop-k.after.items (omega arith) (omega arith) (sym c.in-Some.ensures) (get_or_read c.loop-k.first.items _ _ (let size = so_far.first_size in omega arith) c.index.ensures 0) so_far
+    chain_more c.args.past.now k c.in-Some.g c.index.result.now c.loop-k.first.items c.loop-k.after.items (omega arith) (omega arith)
+    (sym c.in-Some.ensures) (get_or_read c.loop-k.first.items _ _ (let size = so_far.first_size in omega arith) c.index.ensures 0) so_far
 
 pub loop-k-preserved-else-g-past : goal.loop-k-preserved-else-g-past
 loop-k-preserved-else-g-past c =
     let k = c.loop-k.k - 1 in
     let next : suc k ≡ c.loop-k.k = omega arith in
     let so_far : IsChaining c.args.past.now (suc k) c.loop-k.first.items c.loop-k.after.items = rw next c.loop-k.invariant in
-    chain_skip c.args.past.now k c.loop-k.first.items c.loop-k.after.items (omega arith) (not_subscribed c.args.past.now k c.in-Some.g (sym c.in-Some.ensures) (omega arith)) so_far
+    chain_skip c.args.past.now k c.loop-k.first.items c.loop-k.after.items (omega arith)
+    (not_subscribed c.args.past.now k c.in-Some.g (sym c.in-Some.ensures) (omega arith)) so_far
 
 pub loop-k-preserved : goal.loop-k-preserved
 loop-k-preserved c =

@@ -27,7 +27,8 @@ loop-s-smaller c =
     let size = r.after_size in
     let within : s < length h = omega arith in
     let y : subscribes h g s ≡ true = c.loop-s.invariant.subscribed within in
-    let is = get_or_read c.args.chain.now.after.items s c.index-s-in-loop-s.result.now (omega arith) c.index-s-in-loop-s.ensures 0 ∙ r.after g s c.requires.within within y in
+    let is = get_or_read c.args.chain.now.after.items s c.index-s-in-loop-s.result.now
+    (omega arith) c.index-s-in-loop-s.ensures 0 ∙ r.after g s c.requires.within within y in
     let f : IsFirst h g (suc s) c.index-s-in-loop-s.result.now = rw is (first_is h g (suc s) (omega arith)) in
     let a = f.after in
     omega arith
@@ -41,7 +42,8 @@ loop-s-preserved c =
     let size = r.after_size in
     let within : s < length h = omega arith in
     let y : subscribes h g s ≡ true = c.loop-s.invariant.subscribed within in
-    let is = get_or_read c.args.chain.now.after.items s c.index-s-in-loop-s.result.now (omega arith) c.index-s-in-loop-s.ensures 0 ∙ r.after g s c.requires.within within y in
+    let is = get_or_read c.args.chain.now.after.items s c.index-s-in-loop-s.result.now
+    (omega arith) c.index-s-in-loop-s.ensures 0 ∙ r.after g s c.requires.within within y in
     let f : IsFirst h g (suc s) c.index-s-in-loop-s.result.now = rw is (first_is h g (suc s) (omega arith)) in
     record {
       subscribed = f.subscribed;

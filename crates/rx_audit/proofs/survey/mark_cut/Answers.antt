@@ -12,5 +12,6 @@ loop-k-preserved c =
     let hubs : IsMarked c.loop-k.hubs (ended_from h (suc k)) = rw at_next inv.hubs in
     record {
       hubs = rw (c.mark.ensures, c.hub_ended_at.ensures) (ended_more h k c.loop-k.hubs c.requires.named (omega arith) hubs);
-      cut = cut_more h c.loop-k.k k c.loop-k.cut c.has_marked_hub.result (omega arith) (omega arith) (c.has_marked_hub.ensures ∙ is_cut_here h k c.loop-k.hubs hubs) inv.cut;
+      cut = cut_more h c.loop-k.k k c.loop-k.cut c.has_marked_hub.result (omega arith)
+          (omega arith) (c.has_marked_hub.ensures ∙ is_cut_here h k c.loop-k.hubs hubs) inv.cut;
     }

@@ -17,15 +17,22 @@ loop-i-init c = record { lawful = IsLawful_empty; found = c.requires.found; size
 
 pub returns-then-not-branch-clause-answer : goal.returns-then-not-branch-clause-answer
 unfolding any_event
-returns-then-not-branch-clause-answer c = unlawful_here c.args.events.now c.loop-i.i any_event c.in_ok-may_follow.field-0 (omega arith) c.loop-i.invariant.lawful c.if-not-branch.true c.in_ok-may_follow.ensures.answer
+returns-then-not-branch-clause-answer c =
+    unlawful_here c.args.events.now c.loop-i.i any_event c.in_ok-may_follow.field-0
+    (omega arith) c.loop-i.invariant.lawful c.if-not-branch.true c.in_ok-may_follow.ensures.answer
 
 pub loop-i-preserved : goal.loop-i-preserved
 unfolding any_event
 loop-i-preserved c = record {
-  lawful = lawful_more c.args.events.now c.loop-i.i any_event c.in_ok-may_follow.field-0 (omega arith) c.loop-i.invariant.lawful c.if-not-branch.false c.in_ok-may_follow.ensures.answer;
-  found = found_more c.args.events.now c.loop-i.i any_event (length c.loop-i.found.live.items) c.follow.new.found (omega arith) c.loop-i.invariant.found.live_size c.in_ok-fires.ensures.found;
-  sized = sized_as (length c.args.events.now) (length c.find_settled-settled.new.survey.parents.items) c.may_follow.new.survey (c.find_settled-settled.ensures.sized.parents ∙ c.loop-i.invariant.sized.parents) c.in_ok-may_follow.ensures.sized;
-  settled = λ e. let k = c.stays_settled-known.ensures e in let calm = c.is_quiet_here-quiet.ensures k.1 in settled_more c.args.events.now c.loop-i.i any_event c.in_ok-may_follow.field-0 (omega arith) c.loop-i.invariant.lawful (c.find_settled-settled.ensures.answer.0 k.0) c.if-not-branch.false c.in_ok-may_follow.ensures.answer calm.0 calm.1 (c.in_ok-fires.ensures.fires k.2);
+  lawful = lawful_more c.args.events.now c.loop-i.i any_event c.in_ok-may_follow.field-0
+      (omega arith) c.loop-i.invariant.lawful c.if-not-branch.false c.in_ok-may_follow.ensures.answer;
+  found = found_more c.args.events.now c.loop-i.i any_event (length c.loop-i.found.live.items) c.follow.new.found
+      (omega arith) c.loop-i.invariant.found.live_size c.in_ok-fires.ensures.found;
+  sized = sized_as (length c.args.events.now) (length c.find_settled-settled.new.survey.parents.items) c.may_follow.new.survey
+      (c.find_settled-settled.ensures.sized.parents ∙ c.loop-i.invariant.sized.parents) c.in_ok-may_follow.ensures.sized;
+  settled = λ e. let k = c.stays_settled-known.ensures e in let calm = c.is_quiet_here-quiet.ensures k.1 in
+      settled_more c.args.events.now c.loop-i.i any_event c.in_ok-may_follow.field-0 (omega arith) c.loop-i.invariant.lawful
+      (c.find_settled-settled.ensures.answer.0 k.0) c.if-not-branch.false c.in_ok-may_follow.ensures.answer calm.0 calm.1 (c.in_ok-fires.ensures.fires k.2);
 }
 
 pub find_settled-settled-requires-clause-named : goal.find_settled-settled-requires-clause-named
@@ -33,4 +40,6 @@ find_settled-settled-requires-clause-named c = hubs_named (take c.loop-i.i c.arg
 
 pub follow-requires-clause-visits : goal.follow-requires-clause-visits
 unfolding any_event
-follow-requires-clause-visits c = has_few_visits (take c.loop-i.i c.args.events.now) (get_or c.args.events.now c.loop-i.i any_event) c.in_ok-may_follow.field-0 c.if-not-branch.false c.in_ok-may_follow.ensures.answer
+follow-requires-clause-visits c =
+    has_few_visits (take c.loop-i.i c.args.events.now) (get_or c.args.events.now c.loop-i.i any_event)
+    c.in_ok-may_follow.field-0 c.if-not-branch.false c.in_ok-may_follow.ensures.answer

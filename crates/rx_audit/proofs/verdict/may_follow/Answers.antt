@@ -12,4 +12,5 @@ is_allowed-requires-clause-named c = hubs_named c.args.past.now c.requires.lawfu
 pub returns-then-settled-clause-answer : goal.returns-then-settled-clause-answer
 returns-then-settled-clause-answer c =
     let h = c.args.past.now in
-    IfOk-weaker c.is_allowed.result (λ (b : Bool). (IsTrue b) ↔ IsAllowed h c.args.event) (λ (b : Bool). (IsTrue b) ↔ MayFollow h c.args.event) (λ b w. settled_answer h c.args.event b (c.requires.settled.0 c.if-settled.true) w) c.is_allowed.ensures.answer
+    IfOk-weaker c.is_allowed.result (λ (b : Bool). (IsTrue b) ↔ IsAllowed h c.args.event) (λ (b : Bool). (IsTrue b) ↔ MayFollow h c.args.event)
+    (λ b w. settled_answer h c.args.event b (c.requires.settled.0 c.if-settled.true) w) c.is_allowed.ensures.answer
