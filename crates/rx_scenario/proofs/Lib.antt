@@ -1,2 +1,4 @@
+pub mod Laws
 pub mod Lists
-pub mod Commands
+pub mod Steps
+pub mod Labels

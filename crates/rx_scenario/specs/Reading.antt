@@ -1,5 +1,5 @@
 -- The scenario that a JSON value is.
-use Rattle.std.specs.Prelude.{◌≡◌, ℕ, ◌&&◌, ◌||◌, ◌==◌, ◌^◌, ℤ, List, [], ◌∷◌, length, codes, Bool, false, nat_lt, nat_le, is_some, if◌then◌else◌, Option, Some, None, option_map, option_and_then}
+use Rattle.std.specs.Prelude.{ℕ, zero, suc, ◌&&◌, ◌||◌, not, ◌==◌, ◌^◌, ℤ, List, [], ◌∷◌, length, codes, Bool, true, false, nat_lt, nat_le, is_some, if◌then◌else◌, Option, Some, None, option_map, option_and_then}
 use Rattle.std.specs.Str.{bytes_eq}
 use Rattle.std.specs.List.{list_all, list_any}
 use Rattle.serde_json.specs.Data.{Data, null, boolean, number, string, array, object, Items, no_items, item, Members, no_members, member}
@@ -7,8 +7,8 @@ use Rattle.serde_json.specs.Find.{get, as_str, as_number, as_u64, as_i64, as_arr
 use Rattle.rx_note.specs.declared.note.Terminal.{Terminal}
 use Rattle.rx_note.specs.declared.note.Terminal.TheVariants.{Completed, Error}
 use Rattle.rx_event.specs.declared.event.Kind.{Kind}
-use Rattle.rx_event.specs.declared.event.Kind.TheVariants.{Leaf, Pass}
-use Rattle.rx_scenario.specs.Scenario.{Name, Site, root, source, Command, using, open_node, hold, apply, remove, next, end, abort, dispose, drain, Script}
+use Rattle.rx_event.specs.declared.event.Kind.TheVariants.{Leaf, Pass, Flat, Switch, Until}
+use Rattle.rx_scenario.specs.Scenario.{Name, Site, root, source, inner, notifier, Command, using, open_node, hold, apply, remove, next, end, abort, decline, fail, dispose, drain, Action, command, cancel, Step, no_steps, steps_of, labels_in, Script}
 
 -- members -----------------------------------------------------------------------------------------
 
@@ -31,6 +31,22 @@ is_object_of names (number n) = false
 is_object_of names (string s) = false
 is_object_of names (array ds) = false
 is_object_of names (object ms) = has_only names ms
+
+-- the members that every step may have
+abbrev pub is_of_steps : List ℕ → Bool
+is_of_steps k = is_one_of (codes "do" ∷ codes "label" ∷ codes "at" ∷ codes "after" ∷ codes "then" ∷ []) k
+
+unfoldable pub has_only_steps : List (List ℕ) → Members → Bool
+has_only_steps names ms = list_all (λ k. is_of_steps k || is_one_of names k) (keys ms)
+
+-- an object with no member but these and those that every step may have
+abbrev pub is_step_of : List (List ℕ) → Data → Bool
+is_step_of names null = false
+is_step_of names (boolean b) = false
+is_step_of names (number n) = false
+is_step_of names (string s) = false
+is_step_of names (array ds) = false
+is_step_of names (object ms) = has_only_steps names ms
 
 -- names and numbers -------------------------------------------------------------------------------
 
@@ -83,6 +99,8 @@ unfoldable pub site_by : List ℕ → Data → Option Site
 site_by place d =
     if bytes_eq place (codes "root") then root_in d
     else if bytes_eq place (codes "source") then option_map source (name_in (codes "of") d)
+    else if bytes_eq place (codes "inner") then option_map inner (name_in (codes "of") d)
+    else if bytes_eq place (codes "notifier") then option_map notifier (name_in (codes "of") d)
     else None
 
 unfoldable pub site_in : Data → Option Site
@@ -92,69 +110,84 @@ unfoldable pub kind_by : List ℕ → Option Kind
 kind_by kind =
     if bytes_eq kind (codes "leaf") then Some Leaf
     else if bytes_eq kind (codes "pass") then Some Pass
+    else if bytes_eq kind (codes "flat") then Some Flat
+    else if bytes_eq kind (codes "switch") then Some Switch
+    else if bytes_eq kind (codes "until") then Some Until
     else None
 
 unfoldable pub kind_in : Data → Option Kind
 kind_in d = option_and_then kind_by (option_and_then as_str (get (codes "kind") d))
 
--- steps -------------------------------------------------------------------------------------------
+-- commands ----------------------------------------------------------------------------------------
 
 unfoldable pub using_of : Data → Option Command
 using_of d =
-    if is_object_of (codes "do" ∷ codes "name" ∷ codes "place" ∷ codes "of" ∷ codes "res" ∷ []) d
+    if is_step_of (codes "name" ∷ codes "place" ∷ codes "of" ∷ codes "res" ∷ []) d
     then option_and_then (λ n. option_and_then (λ s. option_map (using n s) (name_in (codes "res") d)) (site_in d)) (name_in (codes "name") d)
     else None
 
 unfoldable pub open_of : Data → Option Command
 open_of d =
-    if is_object_of (codes "do" ∷ codes "name" ∷ codes "place" ∷ codes "of" ∷ codes "kind" ∷ []) d
+    if is_step_of (codes "name" ∷ codes "place" ∷ codes "of" ∷ codes "kind" ∷ []) d
     then option_and_then (λ n. option_and_then (λ s. option_map (open_node n s) (kind_in d)) (site_in d)) (name_in (codes "name") d)
     else None
 
 unfoldable pub hold_of : Data → Option Command
 hold_of d =
-    if is_object_of (codes "do" ∷ codes "node" ∷ codes "res" ∷ []) d
+    if is_step_of (codes "node" ∷ codes "res" ∷ []) d
     then option_and_then (λ n. option_map (hold n) (name_in (codes "res") d)) (name_in (codes "node") d)
     else None
 
 unfoldable pub apply_of : Data → Option Command
 apply_of d =
-    if is_object_of (codes "do" ∷ codes "res" ∷ codes "word" ∷ []) d
+    if is_step_of (codes "res" ∷ codes "word" ∷ []) d
     then option_and_then (λ r. option_map (apply r) (word_in d)) (name_in (codes "res") d)
     else None
 
 unfoldable pub remove_of : Data → Option Command
 remove_of d =
-    if is_object_of (codes "do" ∷ codes "res" ∷ []) d
+    if is_step_of (codes "res" ∷ []) d
     then option_map remove (name_in (codes "res") d)
     else None
 
 unfoldable pub next_of : Data → Option Command
 next_of d =
-    if is_object_of (codes "do" ∷ codes "node" ∷ codes "value" ∷ []) d
+    if is_step_of (codes "node" ∷ codes "value" ∷ []) d
     then option_and_then (λ n. option_map (next n) (value_in d)) (name_in (codes "node") d)
     else None
 
 unfoldable pub end_of : Data → Option Command
 end_of d =
-    if is_object_of (codes "do" ∷ codes "node" ∷ codes "error" ∷ []) d
+    if is_step_of (codes "node" ∷ codes "error" ∷ []) d
     then option_and_then (λ n. option_map (end n) (terminal_in d)) (name_in (codes "node") d)
     else None
 
 unfoldable pub abort_of : Data → Option Command
 abort_of d =
-    if is_object_of (codes "do" ∷ codes "node" ∷ codes "error" ∷ []) d
+    if is_step_of (codes "node" ∷ codes "error" ∷ []) d
     then option_and_then (λ n. option_map (abort n) (code_in d)) (name_in (codes "node") d)
+    else None
+
+unfoldable pub decline_of : Data → Option Command
+decline_of d =
+    if is_step_of (codes "node" ∷ []) d
+    then option_map decline (name_in (codes "node") d)
+    else None
+
+unfoldable pub fail_of : Data → Option Command
+fail_of d =
+    if is_step_of (codes "node" ∷ codes "error" ∷ []) d
+    then option_and_then (λ n. option_map (fail n) (code_in d)) (name_in (codes "node") d)
     else None
 
 unfoldable pub dispose_of : Data → Option Command
 dispose_of d =
-    if is_object_of (codes "do" ∷ codes "node" ∷ []) d
+    if is_step_of (codes "node" ∷ []) d
     then option_map dispose (name_in (codes "node") d)
     else None
 
 unfoldable pub drain_of : Data → Option Command
-drain_of d = if is_object_of (codes "do" ∷ []) d then Some drain else None
+drain_of d = if is_step_of [] d then Some drain else None
 
 unfoldable pub command_by : List ℕ → Data → Option Command
 command_by what d =
@@ -166,26 +199,92 @@ command_by what d =
     else if bytes_eq what (codes "next") then next_of d
     else if bytes_eq what (codes "end") then end_of d
     else if bytes_eq what (codes "abort") then abort_of d
+    else if bytes_eq what (codes "decline") then decline_of d
+    else if bytes_eq what (codes "fail") then fail_of d
     else if bytes_eq what (codes "dispose") then dispose_of d
     else if bytes_eq what (codes "drain") then drain_of d
     else None
 
--- the step, by its member `do`
-unfoldable pub command_in : Data → Option Command
-command_in d = option_and_then (λ what. command_by what d) (option_and_then as_str (get (codes "do") d))
+unfoldable pub cancel_of : Data → Option Action
+cancel_of d = if is_step_of (codes "step" ∷ []) d then option_map cancel (name_in (codes "step") d) else None
 
-abbrev pub each_command : Items → Option (List Command)
-each_command no_items = Some []
-each_command (item d ds) = option_and_then (λ s. option_map (λ ss. s ∷ ss) (each_command ds)) (command_in d)
+unfoldable pub action_by : List ℕ → Data → Option Action
+action_by what d = if bytes_eq what (codes "cancel") then cancel_of d else option_map command (command_by what d)
 
--- at most so many steps
-abbrev pub if_few : List Command → Option (List Command)
-if_few steps = if nat_le (length steps) 65536 then Some steps else None
+-- what a step does, by its member `do`
+unfoldable pub action_in : Data → Option Action
+action_in d = option_and_then (λ what. action_by what d) (option_and_then as_str (get (codes "do") d))
+
+-- steps -------------------------------------------------------------------------------------------
+
+abbrev pub label_or : Option Data → Option (Option Name)
+label_or None = Some None
+label_or (Some d) = option_map Some (option_and_then if_name (as_str d))
+
+unfoldable pub label_in : Data → Option (Option Name)
+label_in d = label_or (get (codes "label") d)
+
+-- a time of a step is at most 1,000,000,000,000
+abbrev pub if_time : ℕ → Option ℕ
+if_time n = if nat_le n 1000000000000 then Some n else None
+
+abbrev pub time_or : Option ℕ → Option Data → Option (Option ℕ)
+time_or absent None = Some absent
+time_or absent (Some d) = option_map Some (option_and_then if_time (option_and_then as_u64 (as_number d)))
+
+-- a member that is not there, or such a time
+unfoldable pub time_in : Option ℕ → List ℕ → Data → Option (Option ℕ)
+time_in absent k d = time_or absent (get k d)
+
+-- a step of `steps` waits until the time `at`, which is 0 where there is none; a step of a `then` waits so long as `after` says,
+-- and where there is none it does not wait
+unfoldable pub delay_in : Bool → Data → Option (Option ℕ)
+delay_in true d = if is_some (get (codes "at") d) then None else time_in None (codes "after") d
+delay_in false d = if is_some (get (codes "after") d) then None else time_in (Some 0) (codes "at") d
+
+-- a step without those that follow it; whether it follows one itself
+unfoldable pub head_in : Bool → Data → Option Step
+head_in follows d =
+    option_and_then (λ l. option_and_then (λ t. option_map (λ a. record { label = l; delay = t; action = a; followers = no_steps }) (action_in d))
+    (delay_in follows d)) (label_in d)
+
+-- with those, where this reads them
+unfoldable pub step_with : (Data → Option (List Step)) → Bool → Data → Option Step
+step_with read follows d = option_and_then
+    (λ s. option_map (λ ss. record { label = s.label; delay = s.delay; action = s.action; followers = steps_of ss }) (read d)) (head_in follows d)
+
+abbrev pub each_step : (Data → Option Step) → Items → Option (List Step)
+each_step read no_items = Some []
+each_step read (item d ds) = option_and_then (λ s. option_map (λ ss. s ∷ ss) (each_step read ds)) (read d)
+
+abbrev pub then_or : (Data → Option Step) → Option Data → Option (List Step)
+then_or read None = Some []
+then_or read (Some d) = option_and_then (each_step read) (as_array d)
+
+-- the steps of a `then`, where such lists stand within each other at most so deep
+unfoldable pub then_in : ℕ → Data → Option (List Step)
+then_in zero d = if is_some (get (codes "then") d) then None else Some []
+then_in (suc n) d = then_or (step_with (then_in n) true) (get (codes "then") d)
+
+-- a step below which they stand so deep
+abbrev pub step_in : Bool → ℕ → Data → Option Step
+step_in follows depth d = step_with (then_in depth) follows d
+
+-- no label stands twice, or among those that were seen
+abbrev pub are_new : List Name → List (Option Name) → Bool
+are_new seen [] = true
+are_new seen (None ∷ ls) = are_new seen ls
+are_new seen (Some l ∷ ls) = not (is_one_of seen l) && are_new (l ∷ seen) ls
+
+-- at most so many steps in all, and no label at two of them
+unfoldable pub if_fitting : List Step → Option (List Step)
+if_fitting ss = if nat_le (length (labels_in (steps_of ss))) 65536 && are_new [] (labels_in (steps_of ss)) then Some ss else None
 
 -- the scenario ------------------------------------------------------------------------------------
 
-unfoldable pub steps_in : Data → Option (List Command)
-steps_in d = option_and_then if_few (option_and_then each_command (option_and_then as_array (get (codes "steps") d)))
+-- the steps, in which a `then` stands at most 16 deep
+unfoldable pub steps_in : Data → Option (List Step)
+steps_in d = option_and_then if_fitting (option_and_then (each_step (step_in false 16)) (option_and_then as_array (get (codes "steps") d)))
 
 abbrev pub if_limit : ℕ → Option ℕ
 if_limit n = if nat_le 1 n && nat_lt n (2 ^ 32) then Some n else None
@@ -198,8 +297,19 @@ events_or (Some d) = option_and_then if_limit (option_and_then as_u64 (as_number
 unfoldable pub events_in : Data → Option ℕ
 events_in d = events_or (get (codes "events") d)
 
+abbrev pub if_end : ℕ → Option ℕ
+if_end n = if nat_le n 1000000000000000 then Some n else None
+
+abbrev pub until_or : Option Data → Option ℕ
+until_or None = Some 1000000000000000
+until_or (Some d) = option_and_then if_end (option_and_then as_u64 (as_number d))
+
+-- when time ends, at most 1,000,000,000,000,000, which it is where none is given
+unfoldable pub until_in : Data → Option ℕ
+until_in d = until_or (get (codes "until") d)
+
 unfoldable pub scenario_of : Data → Option Script
 scenario_of d =
-    if is_object_of (codes "steps" ∷ codes "events" ∷ []) d
-    then option_and_then (λ ss. option_map (λ n. record { steps = ss; events = n }) (events_in d)) (steps_in d)
+    if is_object_of (codes "steps" ∷ codes "events" ∷ codes "until" ∷ []) d
+    then option_and_then (λ ss. option_and_then (λ n. option_map (λ u. record { steps = ss; events = n; until = u }) (until_in d)) (events_in d)) (steps_in d)
     else None

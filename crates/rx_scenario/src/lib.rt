@@ -2,8 +2,11 @@
 //!
 //! # Vocabulary
 //!
-//! - A [`Scenario`] is a list of [`Command`]s, and how many events the book may have. A command goes by
-//!   the names that earlier ones gave to nodes and to resources; a [`Site`] is where a node is opened.
+//! - A [`Scenario`] is a list of [`Step`]s, how many events the book may have, and when time ends. A
+//!   step waits in virtual time for the moment that it names; what it does is its [`Action`], which is a
+//!   [`Command`] of the book but for the one that takes a waiting step off; and it may be followed by
+//!   other steps. A command goes by the names that earlier ones gave to nodes and to resources; a
+//!   [`Site`] is where a node is opened.
 //! - Contracts see names as their bytes (`specs/Scenario.antt`). Which JSON values are scenarios, and
 //!   which scenario, is defined in `specs/Reading.antt`; [`scenario_of`] decides it.
 //!
@@ -11,12 +14,13 @@
 //!
 //! - [`scenario_of`] gives the scenario that a value is, and `Shape` where it is none, exactly. That
 //!   `Memory` is given only where memory was refused is tested above.
-//! - There are the commands `using`, `open`, `hold`, `apply`, `remove`, `next`, `end`, `abort`, `dispose`
-//!   and `drain` so far, at roots and sources, for leaves and mirroring nodes. Anything else is `Shape`.
+//! - There are the commands `using`, `open`, `hold`, `apply`, `remove`, `next`, `end`, `abort`,
+//!   `decline`, `fail`, `dispose`, `drain` and `cancel` so far, at every place, for every kind of node
+//!   but the subscribers of hubs. Anything else is `Shape`.
 #![tactic(auto)]
 
 mod reading;
 mod scenario;
 
 pub use reading::scenario_of;
-pub use scenario::{Command, Scenario, Site};
+pub use scenario::{Action, Command, Scenario, Site, Step, Ticks};

@@ -1,6 +1,8 @@
 //! The scenario that a JSON value is.
 
 mod commands;
+mod labels;
 mod members;
+mod steps;
 
-pub use commands::scenario_of;
+pub use steps::scenario_of;

@@ -1,15 +1,84 @@
 //! What a scenario says.
 
-use rx_event::{Kind, Terminal};
+ghost use Rattle.std.specs.Prelude.{◌≡◌, ◌≤◌, ◌<◌, IfSome, IfNone};
 
-/// A scenario: what to do with a book, in order, and how many events the book may have.
+use rx_event::{Kind, Terminal};
+use std::marker::Model;
+
+/// A scenario: steps that wait for their times, how many events the book may have, and when time
+/// ends. Each step is in turn followed by others.
 #[derive(Debug, Drop)]
 pub struct Scenario {
-    pub steps: Vec<Command>,
+    pub steps: Vec<Step>,
     pub events: u64,
+    pub until: u64,
 }
 
-/// What one step does. Nodes and resources go by the names that earlier steps gave them.
+/// A step of a scenario.
+#[derive(Debug, Drop)]
+pub struct Step {
+    /// By what it can be cancelled; no other step has this label.
+    pub label: Option<String>,
+    /// How long after the step that it follows it is due, or after the beginning. One without a delay
+    /// does not wait: it comes in the turn of the step that it follows.
+    pub delay: Option<Ticks>,
+    /// What it does.
+    pub action: Action,
+    /// The steps that follow it where it is accepted.
+    pub then: Vec<Step>,
+}
+
+/// A time of a scenario, in ticks of virtual time: 0 to 1,000,000,000,000.
+#[derive(Clone, Copy, Debug)]
+pub struct Ticks {
+    count: u64,
+}
+
+impl Model for Ticks {
+    ghost use Rattle.std.specs.Prelude.{ℕ, ◌≤◌};
+
+    ghost Value = { ℕ };
+
+    ghost view = { λ t. t.count };
+
+    ghost invariant = { λ t. t.count ≤ 1000000000000 };
+
+    ghost inverse = { λ n. record { count = n } };
+}
+
+impl Ticks {
+    /// So many ticks, or None where they are too many.
+    pub fn new(count: u64) -> Option<Self>
+        ensures some { IfSome result (λ t. t ≡ count) }
+        ensures few { IfSome result (λ t. count ≤ 1000000000000) }
+        ensures none { IfNone result (1000000000000 < count) }
+    {
+        if count <= 1_000_000_000_000 {
+            Some(Ticks { count })
+        } else {
+            None
+        }
+    }
+
+    /// How many.
+    pub fn count(self) -> u64
+        ensures value { result ≡ self }
+        ensures few { result ≤ 1000000000000 }
+    {
+        self.count
+    }
+}
+
+/// What a step does.
+#[derive(Debug, Drop)]
+pub enum Action {
+    /// It does something with the book.
+    Command(Command),
+    /// It takes the waiting step that has this label off the timeline.
+    Cancel(String),
+}
+
+/// What is done with a book. Nodes and resources go by the names that earlier steps gave them.
 #[derive(Debug, Drop)]
 pub enum Command {
     /// Opens a mirroring node with the first resource of the stock.
@@ -53,6 +122,15 @@ pub enum Command {
         node: String,
         code: u32,
     },
+    /// An item that a FlatMap or a Switch owes an inner observable gets none.
+    Decline {
+        node: String,
+    },
+    /// A FlatMap or a Switch that owes an inner observable ends with an error.
+    Fail {
+        node: String,
+        code: u32,
+    },
     /// A root is unsubscribed.
     Dispose {
         node: String,
@@ -66,4 +144,8 @@ pub enum Command {
 pub enum Site {
     Root,
     Source(String),
+    /// An inner observable of a FlatMap or a Switch.
+    Inner(String),
+    /// The notifier of a TakeUntil.
+    Notifier(String),
 }

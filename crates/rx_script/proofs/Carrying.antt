@@ -7,8 +7,9 @@ use Rattle.rx_event.specs.declared.refusal.Refusal.{Refusal}
 use Rattle.rx_event.specs.declared.refusal.Refusal.TheVariants.{Gone}
 use Rattle.rx_event.specs.Totals.{taken_count}
 use Rattle.rx_event.specs.Refusals.{first_cause}
-use Rattle.rx_book.specs.State.{State, IsPromised}
-use Rattle.rx_book.specs.Requests.{Request, by_key, stands}
+use Rattle.rx_book.specs.State.{State, IsPromised, Continues}
+use Rattle.rx_register.specs.Causes.{by_key}
+use Rattle.rx_book.specs.Requests.{Request, stands}
 use Rattle.rx_book.specs.Answers.{Accepts}
 use Rattle.rx_script.specs.declared.answer.Answer.{Answer}
 use Rattle.rx_script.specs.declared.answer.Answer.TheVariants.{Accepted, Refused}
@@ -17,10 +18,12 @@ use Rattle.rx_script.specs.declared.answer.Cause.TheVariants.{Book}
 use Rattle.rx_script.specs.declared.engine.Engine.{Engine}
 use Rattle.rx_scenario.specs.Scenario.{Command, drain}
 use Rattle.rx_script.specs.Stage.{Stage, own_cause, call_of, after}
-use Rattle.rx_script.specs.Course.{Drains, Executes, refused, refused_by_book, accepted, drained, book_cause}
+use Rattle.rx_book.specs.Drains.{Drains}
+use Rattle.rx_script.specs.Course.{Executes, refused, refused_by_book, accepted, drained, book_cause}
 use Rattle.rx_script.specs.Shelf.{Shelf}
-use Rattle.rx_script.specs.Engine.{node_binding, res_binding, stage_of, IsNodeKey, IsHeldKey, Continues, IsSound, Carries}
-use Rattle.rx_script.proofs.Going.{step_taken, accepted_continues, node_keys_kept, held_keys_kept}
+use Rattle.rx_script.specs.Engine.{node_binding, res_binding, stage_of, IsNodeKey, IsHeldKey, IsSound, Carries}
+use Rattle.rx_book.proofs.Laws.Going.{step_taken, accepted_continues}
+use Rattle.rx_script.proofs.Going.{node_keys_kept, held_keys_kept}
 
 -- to look for the key is to look whether the node is open
 pub first_cause-by_key : (known : Bool) (stand : Refusal → Bool) → (known ≡ false → stand Gone ≡ true) → first_cause (by_key known stand) ≡ first_cause stand

@@ -9,19 +9,19 @@ use Rattle.rx_event.specs.declared.refusal.Refusal.{Refusal}
 use Rattle.rx_event.specs.declared.refusal.Refusal.TheVariants.{Gone, NoMemory}
 use Rattle.rx_event.specs.Tree.{is_open}
 use Rattle.rx_event.specs.Resources.{is_held}
-use Rattle.rx_event.specs.Calls.{Call, Applying, Removing, Emitting, Ending, Aborting, Disposing}
+use Rattle.rx_event.specs.Calls.{Call, Applying, Removing, Emitting, Ending, Aborting, Declining, Failing, Disposing}
 use Rattle.rx_event.specs.Refusals.{first_cause, IsRefusal}
 use Rattle.rx_book.specs.declared.key.Key.{Key}
 use Rattle.rx_book.specs.declared.key.ResKey.{ResKey}
 use Rattle.rx_book.specs.State.{State, IsPromised, has_key, has_res_key}
-use Rattle.rx_register.specs.Causes.{causes}
-use Rattle.rx_book.specs.Requests.{Request, by_key, by_res_key, by_key_of, stands, node_request, res_request}
+use Rattle.rx_register.specs.Causes.{causes, by_key, by_res_key, by_key_of}
+use Rattle.rx_book.specs.Requests.{Request, stands, node_request, res_request}
 use Rattle.rx_book.specs.Answers.{Accepts}
 use Rattle.rx_script.specs.declared.answer.Answer.{Answer}
 use Rattle.rx_script.specs.declared.answer.Answer.TheVariants.{Accepted, Refused}
 use Rattle.rx_script.specs.declared.answer.Cause.TheVariants.{NoName, Book}
 use Rattle.rx_script.specs.declared.engine.Engine.{Engine}
-use Rattle.rx_scenario.specs.Scenario.{Name, Command, apply, remove, next, end, abort, dispose}
+use Rattle.rx_scenario.specs.Scenario.{Name, Command, apply, remove, next, end, abort, decline, fail, dispose}
 use Rattle.rx_script.specs.Stage.{Stage, bound, is_unbound, own_cause, call_of, front_is_fresh, after}
 use Rattle.rx_script.specs.Names.{key_of}
 use Rattle.rx_script.specs.Engine.{stage_of, IsNodeKey, IsHeldKey, IsSound, Carries}
@@ -58,6 +58,12 @@ end_step node t = record { own = λ s. refl; called = λ s. refl; binds_none = �
 
 pub abort_step : (node : Name) (code : ℕ) → IsNodeStep (abort node code) node (λ n. Aborting n code)
 abort_step node code = record { own = λ s. refl; called = λ s. refl; binds_none = λ s k. refl; gone = λ h limit f n. refl; by_node = λ n known stand. refl; any_front = λ h limit f n. refl }
+
+pub decline_step : (node : Name) → IsNodeStep (decline node) node Declining
+decline_step node = record { own = λ s. refl; called = λ s. refl; binds_none = λ s k. refl; gone = λ h limit f n. refl; by_node = λ n known stand. refl; any_front = λ h limit f n. refl }
+
+pub fail_step : (node : Name) (code : ℕ) → IsNodeStep (fail node code) node (λ n. Failing n code)
+fail_step node code = record { own = λ s. refl; called = λ s. refl; binds_none = λ s k. refl; gone = λ h limit f n. refl; by_node = λ n known stand. refl; any_front = λ h limit f n. refl }
 
 pub dispose_step : (node : Name) → IsNodeStep (dispose node) node Disposing
 dispose_step node = record { own = λ s. refl; called = λ s. refl; binds_none = λ s k. refl; gone = λ h limit f n. refl; by_node = λ n known stand. refl; any_front = λ h limit f n. refl }

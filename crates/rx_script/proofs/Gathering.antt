@@ -1,6 +1,6 @@
 -- Lists that are copied from a book, one by one, and the lines that are made of them.
 use Rattle.std.proofs.Common.{◌≡◌, ◌<◌, ◌≤◌, ◌+◌, ◌++◌, ◌∷◌, [], ℕ, zero, suc, List, Bool, true, false, map, filter, length, take, get_or, cond, refl, sym, ap, ◌∙◌, append_assoc, append-nil, arith}
-use Rattle.std.specs.Prelude.{Option, Some, None, ◌==◌, slice_get, option_map, flat_map}
+use Rattle.std.specs.Prelude.{Some, None, slice_get, flat_map}
 use Rattle.std.proofs.lemmas.List.{take_more, take_all, map-append}
 use Rattle.std.proofs.lemmas.Option.{get_or_from_slice_get}
 use Rattle.std.proofs.lemmas.Grind.{flat_map-append}
@@ -9,9 +9,7 @@ use Rattle.rx_event.specs.Tree.{at, is_open}
 use Rattle.rx_note.specs.declared.note.Note.{Note}
 use Rattle.rx_event.specs.Notes.{notes, notes_to}
 use Rattle.rx_event.specs.declared.mail.Mail.{Mail}
-use Rattle.rx_register.specs.declared.mail.Mail.{Mail as Letter}
 use Rattle.rx_book.specs.State.{State}
-use Rattle.rx_register.specs.Kept.{letter}
 use Rattle.rx_book.specs.declared.key.Key.{Key}
 use Rattle.rx_script.specs.declared.names.Named.{Named}
 use Rattle.rx_script.specs.Names.{name_of}
@@ -42,42 +40,8 @@ front_next xs front pushed n x is found is_pushed = is_pushed ∙ ap (λ l. l ++
 pub front_all : {A : Type 0} (xs front : List A) (n : ℕ) → front ≡ take n xs → None ≡ slice_get xs n → front ≡ xs
 front_all xs front n is missing = is ∙ take_all n xs (slice_get-past xs n (sym missing))
 
--- the same of notes
-pub mail_next : (told : List Mail) (mail pushed : List Letter) (n : ℕ) (note : Letter) → mail ≡ map letter (take n told) → Some note ≡ option_map letter (slice_get told n) → pushed ≡ mail ++ note ∷ [] → pushed ≡ map letter (take (n + 1) told)
-mail_next told mail pushed n note is found is_pushed =
-    let by_case : (o : Option Mail) → slice_get told n ≡ o → Some note ≡ option_map letter o → pushed ≡ map letter (take (n + 1) told) =
-    λ o. elim o as (λ o. slice_get told n ≡ o → Some note ≡ option_map letter o → pushed ≡ map letter (take (n + 1) told)) [
-      | None ↦ λ at_n same. absurd (cc)
-      | Some m ↦ λ at_n same.
-          let is_note : note ≡ letter m = cc in
-          is_pushed ∙ ap (λ l. l ++ note ∷ []) is ∙ ap (λ x. map letter (take n told) ++ x ∷ []) is_note ∙ sym (map-append letter (take n told) (m ∷ [])) ∙ ap (map letter) (sym (take_next told n m at_n))
-    ] in
-    by_case (slice_get told n) refl found
-
-pub mail_all : (told : List Mail) (mail : List Letter) (n : ℕ) → mail ≡ map letter (take n told) → None ≡ option_map letter (slice_get told n) → mail ≡ map letter told
-mail_all told mail n is missing =
-    let by_case : (o : Option Mail) → slice_get told n ≡ o → None ≡ option_map letter o → mail ≡ map letter told =
-    λ o. elim o as (λ o. slice_get told n ≡ o → None ≡ option_map letter o → mail ≡ map letter told) [
-      | None ↦ λ at_n same. is ∙ ap (map letter) (take_all n told (slice_get-past told n at_n))
-      | Some m ↦ λ at_n same. absurd (cc)
-    ] in
-    by_case (slice_get told n) refl missing
-
-pub note_within : (told : List Mail) (n : ℕ) (note : Letter) → Some note ≡ option_map letter (slice_get told n) → n < length told
-note_within told n note found =
-    let by_case : (o : Option Mail) → slice_get told n ≡ o → Some note ≡ option_map letter o → n < length told =
-    λ o. elim o as (λ o. slice_get told n ≡ o → Some note ≡ option_map letter o → n < length told) [ None ↦ λ at_n same. absurd (cc) | Some m ↦ λ at_n same. slice_get-within told n m at_n ] in
-    by_case (slice_get told n) refl found
-
 pub event_within : (h : List Event) (n : ℕ) (e : Event) → Some e ≡ slice_get h n → n < length h
 event_within h n e found = slice_get-within h n e (sym found)
-
--- the notes to a node, as they were handed out
-pub notes_handed : (told : List Mail) (node : ℕ) → map (λ m. m.note) (filter (λ m. m.to == node) (map letter told)) ≡ map (λ m. m.note) (filter (λ m. m.to == node) told)
-notes_handed [] node = refl
-notes_handed (m ∷ ms) node =
-    elim (m.to == node) as (λ b. map (λ m. m.note) (cond b (letter m ∷ filter (λ m. m.to == node) (map letter ms)) (filter (λ m. m.to == node) (map letter ms))) ≡ map (λ m. m.note) (cond b (m ∷ filter (λ m. m.to == node) ms) (filter (λ m. m.to == node) ms)))
-    [ true ↦ ap (λ l. m.note ∷ l) (notes_handed ms node) | false ↦ notes_handed ms node ]
 
 -- one line more
 filter-push : {A : Type 0} (p : A → Bool) (xs : List A) (x : A) → filter p (xs ++ x ∷ []) ≡ filter p xs ++ cond (p x) (x ∷ []) []
@@ -145,14 +109,14 @@ module _ (first now next : State) (going : now ≡ record first { given = now.gi
   pub handed_book : next ≡ record first { given = next.given }
   handed_book = handed ∙ ap {A = State} {B = State} (λ s. record s { given = now.given + 1 }) going ∙ ap {A = ℕ} {B = State} (λ n. record first { given = n }) (sym one_more_given)
 
-  pub handed_mail : (mail pushed : List Letter) (note : Letter) → mail ≡ map letter (take now.given (notes first.history)) → Some note ≡ option_map letter (slice_get (notes now.history) now.given) → pushed ≡ mail ++ note ∷ []
-      → pushed ≡ map letter (take next.given (notes first.history))
+  pub handed_mail : (mail pushed : List Mail) (note : Mail) → mail ≡ take now.given (notes first.history) → Some note ≡ slice_get (notes now.history) now.given
+      → pushed ≡ mail ++ note ∷ [] → pushed ≡ take next.given (notes first.history)
   handed_mail mail pushed note before found is_pushed =
-      mail_next (notes first.history) mail pushed now.given note before (found ∙ ap (λ h. option_map letter (slice_get (notes h) now.given)) same_history) is_pushed
-      ∙ ap (λ n. map letter (take n (notes first.history))) (sym one_more_given)
+      front_next (notes first.history) mail pushed now.given note before (found ∙ ap (λ h. slice_get (notes h) now.given) same_history) is_pushed
+      ∙ ap (λ n. take n (notes first.history)) (sym one_more_given)
 
-pub mail_whole : (first now : State) (mail : List Letter) → now ≡ record first { given = now.given } → mail ≡ map letter (take now.given (notes first.history)) → None ≡ option_map letter (slice_get (notes now.history) now.given)
-    → mail ≡ map letter (notes first.history)
+pub mail_whole : (first now : State) (mail : List Mail) → now ≡ record first { given = now.given } → mail ≡ take now.given (notes first.history)
+    → None ≡ slice_get (notes now.history) now.given → mail ≡ notes first.history
 mail_whole first now mail going before missing =
     let same : now.history ≡ first.history = ap (λ s. s.history) going in
-    mail_all (notes first.history) mail now.given before (missing ∙ ap (λ h. option_map letter (slice_get (notes h) now.given)) same)
+    front_all (notes first.history) mail now.given before (missing ∙ ap (λ h. slice_get (notes h) now.given) same)

@@ -3,11 +3,11 @@ pub mod Texts
 pub mod Keys
 pub mod Naming
 pub mod Going
+pub mod Planning
+pub mod Advancing
 pub mod Carrying
 pub mod Commands
 pub mod Openings
 pub mod Holdings
-pub mod Closings
-pub mod Leading
 pub mod Gathering
 pub mod Reporting

@@ -1,21 +1,23 @@
 -- The commands that bind names, carried out by an engine.
-use Rattle.std.proofs.Common.{◌≡◌, ◌<◌, ◌+◌, ◌++◌, ◌∷◌, [], ℕ, List, Bool, true, false, refl, sym, ap, subst, ◌∙◌, map, length, arith}
+use Rattle.std.proofs.Common.{◌≡◌, ◌<◌, ◌+◌, ◌++◌, ◌∷◌, [], ℕ, List, true, false, refl, sym, ap, subst, ◌∙◌, map, length, arith}
 use Rattle.std.specs.Prelude.{◌≢◌, Option, Some, None, IsTrue, is_none, is_some, option_map}
 use Rattle.std.proofs.Math.Bool.{not}
 use Rattle.std.specs.List.{All}
 use Rattle.std.proofs.lemmas.List.{map-append}
 use Rattle.std.proofs.lemmas.List.Elements.{All-push}
 use Rattle.rx_event.specs.declared.event.Event.{Event}
-use Rattle.rx_event.specs.declared.event.Place.TheVariants.{Source}
+use Rattle.rx_event.specs.declared.event.Place.{Place}
+use Rattle.rx_event.specs.declared.event.Place.TheVariants.{Source, Inner, Notifier}
 use Rattle.rx_event.specs.declared.event.Kind.{Kind}
 use Rattle.rx_event.specs.declared.refusal.Refusal.{Refusal}
 use Rattle.rx_event.specs.declared.refusal.Refusal.TheVariants.{NoMemory}
-use Rattle.rx_event.specs.Calls.{Call, Opening, outside_of}
+use Rattle.rx_event.specs.Tree.{is_open}
+use Rattle.rx_event.specs.Calls.{Opening, outside_of}
 use Rattle.rx_event.specs.Refusals.{IsRefusal}
 use Rattle.rx_book.specs.declared.key.Key.{Key}
 use Rattle.rx_book.specs.declared.key.ResKey.{ResKey}
 use Rattle.rx_book.specs.declared.answer.At.{At}
-use Rattle.rx_book.specs.declared.answer.At.TheVariants.{Root as AtRoot, Source as AtSource}
+use Rattle.rx_book.specs.declared.answer.At.TheVariants.{Root as AtRoot, Source as AtSource, Inner as AtInner, Notifier as AtNotifier}
 use Rattle.rx_book.specs.State.{State, IsPromised, has_key, has_res_key}
 use Rattle.rx_register.specs.Causes.{causes, is_gone}
 use Rattle.rx_book.specs.Requests.{Request, place_of, is_known_place, stands, open_request}
@@ -24,13 +26,14 @@ use Rattle.rx_script.specs.declared.answer.Answer.TheVariants.{Accepted, Refused
 use Rattle.rx_script.specs.declared.answer.Cause.TheVariants.{NoName, NameTaken, Book}
 use Rattle.rx_script.specs.declared.names.Named.{Named}
 use Rattle.rx_script.specs.declared.engine.Engine.{Engine}
-use Rattle.rx_scenario.specs.Scenario.{Name, Site, root, source, open_node}
-use Rattle.rx_script.specs.Stage.{Binding, Ware, Stage, is_bound, is_unbound_site, own_cause, call_of, place_at, with_binding}
+use Rattle.rx_scenario.specs.Scenario.{Name, Site, root, source, inner, notifier, open_node}
+use Rattle.rx_script.specs.Stage.{Binding, Ware, Stage, bound, is_bound, is_unbound, is_unbound_site, own_cause, place_at, with_binding}
 use Rattle.rx_script.specs.Names.{name_of, key_of}
 use Rattle.rx_script.specs.Engine.{node_binding, res_binding, at_of, stage_of, IsNodeKey, IsHeldKey, IsSound, Carries}
 use Rattle.rx_script.proofs.Keys.{has_key-is_open, has_key-contained, has_res_key-contained}
 use Rattle.rx_script.proofs.Naming.{key_of-holds, bound-nodes, bound-resources, node_bound, node_unbound}
-use Rattle.rx_script.proofs.Going.{step_longer, accepted_continues, node_keys_kept, held_keys_kept}
+use Rattle.rx_book.proofs.Laws.Going.{step_longer, accepted_continues}
+use Rattle.rx_script.proofs.Going.{node_keys_kept, held_keys_kept}
 use Rattle.rx_script.proofs.Carrying.{Agrees, first_cause-by_key, with, refused_own, refused_there, accepted_to}
 use Rattle.rx_script.proofs.Commands.{cause_of}
 
@@ -54,33 +57,62 @@ pub record IsPlaced {R : Type 0} (e : Engine R) (site : Site) (place : At) : Typ
   pub placed : place_at (stage_of e) site ≡ Some (place_of place)
   pub gone : is_known_place e.book.keys place ≡ false → is_gone e.book.history (place_of place) ≡ true
 
-source_placed : {R : Type 0} (e : Engine R) (name : Name) (place : At) (o : Option Key) → IsSound e → key_of e.nodes name ≡ o → option_map AtSource o ≡ Some place → IsPlaced e (source name) place
-source_placed e name place None sound is at = absurd (cc)
-source_placed e name place (Some k) sound is at =
-    let same : AtSource k ≡ place = cc in
-    let number = node_bound e.nodes name k is in
-    let known = has_key-is_open e.book k sound.kept (key_of-holds (IsNodeKey e.book) e.nodes name k sound.nodes is) in
-    let here : IsPlaced e (source name) (AtSource k) = record {
-      named = ap is_none number;
-      placed = ap (option_map Source) number;
-      gone = λ unknown. ap not (sym known ∙ unknown);
-    } in
-    subst (IsPlaced e (source name)) same here
+-- a site below a node, the place at its key, and that at its number
+record IsBelow (site : Name → Site) (at_key : Key → At) (at_number : ℕ → Place) : Type 0 where
+  pub unbound : (s : Stage) (name : Name) → is_unbound_site s (site name) ≡ is_unbound s.nodes name
+  pub placed : (s : Stage) (name : Name) → place_at s (site name) ≡ option_map at_number (bound s.nodes name)
+  pub keyed : (names : List (Named Key)) (name : Name) → at_of names (site name) ≡ option_map at_key (key_of names name)
+  pub number : (k : Key) → place_of (at_key k) ≡ at_number k.number
+  pub known : (keys : List Key) (k : Key) → is_known_place keys (at_key k) ≡ has_key keys k
+  pub gone : (h : List Event) (n : ℕ) → is_gone h (at_number n) ≡ not (is_open h n)
+
+source_below : IsBelow source AtSource Source
+source_below = record { unbound = λ s n. refl; placed = λ s n. refl; keyed = λ s n. refl; number = λ k. refl; known = λ s k. refl; gone = λ h n. refl }
+
+inner_below : IsBelow inner AtInner Inner
+inner_below = record { unbound = λ s n. refl; placed = λ s n. refl; keyed = λ s n. refl; number = λ k. refl; known = λ s k. refl; gone = λ h n. refl }
+
+notifier_below : IsBelow notifier AtNotifier Notifier
+notifier_below = record { unbound = λ s n. refl; placed = λ s n. refl; keyed = λ s n. refl; number = λ k. refl; known = λ s k. refl; gone = λ h n. refl }
+
+module _ {R : Type 0} (e : Engine R) {site : Name → Site} {at_key : Key → At} {at_number : ℕ → Place} (below : IsBelow site at_key at_number) (name : Name) where
+  placed_by : (place : At) (o : Option Key) → IsSound e → key_of e.nodes name ≡ o → option_map at_key o ≡ Some place → IsPlaced e (site name) place
+  placed_by place None sound is at = absurd (cc)
+  placed_by place (Some k) sound is at =
+      let same : at_key k ≡ place = cc in
+      let number = node_bound e.nodes name k is in
+      let known = has_key-is_open e.book k sound.kept (key_of-holds (IsNodeKey e.book) e.nodes name k sound.nodes is) in
+      let here : IsPlaced e (site name) (at_key k) = record {
+        named = below.unbound (stage_of e) name ∙ ap is_none number;
+        placed = below.placed (stage_of e) name ∙ ap (option_map at_number) number ∙ ap Some (sym (below.number k));
+        gone = λ unknown. ap (is_gone e.book.history) (below.number k) ∙ below.gone e.book.history k.number ∙ ap not (sym known ∙ sym (below.known e.book.keys k) ∙ unknown);
+      } in
+      subst (IsPlaced e (site name)) same here
+
+  below_placed : (place : At) → IsSound e → at_of e.nodes (site name) ≡ Some place → IsPlaced e (site name) place
+  below_placed place sound at = placed_by place (key_of e.nodes name) sound refl (sym (below.keyed e.nodes name) ∙ at)
+
+  nameless_by : (o : Option Key) → key_of e.nodes name ≡ o → option_map at_key o ≡ None → is_unbound_site (stage_of e) (site name) ≡ true
+  nameless_by None is at = below.unbound (stage_of e) name ∙ ap is_none (node_unbound e.nodes name is)
+  nameless_by (Some k) is at = absurd (cc)
+
+  below_nameless : at_of e.nodes (site name) ≡ None → is_unbound_site (stage_of e) (site name) ≡ true
+  below_nameless at = nameless_by (key_of e.nodes name) refl (sym (below.keyed e.nodes name) ∙ at)
 
 pub site_placed : {R : Type 0} (e : Engine R) (site : Site) (place : At) → IsSound e → at_of e.nodes site ≡ Some place → IsPlaced e site place
 site_placed e root place sound at =
     let same : AtRoot ≡ place = cc in
     let here : IsPlaced e root AtRoot = record { named = refl; placed = refl; gone = λ unknown. absurd (cc) } in
     subst (IsPlaced e root) same here
-site_placed e (source name) place sound at = source_placed e name place (key_of e.nodes name) sound refl at
-
-source_nameless : {R : Type 0} (e : Engine R) (name : Name) (o : Option Key) → key_of e.nodes name ≡ o → option_map AtSource o ≡ None → is_unbound_site (stage_of e) (source name) ≡ true
-source_nameless e name None is at = ap is_none (node_unbound e.nodes name is)
-source_nameless e name (Some k) is at = absurd (cc)
+site_placed e (source name) place sound at = below_placed e source_below name place sound at
+site_placed e (inner name) place sound at = below_placed e inner_below name place sound at
+site_placed e (notifier name) place sound at = below_placed e notifier_below name place sound at
 
 pub site_nameless : {R : Type 0} (e : Engine R) (site : Site) → at_of e.nodes site ≡ None → is_unbound_site (stage_of e) site ≡ true
 site_nameless e root at = absurd (cc)
-site_nameless e (source name) at = source_nameless e name (key_of e.nodes name) refl at
+site_nameless e (source name) at = below_nameless e source_below name at
+site_nameless e (inner name) at = below_nameless e inner_below name at
+site_nameless e (notifier name) at = below_nameless e notifier_below name at
 
 -- new names ----------------------------------------------------------------------------------------
 

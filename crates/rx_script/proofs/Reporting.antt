@@ -7,7 +7,8 @@ use Rattle.rx_event.proofs.Laws.Totals.{accepted_count-parts}
 use Rattle.rx_script.specs.declared.answer.Answer.{Answer}
 use Rattle.rx_scenario.specs.Scenario.{Script}
 use Rattle.rx_script.specs.Stage.{Ware, Stage, start}
-use Rattle.rx_script.specs.Course.{Leads, Course, IsCourseOf}
+use Rattle.rx_script.specs.Agenda.{with_steps, empty_agenda}
+use Rattle.rx_script.specs.Course.{Progress, begin, Ends, Course, IsCourseOf}
 use Rattle.rx_dump.specs.Dump.{dump}
 use Rattle.rx_script.specs.declared.Form.{Form}
 use Rattle.rx_script.specs.declared.Form.TheVariants.{Report, Dump}
@@ -29,11 +30,12 @@ outputs_whole Report c faults = refl
 outputs_whole Dump c faults = append-nil (dump c.last.history)
 
 pub whole_output : (form : Form) (script : Script) (stock : List Ware) (limit : ℕ) (first last : Stage) (answers : List Answer) (h : List Event) (unclosed whole : List ℕ) (released faults : ℕ)
-    → Leads limit first script.steps answers last → limit ≡ script.events → first ≡ start stock → last.history ≡ h → unclosed ≡ unclosed_output form answers last
+    → Ends limit script.until (record { stage = first; agenda = with_steps script.steps empty_agenda }) answers last → limit ≡ script.events → first ≡ start stock → last.history ≡ h → unclosed ≡ unclosed_output form answers last
     → released ≡ held_count h + waiting_count h → whole ≡ unclosed ++ closing form released faults → faults ≤ accepted_count last.history
     → (c : Course) × (n : ℕ) × IsCourseOf script stock c × (n ≤ accepted_count c.last.history) × (whole ≡ output form c n)
-whole_output form script stock limit first last answers h unclosed whole released faults leads same_limit same_first same_history lines rest is_whole few =
-    let course : Leads script.events (start stock) script.steps answers last = subst (λ n. Leads n (start stock) script.steps answers last) same_limit (subst (λ s. Leads limit s script.steps answers last) same_first leads) in
+whole_output form script stock limit first last answers h unclosed whole released faults ends same_limit same_first same_history lines rest is_whole few =
+    let first_of : Stage → Progress = λ s. record { stage = s; agenda = with_steps script.steps empty_agenda } in
+    let course : Ends script.events script.until (begin stock script.steps) answers last = subst (λ n. Ends n script.until (begin stock script.steps) answers last) same_limit (subst (λ s. Ends limit script.until (first_of s) answers last) same_first ends) in
     let left : released ≡ held_count last.history + waiting_count last.history = rest ∙ ap (λ l. held_count l + waiting_count l) (sym same_history) in
     let c : Course = record { answers = answers; last = last } in
     (c, faults, course, few, is_whole ∙ ap (λ l. l ++ closing form released faults) lines ∙ ap (λ n. unclosed_output form answers last ++ closing form n faults) left ∙ outputs_whole form c faults)

@@ -1,27 +1,19 @@
--- The courses that a scenario may take: its executed steps with their answers, and what they make of a history.
+-- The courses that a scenario may take: its executed steps with their answers, in the order of virtual time, and what they make of a
+-- history.
 use Rattle.std.specs.Prelude.{◌≡◌, ℕ, Option, Some, None, List, [], ◌∷◌, ◌++◌}
 use Rattle.rx_event.specs.declared.event.Event.{Event}
 use Rattle.rx_event.specs.declared.refusal.Refusal.{Refusal}
-use Rattle.rx_event.specs.Resources.{waiting_resources}
-use Rattle.rx_event.specs.Calls.{Call, Taking, IsStepOf}
+use Rattle.rx_event.specs.Calls.{Call, IsStepOf}
 use Rattle.rx_event.specs.Refusals.{first_cause}
 use Rattle.rx_register.specs.Causes.{causes}
+use Rattle.rx_book.specs.Drains.{Drains}
 use Rattle.rx_script.specs.declared.answer.Answer.{Answer}
 use Rattle.rx_script.specs.declared.answer.Answer.TheVariants.{Accepted, Refused}
 use Rattle.rx_script.specs.declared.answer.Cause.{Cause}
 use Rattle.rx_script.specs.declared.answer.Cause.TheVariants.{Book}
-use Rattle.rx_scenario.specs.Scenario.{Command, drain, Script}
+use Rattle.rx_scenario.specs.Scenario.{Name, Command, drain, Action, command, cancel, Step, list_of, Script}
 use Rattle.rx_script.specs.Stage.{Ware, Stage, start, own_cause, call_of, front_is_fresh, after}
-
--- from h one resource after another is taken
-pub data Takes (h : List Event) : List Event → Type 0 where
-  none_taken : Takes h h
-  next_taken : {m k : List Event} {r : ℕ} → Takes h m → IsStepOf m (Taking r) k → Takes h k
-
--- until nothing waits
-pub record Drains (h k : List Event) : Type 0 where
-  pub takes : Takes h k
-  pub none_waits : waiting_resources k ≡ []
+use Rattle.rx_script.specs.Agenda.{Agenda, empty_agenda, with_steps, followed_by, next_step, Cancels}
 
 -- the first cause that stands against a step's call of the book
 abbrev pub book_cause : ℕ → Stage → Call → Option Refusal
@@ -34,10 +26,43 @@ pub data Executes (limit : ℕ) (s : Stage) : Command → Answer → Stage → T
   accepted : {step : Command} {call : Call} {k : List Event} → own_cause s step ≡ None → call_of s step ≡ Some call → book_cause limit s call ≡ None → IsStepOf s.history call k → Executes limit s step Accepted (after s step k)
   drained : {k : List Event} → Drains s.history k → Executes limit s drain Accepted (after s drain k)
 
--- the steps in order lead here with these answers
-pub data Leads (limit : ℕ) (first : Stage) : List Command → List Answer → Stage → Type 0 where
-  not_begun : Leads limit first [] [] first
-  executed : {steps : List Command} {answers : List Answer} {s t : Stage} {step : Command} {answer : Answer} → Leads limit first steps answers s → Executes limit s step answer t → Leads limit first (steps ++ step ∷ []) (answers ++ answer ∷ []) t
+-- where a run is: what it has done, and what is to come
+pub record Progress : Type 0 where
+  pub stage : Stage
+  pub agenda : Agenda
+
+-- before the first step, all steps of the scenario wait for their times
+abbrev pub begin : List Ware → List Step → Progress
+begin stock steps = record { stage = start stock; agenda = with_steps steps empty_agenda }
+
+-- what a step does, its answer, and what follows
+pub data Performs (limit : ℕ) (p : Progress) : Action → Answer → Progress → Type 0 where
+  executes : {c : Command} {answer : Answer} {s : Stage}
+      → Executes limit p.stage c answer s → Performs limit p (command c) answer (record { stage = s; agenda = p.agenda })
+  cancels : {label : Name} {answer : Answer} {a : Agenda}
+      → Cancels p.agenda label answer a → Performs limit p (cancel label) answer (record { stage = p.stage; agenda = a })
+
+-- the step that comes next does what it does, and those that follow it join
+pub record Advances (limit until : ℕ) (p : Progress) (answer : Answer) (q : Progress) : Type 0 where
+  pub step : Step
+  pub rest : Agenda
+  pub comes : next_step until p.agenda ≡ Some (step, rest)
+  pub done : Progress
+  pub performs : Performs limit (record { stage = p.stage; agenda = rest }) step.action answer done
+  pub stage : q.stage ≡ done.stage
+  pub follows : q.agenda ≡ followed_by answer (list_of step.followers) done.agenda
+
+-- one step after another leads here with these answers
+pub data Leads (limit until : ℕ) (first : Progress) : List Answer → Progress → Type 0 where
+  not_begun : Leads limit until first [] first
+  advanced : {answers : List Answer} {answer : Answer} {p q : Progress}
+      → Leads limit until first answers p → Advances limit until p answer q → Leads limit until first (answers ++ answer ∷ []) q
+
+-- it leads to its end, from which on nothing comes next
+pub record Ends (limit until : ℕ) (first : Progress) (answers : List Answer) (last : Stage) : Type 0 where
+  pub left : Agenda
+  pub leads : Leads limit until first answers (record { stage = last; agenda = left })
+  pub over : next_step until left ≡ None
 
 -- the answers of the executed steps, in order, and where the scenario is at its end
 pub record Course : Type 0 where
@@ -46,4 +71,4 @@ pub record Course : Type 0 where
 
 -- a course of this scenario with this stock
 abbrev pub IsCourseOf : Script → List Ware → Course → Type 0
-IsCourseOf script stock c = Leads script.events (start stock) script.steps c.answers c.last
+IsCourseOf script stock c = Ends script.events script.until (begin stock script.steps) c.answers c.last

@@ -1,6 +1,5 @@
 -- A scenario at work: what its parts stand for, and what they keep.
-use Rattle.std.specs.Prelude.{◌≡◌, ◌<◌, ◌≤◌, Option, Some, List, length, map, find, string_bytes, IsTrue, option_map}
-use Rattle.std.specs.Str.{bytes_eq}
+use Rattle.std.specs.Prelude.{◌≡◌, ℕ, ◌+◌, ◌<◌, ◌≤◌, Option, Some, List, length, map, sum_by, IsTrue, option_map}
 use Rattle.std.specs.List.{All, Contains}
 use Rattle.rx_event.specs.Tree.{is_open}
 use Rattle.rx_event.specs.Resources.{is_held}
@@ -8,15 +7,20 @@ use Rattle.rx_event.specs.Totals.{taken_count}
 use Rattle.rx_book.specs.declared.key.Key.{Key}
 use Rattle.rx_book.specs.declared.key.ResKey.{ResKey}
 use Rattle.rx_book.specs.declared.answer.At.{At}
-use Rattle.rx_book.specs.declared.answer.At.TheVariants.{Root as AtRoot, Source as AtSource}
+use Rattle.rx_book.specs.declared.answer.At.TheVariants.{Root as AtRoot, Source as AtSource, Inner as AtInner, Notifier as AtNotifier}
 use Rattle.rx_book.specs.State.{State, IsPromised}
 use Rattle.rx_script.specs.declared.answer.Answer.{Answer}
 use Rattle.rx_script.specs.declared.names.Named.{Named}
 use Rattle.rx_script.specs.declared.engine.Engine.{Engine}
-use Rattle.rx_scenario.specs.Scenario.{Name, Site, root, source, Command}
+use Rattle.rx_script.specs.declared.agenda.Agenda.{Agenda as AgendaInCode}
+use Rattle.rx_time.specs.Schedule.{seen_as, items_of}
+use Rattle.rx_scenario.specs.declared.scenario.Action.{Action as ActionInCode}
+use Rattle.rx_scenario.specs.declared.scenario.Step.{Step as StepInCode}
+use Rattle.rx_scenario.specs.Scenario.{Site, root, source, inner, notifier, Command, action_of, list_of, step_of, labels_of}
 use Rattle.rx_script.specs.Names.{name_of, key_of}
 use Rattle.rx_script.specs.Stage.{Binding, Stage}
-use Rattle.rx_script.specs.Course.{Executes}
+use Rattle.rx_script.specs.Agenda.{Agenda, followed_by}
+use Rattle.rx_script.specs.Course.{Executes, Progress, Performs}
 
 -- names --------------------------------------------------------------------------------------------
 
@@ -30,6 +34,8 @@ res_binding n = record { name = name_of n; number = n.key.number }
 abbrev pub at_of : List (Named Key) → Site → Option At
 at_of names root = Some AtRoot
 at_of names (source name) = option_map AtSource (key_of names name)
+at_of names (inner name) = option_map AtInner (key_of names name)
+at_of names (notifier name) = option_map AtNotifier (key_of names name)
 
 -- the engine ---------------------------------------------------------------------------------------
 
@@ -46,14 +52,6 @@ pub record IsHeldKey (s : State) (k : ResKey) : Type 0 where
   pub within : k.number < length s.history
   pub found : IsTrue (is_held s.history k.number) → Contains s.res_keys k
 
--- the book goes on: its limit and the notes handed out are as before, and so are the keys of all that is still there
-pub record Continues (old new : State) : Type 0 where
-  pub limit : new.limit ≡ old.limit
-  pub given : new.given ≡ old.given
-  pub longer : length old.history ≤ length new.history
-  pub keys : (k : Key) → Contains new.keys k → k.number < length old.history → Contains old.keys k
-  pub res_keys : (k : ResKey) → Contains new.res_keys k → k.number < length old.history → Contains old.res_keys k
-
 -- what an engine keeps
 pub record IsSound {R : Type 0} (e : Engine R) : Type 0 where
   pub kept : IsPromised e.book
@@ -67,3 +65,45 @@ pub record Carries {R : Type 0} (old : Engine R) (step : Command) (answer : Answ
   pub sound : IsSound new
   pub limit : new.book.limit ≡ old.book.limit
   pub given : new.book.given ≡ old.book.given
+
+-- the agenda ---------------------------------------------------------------------------------------
+
+abbrev pub label_binding : Named ℕ → Binding
+label_binding n = record { name = name_of n; number = n.key }
+
+-- the agenda that the code's one is
+abbrev pub agenda_of : AgendaInCode → Agenda
+agenda_of a = record { timeline = seen_as step_of a.timeline; turn = map step_of a.turn; labels = map label_binding a.labels }
+
+-- how many steps are to come, with those that may follow them
+abbrev pub size_of : StepInCode → ℕ
+size_of s = length (labels_of (step_of s))
+
+abbrev pub size_left : AgendaInCode → ℕ
+size_left a = sum_by size_of (items_of a.timeline.work) + sum_by size_of a.turn
+
+abbrev pub progress_of : {R : Type 0} → Engine R → AgendaInCode → Progress
+progress_of e a = record { stage = stage_of e; agenda = agenda_of a }
+
+-- what a step does was done with this answer, and all else is as before
+pub record Performed {R : Type 0} (old : Engine R) (before : AgendaInCode) (action : ActionInCode) (answer : Answer)
+    (new : Engine R) (now : AgendaInCode) : Type 0 where
+  pub performs : Performs old.book.limit (progress_of old before) (action_of action) answer (progress_of new now)
+  pub sound : IsSound new
+  pub limit : new.book.limit ≡ old.book.limit
+  pub given : new.book.given ≡ old.book.given
+  pub size : size_left now ≤ size_left before
+  pub clock : now.timeline.clock ≡ before.timeline.clock
+
+-- the step was taken with this answer, what follows it is to come, and all else is as before
+pub record Followed {R : Type 0} (old : Engine R) (before : AgendaInCode) (step : StepInCode) (answer : Answer)
+    (new : Engine R) (now : AgendaInCode) : Type 0 where
+  pub done : Progress
+  pub performs : Performs old.book.limit (progress_of old before) (step_of step).action answer done
+  pub stage : stage_of new ≡ done.stage
+  pub follows : agenda_of now ≡ followed_by answer (list_of (step_of step).followers) done.agenda
+  pub sound : IsSound new
+  pub limit : new.book.limit ≡ old.book.limit
+  pub given : new.book.given ≡ old.book.given
+  pub size : size_left now < size_left before + size_of step
+  pub clock : now.timeline.clock ≡ before.timeline.clock

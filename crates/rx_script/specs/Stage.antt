@@ -3,14 +3,14 @@ use Rattle.std.specs.Prelude.{ℕ, ◌+◌, Bool, true, false, ◌||◌, is_some
 use Rattle.std.specs.Str.{bytes_eq}
 use Rattle.std.specs.Option.{option_map_or}
 use Rattle.rx_event.specs.declared.event.Place.{Place}
-use Rattle.rx_event.specs.declared.event.Place.TheVariants.{Root, Source}
+use Rattle.rx_event.specs.declared.event.Place.TheVariants.{Root, Source, Inner, Notifier}
 use Rattle.rx_event.specs.declared.event.Event.{Event}
-use Rattle.rx_event.specs.Calls.{Call, Opening, OpeningUsing, Holding, Applying, Removing, Emitting, Ending, Aborting, Disposing}
+use Rattle.rx_event.specs.Calls.{Call, Opening, OpeningUsing, Holding, Applying, Removing, Emitting, Ending, Aborting, Declining, Failing, Disposing}
 use Rattle.rx_resource.specs.declared.Resource.{Ghosts}
 use Rattle.rx_book.specs.Requests.{is_fresh_in}
 use Rattle.rx_script.specs.declared.answer.Cause.{Cause}
 use Rattle.rx_script.specs.declared.answer.Cause.TheVariants.{NoName, NameTaken, NoStock}
-use Rattle.rx_scenario.specs.Scenario.{Name, Site, root, source, Command, using, open_node, hold, apply, remove, next, end, abort, dispose, drain}
+use Rattle.rx_scenario.specs.Scenario.{Name, Site, root, source, inner, notifier, Command, using, open_node, hold, apply, remove, next, end, abort, decline, fail, dispose, drain}
 
 -- a name, and the number of the node or resource that it stands for
 pub record Binding : Type 0 where
@@ -52,6 +52,8 @@ is_bound bindings name = is_some (bound bindings name)
 abbrev pub is_unbound_site : Stage → Site → Bool
 is_unbound_site s root = false
 is_unbound_site s (source name) = is_unbound s.nodes name
+is_unbound_site s (inner name) = is_unbound s.nodes name
+is_unbound_site s (notifier name) = is_unbound s.nodes name
 
 -- it uses a name that is not bound
 abbrev pub lacks_name : Stage → Command → Bool
@@ -63,6 +65,8 @@ lacks_name s (remove res) = is_unbound s.resources res
 lacks_name s (next node value) = is_unbound s.nodes node
 lacks_name s (end node t) = is_unbound s.nodes node
 lacks_name s (abort node code) = is_unbound s.nodes node
+lacks_name s (decline node) = is_unbound s.nodes node
+lacks_name s (fail node code) = is_unbound s.nodes node
 lacks_name s (dispose node) = is_unbound s.nodes node
 lacks_name s drain = false
 
@@ -76,6 +80,8 @@ takes_name s (remove res) = false
 takes_name s (next node value) = false
 takes_name s (end node t) = false
 takes_name s (abort node code) = false
+takes_name s (decline node) = false
+takes_name s (fail node code) = false
 takes_name s (dispose node) = false
 takes_name s drain = false
 
@@ -93,6 +99,8 @@ lacks_stock s (remove res) = false
 lacks_stock s (next node value) = false
 lacks_stock s (end node t) = false
 lacks_stock s (abort node code) = false
+lacks_stock s (decline node) = false
+lacks_stock s (fail node code) = false
 lacks_stock s (dispose node) = false
 lacks_stock s drain = false
 
@@ -109,6 +117,8 @@ own_cause s step =
 abbrev pub place_at : Stage → Site → Option Place
 place_at s root = Some Root
 place_at s (source name) = option_map Source (bound s.nodes name)
+place_at s (inner name) = option_map Inner (bound s.nodes name)
+place_at s (notifier name) = option_map Notifier (bound s.nodes name)
 
 -- the next resource of the stock
 abbrev pub front : Stage → Option Ware
@@ -127,6 +137,8 @@ call_of s (remove res) = option_map Removing (bound s.resources res)
 call_of s (next node value) = option_map (λ n. Emitting n value) (bound s.nodes node)
 call_of s (end node t) = option_map (λ n. Ending n t) (bound s.nodes node)
 call_of s (abort node code) = option_map (λ n. Aborting n code) (bound s.nodes node)
+call_of s (decline node) = option_map Declining (bound s.nodes node)
+call_of s (fail node code) = option_map (λ n. Failing n code) (bound s.nodes node)
 call_of s (dispose node) = option_map Disposing (bound s.nodes node)
 call_of s drain = None
 
@@ -146,5 +158,7 @@ after s (remove res) k = record { history = k; nodes = s.nodes; resources = s.re
 after s (next node value) k = record { history = k; nodes = s.nodes; resources = s.resources; stock = s.stock }
 after s (end node t) k = record { history = k; nodes = s.nodes; resources = s.resources; stock = s.stock }
 after s (abort node code) k = record { history = k; nodes = s.nodes; resources = s.resources; stock = s.stock }
+after s (decline node) k = record { history = k; nodes = s.nodes; resources = s.resources; stock = s.stock }
+after s (fail node code) k = record { history = k; nodes = s.nodes; resources = s.resources; stock = s.stock }
 after s (dispose node) k = record { history = k; nodes = s.nodes; resources = s.resources; stock = s.stock }
 after s drain k = record { history = k; nodes = s.nodes; resources = s.resources; stock = s.stock }

@@ -9,7 +9,7 @@ use Rattle.rx_event.specs.declared.refusal.Refusal.TheVariants.{NoMemory, Full, 
 use Rattle.rx_script.specs.declared.answer.Answer.{Answer}
 use Rattle.rx_script.specs.declared.answer.Answer.TheVariants.{Accepted, Refused}
 use Rattle.rx_script.specs.declared.answer.Cause.{Cause}
-use Rattle.rx_script.specs.declared.answer.Cause.TheVariants.{NoName, NameTaken, NoStock, Book}
+use Rattle.rx_script.specs.declared.answer.Cause.TheVariants.{NoName, NameTaken, NoStock, NoStep, Book}
 use Rattle.rx_script.specs.declared.line.Whereabouts.{Whereabouts}
 use Rattle.rx_script.specs.declared.line.Whereabouts.TheVariants.{Held, Waiting, Taken}
 use Rattle.rx_script.specs.declared.line.Account.{Account}
@@ -39,6 +39,7 @@ abbrev pub cause_name : Cause → List ℕ
 cause_name NoName = codes "NoName"
 cause_name NameTaken = codes "NameTaken"
 cause_name NoStock = codes "NoStock"
+cause_name NoStep = codes "NoStep"
 cause_name (Book why) = refusal_name why
 
 -- the line of the step that was executed as the k-th, counted from 0; an accepted one has none

@@ -20,6 +20,8 @@ pub enum Cause {
     NameTaken,
     /// It takes a resource, and none is left in the stock.
     NoStock,
+    /// It cancels a step, and no step that waits has the label.
+    NoStep,
     /// The book refuses its call.
     Book(Refusal),
 }

@@ -1,17 +1,14 @@
 //! A scenario at work: a book, what its names stand for, and the stock that is left.
 
-ghost use Rattle.std.specs.Prelude.{◌≡◌, ◌≢◌, ◌≤◌, [], ◌∷◌, ◌++◌, true, false, is_some, map, string_bytes, Some, IfOk, IfErr, OnOk, OnErr};
-ghost use Rattle.rx_book.specs.State.{IsPromised};
+ghost use Rattle.std.specs.Prelude.{◌≡◌, ◌≢◌, ◌≤◌, map, string_bytes, IfOk, OnErr};
 ghost use Rattle.rx_event.specs.declared.refusal.Refusal.{Refusal};
 ghost use Rattle.rx_script.specs.declared.answer.Answer.{Answer};
 ghost use Rattle.rx_script.specs.declared.answer.Cause.{Cause};
-ghost use Rattle.rx_scenario.specs.Scenario.{site_of, command_of, using, open_node, hold as holding, apply as applying, remove as removing, next as emitting, end as ending, abort as aborting, dispose as disposing, drain as draining};
+ghost use Rattle.rx_scenario.specs.Scenario.{site_of, command_of, using, open_node, hold as holding, apply as applying, remove as removing, next as emitting, end as ending, abort as aborting, decline as declining, fail as failing, dispose as disposing, drain as draining};
 ghost use Rattle.rx_script.specs.Stage.{start, ware_of};
-ghost use Rattle.rx_script.specs.Course.{Leads};
 ghost use Rattle.rx_script.specs.Engine.{at_of, stage_of, IsSound, Carries};
 
 use crate::answer::{Answer, Cause};
-use crate::closing::release_waiting;
 use crate::names::Names;
 use crate::stock::Stock;
 use rx_book::{At, Book, Key, ResKey};
@@ -57,6 +54,8 @@ pub fn place_of(names: &Names<Key>, site: &Site) -> Option<At>
     match site {
         Site::Root => Some(At::Root),
         Site::Source(name) => names.get(name.as_str()).map(At::Source),
+        Site::Inner(name) => names.get(name.as_str()).map(At::Inner),
+        Site::Notifier(name) => names.get(name.as_str()).map(At::Notifier),
     }
 }
 
@@ -164,6 +163,44 @@ pub fn abort<R: Resource>(
         return Ok(Answer::Refused(Cause::NoName));
     };
     match engine.book.abort(key, code) {
+        Ok(_) => {
+            engine.book.promise();
+            Ok(Answer::Accepted)
+        }
+        Err(why) => refused(why),
+    }
+}
+
+/// A FlatMap or a Switch gives an item that was projected to it no inner observable.
+pub fn decline<R: Resource>(engine: &mut Engine<R>, node: &str) -> Result<Answer, AllocError>
+    requires { IsSound engine.old }
+    ensures { IfOk result (λ a. Carries engine.old (declining node.now) a engine.new) }
+{
+    let Some(merging) = engine.nodes.get(node) else {
+        return Ok(Answer::Refused(Cause::NoName));
+    };
+    match engine.book.decline(merging) {
+        Ok(_) => {
+            engine.book.promise();
+            Ok(Answer::Accepted)
+        }
+        Err(why) => refused(why),
+    }
+}
+
+/// A FlatMap or a Switch ends with an error in place of giving a projected item its inner observable.
+pub fn fail<R: Resource>(
+    engine: &mut Engine<R>,
+    node: &str,
+    code: u32,
+) -> Result<Answer, AllocError>
+    requires { IsSound engine.old }
+    ensures { IfOk result (λ a. Carries engine.old (failing node.now code) a engine.new) }
+{
+    let Some(merging) = engine.nodes.get(node) else {
+        return Ok(Answer::Refused(Cause::NoName));
+    };
+    match engine.book.fail(merging, code) {
         Ok(_) => {
             engine.book.promise();
             Ok(Answer::Accepted)
@@ -287,7 +324,7 @@ pub fn drain<R: Resource>(engine: &mut Engine<R>)
     requires { IsSound engine.old }
     ensures { Carries engine.old draining Answer.Accepted engine.new }
 {
-    let closed = release_waiting(&mut engine.book);
+    let closed = engine.book.release_waiting();
     engine.book.promise();
     engine.faults = engine.faults.saturating_add(closed.faults);
 }
@@ -306,28 +343,12 @@ pub fn execute<R: Resource>(engine: &mut Engine<R>, command: Command) -> Result<
         Command::Next { node, value } => next(engine, node.as_str(), value),
         Command::End { node, terminal } => end(engine, node.as_str(), terminal),
         Command::Abort { node, code } => abort(engine, node.as_str(), code),
+        Command::Decline { node } => decline(engine, node.as_str()),
+        Command::Fail { node, code } => fail(engine, node.as_str(), code),
         Command::Dispose { node } => dispose(engine, node.as_str()),
         Command::Drain => {
             drain(engine);
             Ok(Answer::Accepted)
         }
     }
-}
-
-/// Carries out all commands in order, and lists their answers.
-pub fn execute_all<R: Resource>(
-    alloc: Global,
-    engine: &mut Engine<R>,
-    commands: Vec<Command>,
-) -> Result<Vec<Answer>, AllocError>
-    requires { IsSound engine.old }
-    ensures leads { IfOk result (λ v. Leads engine.old.book.limit (stage_of engine.old) (map command_of commands.items) v.items (stage_of engine.new)) }
-    ensures sound { OnOk result (IsSound engine.new) }
-    ensures given { OnOk result (engine.new.book.given ≡ engine.old.book.given) }
-{
-    let mut answers = Vec::new(alloc);
-    for command in commands {
-        answers.push(execute(engine, command)?)?;
-    }
-    Ok(answers)
 }

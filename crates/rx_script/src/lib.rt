@@ -11,10 +11,15 @@
 //!   which are taken from the **stock**, first to last. Nodes and resources have a space of names each.
 //!   A step that is **refused** changes nothing and binds nothing, and its resource goes back to the
 //!   front of the stock.
+//! - Steps come in virtual time (`rx_time`): each at the time that it waits for, those of one time in the
+//!   order in which they were scheduled. The one that is due begins a **turn**, in which the steps that
+//!   follow it without a delay come behind each other, and the next turn begins when this one is over.
+//!   What is to come is the **agenda**. What would follow a refused step is dropped, and a step that
+//!   waits can be cancelled by its label.
 //! - A **course** of a scenario is the list of the answers of its steps, and where it is at its end: the
-//!   history, what the names stand for, and the stock that is left. `specs/` defines it as a relation
-//!   (`Course`), and the bytes of the report of a course (`Report`); what a run makes of its input is
-//!   said in `Running`.
+//!   history, what the names stand for, and the stock that is left. `specs/` defines which step comes
+//!   next (`Agenda`), a course as a relation (`Course`), and the bytes of the report of a course
+//!   (`Report`); what a run makes of its input is said in `Running`.
 //! - A [`Watched`] reader or writer notes whether the device behind it failed, so that the contract of
 //!   [`run`] can say whose fault a fault is (`rx_device`).
 //! - To **close** a book is to dispose of all that is open, and to take and release all that waits then.
@@ -36,8 +41,10 @@
 //!   the events and one over the notes.
 #![tactic(auto)]
 
+mod agenda;
 mod answer;
 mod closing;
+mod course;
 mod engine;
 mod line;
 mod names;
@@ -49,8 +56,9 @@ mod tallies;
 mod tests;
 mod text;
 
-pub use closing::{Closed, close};
+pub use closing::close;
 pub use running::run;
+pub use rx_book::Closed;
 pub use rx_device::{MOST_BYTES, MOST_TURNS, ScriptError, Watched, WriteFault, write_text};
 pub use rx_dump::{a_dump_is_read_back, check};
 

@@ -1,13 +1,12 @@
 //! What a report shows, from the book's events, notes and keys.
 
-ghost use Rattle.std.specs.Prelude.{◌≡◌, ◌+◌, ◌++◌, map, slice_get, count_by, option_and_then, string_bytes, IfOk, OnOk};
+ghost use Rattle.std.specs.Prelude.{◌≡◌, ◌+◌, ◌++◌, map, slice_get, option_and_then, string_bytes, IfOk, OnOk};
 ghost use Rattle.std.specs.List.{All};
 ghost use Rattle.rx_event.specs.Events.{makes_node, makes_resource as accepts_resource};
 ghost use Rattle.rx_event.specs.Tree.{at};
 ghost use Rattle.rx_event.specs.Resources.{is_taken as is_taken_in};
 ghost use Rattle.rx_event.specs.Notes.{notes};
 ghost use Rattle.rx_book.specs.State.{accepted_tag, IsPromised};
-ghost use Rattle.rx_register.specs.Kept.{letter};
 ghost use Rattle.rx_script.specs.Report.{is_told, node_lines, res_lines, whereabouts, account_of, totals_of};
 ghost use Rattle.rx_script.specs.Engine.{node_binding, res_binding, IsNodeKey, IsHeldKey};
 ghost use Rattle.rx_script.specs.Tallies.{AreTalliesOf};
@@ -35,7 +34,7 @@ pub fn events_of<R: Resource>(alloc: Global, book: &Book<R>) -> Result<Vec<Event
 /// All notes, of which none was handed out before.
 pub fn all_mail<R: Resource>(alloc: Global, book: &mut Book<R>) -> Result<Vec<Mail>, AllocError>
     requires { book.old.given ≡ 0 }
-    ensures ok { IfOk result (λ v. v.items ≡ map letter (notes book.old.history)) }
+    ensures ok { IfOk result (λ v. v.items ≡ notes book.old.history) }
     ensures kept { book.new ≡ record book.old { given = book.new.given } }
 {
     let mut mail = Vec::new(alloc);

@@ -6,11 +6,12 @@ ghost use Rattle.serde_json.specs.View.{view};
 ghost use Rattle.rx_event.specs.Totals.{accepted_count, taken_count};
 ghost use Rattle.rx_device.specs.Device.{device_of, KeepsDevice, has_failed, has_stopped, HasReadFault, HasWriteFault, IsFresh, AppendsPrefix};
 ghost use Rattle.rx_device.specs.Input.{GivesTooMuch, GivesNoJson};
-ghost use Rattle.rx_scenario.specs.Scenario.{command_of, script_of};
+ghost use Rattle.rx_scenario.specs.Scenario.{step_of, script_of};
 ghost use Rattle.rx_scenario.specs.Reading.{scenario_of};
 ghost use Rattle.rx_script.specs.declared.answer.Answer.{Answer};
 ghost use Rattle.rx_script.specs.Stage.{Stage, ware_of};
-ghost use Rattle.rx_script.specs.Course.{Leads, Course, IsCourseOf};
+ghost use Rattle.rx_script.specs.Course.{Ends, Course, IsCourseOf};
+ghost use Rattle.rx_script.specs.Agenda.{with_steps, empty_agenda};
 ghost use Rattle.rx_script.specs.Report.{unclosed_report, output};
 ghost use Rattle.rx_dump.specs.Dump.{dump};
 ghost use Rattle.rx_script.specs.Engine.{stage_of, IsSound};
@@ -20,7 +21,8 @@ ghost use Rattle.rx_script.specs.Running.{IsOutputOf, Runs, GivesNoScenario};
 use crate::Form;
 use crate::answer::Answer;
 use crate::closing::close;
-use crate::engine::{Engine, begin, execute_all};
+use crate::course::run_course;
+use crate::engine::{Engine, begin};
 use crate::report::{all_mail, events_of, push_nodes, push_resources, totals_of};
 use crate::tallies::tally;
 use crate::text::{push_all_refused, push_closed, push_totals};
@@ -28,7 +30,7 @@ use rx_book::Book;
 use rx_device::{ScriptError, ShapeError, Watched, read_value, write_text};
 use rx_dump::push_dump;
 use rx_resource::Resource;
-use rx_scenario::{Command, Scenario, scenario_of};
+use rx_scenario::{Scenario, Step, scenario_of};
 use serde_json::Value;
 use std::alloc::{AllocError, Global};
 use std::io::{Read, Write};
@@ -104,15 +106,18 @@ fn unclosed_output<S: Resource>(
 fn carry_out<S: Resource>(
     alloc: Global,
     engine: &mut Engine<S>,
-    steps: Vec<Command>,
+    steps: Vec<Step>,
+    until: u64,
     form: Form,
 ) -> Result<String, AllocError>
     requires sound { IsSound engine.old }
     requires given { engine.old.book.given ≡ 0 }
-    ensures ok { IfOk result (λ s. (answers : List Answer) × (last : Stage) × Leads engine.old.book.limit (stage_of engine.old) (map command_of steps.items) answers last
+    requires ends { until ≤ 1000000000000000 }
+    ensures ok { IfOk result (λ s. (answers : List Answer) × (last : Stage) × Ends engine.old.book.limit until
+        (record { stage = stage_of engine.old; agenda = with_steps (map step_of steps.items) empty_agenda }) answers last
         × (last.history ≡ engine.new.book.history) × (engine.new.faults ≤ taken_count last.history) × (string_bytes s ≡ unclosed_output form answers last)) }
 {
-    let answers = execute_all(alloc, engine, steps)?;
+    let answers = run_course(alloc, engine, steps, until)?;
     unclosed_output(alloc, engine, answers.as_slice(), form)
 }
 
@@ -133,13 +138,18 @@ fn text_of<S: Resource>(
     stock: Vec<S>,
     form: Form,
 ) -> Result<String, AllocError>
-    requires { scenario.events ≤ 4294967295 }
+    requires limited { scenario.events ≤ 4294967295 }
+    requires ends { scenario.until ≤ 1000000000000000 }
     ensures { IfOk result (λ s. (c : Course) × (faults : ℕ) × IsCourseOf (script_of scenario) (map (ware_of S.Resource) stock.items) c
         × (faults ≤ accepted_count c.last.history) × (string_bytes s ≡ output form c faults)) }
 {
-    let Scenario { steps, events } = scenario;
+    let Scenario {
+        steps,
+        events,
+        until,
+    } = scenario;
     let mut engine = begin(alloc, events, stock);
-    let outcome = carry_out(alloc, &mut engine, steps, form);
+    let outcome = carry_out(alloc, &mut engine, steps, until, form);
     engine.book.promise();
     let closed = close(&mut engine.book);
     let mut text = outcome?;

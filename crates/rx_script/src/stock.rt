@@ -1,6 +1,6 @@
 //! The resources that a scenario hands in, first to last.
 
-ghost use Rattle.std.specs.Prelude.{◌≡◌, [], ◌∷◌, map, true, false, IfNone, IfSome};
+ghost use Rattle.std.specs.Prelude.{◌≡◌, [], ◌∷◌, map, true, IfNone, IfSome};
 ghost use Rattle.rx_script.specs.Stage.{ware_of};
 
 use rx_resource::Resource;

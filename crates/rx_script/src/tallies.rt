@@ -8,7 +8,6 @@ ghost use Rattle.std.specs.HashSet.{contains};
 ghost use Rattle.rx_event.specs.Events.{is_take_of};
 ghost use Rattle.rx_event.specs.Resources.{uses};
 ghost use Rattle.rx_event.specs.Notes.{notes};
-ghost use Rattle.rx_register.specs.Kept.{letter};
 ghost use Rattle.rx_script.specs.Tallies.{AreTalliesOf};
 
 use rx_book::Mail;
@@ -86,7 +85,7 @@ fn notes_in(alloc: Global, mail: &[Mail]) -> Result<HashMap<u64, Vec<Note>>, All
 
 /// The tallies of a history, and of the mail that it gives.
 pub fn tally(alloc: Global, events: &[Event], mail: &[Mail]) -> Result<Tallies, AllocError>
-    requires { mail.now ≡ map letter (notes events.now) }
+    requires { mail.now ≡ notes events.now }
     ensures { IfOk result (AreTalliesOf events.now) }
 {
     Ok(Tallies {

@@ -1,9 +1,8 @@
-//! What no clause says: the worked scenarios with their reports, what is no scenario, streams that
-//! fail, memory refused, and that everything accepted is released once.
+//! What neither a clause nor a stored report says: what is no scenario, streams that fail, memory
+//! refused, which word a resource hears, and that everything accepted is released once.
 
 mod caller;
 mod faults;
-mod reports;
 mod shapes;
 mod sights;
 mod uses;

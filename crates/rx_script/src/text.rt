@@ -39,6 +39,7 @@ fn cause_name(why: Cause) -> &'static str
         Cause::NoName => "NoName",
         Cause::NameTaken => "NameTaken",
         Cause::NoStock => "NoStock",
+        Cause::NoStep => "NoStep",
         Cause::Book(why) => refusal_name(why),
     }
 }

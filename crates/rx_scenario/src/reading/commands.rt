@@ -1,27 +1,23 @@
-//! Steps by what they do, and the scenario that they make.
+//! What a step does, by its member `do`.
 
-ghost use Rattle.std.specs.Prelude.{◌≤◌, map, IfOk};
-ghost use Rattle.serde_json.specs.View.{view, items_view};
-ghost use Rattle.rx_scenario.specs.Scenario.{command_of as command_meant, script_of};
+ghost use Rattle.serde_json.specs.View.{view};
+ghost use Rattle.rx_scenario.specs.Scenario.{command_of as command_meant, action_of as action_meant};
 ghost use Rattle.rx_device.specs.Gives.{Gives};
-ghost use Rattle.rx_scenario.specs.Reading.{using_of, open_of, hold_of, apply_of, remove_of, next_of, end_of, abort_of, dispose_of, drain_of, command_by, command_in, each_command, steps_in, scenario_of};
+ghost use Rattle.rx_scenario.specs.Reading.{using_of, open_of, hold_of, apply_of, remove_of, next_of, end_of, abort_of, decline_of, fail_of, dispose_of, drain_of, command_by, cancel_of, action_by, action_in};
 
 use super::members::{
-    code_in, events_in, is_object_of, kind_in, name_in, site_in, terminal_in, value_in, word_in,
+    code_in, is_step_of, kind_in, name_in, site_in, terminal_in, value_in, word_in,
 };
-use crate::scenario::{Command, Scenario};
+use crate::scenario::{Action, Command};
 use rx_device::ShapeError;
 use serde_json::Value;
 use std::alloc::Global;
-
-/// The most steps of a scenario.
-const MOST_STEPS: usize = 65_536;
 
 #[tactic(auto, unfolding(crate::specs::Reading::using_of))]
 fn using_of(alloc: Global, object: &Value) -> Result<Command, ShapeError>
     ensures { Gives command_meant result (using_of (view object.now)) }
 {
-    if !is_object_of(object, &["do", "name", "place", "of", "res"]) {
+    if !is_step_of(object, &["name", "place", "of", "res"]) {
         return Err(ShapeError::Shape);
     }
     let name = name_in(alloc, object, "name")?;
@@ -34,7 +30,7 @@ fn using_of(alloc: Global, object: &Value) -> Result<Command, ShapeError>
 fn open_of(alloc: Global, object: &Value) -> Result<Command, ShapeError>
     ensures { Gives command_meant result (open_of (view object.now)) }
 {
-    if !is_object_of(object, &["do", "name", "place", "of", "kind"]) {
+    if !is_step_of(object, &["name", "place", "of", "kind"]) {
         return Err(ShapeError::Shape);
     }
     let name = name_in(alloc, object, "name")?;
@@ -47,7 +43,7 @@ fn open_of(alloc: Global, object: &Value) -> Result<Command, ShapeError>
 fn hold_of(alloc: Global, object: &Value) -> Result<Command, ShapeError>
     ensures { Gives command_meant result (hold_of (view object.now)) }
 {
-    if !is_object_of(object, &["do", "node", "res"]) {
+    if !is_step_of(object, &["node", "res"]) {
         return Err(ShapeError::Shape);
     }
     let node = name_in(alloc, object, "node")?;
@@ -59,7 +55,7 @@ fn hold_of(alloc: Global, object: &Value) -> Result<Command, ShapeError>
 fn apply_of(alloc: Global, object: &Value) -> Result<Command, ShapeError>
     ensures { Gives command_meant result (apply_of (view object.now)) }
 {
-    if !is_object_of(object, &["do", "res", "word"]) {
+    if !is_step_of(object, &["res", "word"]) {
         return Err(ShapeError::Shape);
     }
     let res = name_in(alloc, object, "res")?;
@@ -71,7 +67,7 @@ fn apply_of(alloc: Global, object: &Value) -> Result<Command, ShapeError>
 fn remove_of(alloc: Global, object: &Value) -> Result<Command, ShapeError>
     ensures { Gives command_meant result (remove_of (view object.now)) }
 {
-    if !is_object_of(object, &["do", "res"]) {
+    if !is_step_of(object, &["res"]) {
         return Err(ShapeError::Shape);
     }
     let res = name_in(alloc, object, "res")?;
@@ -82,7 +78,7 @@ fn remove_of(alloc: Global, object: &Value) -> Result<Command, ShapeError>
 fn next_of(alloc: Global, object: &Value) -> Result<Command, ShapeError>
     ensures { Gives command_meant result (next_of (view object.now)) }
 {
-    if !is_object_of(object, &["do", "node", "value"]) {
+    if !is_step_of(object, &["node", "value"]) {
         return Err(ShapeError::Shape);
     }
     let node = name_in(alloc, object, "node")?;
@@ -94,7 +90,7 @@ fn next_of(alloc: Global, object: &Value) -> Result<Command, ShapeError>
 fn end_of(alloc: Global, object: &Value) -> Result<Command, ShapeError>
     ensures { Gives command_meant result (end_of (view object.now)) }
 {
-    if !is_object_of(object, &["do", "node", "error"]) {
+    if !is_step_of(object, &["node", "error"]) {
         return Err(ShapeError::Shape);
     }
     let node = name_in(alloc, object, "node")?;
@@ -106,7 +102,7 @@ fn end_of(alloc: Global, object: &Value) -> Result<Command, ShapeError>
 fn abort_of(alloc: Global, object: &Value) -> Result<Command, ShapeError>
     ensures { Gives command_meant result (abort_of (view object.now)) }
 {
-    if !is_object_of(object, &["do", "node", "error"]) {
+    if !is_step_of(object, &["node", "error"]) {
         return Err(ShapeError::Shape);
     }
     let node = name_in(alloc, object, "node")?;
@@ -114,11 +110,34 @@ fn abort_of(alloc: Global, object: &Value) -> Result<Command, ShapeError>
     Ok(Command::Abort { node, code })
 }
 
+#[tactic(auto, unfolding(crate::specs::Reading::decline_of))]
+fn decline_of(alloc: Global, object: &Value) -> Result<Command, ShapeError>
+    ensures { Gives command_meant result (decline_of (view object.now)) }
+{
+    if !is_step_of(object, &["node"]) {
+        return Err(ShapeError::Shape);
+    }
+    let node = name_in(alloc, object, "node")?;
+    Ok(Command::Decline { node })
+}
+
+#[tactic(auto, unfolding(crate::specs::Reading::fail_of))]
+fn fail_of(alloc: Global, object: &Value) -> Result<Command, ShapeError>
+    ensures { Gives command_meant result (fail_of (view object.now)) }
+{
+    if !is_step_of(object, &["node", "error"]) {
+        return Err(ShapeError::Shape);
+    }
+    let node = name_in(alloc, object, "node")?;
+    let code = code_in(object)?;
+    Ok(Command::Fail { node, code })
+}
+
 #[tactic(auto, unfolding(crate::specs::Reading::dispose_of))]
 fn dispose_of(alloc: Global, object: &Value) -> Result<Command, ShapeError>
     ensures { Gives command_meant result (dispose_of (view object.now)) }
 {
-    if !is_object_of(object, &["do", "node"]) {
+    if !is_step_of(object, &["node"]) {
         return Err(ShapeError::Shape);
     }
     let node = name_in(alloc, object, "node")?;
@@ -129,7 +148,7 @@ fn dispose_of(alloc: Global, object: &Value) -> Result<Command, ShapeError>
 fn drain_of(object: &Value) -> Result<Command, ShapeError>
     ensures { Gives command_meant result (drain_of (view object.now)) }
 {
-    if !is_object_of(object, &["do"]) {
+    if !is_step_of(object, &[]) {
         return Err(ShapeError::Shape);
     }
     Ok(Command::Drain)
@@ -148,56 +167,41 @@ fn command_by(alloc: Global, what: &str, object: &Value) -> Result<Command, Shap
         "next" => next_of(alloc, object),
         "end" => end_of(alloc, object),
         "abort" => abort_of(alloc, object),
+        "decline" => decline_of(alloc, object),
+        "fail" => fail_of(alloc, object),
         "dispose" => dispose_of(alloc, object),
         "drain" => drain_of(object),
         _ => Err(ShapeError::Shape),
     }
 }
 
-#[tactic(auto, unfolding(crate::specs::Reading::command_in))]
-fn command_in(alloc: Global, object: &Value) -> Result<Command, ShapeError>
-    ensures { Gives command_meant result (command_in (view object.now)) }
+#[tactic(auto, unfolding(crate::specs::Reading::cancel_of))]
+fn cancel_of(alloc: Global, object: &Value) -> Result<Action, ShapeError>
+    ensures { Gives action_meant result (cancel_of (view object.now)) }
+{
+    if !is_step_of(object, &["step"]) {
+        return Err(ShapeError::Shape);
+    }
+    Ok(Action::Cancel(name_in(alloc, object, "step")?))
+}
+
+#[tactic(auto, unfolding(crate::specs::Reading::action_by))]
+fn action_by(alloc: Global, what: &str, object: &Value) -> Result<Action, ShapeError>
+    ensures { Gives action_meant result (action_by what.now (view object.now)) }
+{
+    match what {
+        "cancel" => cancel_of(alloc, object),
+        _ => Ok(Action::Command(command_by(alloc, what, object)?)),
+    }
+}
+
+/// What a step does, by its member `do`.
+#[tactic(auto, unfolding(crate::specs::Reading::action_in))]
+pub fn action_in(alloc: Global, object: &Value) -> Result<Action, ShapeError>
+    ensures { Gives action_meant result (action_in (view object.now)) }
 {
     let Some(what) = object.get("do").and_then(Value::as_str) else {
         return Err(ShapeError::Shape);
     };
-    command_by(alloc, what, object)
-}
-
-fn each_command(alloc: Global, values: &Vec<Value>) -> Result<Vec<Command>, ShapeError>
-    ensures { Gives (λ v. map command_meant v.items) result (each_command (items_view values.now.items)) }
-{
-    let mut steps = Vec::new(alloc);
-    for value in values {
-        steps.push(command_in(alloc, value)?)?;
-    }
-    Ok(steps)
-}
-
-#[tactic(auto, unfolding(crate::specs::Reading::steps_in))]
-fn steps_in(alloc: Global, object: &Value) -> Result<Vec<Command>, ShapeError>
-    ensures { Gives (λ v. map command_meant v.items) result (steps_in (view object.now)) }
-{
-    let Some(values) = object.get("steps").and_then(Value::as_array) else {
-        return Err(ShapeError::Shape);
-    };
-    let steps = each_command(alloc, values)?;
-    if steps.len() > MOST_STEPS {
-        return Err(ShapeError::Shape);
-    }
-    Ok(steps)
-}
-
-/// The scenario that a JSON value is.
-#[tactic(auto, unfolding(crate::specs::Reading::scenario_of))]
-pub fn scenario_of(alloc: Global, object: &Value) -> Result<Scenario, ShapeError>
-    ensures value { Gives script_of result (scenario_of (view object.now)) }
-    ensures limited { IfOk result (λ s. s.events ≤ 4294967295) }
-{
-    if !is_object_of(object, &["steps", "events"]) {
-        return Err(ShapeError::Shape);
-    }
-    let steps = steps_in(alloc, object)?;
-    let events = events_in(object)?;
-    Ok(Scenario { steps, events })
+    action_by(alloc, what, object)
 }

@@ -1,14 +1,14 @@
 //! Members of objects, and the names, numbers and words in them.
 
-ghost use Rattle.std.specs.Prelude.{◌≡◌, ◌≤◌, map, string_bytes, IfOk};
+ghost use Rattle.std.specs.Prelude.{◌≡◌, ◌≤◌, ◌||◌, map, option_map, string_bytes, IfOk};
 ghost use Rattle.std.specs.List.{list_all};
 ghost use Rattle.std.specs.Map.{keys_of};
 ghost use Rattle.serde_json.specs.View.{view, members_view};
 ghost use Rattle.rx_scenario.specs.Scenario.{site_of};
 ghost use Rattle.rx_device.specs.Gives.{Gives};
-ghost use Rattle.rx_scenario.specs.Reading.{is_one_of, has_only, is_object_of, is_name_byte, is_name, name_in, value_in, word_in, code_in, terminal_in, site_by, site_in, kind_by, kind_in, events_in};
+ghost use Rattle.rx_scenario.specs.Reading.{is_one_of, has_only, is_object_of, is_of_steps, has_only_steps, is_step_of, is_name_byte, is_name, name_in, value_in, word_in, code_in, terminal_in, site_by, site_in, kind_by, kind_in, events_in, until_in, label_in, time_in, delay_in};
 
-use crate::scenario::Site;
+use crate::scenario::{Site, Ticks};
 use rx_device::ShapeError;
 use rx_event::{Kind, Terminal};
 use serde_json::{Map, Value};
@@ -39,6 +39,35 @@ pub fn is_object_of(value: &Value, names: &[&str]) -> bool
 {
     match value {
         Value::Object(members) => has_only(members, names),
+        _ => false,
+    }
+}
+
+fn is_of_steps(key: &str) -> bool
+    ensures { result ≡ is_of_steps key.now }
+{
+    is_one_of(key, &["do", "label", "at", "after", "then"])
+}
+
+fn are_all_of_steps(members: &Map<String, Value>, names: &[&str]) -> bool
+    ensures { result ≡ list_all (λ k. is_of_steps (string_bytes k) || is_one_of (map (λ s. s.now) names.now) (string_bytes k)) (keys_of members.now.entries) }
+{
+    members.keys().all(|key| is_of_steps(key.as_str()) || is_one_of(key.as_str(), names))
+}
+
+#[tactic(auto, unfolding(crate::specs::Reading::has_only_steps))]
+fn has_only_steps(members: &Map<String, Value>, names: &[&str]) -> bool
+    ensures { result ≡ has_only_steps (map (λ s. s.now) names.now) (members_view members.now.entries) }
+{
+    are_all_of_steps(members, names)
+}
+
+/// Whether a value is an object with no members but these and those that every step may have.
+pub fn is_step_of(value: &Value, names: &[&str]) -> bool
+    ensures { result ≡ is_step_of (map (λ s. s.now) names.now) (view value.now) }
+{
+    match value {
+        Value::Object(members) => has_only_steps(members, names),
         _ => false,
     }
 }
@@ -135,11 +164,13 @@ fn site_by(alloc: Global, place: &str, object: &Value) -> Result<Site, ShapeErro
             None => Ok(Site::Root),
         },
         "source" => Ok(Site::Source(name_in(alloc, object, "of")?)),
+        "inner" => Ok(Site::Inner(name_in(alloc, object, "of")?)),
+        "notifier" => Ok(Site::Notifier(name_in(alloc, object, "of")?)),
         _ => Err(ShapeError::Shape),
     }
 }
 
-/// The members `place` and `of`: a root, or the source of a node.
+/// The members `place` and `of`: a root, or the source, an inner or the notifier of a node.
 #[tactic(auto, unfolding(crate::specs::Reading::site_in))]
 pub fn site_in(alloc: Global, object: &Value) -> Result<Site, ShapeError>
     ensures { Gives site_of result (site_in (view object.now)) }
@@ -157,11 +188,14 @@ fn kind_by(kind: &str) -> Result<Kind, ShapeError>
     match kind {
         "leaf" => Ok(Kind::Leaf),
         "pass" => Ok(Kind::Pass),
+        "flat" => Ok(Kind::Flat),
+        "switch" => Ok(Kind::Switch),
+        "until" => Ok(Kind::Until),
         _ => Err(ShapeError::Shape),
     }
 }
 
-/// The member `kind`: a leaf, or a node that mirrors its source.
+/// The member `kind`: a leaf, a node that mirrors its source, a FlatMap, a Switch or a TakeUntil.
 #[tactic(auto, unfolding(crate::specs::Reading::kind_in))]
 pub fn kind_in(object: &Value) -> Result<Kind, ShapeError>
     ensures { Gives (λ k. k) result (kind_in (view object.now)) }
@@ -185,4 +219,67 @@ pub fn events_in(object: &Value) -> Result<u64, ShapeError>
         Some(number) if 1 <= number && number < 4_294_967_296 => Ok(number),
         _ => Err(ShapeError::Shape),
     }
+}
+
+/// The member `until`, a time to 1,000,000,000,000,000, which it is where there is none.
+#[tactic(auto, unfolding(crate::specs::Reading::until_in))]
+pub fn until_in(object: &Value) -> Result<u64, ShapeError>
+    ensures value { Gives (λ n. n) result (until_in (view object.now)) }
+    ensures limited { IfOk result (λ n. n ≤ 1000000000000000) }
+{
+    let Some(until) = object.get("until") else {
+        return Ok(1_000_000_000_000_000);
+    };
+    match until.as_u64() {
+        Some(number) if number <= 1_000_000_000_000_000 => Ok(number),
+        _ => Err(ShapeError::Shape),
+    }
+}
+
+/// The member `label`, a name, if it is there.
+#[tactic(auto, unfolding(crate::specs::Reading::label_in))]
+pub fn label_in(alloc: Global, object: &Value) -> Result<Option<String>, ShapeError>
+    ensures { Gives (option_map string_bytes) result (label_in (view object.now)) }
+{
+    let Some(label) = object.get("label") else {
+        return Ok(None);
+    };
+    let Some(text) = label.as_str() else {
+        return Err(ShapeError::Shape);
+    };
+    if !is_name(text) {
+        return Err(ShapeError::Shape);
+    }
+    Ok(Some(String::from_str(alloc, text)?))
+}
+
+// The time at a key, or the other where there is no such member.
+#[tactic(auto, unfolding(crate::specs::Reading::time_in))]
+fn time_in(object: &Value, key: &str, absent: Option<Ticks>) -> Result<Option<Ticks>, ShapeError>
+    ensures { Gives (λ t. t) result (time_in absent key.now (view object.now)) }
+{
+    let Some(time) = object.get(key) else {
+        return Ok(absent);
+    };
+    match time.as_u64().and_then(Ticks::new) {
+        Some(ticks) => Ok(Some(ticks)),
+        None => Err(ShapeError::Shape),
+    }
+}
+
+/// How long a step waits: the member `after` of a step that follows another, and else the member `at`,
+/// which is 0 where there is none.
+#[tactic(auto, unfolding(crate::specs::Reading::delay_in))]
+pub fn delay_in(object: &Value, follows: bool) -> Result<Option<Ticks>, ShapeError>
+    ensures { Gives (λ t. t) result (delay_in follows (view object.now)) }
+{
+    let (key, other, absent) = if follows {
+        ("after", "at", None)
+    } else {
+        ("at", "after", Ticks::new(0))
+    };
+    if object.get(other).is_some() {
+        return Err(ShapeError::Shape);
+    }
+    time_in(object, key, absent)
 }

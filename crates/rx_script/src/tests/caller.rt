@@ -5,9 +5,9 @@ ghost use Rattle.std.specs.Io.KnownBytes.{Appends, Keeps};
 ghost use Rattle.rx_script.specs.Running.{Runs};
 ghost use Rattle.rx_script.specs.Stage.{ware_of};
 
-use super::sights::Releases;
+use super::sights::stock_of;
 use crate::{Form, ScriptError, Watched, run};
-use rx_resource::Resource;
+use rx_resource::{Resource, Tracker};
 use std::alloc::Global;
 use std::io::{Read, Write};
 use std::test::Fail;
@@ -30,7 +30,7 @@ fn serve<R: Read, W: Write, S: Resource>(
 
 #[test]
 fn a_report_is_written_behind_what_stands_there(rt: HostRuntime) -> Result<(), Fail> {
-    let releases = Releases::new(rt.alloc())?;
+    let tracker = Tracker::new(rt.alloc())?;
     let mut input: &[u8] =
         b"{\"steps\":[{\"do\":\"using\",\"name\":\"a\",\"place\":\"root\",\"res\":\"r\"}]}";
     let mut output = b"before\n".to_vec(rt.alloc())?;
@@ -38,7 +38,7 @@ fn a_report_is_written_behind_what_stands_there(rt: HostRuntime) -> Result<(), F
         rt.alloc(),
         &mut input,
         &mut output,
-        releases.stock(rt.alloc(), &[6])?,
+        stock_of(rt.alloc(), &tracker, &[6])?,
     )?;
     assert!(rt; input.is_empty());
     let written = b"before
@@ -48,6 +48,6 @@ totals nodes=1 open=1 accepted=1 held=1 waiting=0 taken=0
 closed 1 faults 0
 ";
     assert_eq!(rt; output.as_slice(), written.as_slice());
-    assert_eq!(rt; releases.count(), 1);
+    assert_eq!(rt; tracker.released(), 1);
     Ok(())
 }

@@ -1,7 +1,8 @@
 //! Streams that fail: the fault is named, and everything accepted is released once.
 
-use super::sights::{Failing, Narrow, Releases};
+use super::sights::{Failing, Narrow, stock_of};
 use crate::{Form, ScriptError, Watched, run};
+use rx_resource::{Resource, Tracker};
 use std::alloc::Global;
 use std::test::Fail;
 
@@ -32,7 +33,7 @@ struct Narrowed {
 }
 
 fn run_into(alloc: Global, room: usize, fails: bool) -> Result<Narrowed, Fail> {
-    let releases = Releases::new(alloc)?;
+    let tracker = Tracker::new(alloc)?;
     let mut input = SCENARIO.as_bytes();
     let mut output = Narrow {
         taken: Vec::new(alloc),
@@ -43,13 +44,13 @@ fn run_into(alloc: Global, room: usize, fails: bool) -> Result<Narrowed, Fail> {
         alloc,
         &mut Watched::new(&mut input),
         &mut Watched::new(&mut output),
-        releases.stock(alloc, &[0, 1, 2, 3, 4])?,
+        stock_of(alloc, &tracker, &[0, 1, 2, 3, 4])?,
         Form::Report,
     );
     Ok(Narrowed {
         outcome,
         taken: output.taken,
-        released: releases.count(),
+        released: tracker.released(),
     })
 }
 
@@ -80,7 +81,7 @@ fn a_writer_that_stops_has_a_front_of_the_report(rt: HostRuntime) -> Result<(), 
 #[test]
 fn a_reader_that_fails_is_a_read_fault(rt: HostRuntime) -> Result<(), Fail> {
     for fails_at in [0, 1, 5] {
-        let releases = Releases::new(rt.alloc())?;
+        let tracker = Tracker::new(rt.alloc())?;
         let mut input = Failing {
             bytes: SCENARIO.as_bytes(),
             reads: 0,
@@ -91,20 +92,20 @@ fn a_reader_that_fails_is_a_read_fault(rt: HostRuntime) -> Result<(), Fail> {
             rt.alloc(),
             &mut Watched::new(&mut input),
             &mut Watched::new(&mut output),
-            releases.stock(rt.alloc(), &[0, 1, 2, 3, 4])?,
+            stock_of(rt.alloc(), &tracker, &[0, 1, 2, 3, 4])?,
             Form::Report,
         );
         assert!(rt; matches!(outcome, Err(ScriptError::Read)));
         assert!(rt; output.is_empty());
         assert_eq!(rt; input.reads, fails_at);
-        assert_eq!(rt; releases.count(), 0);
+        assert_eq!(rt; tracker.released(), 0);
     }
     Ok(())
 }
 
 #[test]
 fn a_reader_of_small_pieces_is_read_to_its_end(rt: HostRuntime) -> Result<(), Fail> {
-    let releases = Releases::new(rt.alloc())?;
+    let tracker = Tracker::new(rt.alloc())?;
     let mut input = Failing {
         bytes: SCENARIO.as_bytes(),
         reads: 0,
@@ -115,21 +116,23 @@ fn a_reader_of_small_pieces_is_read_to_its_end(rt: HostRuntime) -> Result<(), Fa
         rt.alloc(),
         &mut Watched::new(&mut input),
         &mut Watched::new(&mut output),
-        releases.stock(rt.alloc(), &[0, 1, 2, 3, 4])?,
+        stock_of(rt.alloc(), &tracker, &[0, 1, 2, 3, 4])?,
         Form::Report,
     )?;
     assert_eq!(rt; output.as_slice(), REPORT.as_bytes());
     assert!(rt; input.bytes.is_empty());
-    assert_eq!(rt; releases.count(), 4);
+    assert_eq!(rt; tracker.released(), 4);
     Ok(())
 }
 
 #[test]
 fn a_used_resource_is_refused_and_stays_in_front(rt: HostRuntime) -> Result<(), Fail> {
-    let releases = Releases::new(rt.alloc())?;
+    let tracker = Tracker::new(rt.alloc())?;
+    let mut used = tracker.resource(5, None)?;
+    assert_eq!(rt; Resource::apply(&mut used, 9), 9);
     let mut stock = Vec::new(rt.alloc());
-    stock.push(releases.resource(5, 1)?)?;
-    stock.push(releases.resource(6, 0)?)?;
+    stock.push(used)?;
+    stock.push(tracker.resource(6, None)?)?;
     let mut input: &[u8] = b"{\"steps\":[
         {\"do\":\"using\",\"name\":\"a\",\"place\":\"root\",\"res\":\"r\"},
         {\"do\":\"open\",\"name\":\"a\",\"place\":\"root\",\"kind\":\"leaf\"},
@@ -149,6 +152,6 @@ totals nodes=1 open=1 accepted=0 held=0 waiting=0 taken=0
 closed 0 faults 0
 ";
     assert_eq!(rt; output.as_slice(), report.as_bytes());
-    assert_eq!(rt; releases.count(), 0);
+    assert_eq!(rt; tracker.released(), 0);
     Ok(())
 }

@@ -1,10 +1,10 @@
 //! Memory refused, at many of the places where a run asks for some, and a closing that takes none.
 
-use super::sights::{Counted, Releases};
+use super::sights::stock_of;
 use crate::{Closed, Form, ScriptError, Watched, close, run};
 use rx_book::{At, Book};
 use rx_event::Kind;
-use rx_resource::Resource;
+use rx_resource::{Resource, Tracked, Tracker};
 use rx_scarce::{MOST_BLOCKS, Scarce};
 use std::alloc::Global;
 use std::test::Fail;
@@ -16,34 +16,50 @@ const SCENARIO: &str = "{\"steps\":[
     {\"do\":\"using\",\"name\":\"a\",\"place\":\"root\",\"res\":\"r\"},
     {\"do\":\"open\",\"name\":\"l\",\"place\":\"source\",\"of\":\"a\",\"kind\":\"leaf\"},
     {\"do\":\"hold\",\"node\":\"l\",\"res\":\"s\"},
+    {\"do\":\"apply\",\"res\":\"s\",\"word\":9},
     {\"do\":\"next\",\"node\":\"l\",\"value\":5},
     {\"do\":\"next\",\"node\":\"x\",\"value\":5},
+    {\"do\":\"remove\",\"res\":\"s\"},
     {\"do\":\"end\",\"node\":\"l\"},
-    {\"do\":\"using\",\"name\":\"b\",\"place\":\"root\",\"res\":\"t\"}]}";
+    {\"do\":\"open\",\"name\":\"f\",\"place\":\"root\",\"kind\":\"flat\"},
+    {\"do\":\"open\",\"name\":\"g\",\"place\":\"source\",\"of\":\"f\",\"kind\":\"leaf\"},
+    {\"do\":\"next\",\"node\":\"g\",\"value\":1},
+    {\"do\":\"open\",\"name\":\"i\",\"place\":\"inner\",\"of\":\"f\",\"kind\":\"leaf\"},
+    {\"do\":\"next\",\"node\":\"g\",\"value\":2},
+    {\"do\":\"decline\",\"node\":\"f\"},
+    {\"do\":\"next\",\"node\":\"g\",\"value\":3},
+    {\"do\":\"fail\",\"node\":\"f\",\"error\":4},
+    {\"do\":\"open\",\"name\":\"p\",\"place\":\"root\",\"kind\":\"pass\"},
+    {\"do\":\"abort\",\"node\":\"p\",\"error\":6},
+    {\"do\":\"using\",\"name\":\"b\",\"place\":\"root\",\"res\":\"t\",\"then\":[
+        {\"label\":\"x\",\"after\":5,\"do\":\"dispose\",\"node\":\"b\"},
+        {\"do\":\"cancel\",\"step\":\"x\"}]}]}";
 
-const REPORT: &str = "refused 4 NoName
+const REPORT: &str = "refused 5 NoName
 node a closed: next=5 completed
+node f closed: project=1 project=2 project=3 error=4
+node p closed: error=6
 node b open:
 res r tag=0 uses=0 waiting
-res s tag=1 uses=0 waiting
+res s tag=1 uses=1 waiting
 res t tag=2 uses=0 held
-totals nodes=3 open=1 accepted=3 held=1 waiting=2 taken=0
+totals nodes=7 open=1 accepted=3 held=1 waiting=2 taken=0
 closed 3 faults 0
 ";
 
 #[test]
 fn a_run_without_memory_writes_nothing_and_keeps_nothing(rt: HostRuntime) -> Result<(), Fail> {
     let mut output: Vec<u8> = Vec::with_capacity(rt.alloc(), 4096)?;
-    let mut stocks: Vec<Vec<Counted>> = Vec::new(rt.alloc());
-    let releases = Releases::new(rt.alloc())?;
+    let mut stocks: Vec<Vec<Tracked>> = Vec::new(rt.alloc());
+    let tracker = Tracker::new(rt.alloc())?;
     for _ in 0..RUNS {
-        stocks.push(releases.stock(rt.alloc(), &[0, 1, 2])?)?;
+        stocks.push(stock_of(rt.alloc(), &tracker, &[0, 1, 2])?)?;
     }
     let mut refused = 0u32;
     let mut scarce = Scarce::new(rt.alloc())?;
     for _ in 0..RUNS {
         let Some(stock) = stocks.pop() else { break };
-        let before = releases.count();
+        let before = tracker.released();
         let mut input = SCENARIO.as_bytes();
         let outcome = run(
             rt.alloc(),
@@ -57,7 +73,7 @@ fn a_run_without_memory_writes_nothing_and_keeps_nothing(rt: HostRuntime) -> Res
         }
         assert!(rt; matches!(outcome, Err(ScriptError::Memory)), "{outcome:?}");
         assert!(rt; output.is_empty());
-        assert!(rt; releases.count().wrapping_sub(before) <= 3);
+        assert!(rt; tracker.released().wrapping_sub(before) <= 3);
         refused = refused.wrapping_add(1);
         assert!(rt; scarce.give_back_one());
     }
@@ -68,18 +84,18 @@ fn a_run_without_memory_writes_nothing_and_keeps_nothing(rt: HostRuntime) -> Res
 }
 
 // A book with two roots, one of which holds a resource and one of which is closed and held one.
-fn open_book(alloc: Global, releases: &Releases) -> Result<Book<Counted>, Fail> {
+fn open_book(alloc: Global, tracker: &Tracker) -> Result<Book<Tracked>, Fail> {
     let mut book = Book::new(alloc, 1000);
-    for tag in [1, 3] {
+    for (tag, fault) in [(1, None), (3, Some(2))] {
         if book
-            .open_using(At::Root, releases.resource(tag, 0)?)
+            .open_using(At::Root, tracker.resource(tag, fault)?)
             .is_err()
         {
             return Err(Fail::from("a using node is refused"));
         }
     }
     let below = book.open(At::Root, Kind::Leaf)?.key;
-    if book.hold(below, releases.resource(4, 0)?).is_err() {
+    if book.hold(below, tracker.resource(4, None)?).is_err() {
         return Err(Fail::from("a resource is refused"));
     }
     let _place = book.dispose(below)?;
@@ -94,8 +110,8 @@ fn close_twice<R: Resource>(book: &mut Book<R>) -> (Closed, Closed) {
 
 #[test]
 fn a_closing_takes_no_memory(rt: HostRuntime) -> Result<(), Fail> {
-    let releases = Releases::new(rt.alloc())?;
-    let mut book = open_book(rt.alloc(), &releases)?;
+    let tracker = Tracker::new(rt.alloc())?;
+    let mut book = open_book(rt.alloc(), &tracker)?;
     assert_eq!(rt; (book.held(), book.waiting(), book.open_count()), (2, 1, 2));
     let (first, second) = {
         let _scarce = Scarce::new(rt.alloc())?;
@@ -116,6 +132,6 @@ fn a_closing_takes_no_memory(rt: HostRuntime) -> Result<(), Fail> {
         (0, 0, 3, 0)
     );
     assert!(rt; book.open_root().is_none());
-    assert_eq!(rt; releases.count(), 3);
+    assert_eq!(rt; tracker.released(), 3);
     Ok(())
 }

@@ -1,14 +1,13 @@
 -- The notes so far were handed out, and nothing else of the book was changed.
-use Rattle.std.proofs.Common.{◌≡◌, ◌-◌, length, take, map}
+use Rattle.std.proofs.Common.{◌≡◌, ◌-◌, length, take}
 use Rattle.rx_event.specs.Notes.{notes}
 use Rattle.rx_book.specs.State.{IsPromised}
-use Rattle.rx_register.specs.Kept.{letter}
 use Rattle.rx_script.proofs.report.all_mail.Given as goal
 
 abbrev pub invariant-loop-note : goal.invariant-loop-note
 invariant-loop-note g l = record {
   kept : IsPromised l.book;
-  mail : l.mail.items ≡ map letter (take l.book.given (notes l.initial.book.history));
+  mail : l.mail.items ≡ take l.book.given (notes l.initial.book.history);
   book : l.book ≡ record l.initial.book { given = l.book.given };
 }
 

@@ -1,0 +1,8 @@
+use Rattle.std.proofs.Common.{◌∙◌, sym}
+use Rattle.rx_scenario.specs.Reading.{has_only_steps}
+use Rattle.rx_scenario.proofs.Lists.{list_all_keys}
+use Rattle.rx_scenario.proofs.reading.members.has_only_steps.Goals as goal
+
+pub returns : goal.returns
+unfolding has_only_steps
+returns c = c.are_all_of_steps.ensures ∙ sym (list_all_keys _ c.args.members.now.entries)

@@ -1,0 +1,18 @@
+use Rattle.rx_script.proofs.Planning.{IfOk-map}
+use Rattle.rx_script.proofs.Advancing.{performed_command, performed_cancel}
+use Rattle.rx_script.specs.Engine.{agenda_of}
+use Rattle.rx_script.specs.Agenda.{Cancels}
+use Rattle.std.proofs.Common.{string_bytes, subst}
+use Rattle.rx_script.proofs.course.perform.Goals as goal
+
+pub returns-in-Command : goal.returns-in-Command
+returns-in-Command g c =
+    rw c.in-Command.is (IfOk-map c.execute.result (performed_command c.args.engine.now c.execute.new.engine c.args.agenda.now c.in-Command.command)
+    c.execute.ensures)
+
+pub returns-in-Cancel : goal.returns-in-Cancel
+returns-in-Cancel g c =
+    let cancelled : Cancels (agenda_of c.args.agenda.now) (string_bytes c.in-Cancel.label) c.cancel.result (agenda_of c.cancel.new.agenda) =
+    subst (λ l. Cancels (agenda_of c.args.agenda.now) l c.cancel.result (agenda_of c.cancel.new.agenda)) c.as_str.ensures.value c.cancel.ensures.value in
+    rw c.in-Cancel.is (performed_cancel c.args.engine.now c.args.agenda.now c.cancel.new.agenda c.in-Cancel.label c.cancel.result c.requires cancelled
+    c.cancel.ensures.size c.cancel.ensures.clock)

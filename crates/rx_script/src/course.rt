@@ -1,0 +1,85 @@
+//! Steps that are carried out one after the other, each the one that comes next.
+
+ghost use Rattle.std.specs.Prelude.{◌≡◌, ◌≤◌, map, IfOk, OnOk};
+ghost use Rattle.rx_scenario.specs.Scenario.{step_of};
+ghost use Rattle.rx_script.specs.Course.{Ends};
+ghost use Rattle.rx_script.specs.Agenda.{with_steps, empty_agenda};
+ghost use Rattle.rx_script.specs.Engine.{stage_of, progress_of, IsSound, Performed, Followed};
+
+use crate::agenda::{Agenda, add_all, cancel, empty_agenda, follow, next_step};
+use crate::answer::Answer;
+use crate::engine::{Engine, execute};
+use rx_resource::Resource;
+use rx_scenario::{Action, Step};
+use std::alloc::{AllocError, Global};
+
+// Does what a step does.
+fn perform<R: Resource>(
+    engine: &mut Engine<R>,
+    agenda: &mut Agenda,
+    action: Action,
+) -> Result<Answer, AllocError>
+    requires { IsSound engine.old }
+    ensures { IfOk result (λ a. Performed engine.old agenda.old action a engine.new agenda.new) }
+{
+    match action {
+        Action::Command(command) => execute(engine, command),
+        Action::Cancel(label) => Ok(cancel(agenda, label.as_str())),
+    }
+}
+
+// Takes a step: where it is accepted, those that follow it are to come.
+fn take_step<R: Resource>(
+    engine: &mut Engine<R>,
+    agenda: &mut Agenda,
+    step: Step,
+) -> Result<Answer, AllocError>
+    requires sound { IsSound engine.old }
+    requires clock { agenda.old.timeline.clock ≤ 1000000000000000 }
+    ensures { IfOk result (λ a. Followed engine.old agenda.old step a engine.new agenda.new) }
+{
+    let Step { action, then, .. } = step;
+    let answer = perform(engine, agenda, action)?;
+    follow(agenda, answer, then)?;
+    Ok(answer)
+}
+
+// Takes all steps that come until this time, and lists their answers.
+fn take_all<R: Resource>(
+    alloc: Global,
+    engine: &mut Engine<R>,
+    agenda: &mut Agenda,
+    until: u64,
+) -> Result<Vec<Answer>, AllocError>
+    requires sound { IsSound engine.old }
+    requires ends { until ≤ 1000000000000000 }
+    requires clock { agenda.old.timeline.clock ≤ until }
+    ensures course { IfOk result (λ v. Ends engine.old.book.limit until (progress_of engine.old agenda.old) v.items (stage_of engine.new)) }
+    ensures sound { OnOk result (IsSound engine.new) }
+    ensures given { OnOk result (engine.new.book.given ≡ engine.old.book.given) }
+{
+    let mut answers = Vec::new(alloc);
+    while let Some(step) = next_step(agenda, until) {
+        answers.push(take_step(engine, agenda, step)?)?;
+    }
+    Ok(answers)
+}
+
+/// Runs a scenario's steps until this time, and lists the answers.
+pub fn run_course<R: Resource>(
+    alloc: Global,
+    engine: &mut Engine<R>,
+    steps: Vec<Step>,
+    until: u64,
+) -> Result<Vec<Answer>, AllocError>
+    requires sound { IsSound engine.old }
+    requires ends { until ≤ 1000000000000000 }
+    ensures course { IfOk result (λ v. Ends engine.old.book.limit until
+        (record { stage = stage_of engine.old; agenda = with_steps (map step_of steps.items) empty_agenda }) v.items (stage_of engine.new)) }
+    ensures sound { OnOk result (IsSound engine.new) }
+    ensures given { OnOk result (engine.new.book.given ≡ engine.old.book.given) }
+{
+    let mut agenda = empty_agenda(alloc);
+    add_all(&mut agenda, steps)?;
+    take_all(alloc, engine, &mut agenda, until)
+}
