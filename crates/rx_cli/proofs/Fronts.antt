@@ -6,7 +6,8 @@ use Rattle.rx_device.specs.Device.{device_of, HasWriteFault, AppendsPrefix}
 use Rattle.rx_cli.specs.Told.{Bytes, IsTold}
 
 pub told_in_any_case : {D T E : Type 0} (contents : D → Bytes) (old new : Watched D) (text : List ℕ) (r : Result T E)
-    → OnOk r (Appends (contents (device_of old)) (contents (device_of new)) text) → OnErr r (AppendsPrefix (contents (device_of old)) (contents (device_of new)) text) → OnErr r (HasWriteFault new)
+    → OnOk r (Appends (contents (device_of old)) (contents (device_of new)) text)
+    → OnErr r (AppendsPrefix (contents (device_of old)) (contents (device_of new)) text) → OnErr r (HasWriteFault new)
     → IsTold contents old new text
 told_in_any_case contents old new text (Ok x) whole front failed = inl whole
 told_in_any_case contents old new text (Err e) whole front failed = inr (front, failed)

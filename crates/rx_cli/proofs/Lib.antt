@@ -2,3 +2,4 @@ pub mod Fronts
 pub mod Literals
 pub mod Running
 pub mod Filling
+pub mod Numbers

@@ -1,9 +1,11 @@
 -- What `clap` makes of words that are written out.
-use Rattle.std.proofs.Common.{[], ◌∷◌, codes, refl}
+use Rattle.std.proofs.Common.{◌≡◌, [], ◌∷◌, map, codes, refl}
+use Rattle.clap.specs.Words.{fault_of}
+use Rattle.clap.specs.declared.error.kind.ErrorKind.TheVariants.{ValueValidation}
 use Rattle.clap.proofs.OnLiterals.{clap_on_literals}
 use Rattle.rx_script.specs.declared.Form.TheVariants.{Report, Dump}
-use Rattle.rx_cli.specs.declared.request.Order.TheVariants.{Run, Audit}
-use Rattle.rx_cli.specs.Words.{Orders}
+use Rattle.rx_cli.specs.declared.request.Order.TheVariants.{Run, Audit, Storm}
+use Rattle.rx_cli.specs.Words.{Orders, rxbook, greatest_storm, storms_beyond, questions, answers, file_words, refusals_of_files}
 
 pub alone : Orders (codes "rxbook" ∷ []) (Run Report)
 unfolding clap_on_literals
@@ -13,10 +15,31 @@ pub with_run : Orders (codes "rxbook" ∷ codes "run" ∷ []) (Run Report)
 unfolding clap_on_literals
 with_run = record { taken = refl; named = refl }
 
-pub with_dump : Orders (codes "rxbook" ∷ codes "run" ∷ codes "--dump" ∷ []) (Run Dump)
+pub with_dump : Orders (codes "rxbook" ∷ codes "run" ∷ codes "--dump" ∷ [])
+    (Run Dump)
 unfolding clap_on_literals
 with_dump = record { taken = refl; named = refl }
 
 pub with_audit : Orders (codes "rxbook" ∷ codes "audit" ∷ []) Audit
 unfolding clap_on_literals
 with_audit = record { taken = refl; named = refl }
+
+pub with_storm : Orders (codes "rxbook" ∷ codes "storm" ∷ []) (Storm 4 3 100)
+unfolding clap_on_literals
+with_storm = record { taken = refl; named = refl }
+
+pub with_greatest : Orders greatest_storm (Storm 64 16 10000)
+unfolding clap_on_literals
+with_greatest = record { taken = refl; named = refl }
+
+pub beyond : map (fault_of rxbook) storms_beyond ≡ map (λ _. ValueValidation ∷ []) storms_beyond
+unfolding clap_on_literals
+beyond = refl
+
+pub with_help : map (fault_of rxbook) questions ≡ answers
+unfolding clap_on_literals
+with_help = refl
+
+pub with_files : map (fault_of rxbook) file_words ≡ refusals_of_files
+unfolding clap_on_literals
+with_files = refl

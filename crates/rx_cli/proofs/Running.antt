@@ -1,4 +1,4 @@
--- A run or an audit that was not begun.
+-- A run, an audit or a storm that was not begun.
 use Rattle.std.proofs.Common.{List, Err, refl, ap, true≢false, Bool, true, false, Result}
 use Rattle.rx_device.specs.declared.fault.ScriptError.{ScriptError}
 use Rattle.rx_device.specs.declared.fault.ScriptError.TheVariants.{Memory}
@@ -6,14 +6,17 @@ use Rattle.rx_device.specs.declared.watched.Watched.{Watched}
 use Rattle.rx_script.specs.declared.Form.{Form}
 use Rattle.rx_script.specs.Stage.{Ware}
 use Rattle.rx_cli.specs.Told.{Bytes}
-use Rattle.rx_cli.specs.Served.{Ran, Audited}
+use Rattle.rx_storm.specs.declared.StormFault.{StormFault}
+use Rattle.rx_storm.specs.declared.StormFault.TheVariants.{Memory as NoMemory}
+use Rattle.rx_cli.specs.Served.{Ran, Audited, Stormed}
 
 abbrev is_memory : {T : Type 0} → Result T ScriptError → Bool
 is_memory (Err Memory) = true
 is_memory _ = false
 
 -- memory was refused before the input was touched
-pub ran_without_memory : {I O : Type 0} (remaining : I → Bytes) (contents : O → Bytes) (stock : List Ware) (form : Form) (input : Watched I) (output : Watched O)
+pub ran_without_memory : {I O : Type 0} (remaining : I → Bytes) (contents : O → Bytes)
+    (stock : List Ware) (form : Form) (input : Watched I) (output : Watched O)
     → Ran remaining contents stock form input input output output (Err Memory)
 ran_without_memory remaining contents stock form input output = record {
   ok = tt;
@@ -40,4 +43,19 @@ audited_without_memory remaining contents input output = record {
   write = λ e. absurd (true≢false (ap is_memory e));
   syntax = λ e. absurd (true≢false (ap is_memory e));
   shape = λ e. absurd (true≢false (ap is_memory e));
+}
+
+abbrev is_no_memory : {T : Type 0} → Result T StormFault → Bool
+is_no_memory (Err NoMemory) = true
+is_no_memory _ = false
+
+-- the same of a storm
+pub stormed_without_memory : {O : Type 0} (contents : O → Bytes) (output : Watched O) → Stormed contents output output (Err NoMemory)
+stormed_without_memory contents output = record {
+  told = tt;
+  unhurt = tt;
+  front = λ e. absurd (true≢false (ap is_no_memory e));
+  memory = λ _. refl;
+  thread = λ e. absurd (true≢false (ap is_no_memory e));
+  write = λ e. absurd (true≢false (ap is_no_memory e));
 }

@@ -14,49 +14,84 @@ use Rattle.rx_dump.specs.Verdict.{is_lawful}
 use Rattle.rx_script.specs.declared.Form.{Form}
 use Rattle.rx_script.specs.Stage.{Ware}
 use Rattle.rx_script.specs.Running.{Runs, GivesNoScenario}
-use Rattle.rx_cli.specs.Status.{line_of, status_of, audit_status_of}
+use Rattle.rx_storm.specs.declared.StormFault.{StormFault}
+use Rattle.rx_storm.specs.declared.StormFault.TheVariants.{Memory as NoMemory, Thread as NoThread, Write as NoWrite}
+use Rattle.rx_storm.specs.Storms.{Tells as TellsFigures, TellsFront}
+use Rattle.rx_cli.specs.Status.{line_of, status_of, audit_status_of, storm_status_of, storm_line_of}
 use Rattle.rx_cli.specs.Told.{Bytes, IsTold}
 
 -- ---- a run
 
--- the scenario was read from the input and run with this stock, and this is what came of it: its report or dump is written where
--- the outcome is Ok, and a front of it with a write fault; every other fault comes for its cause, with nothing written
-pub record Ran {I O : Type 0} (remaining : I → Bytes) (contents : O → Bytes) (stock : List Ware) (form : Form) (input input' : Watched I) (output output' : Watched O) (outcome : Result (Unit {0}) ScriptError) : Type 0 where
-  pub ok : OnOk outcome (Runs stock form (remaining (device_of input)) (remaining (device_of input')) (Appends (contents (device_of output)) (contents (device_of output'))))
+-- the scenario was read from the input and run with this stock, and this is what came of it: its report or dump
+-- is written where the outcome is Ok, and a front of it with a write fault; every other fault comes for its cause,
+-- with nothing written
+pub record Ran {I O : Type 0} (remaining : I → Bytes) (contents : O → Bytes) (stock : List Ware) (form : Form)
+    (input input' : Watched I) (output output' : Watched O) (outcome : Result (Unit {0}) ScriptError) : Type 0 where
+  pub ok : OnOk outcome (Runs stock form (remaining (device_of input)) (remaining (device_of input'))
+      (Appends (contents (device_of output)) (contents (device_of output'))))
   pub stopped : OnOk outcome (has_stopped input' ≡ true)
   pub unhurt : OnOk outcome ((has_failed input' ≡ false) × (has_failed output' ≡ false))
-  pub front : IsErrOf outcome Write → Runs stock form (remaining (device_of input)) (remaining (device_of input')) (AppendsPrefix (contents (device_of output)) (contents (device_of output')))
+  pub front : IsErrOf outcome Write → Runs stock form (remaining (device_of input)) (remaining (device_of input'))
+      (AppendsPrefix (contents (device_of output)) (contents (device_of output')))
   pub silent : IfErr outcome (λ e. e ≢ Write → output' ≡ output)
   pub read : IsErrOf outcome Read → HasReadFault input'
   pub write : IsErrOf outcome Write → HasWriteFault output'
-  pub syntax : IsErrOf outcome Syntax → GivesTooMuch (remaining (device_of input)) (remaining (device_of input')) ⊎ GivesNoJson (remaining (device_of input)) (remaining (device_of input'))
+  pub syntax : IsErrOf outcome Syntax → GivesTooMuch (remaining (device_of input)) (remaining (device_of input'))
+      ⊎ GivesNoJson (remaining (device_of input)) (remaining (device_of input'))
   pub shape : IsErrOf outcome Shape → GivesNoScenario (remaining (device_of input)) (remaining (device_of input'))
 
 -- the status and the line tell this outcome
-pub record Tells {E : Type 0} (contents : E → Bytes) (errors errors' : Watched E) (outcome : Result (Unit {0}) ScriptError) (status : ℕ) : Type 0 where
+pub record Tells {E : Type 0} (contents : E → Bytes) (errors errors' : Watched E)
+    (outcome : Result (Unit {0}) ScriptError) (status : ℕ) : Type 0 where
   pub says : status ≡ status_of outcome
   pub line : IsTold contents errors errors' (line_of outcome)
 
 -- ---- an audit
 
--- the dump was read from the input and judged, and this is what came of it: the text of the verdict on its history is written
--- where the outcome is Ok, which is whether the verdict is that it is lawful, and a front of that text with a write fault; every
--- other fault comes for its cause, with nothing written
-pub record Audited {I O : Type 0} (remaining : I → Bytes) (contents : O → Bytes) (input input' : Watched I) (output output' : Watched O) (outcome : Result Bool ScriptError) : Type 0 where
-  pub verdict : IfOk outcome (λ lawful. (v : Verdict) × (lawful ≡ is_lawful v) × Judges v (remaining (device_of input)) (remaining (device_of input')) (Appends (contents (device_of output)) (contents (device_of output'))))
+-- the dump was read from the input and judged, and this is what came of it: the text of the verdict on its history
+-- is written where the outcome is Ok, which is whether the verdict is that it is lawful, and a front of that text
+-- with a write fault; every other fault comes for its cause, with nothing written
+pub record Audited {I O : Type 0} (remaining : I → Bytes) (contents : O → Bytes)
+    (input input' : Watched I) (output output' : Watched O) (outcome : Result Bool ScriptError) : Type 0 where
+  pub verdict : IfOk outcome (λ lawful. (v : Verdict) × (lawful ≡ is_lawful v)
+      × Judges v (remaining (device_of input)) (remaining (device_of input'))
+      (Appends (contents (device_of output)) (contents (device_of output'))))
   pub stopped : OnOk outcome (has_stopped input' ≡ true)
   pub unhurt : OnOk outcome ((has_failed input' ≡ false) × (has_failed output' ≡ false))
-  pub front : IsErrOf outcome Write → (v : Verdict) × Judges v (remaining (device_of input)) (remaining (device_of input')) (AppendsPrefix (contents (device_of output)) (contents (device_of output')))
+  pub front : IsErrOf outcome Write → (v : Verdict)
+      × Judges v (remaining (device_of input)) (remaining (device_of input'))
+      (AppendsPrefix (contents (device_of output)) (contents (device_of output')))
   pub silent : IfErr outcome (λ e. e ≢ Write → output' ≡ output)
   pub read : IsErrOf outcome Read → HasReadFault input'
   pub write : IsErrOf outcome Write → HasWriteFault output'
-  pub syntax : IsErrOf outcome Syntax → GivesTooMuch (remaining (device_of input)) (remaining (device_of input')) ⊎ GivesNoJson (remaining (device_of input)) (remaining (device_of input'))
+  pub syntax : IsErrOf outcome Syntax → GivesTooMuch (remaining (device_of input)) (remaining (device_of input'))
+      ⊎ GivesNoJson (remaining (device_of input)) (remaining (device_of input'))
   pub shape : IsErrOf outcome Shape → GivesNoDump (remaining (device_of input)) (remaining (device_of input'))
 
 -- the status and the line tell this outcome
-pub record TellsAudit {E : Type 0} (contents : E → Bytes) (errors errors' : Watched E) (outcome : Result Bool ScriptError) (status : ℕ) : Type 0 where
+pub record TellsAudit {E : Type 0} (contents : E → Bytes) (errors errors' : Watched E)
+    (outcome : Result Bool ScriptError) (status : ℕ) : Type 0 where
   pub says : status ≡ audit_status_of outcome
   pub line : IsTold contents errors errors' (line_of outcome)
+
+-- ---- a storm
+
+-- what came of a storm: the text of its figures is written where the outcome is Ok, which is whether the threads
+-- agree with the book, and a front of that text with a write fault; with any other fault nothing
+pub record Stormed {O : Type 0} (contents : O → Bytes)
+    (output output' : Watched O) (outcome : Result Bool StormFault) : Type 0 where
+  pub told : OnOk outcome (TellsFigures (contents (device_of output)) (contents (device_of output')))
+  pub unhurt : OnOk outcome (has_failed output' ≡ false)
+  pub front : IsErrOf outcome NoWrite → TellsFront (contents (device_of output)) (contents (device_of output'))
+  pub memory : IsErrOf outcome NoMemory → output' ≡ output
+  pub thread : IsErrOf outcome NoThread → output' ≡ output
+  pub write : IsErrOf outcome NoWrite → HasWriteFault output'
+
+-- the status and the line tell this outcome
+pub record TellsStorm {E : Type 0} (contents : E → Bytes) (errors errors' : Watched E)
+    (outcome : Result Bool StormFault) (status : ℕ) : Type 0 where
+  pub says : status ≡ storm_status_of outcome
+  pub line : IsTold contents errors errors' (storm_line_of outcome)
 
 -- ---- words that are refused, or ask for help
 
@@ -66,7 +101,8 @@ is_help DisplayHelp = true
 is_help DisplayVersion = true
 is_help _ = false
 
-module _ {O E : Type 0} (output_of : O → Bytes) (errors_of : E → Bytes) (output output' : Watched O) (errors errors' : Watched E) (status : ℕ) where
+module _ {O E : Type 0} (output_of : O → Bytes) (errors_of : E → Bytes)
+    (output output' : Watched O) (errors errors' : Watched E) (status : ℕ) where
   -- memory was refused
   pub record LacksMemory : Type 0 where
     pub says : status ≡ 4

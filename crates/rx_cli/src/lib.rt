@@ -12,22 +12,26 @@
 //! - A [`Watched`] input or output notes whether the stream behind it failed, so that the contract of
 //!   [`serve`] can say when a stream is at fault.
 //! - A dump is a history in JSON, and a verdict what the audit says of it, both of `rx_script`.
+//! - A storm is of `rx_storm`: threads that emit and threads that release, at one book.
 //! - [`serve`] does what the words order, and answers the exit status:
 //!
 //! | Status | Cause | Line on the error stream |
 //! |---|---|---|
-//! | 0 | a run is done, the verdict on a dump is lawful, or help was shown | none |
-//! | 1 | a stream failed | `rxbook: read fault`, `rxbook: write fault` |
+//! | 0 | a run or a storm is done, the verdict on a dump is lawful, or help or the version was shown | none |
+//! | 1 | a stream failed, or no thread was to be had | `rxbook: read fault`, `rxbook: write fault`, `rxbook: thread fault` |
 //! | 2 | the words are no order | the text of `clap` |
 //! | 3 | the input is no scenario, or no dump | `rxbook: faulty input` |
 //! | 4 | memory was refused | `rxbook: out of memory` |
 //! | 5 | the verdict on a dump is another | none |
+//! | 5 | the threads of a storm do not agree with the book | `rxbook: mismatch` |
 //!
 //! # Promised, and not
 //!
 //! - The order is the one that `clap` matches in the words, a report where they name no subcommand; it is
 //!   refused only where `clap` refuses the words or memory is. What `clap` matches in the words `rxbook`,
-//!   `rxbook run`, `rxbook run --dump` and `rxbook audit` is proved too ([`words_have_their_orders`]).
+//!   `rxbook run`, `rxbook run --dump`, `rxbook audit` and `rxbook storm` is proved too, and what it makes of
+//!   `--help`, of `--version` and of a file's name ([`words_have_their_orders`]). The numbers of a storm lie
+//!   in their ranges.
 //! - Where the words order a run that is done, no call of a stream failed, the output got the report of a
 //!   course of the scenario that the input is, with this stock, or the dump of its history, and nothing
 //!   else. With a write fault it got a front of one, and with
@@ -35,8 +39,11 @@
 //! - Where the words order an audit that ends without a fault, the input was a dump, the output got the
 //!   text of the verdict on its history and nothing else, and the status is 0 where that is `lawful`, and
 //!   5 where it is `unlawful` or `unsettled`. Faults are as those of a run.
+//! - Where the words order a storm, nothing is read, and what is written are the figures that `rx_storm`
+//!   promises, or a front of them with a write fault, or nothing. That a storm has so many threads and items
+//!   as ordered is tested alone.
 //! - The status and the line are those of the outcome, exactly; where the words are refused, nothing is
-//!   read, and only a request for help writes to the output.
+//!   read, and only a request for help or for the version writes to the output.
 //! - No contract says that memory was really refused where the status is 4.
 //! - The words of help and of usage errors are `clap`'s, and are tested alone.
 //! - The line on the error stream is there in full where that stream takes bytes; what it refuses is lost,

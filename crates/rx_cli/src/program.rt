@@ -1,39 +1,61 @@
 //! The program over any streams.
-ghost use Rattle.std.specs.Prelude.{◌≡◌, ◌≢◌, ◌⊎◌, [], Bool, map, Result};
+ghost use Rattle.std.specs.Prelude.{◌≡◌, ◌≢◌, ◌≤◌, ◌⊎◌, ℕ, [], Bool, map, vec_len, Result};
+ghost use Rattle.std.specs.List.{All};
 ghost use Rattle.clap.specs.Words.{IsAmong, fault_of};
 ghost use Rattle.clap.specs.declared.error.kind.ErrorKind.{ErrorKind};
 ghost use Rattle.rx_device.specs.declared.fault.ScriptError.{ScriptError};
+ghost use Rattle.rx_resource.specs.declared.Life.{Life};
 ghost use Rattle.rx_script.specs.declared.Form.{Form};
+ghost use Rattle.rx_storm.specs.declared.StormFault.{StormFault};
 ghost use Rattle.rx_cli.specs.declared.request.Order.{Order};
 ghost use Rattle.rx_cli.specs.Words.{rxbook, Orders};
 ghost use Rattle.rx_device.specs.Device.{IsFresh, KeepsDevice};
 ghost use Rattle.rx_script.specs.Stage.{ware_of};
-ghost use Rattle.rx_cli.specs.Served.{Ran, Tells, Audited, TellsAudit, RefusedBy};
+ghost use Rattle.rx_cli.specs.Served.{Ran, Tells, Audited, TellsAudit, Stormed, TellsStorm, RefusedBy};
 
 use crate::request::Order;
-use crate::statuses::{ended, judged, out_of_memory};
+use crate::statuses::{ended, judged, out_of_memory, weathered};
 use crate::usage::refuse;
 use crate::words::order;
 use clap::error::ErrorKind;
+use rx_crew::Gate;
 use rx_resource::Resource;
 use rx_script::{Watched, check, run};
+use rx_storm::storm;
 use std::alloc::Global;
 use std::convert::AsStr;
 use std::io::{Read, Write};
+use std::sync::Wait;
+use std::thread::Threads;
+
+/// A gate that does nothing.
+struct Open;
+
+impl Gate for Open {
+    fn before(&self, _number: u64) {}
+
+    fn after(&self, _number: u64) {}
+}
 
 /// Does what the words order, over these streams and with this stock, and answers the exit status. The
 /// first word is the program's name.
 ///
 /// A run writes to `output` the report of the scenario that `input` has left, or its dump, or a front of
 /// it where `output` fails, or nothing. An audit writes the verdict on the history of which `input` has a dump
-/// left, or a front of it, or nothing. Neither stream was used through its watch before.
+/// left, or a front of it, or nothing. A storm writes its figures, or a front of them, or nothing, and reads
+/// nothing. Neither stream was used through its watch before.
 ///
 /// A run's status is 0 where it is done, 1 where a stream failed, 3 where the input is no scenario, 4
 /// where memory was refused. An audit's is 0 where the verdict is lawful and 5 where it is another,
-/// and else as a run's, with 3 where the input is no dump. Words that `clap` refuses give 2, and a request for help 0, or 1 where the
-/// output refuses its text, or 4 where memory is refused for it; then nothing is read. Each status but
-/// 0 and 5 comes with its line on `errors`; what `errors` refuses is lost, and the status stays.
-pub fn serve<S: AsStr, R: Resource, I: Read, O: Write, E: Write>(
+/// and else as a run's, with 3 where the input is no dump. A storm's is 0 where its threads agree with the
+/// book, 5 where they do not, 1 where the output failed or a thread could not be started, 4 where memory
+/// was refused. Words that `clap` refuses give 2, and a request for help or for the version 0, or 1 where the
+/// output refuses its text, or 4 where memory is refused for it; then nothing is read. Each status but 0, and 5
+/// of an audit, comes with its line on `errors`; what `errors` refuses is lost, and the status stays.
+///
+/// A storm may wait for its threads; nothing else does.
+pub fn serve<T: Threads + Wait + Sync, S: AsStr, R: Resource, I: Read, O: Write, E: Write>(
+    rt: &T,
     alloc: Global,
     words: &[S],
     stock: Vec<R>,
@@ -43,6 +65,9 @@ pub fn serve<S: AsStr, R: Resource, I: Read, O: Write, E: Write>(
 ) -> u8
     requires input { IsFresh input.old }
     requires output { IsFresh output.old }
+    requires stock { 64 ≤ vec_len stock }
+    requires live { All (λ r. R.life_of r ≡ Life.Live) stock.items }
+    requires unused { All (λ r. R.uses_of r ≡ 0) stock.items }
 
     ensures ran { (form : Form) → Orders (map S.text words.now) (Order.Run form)
         → (outcome : Result (Unit {0}) ScriptError)
@@ -53,6 +78,13 @@ pub fn serve<S: AsStr, R: Resource, I: Read, O: Write, E: Write>(
         → (outcome : Result Bool ScriptError)
         × Audited I.remaining O.contents input.old input.new output.old output.new outcome
         × TellsAudit E.contents errors.old errors.new outcome result }
+    ensures stormed { (sources workers items : ℕ) → Orders (map S.text words.now) (Order.Storm sources workers items)
+        → (outcome : Result Bool StormFault)
+        × Stormed O.contents output.old output.new outcome
+        × TellsStorm E.contents errors.old errors.new outcome result }
+    ensures needs_no_input { (sources workers items : ℕ)
+        → Orders (map S.text words.now) (Order.Storm sources workers items)
+        → input.new ≡ input.old }
 
     ensures refused { fault_of rxbook (map S.text words.now) ≢ []
         → (k : ErrorKind)
@@ -67,6 +99,16 @@ pub fn serve<S: AsStr, R: Resource, I: Read, O: Write, E: Write>(
     match order(alloc, words) {
         Ok(Order::Run(form)) => ended(errors, run(alloc, input, output, stock, form)),
         Ok(Order::Audit) => judged(errors, check(alloc, input, output)),
+        Ok(
+            Order::Storm {
+                sources,
+                workers,
+                items,
+            },
+        ) => {
+            let outcome = storm(rt, alloc, sources, workers, items, stock, &Open, output);
+            weathered(errors, outcome)
+        }
         Err(error) => {
             if error.kind() == ErrorKind::OutOfMemory {
                 return out_of_memory(errors);

@@ -9,4 +9,13 @@ pub enum Order {
     Run(Form),
     /// Read a dump from standard input, judge its history, and write the verdict.
     Audit,
+    /// Run a storm of threads at one book, and write its figures.
+    Storm {
+        /// How many threads subscribe and emit, 1 to 64.
+        sources: u64,
+        /// How many threads release, 1 to 16.
+        workers: u64,
+        /// How many items each source emits, 0 to 10,000.
+        items: u64,
+    },
 }

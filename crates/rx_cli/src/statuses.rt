@@ -1,11 +1,12 @@
 //! The exit statuses, and the lines on standard error that go with them.
 ghost use Rattle.std.specs.Prelude.{◌≡◌, codes};
-ghost use Rattle.rx_cli.specs.Status.{fault_line, fault_status, status_of, audit_status_of, line_of};
+ghost use Rattle.rx_cli.specs.Status.{fault_line, fault_status, status_of, audit_status_of, line_of, storm_status_of, storm_line_of};
 ghost use Rattle.rx_device.specs.Device.{KeepsDevice};
 ghost use Rattle.rx_cli.specs.Told.{IsTold};
 
 use crate::telling::tell;
 use rx_script::{ScriptError, Watched};
+use rx_storm::StormFault;
 use std::io::Write;
 
 // The line of a fault.
@@ -28,6 +29,30 @@ fn fault_status(error: &ScriptError) -> u8
         ScriptError::Read | ScriptError::Write => 1,
         ScriptError::Syntax | ScriptError::Shape => 3,
         ScriptError::Memory => 4,
+    }
+}
+
+// The line of a storm that ended so; none where its threads agree with the book.
+fn storm_line(outcome: Result<bool, StormFault>) -> &'static str
+    ensures { result.now ≡ storm_line_of outcome }
+{
+    match outcome {
+        Ok(true) => "",
+        Ok(false) => "rxbook: mismatch\n",
+        Err(StormFault::Memory) => "rxbook: out of memory\n",
+        Err(StormFault::Thread) => "rxbook: thread fault\n",
+        Err(StormFault::Write) => "rxbook: write fault\n",
+    }
+}
+
+// The status of a storm that ended so.
+fn storm_status(outcome: Result<bool, StormFault>) -> u8
+    ensures { result ≡ storm_status_of outcome }
+{
+    match outcome {
+        Ok(agrees) => { if agrees { 0 } else { 5 } }
+        Err(StormFault::Memory) => 4,
+        Err(StormFault::Thread | StormFault::Write) => 1,
     }
 }
 
@@ -59,6 +84,18 @@ pub fn judged<E: Write>(errors: &mut Watched<'_, E>, outcome: Result<bool, Scrip
         Ok(false) => 5,
         Err(error) => ended(errors, Err(error)),
     }
+}
+
+/// The exit status of a storm that ended so: 0 where the threads agree with the book, and 5 where they do
+/// not; of a storm that failed 4 where memory was refused, else 1. Each but 0 has a line, which is
+/// written to `errors`. A write that fails there changes nothing.
+pub fn weathered<E: Write>(errors: &mut Watched<'_, E>, outcome: Result<bool, StormFault>) -> u8
+    ensures status { result ≡ storm_status_of outcome }
+    ensures line { IsTold E.contents errors.old errors.new (storm_line_of outcome) }
+    ensures same_errors { KeepsDevice errors.old errors.new }
+{
+    tell(errors, storm_line(outcome).as_bytes());
+    storm_status(outcome)
 }
 
 /// The exit status of a program that memory was refused, 4, after its line is written to `errors`.

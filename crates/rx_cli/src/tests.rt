@@ -1,23 +1,22 @@
-//! The statuses and lines over memory, help, audits, the stock, streams that fail, and refused memory.
+//! The statuses and lines over memory, storms, help, the stock, streams that fail, and refused memory.
 
 use super::*;
 use clap::error::ErrorKind;
-use rx_resource::{Life, Resource};
+use rx_resource::Resource as _;
 use rx_scarce::Scarce;
 use std::alloc::{AllocError, Global};
 use std::io;
 use std::io::{Read, Write};
+use std::process::Abort;
+use std::sync::Wait;
 use std::test::Fail;
+use std::thread::Threads;
 
 const NOTHING_DONE: &str =
     "totals nodes=0 open=0 accepted=0 held=0 waiting=0 taken=0\nclosed 0 faults 0\n";
 
-// A subscription with a resource, from its beginning to its end.
-const FIRST_RUN: &str =
-    "{\"steps\":[{\"do\":\"using\",\"name\":\"a\",\"place\":\"root\",\"res\":\"r\"},{\"do\":\"open\",\"name\":\"b\",\"place\":\"source\",\"of\":\"a\",\"kind\":\"leaf\"},{\"do\":\"next\",\"node\":\"b\",\"value\":5},{\"do\":\"end\",\"node\":\"b\"},{\"do\":\"next\",\"node\":\"b\",\"value\":6},{\"do\":\"drain\"}]}";
-
-const FIRST_REPORT: &str =
-    "refused 4 Gone\nnode a closed: next=5 completed\nres r tag=0 uses=0 taken\ntotals nodes=2 open=0 accepted=1 held=0 waiting=0 taken=1\nclosed 0 faults 0\n";
+// A subscriber of a RefCount hub that is not connected yet.
+const NOT_CONNECTED: &str = "[[\"hub\",\"auto\"],[\"open\",\"root\",\"sub\",0]]";
 
 // Two subscriptions with a resource each, of which the second is closed.
 const HALF_CLOSED: &str =
@@ -35,12 +34,18 @@ struct Left {
 }
 
 // A call over memory, with the program's stock.
-fn call(alloc: Global, words: &[&str], input: &[u8]) -> Result<Left, AllocError> {
+fn call<T: Threads + Wait + Sync>(
+    rt: &T,
+    alloc: Global,
+    words: &[&str],
+    input: &[u8],
+) -> Result<Left, AllocError> {
     let stock = stock(alloc)?;
     let mut reader = input;
     let mut output = Vec::new(alloc);
     let mut errors = Vec::new(alloc);
     let status = serve(
+        rt,
         alloc,
         words,
         stock,
@@ -59,43 +64,89 @@ fn call(alloc: Global, words: &[&str], input: &[u8]) -> Result<Left, AllocError>
 #[test]
 fn each_outcome_has_its_status_and_line(rt: HostRuntime) -> Result<(), Fail> {
     let empty = "{\"steps\":[]}";
-    let cases: [(&[&str], &str, u8, &str, &str); 9] = [
+    let faulty = "rxbook: faulty input\n";
+    let cases: [(&[&str], &str, u8, &str, &str); 18] = [
         (&["rxbook"], empty, 0, NOTHING_DONE, ""),
-        (&["rxbook"], FIRST_RUN, 0, FIRST_REPORT, ""),
         (&["rxbook", "run"], empty, 0, NOTHING_DONE, ""),
-        (&["rxbook"], "{\"steps\":[", 3, "", "rxbook: faulty input\n"),
-        (&["rxbook"], "[]", 3, "", "rxbook: faulty input\n"),
+        (&["rxbook", "run", "--dump"], empty, 0, "[]\n", ""),
+        (&["rxbook"], "{\"steps\":[", 3, "", faulty),
+        (&["rxbook"], "[]", 3, "", faulty),
+        (
+            &["rxbook", "audit"],
+            HALF_CLOSED,
+            0,
+            HALF_CLOSED_VERDICT,
+            "",
+        ),
+        (
+            &["rxbook", "audit"],
+            "[[\"take\",0]]",
+            5,
+            "unlawful 0\n",
+            "",
+        ),
+        (&["rxbook", "audit"], NOT_CONNECTED, 5, "unsettled\n", ""),
+        (&["rxbook", "audit"], "[[", 3, "", faulty),
+        (&["rxbook", "audit"], empty, 3, "", faulty),
         (
             &["rxbook", "bad"],
             empty,
             2,
             "",
-            "error: unrecognized subcommand 'bad'\n\nUsage: rxbook [COMMAND]\n\nFor more information, try '--help'.\n",
+            "error: unrecognized subcommand 'bad'\n\nUsage: rxbook [COMMAND] < FILE\n\nFor more information, try '--help'.\n",
         ),
         (
             &["rxbook", "audit", "--dump"],
             empty,
             2,
             "",
-            "error: unexpected argument '--dump' found\n\nUsage: rxbook audit\n\nFor more information, try '--help'.\n",
+            "error: unexpected argument '--dump' found\n\nUsage: rxbook audit < FILE\n\nFor more information, try '--help'.\n",
         ),
         (
             &["rxbook", "audit", "x"],
             "[]",
             2,
             "",
-            "error: unexpected argument 'x' found\n\nUsage: rxbook audit\n\nFor more information, try '--help'.\n",
+            "error: unexpected argument 'x' found\n\nUsage: rxbook audit < FILE\n\nFor more information, try '--help'.\n",
         ),
         (
             &["rxbook", "audit", "--run"],
             "[]",
             2,
             "",
-            "error: unexpected argument '--run' found\n\nUsage: rxbook audit\n\nFor more information, try '--help'.\n",
+            "error: unexpected argument '--run' found\n\nUsage: rxbook audit < FILE\n\nFor more information, try '--help'.\n",
+        ),
+        (
+            &["rxbook", "retry.json"],
+            empty,
+            2,
+            "",
+            "error: unrecognized subcommand 'retry.json'\n\nUsage: rxbook [COMMAND] < FILE\n\nFor more information, try '--help'.\n",
+        ),
+        (
+            &["rxbook", "run", "first-run.json"],
+            empty,
+            2,
+            "",
+            "error: unexpected argument 'first-run.json' found\n\nUsage: rxbook run [OPTIONS] < FILE\n\nFor more information, try '--help'.\n",
+        ),
+        (
+            &["rxbook", "storm", "--sources", "65"],
+            empty,
+            2,
+            "",
+            "error: invalid value '65' for '--sources <N>': 65 is not in 1..=64\n\nFor more information, try '--help'.\n",
+        ),
+        (
+            &["rxbook", "storm", "--workers", "x"],
+            empty,
+            2,
+            "",
+            "error: invalid value 'x' for '--workers <N>': invalid digit found in string\n\nFor more information, try '--help'.\n",
         ),
     ];
     for (words, input, status, output, errors) in cases {
-        let left = call(rt.alloc(), words, input.as_bytes())?;
+        let left = call(&rt, rt.alloc(), words, input.as_bytes())?;
         assert_eq!(rt; left.status, status);
         assert_eq!(rt; left.output.as_slice(), output.as_bytes());
         assert_eq!(rt; left.errors.as_slice(), errors.as_bytes());
@@ -106,94 +157,146 @@ fn each_outcome_has_its_status_and_line(rt: HostRuntime) -> Result<(), Fail> {
 }
 
 #[test]
-fn words_order_what_they_name(rt: HostRuntime) -> Result<(), Fail> {
-    let cases: [(&[&str], Order); 4] = [
-        (&["rxbook"], Order::Run(Form::Report)),
-        (&["rxbook", "run"], Order::Run(Form::Report)),
-        (&["rxbook", "run", "--dump"], Order::Run(Form::Dump)),
-        (&["rxbook", "audit"], Order::Audit),
-    ];
-    for (words, wanted) in cases {
-        match order(rt.alloc(), words) {
-            Ok(found) => assert_eq!(rt; found, wanted),
-            Err(_) => return Err(Fail::from("the words are refused")),
-        }
+fn options_of_a_storm_may_stand_in_any_form(rt: HostRuntime) -> Result<(), Fail> {
+    let words = ["rxbook", "storm", "--items", "0", "--sources=64"];
+    match order(rt.alloc(), &words) {
+        Ok(found) => assert_eq!(rt;
+            found,
+            Order::Storm {
+                sources: 64,
+                workers: 3,
+                items: 0
+            }
+        ),
+        Err(_) => return Err(Fail::from("the words are refused")),
     }
     Ok(())
 }
 
 #[test]
-fn an_audit_tells_the_verdict_of_the_dump(rt: HostRuntime) -> Result<(), Fail> {
-    let faulty = "rxbook: faulty input\n";
-    let cases: [(&str, u8, &str, &str); 10] = [
-        ("[]", 0, "lawful\nlive:\nheld:\nwaiting:\n", ""),
-        (HALF_CLOSED, 0, HALF_CLOSED_VERDICT, ""),
-        // A disposal of what is disposed of already.
+fn a_storm_tells_its_figures(rt: HostRuntime) -> Result<(), Fail> {
+    let many = ["--sources", "64", "--workers", "16", "--items", "0"];
+    let long = ["--sources", "1", "--workers", "1", "--items", "10000"];
+    let cases: [(&[&str], &str); 3] = [
         (
-            "[[\"open\",\"root\",\"leaf\"],[\"close\",0],[\"close\",0]]",
-            5,
-            "unlawful 2\n",
-            "",
+            &[],
+            "accepted 4\ntaken 4\nreleased 4\nfaults 1\nheld 0\nwaiting 0\nnotes 404\nevents 424\n",
         ),
-        // An item after the end.
         (
-            "[[\"open\",\"root\",\"leaf\"],[\"item\",0,1],[\"end\",0,\"completed\"],[\"item\",0,2]]",
-            5,
-            "unlawful 3\n",
-            "",
+            &many,
+            "accepted 64\ntaken 64\nreleased 64\nfaults 8\nheld 0\nwaiting 0\nnotes 64\nevents 384\n",
         ),
-        // A resource handed out twice.
         (
-            "[[\"open\",\"root\",\"leaf\"],[\"accept\",0,4],[\"remove\",1],[\"take\",1],[\"take\",1]]",
-            5,
-            "unlawful 4\n",
-            "",
+            &long,
+            "accepted 1\ntaken 1\nreleased 1\nfaults 0\nheld 0\nwaiting 0\nnotes 10001\nevents 10006\n",
         ),
-        // A caller's event while a mirroring node has still to pass on the end of its source.
-        (
-            "[[\"open\",\"root\",\"pass\"],[\"open\",\"source\",0,\"leaf\"],[\"end\",1,\"completed\"],[\"hub\",\"auto\"]]",
-            5,
-            "unlawful 3\n",
-            "",
-        ),
-        // The same node, and nothing after the end of its source.
-        (
-            "[[\"open\",\"root\",\"pass\"],[\"open\",\"source\",0,\"leaf\"],[\"end\",1,\"completed\"]]",
-            5,
-            "unsettled\n",
-            "",
-        ),
-        ("[[\"open\",\"root\"", 3, "", faulty),
-        ("{\"steps\":[]}", 3, "", faulty),
-        ("[[\"open\",\"root\",\"tree\"]]", 3, "", faulty),
     ];
-    for (dump, status, output, errors) in cases {
-        let left = call(rt.alloc(), &["rxbook", "audit"], dump.as_bytes())?;
-        assert_eq!(rt; left.status, status, "{dump}");
-        assert_eq!(rt; left.output.as_slice(), output.as_bytes(), "{dump}");
-        assert_eq!(rt; left.errors.as_slice(), errors.as_bytes(), "{dump}");
-        assert_eq!(rt; left.unread, 0, "{dump}");
+    for (options, figures) in cases {
+        let mut words = vec![in rt.alloc(); "rxbook", "storm"]?;
+        words.extend_from_slice(options)?;
+        let left = call(&rt, rt.alloc(), &words, b"unread")?;
+        assert_eq!(rt; left.status, 0);
+        assert_eq!(rt; left.output.as_slice(), figures.as_bytes());
+        assert!(rt; left.errors.is_empty());
+        assert_eq!(rt; left.unread, 6);
     }
     Ok(())
 }
 
+const HELP: &str = "\
+Runs scenarios of subscriptions and reports what they did
+
+Usage: rxbook [COMMAND] < FILE
+
+Commands:
+  run    Run the scenario on standard input (the default)
+  audit  Judge the dump on standard input
+  storm  Run many threads at one book, and compare what they counted with it
+  help   Print this message or the help of the given subcommand(s)
+
+Options:
+  -h, --help     Print help
+  -V, --version  Print version
+
+Standard input is read to its end, but by a storm, and no file is opened: hand it in, as in
+  rxbook < first-run.json
+  rxbook run --dump < first-run.json
+  rxbook audit < dispose-twice.dump
+
+The exit status is
+  0  where it is done: the verdict is lawful, or a storm agrees with its book
+  1  where the input or the output failed, or no thread was to be had
+  2  where the words are no order
+  3  where the input is no scenario, or no dump
+  4  in want of memory
+  5  where the verdict is another, or a storm does not agree with its book
+
+docs/FORMATS.md tells of scenario, report, dump, verdict and statuses.
+";
+
+const RUN_HELP: &str = "\
+Run the scenario on standard input (the default)
+
+Usage: rxbook run [OPTIONS] < FILE
+
+Options:
+      --dump  Write the dump of what happened, in place of the report
+  -h, --help  Print help
+
+A scenario is one JSON object, with its steps, of at most 16777216 bytes; as in
+  rxbook run < first-run.json
+
+The exit status is 0 where it is done, 1 where the input or the output failed, 3 where the input is no
+scenario, 4 in want of memory. docs/FORMATS.md tells of scenario, report and dump.
+";
+
+const AUDIT_HELP: &str = "\
+Judge the dump on standard input
+
+Usage: rxbook audit < FILE
+
+Options:
+  -h, --help  Print help
+
+A dump is one JSON array of events, oldest first, of at most 16777216 bytes; as in
+  rxbook audit < dispose-twice.dump
+
+The exit status is 0 where the verdict is lawful and 5 where it is another, 1 where the input or the
+output failed, 3 where the input is no dump, 4 in want of memory. docs/FORMATS.md tells of dump and verdict.
+";
+
+const STORM_HELP: &str = "\
+Run many threads at one book, and compare what they counted with it
+
+Usage: rxbook storm [OPTIONS]
+
+Options:
+      --sources <N>  How many threads subscribe and emit, 1 to 64 [default: 4]
+      --workers <N>  How many threads release, 1 to 16 [default: 3]
+      --items <N>    How many items each source emits, up to 10000 [default: 100]
+  -h, --help         Print help
+
+Nothing is read; as in
+  rxbook storm --items 1000
+
+The exit status is 0 where what the threads counted is what the book says and 5 where it is not, 1 where
+the output failed or no thread was to be had, 4 in want of memory. docs/FORMATS.md tells of the figures.
+";
+
 #[test]
-fn help_goes_to_the_output(rt: HostRuntime) -> Result<(), Fail> {
-    let whole =
-        "Runs scenarios of subscriptions and reports what they did\n\nUsage: rxbook [COMMAND]\n\nCommands:\n  run    Run the scenario on standard input (the default)\n  audit  Judge the dump on standard input\n  help   Print this message or the help of the given subcommand(s)\n\nOptions:\n  -h, --help  Print help\n";
-    let run =
-        "Run the scenario on standard input (the default)\n\nUsage: rxbook run [OPTIONS]\n\nOptions:\n      --dump  Write the dump of what happened, in place of the report\n  -h, --help  Print help\n";
-    let audit =
-        "Judge the dump on standard input\n\nUsage: rxbook audit\n\nOptions:\n  -h, --help  Print help\n";
-    let cases: [(&[&str], &str); 5] = [
-        (&["rxbook", "--help"], whole),
-        (&["rxbook", "-h"], whole),
-        (&["rxbook", "help"], whole),
-        (&["rxbook", "run", "--help"], run),
-        (&["rxbook", "audit", "--help"], audit),
+fn help_and_version_go_to_the_output(rt: HostRuntime) -> Result<(), Fail> {
+    let cases: [(&[&str], &str); 8] = [
+        (&["rxbook", "--help"], HELP),
+        (&["rxbook", "-h"], HELP),
+        (&["rxbook", "help"], HELP),
+        (&["rxbook", "run", "--help"], RUN_HELP),
+        (&["rxbook", "audit", "--help"], AUDIT_HELP),
+        (&["rxbook", "storm", "--help"], STORM_HELP),
+        (&["rxbook", "--version"], "rxbook 0.1.0\n"),
+        (&["rxbook", "-V"], "rxbook 0.1.0\n"),
     ];
     for (words, text) in cases {
-        let left = call(rt.alloc(), words, b"unread")?;
+        let left = call(&rt, rt.alloc(), words, b"unread")?;
         assert_eq!(rt; left.status, 0);
         assert_eq!(rt; left.output.as_slice(), text.as_bytes());
         assert!(rt; left.errors.is_empty());
@@ -260,8 +363,9 @@ fn a_reader_that_fails_is_a_read_fault(rt: HostRuntime) -> Result<(), Fail> {
     for words in cases {
         let mut output = Vec::new(rt.alloc());
         let mut errors = Vec::new(rt.alloc());
-        let stock: Vec<Plain> = Vec::new(rt.alloc());
+        let stock = stock(rt.alloc())?;
         let status = serve(
+            &rt,
             rt.alloc(),
             words,
             stock,
@@ -279,19 +383,21 @@ fn a_reader_that_fails_is_a_read_fault(rt: HostRuntime) -> Result<(), Fail> {
 #[test]
 fn an_output_that_fails_is_a_write_fault(rt: HostRuntime) -> Result<(), Fail> {
     let empty = "{\"steps\":[]}";
-    let cases: [(&[&str], &str, bool, &[u8]); 5] = [
+    let cases: [(&[&str], &str, bool, &[u8]); 6] = [
         (&["rxbook"], empty, false, b"totals nod"),
         (&["rxbook"], empty, true, b"totals nod"),
         (&["rxbook", "audit"], "[]", false, b"lawful\nliv"),
         (&["rxbook", "audit"], "[[\"take\",0]]", true, b"unlawful 0"),
+        (&["rxbook", "storm"], empty, false, b"accepted 4"),
         (&["rxbook", "--help"], empty, false, b"Runs scena"),
     ];
     for (words, text, stuck, taken) in cases {
         let mut output = make_full(rt.alloc(), 10, stuck);
         let mut errors = Vec::new(rt.alloc());
         let mut input = text.as_bytes();
-        let stock: Vec<Plain> = Vec::new(rt.alloc());
+        let stock = stock(rt.alloc())?;
         let status = serve(
+            &rt,
             rt.alloc(),
             words,
             stock,
@@ -312,8 +418,9 @@ fn errors_that_are_not_taken_leave_the_status(rt: HostRuntime) -> Result<(), Fai
     for (words, wanted) in cases {
         let mut output = Vec::new(rt.alloc());
         let mut input: &[u8] = b"{";
-        let stock: Vec<Plain> = Vec::new(rt.alloc());
+        let stock = stock(rt.alloc())?;
         let status = serve(
+            &rt,
             rt.alloc(),
             words,
             stock,
@@ -328,97 +435,21 @@ fn errors_that_are_not_taken_leave_the_status(rt: HostRuntime) -> Result<(), Fai
 }
 
 #[test]
-fn the_stock_has_its_kinds_in_order(rt: HostRuntime) -> Result<(), Fail> {
+fn the_stock_has_its_kinds_by_tag(rt: HostRuntime) -> Result<(), Fail> {
     let stock = stock(rt.alloc())?;
     assert_eq!(rt; stock.len(), 256);
-    let mut tag = 0u64;
-    for held in stock {
-        let mut held = held;
-        assert_eq!(rt; held.tag(), tag);
-        assert_eq!(rt; held.uses(), 0);
-        assert_eq!(rt; held.life(), Life::Live);
-        let fault = if tag % 8 == 3 { Err(2) } else { Ok(()) };
-        assert_eq!(rt; held.release(), fault);
-        assert_eq!(rt; held.life(), Life::Released);
-        tag = tag.wrapping_add(1);
-    }
-    Ok(())
-}
-
-// Holds the first six of the stock at one node, of which the fourth is faulty and the sixth a tally, and
-// uses that.
-const SIX_HELD: &str = "{\"steps\":[
-    {\"do\":\"using\",\"name\":\"a\",\"place\":\"root\",\"res\":\"r0\"},
-    {\"do\":\"hold\",\"node\":\"a\",\"res\":\"r1\"},
-    {\"do\":\"hold\",\"node\":\"a\",\"res\":\"r2\"},
-    {\"do\":\"hold\",\"node\":\"a\",\"res\":\"r3\"},
-    {\"do\":\"hold\",\"node\":\"a\",\"res\":\"r4\"},
-    {\"do\":\"hold\",\"node\":\"a\",\"res\":\"r5\"},
-    {\"do\":\"apply\",\"res\":\"r5\",\"word\":9}]}";
-
-const SIX_HELD_REPORT: &str = "node a open:
-res r0 tag=0 uses=0 held
-res r1 tag=1 uses=0 held
-res r2 tag=2 uses=0 held
-res r3 tag=3 uses=0 held
-res r4 tag=4 uses=0 held
-res r5 tag=5 uses=1 held
-totals nodes=1 open=1 accepted=6 held=6 waiting=0 taken=0
-closed 6 faults 1
-";
-
-#[test]
-fn a_run_takes_a_faulty_and_a_tally(rt: HostRuntime) -> Result<(), Fail> {
-    let left = call(rt.alloc(), &["rxbook"], SIX_HELD.as_bytes())?;
-    assert_eq!(rt; left.status, 0);
-    assert_eq!(rt; left.output.as_slice(), SIX_HELD_REPORT.as_bytes());
-    Ok(())
-}
-
-const FIRST_DUMP: &str =
-    "[[\"open\",\"root\",\"pass\"],[\"accept\",0,0],[\"open\",\"source\",0,\"leaf\"],[\"item\",2,5],[\"end\",2,\"completed\"],[\"end\",0,\"completed\"],[\"take\",1]]\n";
-
-#[test]
-fn a_dump_is_what_happened_and_is_lawful(rt: HostRuntime) -> Result<(), Fail> {
-    let dumped = call(
-        rt.alloc(),
-        &["rxbook", "run", "--dump"],
-        FIRST_RUN.as_bytes(),
-    )?;
-    assert_eq!(rt; dumped.status, 0);
-    assert_eq!(rt; dumped.output.as_slice(), FIRST_DUMP.as_bytes());
-    let judged = call(rt.alloc(), &["rxbook", "audit"], dumped.output.as_slice())?;
-    assert_eq!(rt; judged.status, 0);
-    assert_eq!(rt;
-        judged.output.as_slice(),
-        b"lawful\nlive:\nheld:\nwaiting:\n".as_slice()
-    );
-    // What is held when the steps are done is not yet closed in the dump.
-    let held = call(
-        rt.alloc(),
-        &["rxbook", "run", "--dump"],
-        SIX_HELD.as_bytes(),
-    )?;
-    let judged = call(rt.alloc(), &["rxbook", "audit"], held.output.as_slice())?;
-    assert_eq!(rt; judged.status, 0);
-    assert_eq!(rt;
-        judged.output.as_slice(),
-        b"lawful\nlive: 0\nheld: 1 2 3 4 5 6\nwaiting:\n".as_slice()
-    );
-    Ok(())
-}
-
-#[test]
-fn each_kind_answers_words_its_own_way(rt: HostRuntime) {
     let mut plain = Plain::new(0);
     assert_eq!(rt; (plain.apply(12), plain.apply(10)), (12, 10));
     assert_eq!(rt; plain.uses(), 2);
+    assert_eq!(rt; plain.release(), Ok(()));
     let mut tally = Tally::new(5);
     assert_eq!(rt; (tally.apply(12), tally.apply(10)), (12, 6));
     assert_eq!(rt; tally.uses(), 2);
+    assert_eq!(rt; tally.release(), Ok(()));
     let mut faulty = Faulty::new(3);
     assert_eq!(rt; (faulty.apply(12), faulty.apply(10)), (12, 10));
     assert_eq!(rt; faulty.uses(), 2);
+    assert_eq!(rt; faulty.release(), Err(2));
     for (tag, kind) in [
         (2, ResourceKind::Plain),
         (3, ResourceKind::Faulty),
@@ -429,6 +460,7 @@ fn each_kind_answers_words_its_own_way(rt: HostRuntime) {
     ] {
         assert_eq!(rt; ResourceKind::by_tag(tag), kind);
     }
+    Ok(())
 }
 
 #[test]
@@ -437,7 +469,7 @@ fn a_word_that_is_no_text_is_a_usage_error(rt: HostRuntime) {
     assert_eq!(rt; refuse_bytes(&mut Watched::new(&mut errors)), 2);
     assert_eq!(rt;
         errors.as_slice(),
-        b"error: invalid UTF-8 was detected in one or more arguments\n\nUsage: rxbook [COMMAND]\n\nFor more information, try '--help'.\n".as_slice()
+        b"error: invalid UTF-8 was detected in one or more arguments\n\nUsage: rxbook [COMMAND] < FILE\n\nFor more information, try '--help'.\n".as_slice()
     );
 }
 
@@ -461,19 +493,29 @@ fn refused_memory_is_told_from_refused_words(rt: HostRuntime) -> Result<(), Fail
     Ok(())
 }
 
-#[test]
-fn a_run_without_memory_says_so_and_writes_nothing(rt: HostRuntime) -> Result<(), Fail> {
-    let mut output = Vec::with_capacity(rt.alloc(), 256)?;
-    let mut errors = Vec::with_capacity(rt.alloc(), 256)?;
-    let mut scarce = Scarce::new(rt.alloc())?;
+// Does what the words order with more and more memory, until it is done. Before that it says that memory is
+// wanted and writes nothing, and then it writes just this.
+fn assert_silent_without_memory<T: Threads + Wait + Sync + Abort>(
+    rt: &T,
+    alloc: Global,
+    words: &[&str],
+    text: &str,
+    written: &str,
+) -> Result<(), Fail> {
+    let mut output = Vec::with_capacity(alloc, 256)?;
+    let mut errors = Vec::with_capacity(alloc, 256)?;
+    // The memory of the stock, and no more, is free.
+    let spare = stock(alloc)?;
+    let mut scarce = Scarce::new(alloc)?;
+    drop(spare);
     let mut refused = 0u32;
     for _turn in 0..100_000 {
-        let mut input: &[u8] = b"{\"steps\":[]}";
-        let stock: Vec<Plain> = Vec::new(rt.alloc());
-        let words = ["rxbook"];
+        let mut input = text.as_bytes();
+        let stock = stock(alloc)?;
         let status = serve(
-            rt.alloc(),
-            &words,
+            rt,
+            alloc,
+            words,
             stock,
             &mut Watched::new(&mut input),
             &mut Watched::new(&mut output),
@@ -490,41 +532,15 @@ fn a_run_without_memory_says_so_and_writes_nothing(rt: HostRuntime) -> Result<()
         assert!(rt; scarce.give_back_one());
     }
     assert!(rt; refused > 0);
-    assert_eq!(rt; output.as_slice(), NOTHING_DONE.as_bytes());
+    assert_eq!(rt; output.as_slice(), written.as_bytes());
     assert!(rt; errors.is_empty());
     Ok(())
 }
 
 #[test]
-fn an_audit_without_memory_says_so_and_writes_nothing(rt: HostRuntime) -> Result<(), Fail> {
-    let mut output = Vec::with_capacity(rt.alloc(), 256)?;
-    let mut errors = Vec::with_capacity(rt.alloc(), 256)?;
-    let mut scarce = Scarce::new(rt.alloc())?;
-    let mut refused = 0u32;
-    for _turn in 0..100_000 {
-        let mut input = HALF_CLOSED.as_bytes();
-        let stock: Vec<Plain> = Vec::new(rt.alloc());
-        let words = ["rxbook", "audit"];
-        let status = serve(
-            rt.alloc(),
-            &words,
-            stock,
-            &mut Watched::new(&mut input),
-            &mut Watched::new(&mut output),
-            &mut Watched::new(&mut errors),
-        );
-        if status == 0 {
-            break;
-        }
-        assert_eq!(rt; status, 4);
-        assert!(rt; output.is_empty());
-        assert_eq!(rt; errors.as_slice(), b"rxbook: out of memory\n".as_slice());
-        errors.clear();
-        refused = refused.saturating_add(1);
-        assert!(rt; scarce.give_back_one());
-    }
-    assert!(rt; refused > 0);
-    assert_eq!(rt; output.as_slice(), HALF_CLOSED_VERDICT.as_bytes());
-    assert!(rt; errors.is_empty());
-    Ok(())
+fn a_call_without_memory_says_so_and_writes_nothing(rt: HostRuntime) -> Result<(), Fail> {
+    let alloc = rt.alloc();
+    assert_silent_without_memory(&rt, alloc, &["rxbook"], "{\"steps\":[]}", NOTHING_DONE)?;
+    let audit = ["rxbook", "audit"];
+    assert_silent_without_memory(&rt, alloc, &audit, HALF_CLOSED, HALF_CLOSED_VERDICT)
 }

@@ -1,10 +1,10 @@
 //! What is said where the words are no order.
-ghost use Rattle.std.specs.Prelude.{◌≡◌, ◌≢◌, codes};
+ghost use Rattle.std.specs.Prelude.{◌≡◌, ◌≢◌};
 ghost use Rattle.clap.specs.Words.{kind_of};
 ghost use Rattle.rx_device.specs.Device.{KeepsDevice};
 ghost use Rattle.rx_cli.specs.Told.{IsTold};
 ghost use Rattle.rx_cli.specs.Status.{no_text_line};
-ghost use Rattle.rx_cli.specs.Served.{RefusedBy, ShowsHelp, FailsHelp, TellsUsage, is_help};
+ghost use Rattle.rx_cli.specs.Served.{RefusedBy, is_help};
 
 use crate::statuses::{ended, out_of_memory};
 use crate::telling::tell;
@@ -15,7 +15,7 @@ use std::io::Write;
 
 // The text of `clap` on a word that is no UTF-8.
 const NO_TEXT: &str =
-    "error: invalid UTF-8 was detected in one or more arguments\n\nUsage: rxbook [COMMAND]\n\nFor more information, try '--help'.\n";
+    "error: invalid UTF-8 was detected in one or more arguments\n\nUsage: rxbook [COMMAND] < FILE\n\nFor more information, try '--help'.\n";
 
 // Whether the text of an error of this kind is help.
 fn is_help(kind: ErrorKind) -> bool
@@ -34,7 +34,8 @@ pub fn refuse<O: Write, E: Write>(
     errors: &mut Watched<'_, E>,
 ) -> u8
     requires { kind_of error.now ≢ ErrorKind.OutOfMemory }
-    ensures refused { RefusedBy O.contents E.contents output.old output.new errors.old errors.new result (kind_of error.now) }
+    ensures refused { RefusedBy O.contents E.contents output.old output.new errors.old errors.new result
+        (kind_of error.now) }
     ensures same_output { KeepsDevice output.old output.new }
     ensures same_errors { KeepsDevice errors.old errors.new }
 {

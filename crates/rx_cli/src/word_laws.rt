@@ -1,16 +1,26 @@
 //! What is proved of words as definitions.
 
-ghost use Rattle.std.specs.Prelude.{[], ◌∷◌, codes};
+ghost use Rattle.std.specs.Prelude.{◌≡◌, [], ◌∷◌, map, codes};
+ghost use Rattle.clap.specs.Words.{fault_of};
+ghost use Rattle.clap.specs.declared.error.kind.ErrorKind.{ErrorKind};
 ghost use Rattle.rx_script.specs.declared.Form.{Form};
 ghost use Rattle.rx_cli.specs.declared.request.Order.{Order};
-ghost use Rattle.rx_cli.specs.Words.{Orders};
+ghost use Rattle.rx_cli.specs.Words.{Orders, rxbook, greatest_storm, storms_beyond};
+ghost use Rattle.rx_cli.specs.Words.{questions, answers, file_words, refusals_of_files};
 
 /// The program's name alone orders a report, and so it does with the word `run`; with `run --dump` it
-/// orders a dump, and with the word `audit` an audit.
-#[tactic(auto, using(crate::proofs::Literals::alone, crate::proofs::Literals::with_run, crate::proofs::Literals::with_dump, crate::proofs::Literals::with_audit))]
+/// orders a dump, and with the word `audit` an audit. With the word `storm` it orders a storm of 4 sources,
+/// 3 workers and 100 items, or of the numbers that its options give; one beyond its range is refused. The
+/// words `--help` and `--version` ask for help and for the version, and the name of a file is refused.
+#[tactic(auto, using(crate::proofs::Literals::alone, crate::proofs::Literals::with_run, crate::proofs::Literals::with_dump, crate::proofs::Literals::with_audit, crate::proofs::Literals::with_storm, crate::proofs::Literals::with_greatest, crate::proofs::Literals::beyond, crate::proofs::Literals::with_help, crate::proofs::Literals::with_files))]
 pub fn words_have_their_orders()
     ensures alone { Orders (codes "rxbook" ∷ []) (Order.Run Form.Report) }
     ensures with_run { Orders (codes "rxbook" ∷ codes "run" ∷ []) (Order.Run Form.Report) }
     ensures with_dump { Orders (codes "rxbook" ∷ codes "run" ∷ codes "--dump" ∷ []) (Order.Run Form.Dump) }
     ensures with_audit { Orders (codes "rxbook" ∷ codes "audit" ∷ []) Order.Audit }
+    ensures with_storm { Orders (codes "rxbook" ∷ codes "storm" ∷ []) (Order.Storm 4 3 100) }
+    ensures with_greatest { Orders greatest_storm (Order.Storm 64 16 10000) }
+    ensures beyond { map (fault_of rxbook) storms_beyond ≡ map (λ _. ErrorKind.ValueValidation ∷ []) storms_beyond }
+    ensures help { map (fault_of rxbook) questions ≡ answers }
+    ensures files { map (fault_of rxbook) file_words ≡ refusals_of_files }
 {}

@@ -1,30 +1,141 @@
 //! The reading of the words, by `clap`.
-ghost use Rattle.std.specs.Prelude.{◌≡◌, map, option_map, codes, IfOk};
-ghost use Rattle.clap.specs.Words.{app_of, subcommand_of, subcommand_rows_of, fault_of, found_of, rows_of, first_of, FailsBy};
-ghost use Rattle.rx_cli.specs.Words.{rxbook, form_by, order_of};
+ghost use Rattle.std.specs.Prelude.{◌≡◌, ◌≤◌, false, map, option_map, codes, IfOk};
+ghost use Rattle.clap.specs.Words.{app_of, new_app, rule_of, subcommand_of, subcommand_rows_of, fault_of, found_of, rows_of, first_of, FailsBy};
+ghost use Rattle.rx_cli.specs.Words.{rxbook, run_app, storm_app, with_version, number_rule, number_by, storm_by};
+ghost use Rattle.rx_cli.specs.Words.{form_by, order_of, IsInRange};
 
 use crate::request::Order;
+use clap::builder::ValueParser;
 use clap::{Arg, ArgAction, ArgMatches, Command, Error};
 use rx_script::Form;
 use std::alloc::{AllocError, Global};
 use std::convert::AsStr;
 
-// The program's command.
-fn program<'a>(alloc: Global) -> Result<Command<'a>, AllocError>
-    ensures { IfOk result (λ c. app_of c ≡ rxbook) }
+const VERSION: &str = "0.1.0";
+
+// The usage of the program and of the subcommands that read; `clap` shows it with each usage error too.
+const USAGE: &str = "rxbook [COMMAND] < FILE";
+
+const RUN_USAGE: &str = "rxbook run [OPTIONS] < FILE";
+
+const AUDIT_USAGE: &str = "rxbook audit < FILE";
+
+const NOTES: &str = "\
+Standard input is read to its end, but by a storm, and no file is opened: hand it in, as in
+  rxbook < first-run.json
+  rxbook run --dump < first-run.json
+  rxbook audit < dispose-twice.dump
+
+The exit status is
+  0  where it is done: the verdict is lawful, or a storm agrees with its book
+  1  where the input or the output failed, or no thread was to be had
+  2  where the words are no order
+  3  where the input is no scenario, or no dump
+  4  in want of memory
+  5  where the verdict is another, or a storm does not agree with its book
+
+docs/FORMATS.md tells of scenario, report, dump, verdict and statuses.";
+
+const RUN_NOTES: &str = "\
+A scenario is one JSON object, with its steps, of at most 16777216 bytes; as in
+  rxbook run < first-run.json
+
+The exit status is 0 where it is done, 1 where the input or the output failed, 3 where the input is no
+scenario, 4 in want of memory. docs/FORMATS.md tells of scenario, report and dump.";
+
+const AUDIT_NOTES: &str = "\
+A dump is one JSON array of events, oldest first, of at most 16777216 bytes; as in
+  rxbook audit < dispose-twice.dump
+
+The exit status is 0 where the verdict is lawful and 5 where it is another, 1 where the input or the
+output failed, 3 where the input is no dump, 4 in want of memory. docs/FORMATS.md tells of dump and verdict.";
+
+const STORM_NOTES: &str = "\
+Nothing is read; as in
+  rxbook storm --items 1000
+
+The exit status is 0 where what the threads counted is what the book says and 5 where it is not, 1 where
+the output failed or no thread was to be had, 4 in want of memory. docs/FORMATS.md tells of the figures.";
+
+// The option `--NAME` of a number from `least` to `most`, which is `usual` where it is left out.
+fn number_option<'a>(alloc: Global, name: &'a str, usual: &'a str, least: u64, most: u64) -> Arg<'a>
+    ensures rule { rule_of result ≡ number_rule name.entry.now usual.entry.now least most }
+    ensures local { result.global ≡ false }
+{
+    Arg::new(alloc, name)
+        .long(name)
+        .value_name("N")
+        .default_value(usual)
+        .value_parser(ValueParser::unsigned(least, most))
+}
+
+// The command `storm`.
+fn storm_command<'a>(alloc: Global) -> Result<Command<'a>, AllocError>
+    ensures { IfOk result (λ c. app_of c ≡ storm_app) }
+{
+    let sources = number_option(alloc, "sources", "4", 1, 64).help(
+        "How many threads subscribe and emit, 1 to 64",
+    );
+    let workers = number_option(alloc, "workers", "3", 1, 16).help(
+        "How many threads release, 1 to 16",
+    );
+    let items = number_option(alloc, "items", "100", 0, 10_000).help(
+        "How many items each source emits, up to 10000",
+    );
+    Command::new(alloc, "storm")
+        .about("Run many threads at one book, and compare what they counted with it")
+        .after_help(STORM_NOTES)
+        .arg(sources)?
+        .arg(workers)?
+        .arg(items)
+}
+
+// The command `run`.
+fn run_command<'a>(alloc: Global) -> Result<Command<'a>, AllocError>
+    ensures { IfOk result (λ c. app_of c ≡ run_app) }
 {
     let dump = Arg::new(alloc, "dump")
         .long("dump")
         .action(ArgAction::SetTrue)
         .help("Write the dump of what happened, in place of the report");
-    let run = Command::new(alloc, "run")
+    Command::new(alloc, "run")
         .about("Run the scenario on standard input (the default)")
-        .arg(dump)?;
-    let audit = Command::new(alloc, "audit").about("Judge the dump on standard input");
+        .override_usage(RUN_USAGE)
+        .after_help(RUN_NOTES)
+        .arg(dump)
+}
+
+// The command `audit`.
+fn audit_command<'a>(alloc: Global) -> Command<'a>
+    ensures { app_of result ≡ new_app (codes "audit") }
+{
+    Command::new(alloc, "audit")
+        .about("Judge the dump on standard input")
+        .override_usage(AUDIT_USAGE)
+        .after_help(AUDIT_NOTES)
+}
+
+// The program's command without its subcommands.
+fn top_command<'a>(alloc: Global) -> Command<'a>
+    ensures { app_of result ≡ with_version (new_app (codes "rxbook")) }
+{
     Command::new(alloc, "rxbook")
         .about("Runs scenarios of subscriptions and reports what they did")
+        .version(VERSION)
+        .override_usage(USAGE)
+        .after_help(NOTES)
+}
+
+// The program's command.
+fn program<'a>(alloc: Global) -> Result<Command<'a>, AllocError>
+    ensures { IfOk result (λ c. app_of c ≡ rxbook) }
+{
+    let run = run_command(alloc)?;
+    let storm = storm_command(alloc)?;
+    top_command(alloc)
         .subcommand(run)?
-        .subcommand(audit)
+        .subcommand(audit_command(alloc))?
+        .subcommand(storm)
 }
 
 // The form that the value of the flag says.
@@ -44,23 +155,55 @@ fn form_in(options: &ArgMatches<'_>) -> Form
     form_by(options.get_str("dump"))
 }
 
+// The number that the text writes; `least` where it writes none from `least` to `most`.
+fn number_by(text: Option<&str>, least: u64, most: u64) -> u64
+    requires { least ≤ most }
+    ensures is { result ≡ number_by least most (option_map (λ s. s.now) text.entry) }
+    ensures in_range { (least ≤ result) × (result ≤ most) }
+{
+    let Some(text) = text else {
+        return least;
+    };
+    let number = text.parse::<u64>().unwrap_or(least);
+    if number < least || most < number {
+        return least;
+    }
+    number
+}
+
+// The storm that its options say.
+fn storm_in(options: &ArgMatches<'_>) -> Order
+    ensures is { result ≡ storm_by (rows_of (found_of options.now)) }
+    ensures in_range { IsInRange result }
+{
+    Order::Storm {
+        sources: number_by(options.get_str("sources"), 1, 64),
+        workers: number_by(options.get_str("workers"), 1, 16),
+        items: number_by(options.get_str("items"), 0, 10_000),
+    }
+}
+
 // The order that the matches are.
 fn order_in(matches: &ArgMatches<'_>) -> Order
-    ensures { result ≡ order_of (subcommand_rows_of matches.now) }
+    ensures is { result ≡ order_of (subcommand_rows_of matches.now) }
+    ensures in_range { IsInRange result }
 {
     match matches.subcommand() {
         None => Order::Run(Form::Report),
         Some(("audit", _)) => Order::Audit,
+        Some(("storm", options)) => storm_in(options),
         Some((_, options)) => Order::Run(form_in(options)),
     }
 }
 
-/// The order of the words of a command line, of which the first is the program's name.
+/// The order of the words of a command line, of which the first is the program's name. The numbers of
+/// a storm lie in their ranges.
 ///
 /// Err comes where `clap` refuses the words or they ask for help, with the kinds that it has for them,
 /// or where memory is refused, with `OutOfMemory`.
 pub fn order<S: AsStr>(alloc: Global, words: &[S]) -> Result<Order, Error>
     ensures ok { IfOk result (λ o. o ≡ order_of (subcommand_of rxbook (map S.text words.now))) }
+    ensures in_range { IfOk result IsInRange }
     ensures kinds { FailsBy (fault_of rxbook (map S.text words.now)) result }
 {
     let command = program(alloc)?;

@@ -1,1 +1,2 @@
 mod CountUp
+mod Told

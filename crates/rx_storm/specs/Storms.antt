@@ -1,13 +1,17 @@
 -- What a storm gives, and what it tells.
-use Rattle.std.specs.Prelude.{◌≡◌, Option, ℕ, zero, suc, ◌+◌, pos, Bool, List, [], ◌∷◌, ◌++◌, codes, length}
+use Rattle.std.specs.Prelude.{◌≡◌, Option, Some, None, Result, Ok, Err, true, false, ℕ, zero, suc, pos, Bool, List, [], ◌∷◌, ◌++◌, codes, length}
 use Rattle.std.specs.Fmt.{decimal}
 use Rattle.std.specs.Io.KnownBytes.{Appends}
 use Rattle.rx_note.specs.declared.note.Terminal.TheVariants.{Completed}
 use Rattle.rx_event.specs.declared.event.Event.{Event}
 use Rattle.rx_event.specs.Totals.{accepted_count, taken_count, held_count, waiting_count}
 use Rattle.rx_event.specs.Lawful.{IsLawful}
+use Rattle.rx_device.specs.Device.{AppendsPrefix}
 use Rattle.rx_crew.specs.declared.feeding.Pull.{Pull}
 use Rattle.rx_crew.specs.declared.feeding.Pull.TheVariants.{Item, Done}
+use Rattle.rx_crew.specs.declared.finishing.Totals.{Totals}
+use Rattle.rx_crew.specs.declared.finishing.Mismatch.{Mismatch}
+use Rattle.rx_storm.specs.declared.outcome.Lack.{Lack}
 use Rattle.rx_storm.specs.declared.figures.Figures.{Figures}
 
 -- so many numbers, from the one given on, and then a completion
@@ -42,3 +46,13 @@ pub record IsOfHistory (f : Figures) : Type 0 where
 -- the figures of a storm were written, and nothing else
 abbrev pub Tells : Option (List ℕ) → Option (List ℕ) → Type 0
 Tells old new = (told : Figures) × IsOfHistory told × Appends old new (figures_text told)
+
+-- a front of the figures of a storm was written
+abbrev pub TellsFront : Option (List ℕ) → Option (List ℕ) → Type 0
+TellsFront old new = (told : Figures) × IsOfHistory told × AppendsPrefix old new (figures_text told)
+
+-- what the storm lacked; else the figures, and whether seats and receipts agree with the book
+abbrev pub outcome_of : Option Lack → Figures → Result Totals Mismatch → Result (Figures × Bool) Lack
+outcome_of (Some lack) figures verdict = Err lack
+outcome_of None figures (Ok totals) = Ok (figures, true)
+outcome_of None figures (Err mismatch) = Ok (figures, false)

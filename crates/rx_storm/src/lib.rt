@@ -21,19 +21,23 @@
 //! - How long a storm takes, and in which order its threads get the lock, nothing says.
 #![tactic(auto)]
 
-ghost use Rattle.std.specs.Prelude.{◌≡◌, ◌≤◌, vec_len, IfOk, IsErrOf};
+ghost use Rattle.std.specs.Prelude.{◌≡◌, ◌≤◌, vec_len, IfOk, OnOk, IsErrOf};
 ghost use Rattle.std.specs.List.{All};
 ghost use Rattle.rx_resource.specs.declared.Life.{Life};
 ghost use Rattle.rx_ledger.specs.Shares.{Opens};
-ghost use Rattle.rx_device.specs.Device.{device_of, KeepsDevice};
+ghost use Rattle.rx_device.specs.Device.{device_of, has_failed, HasWriteFault, KeepsDevice};
 ghost use Rattle.rx_storm.specs.declared.StormFault.{StormFault};
-ghost use Rattle.rx_storm.specs.Storms.{IsOfHistory, Tells};
+ghost use Rattle.rx_storm.specs.Storms.{IsOfHistory, Tells, TellsFront};
 
 mod figures;
 mod numbers;
+mod outcome;
+#[cfg(test)]
+mod tests;
 mod threads;
 
 use figures::Figures;
+use outcome::{Lack, outcome_of};
 use rx_book::Book;
 use rx_crew::{Desk, Gate, finish};
 use rx_device::{Watched, write_text};
@@ -91,7 +95,7 @@ fn storm_named<
     workers: u64,
     items: u32,
     gate: &G,
-) -> Result<(Figures, bool), StormFault>
+) -> Result<(Figures, bool), Lack>
     requires items { Opens I.name I.parts blanks.0.name blanks.0.parts }
     requires accepted { Opens A.name A.parts blanks.1.name blanks.1.parts }
     requires taken { Opens K.name K.parts blanks.2.name blanks.2.parts }
@@ -115,10 +119,7 @@ fn storm_named<
         events: book.len(),
     };
     let _closed = close(&mut book);
-    match gathered.fault {
-        Some(fault) => Err(fault),
-        None => Ok((figures, finished.verdict.is_ok())),
-    }
+    outcome_of(gathered.fault, figures, finished.verdict)
 }
 
 /// Runs a storm and writes its figures, one a line.
@@ -149,15 +150,24 @@ pub fn storm<R: Resource, G: Gate, T: Threads + Wait + Sync, W: Write>(
     ensures told { IfOk result (λ _. Tells (W.contents (device_of writer.old)) (W.contents (device_of writer.new))) }
     ensures untold { IsErrOf result StormFault.Memory → writer.new ≡ writer.old }
     ensures unstarted { IsErrOf result StormFault.Thread → writer.new ≡ writer.old }
+    ensures front { IsErrOf result StormFault.Write
+        → TellsFront (W.contents (device_of writer.old)) (W.contents (device_of writer.new)) }
+    ensures unhurt { OnOk result (has_failed writer.new ≡ has_failed writer.old) }
+    ensures failed { IsErrOf result StormFault.Write → HasWriteFault writer.new }
     ensures same_device { KeepsDevice writer.old writer.new }
 {
     let mut stock = stock;
     stock.truncate(sources as usize);
     let blanks = (Blank::new(PARTS), Blank::new(PARTS), Blank::new(PARTS));
     let count = items as u32;
-    let (figures, agrees) = storm_named::<R, Brand, Brand, Brand, G, T>(
+    let outcome = storm_named::<R, Brand, Brand, Brand, G, T>(
         rt, alloc, blanks, stock, workers, count, gate,
-    )?;
+    );
+    let (figures, agrees) = match outcome {
+        Ok(told) => told,
+        Err(Lack::Memory) => return Err(StormFault::Memory),
+        Err(Lack::Thread) => return Err(StormFault::Thread),
+    };
     let text = match figures.text(alloc) {
         Ok(text) => text,
         Err(_) => return Err(StormFault::Memory),

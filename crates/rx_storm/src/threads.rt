@@ -2,8 +2,8 @@
 
 ghost use Rattle.std.specs.Thread.{IsSend, IsSync};
 
-use crate::StormFault;
 use crate::numbers::Numbers;
+use crate::outcome::Lack;
 use rx_book::At;
 use rx_crew::{Desk, Fed, Gate, Stop, Worked, feed, worker};
 use rx_event::Kind;
@@ -27,7 +27,7 @@ pub struct Gathered<I: Ledger, A: Ledger, K: Ledger> {
     /// How many of those releases answered a fault.
     pub faults: u64,
     /// What kept the storm from its end, if something did.
-    pub fault: Option<StormFault>,
+    pub fault: Option<Lack>,
 }
 
 impl<I: Ledger, A: Ledger, K: Ledger> Gathered<I, A, K> {
@@ -43,7 +43,7 @@ impl<I: Ledger, A: Ledger, K: Ledger> Gathered<I, A, K> {
     }
 
     /// Notes what kept the storm from its end, where nothing did before.
-    fn blame(&mut self, fault: StormFault) {
+    fn blame(&mut self, fault: Lack) {
         if self.fault.is_none() {
             self.fault = Some(fault);
         }
@@ -52,18 +52,18 @@ impl<I: Ledger, A: Ledger, K: Ledger> Gathered<I, A, K> {
     /// Keeps a seat, or notes that there was no memory for it.
     fn keep(&mut self, seat: Seat<I, A, K>) {
         if self.seats.push(seat).is_err() {
-            self.blame(StormFault::Memory);
+            self.blame(Lack::Memory);
         }
     }
 
     /// Adds what a feed did; None where it could not open its nodes.
     fn add_fed(&mut self, fed: Option<Fed<I, A, K>>) {
         let Some(fed) = fed else {
-            self.blame(StormFault::Memory);
+            self.blame(Lack::Memory);
             return;
         };
         if fed.stop != Stop::Done || self.receipts.extend_from_slice(&fed.receipts).is_err() {
-            self.blame(StormFault::Memory);
+            self.blame(Lack::Memory);
         }
         self.keep(fed.seat);
     }
@@ -118,13 +118,13 @@ fn emit_all<R: Resource, I: Ledger, A: Ledger, K: Ledger>(
 fn keep_thread<V: Send + Drop, F: Drop>(
     threads: &mut Vec<JoinHandle<V>>,
     started: Result<JoinHandle<V>, SpawnError<F>>,
-) -> Option<StormFault> {
+) -> Option<Lack> {
     match started {
         Ok(thread) => match threads.push(thread) {
             Ok(()) => None,
-            Err(_) => Some(StormFault::Memory),
+            Err(_) => Some(Lack::Memory),
         },
-        Err(_) => Some(StormFault::Thread),
+        Err(_) => Some(Lack::Thread),
     }
 }
 
@@ -153,7 +153,8 @@ pub fn run_threads<
         thread::scope_env(),
         rt,
         move |scope| -> Gathered<I, A, K>
-            requires { IsSync T.row × IsSync G.row × IsSend R.row × IsSend I.row × IsSync I.row × IsSend A.row × IsSync A.row × IsSend K.row × IsSync K.row }
+            requires { IsSync T.row × IsSync G.row × IsSend R.row × IsSend I.row
+                × IsSync I.row × IsSend A.row × IsSync A.row × IsSend K.row × IsSync K.row }
         {
             let mut first = first;
             let mut gathered = Gathered::new(alloc);

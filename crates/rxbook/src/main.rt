@@ -32,6 +32,7 @@ fn main(rt: HostRuntime) -> ExitCode {
     };
     let mut output = io::writer(&rt);
     ExitCode::from(serve(
+        &rt,
         alloc,
         words.as_slice(),
         stock,

@@ -1,7 +1,8 @@
 //! The stock, of all kinds of resource.
-ghost use Rattle.std.specs.Prelude.{◌≡◌, ◌+◌, ◌<◌, ◌^◌, IfOk, map};
-ghost use Rattle.std.specs.List.{range_with_len};
-ghost use Rattle.rx_cli.specs.Boxes.{kind_by, kind_of, marks_of, release_of, shown, fresh_by};
+ghost use Rattle.std.specs.Prelude.{◌≡◌, ◌+◌, ◌<◌, ◌^◌, IfOk, map, vec_len};
+ghost use Rattle.std.specs.List.{All, range_with_len};
+ghost use Rattle.rx_resource.specs.declared.Life.{Life};
+ghost use Rattle.rx_cli.specs.Boxes.{kind_by, kind_of, marks_of, word_of, applied, release_of, shown, fresh_by};
 ghost use Rattle.rx_cli.specs.Marks.{released};
 
 use super::{Faulty, Plain, ResourceKind, Tally};
@@ -65,7 +66,12 @@ impl Resource for Stocked {
         }
     }
 
-    fn apply(&mut self, word: u64) -> u64 {
+    /// Answers the exclusive or of all its words where the kind is `Tally`, else the word.
+    fn apply(&mut self, word: u64) -> u64
+        requires { (marks_of self.old).uses + 1 < 2 ^ 64 }
+        ensures word { result ≡ word_of self.old word }
+        ensures applied { self.new ≡ applied self.old word }
+    {
         match self {
             Stocked::Plain(plain) => plain.apply(word),
             Stocked::Tally(tally) => tally.apply(word),
@@ -90,11 +96,14 @@ impl Resource for Stocked {
 /// its tag.
 ///
 /// Err comes where memory is refused for the list.
-#[tactic(auto, using(crate::proofs::Filling::shown_more))]
+#[tactic(auto, using(crate::proofs::Filling::all_more))]
 pub fn stock(alloc: Global) -> Result<Vec<Stocked>, AllocError>
-    ensures { IfOk result (λ v. map shown v.items ≡ map fresh_by (range_with_len 0 256)) }
+    ensures shown { IfOk result (λ v. map shown v.items ≡ map fresh_by (range_with_len 0 256)) }
+    ensures count { IfOk result (λ v. vec_len v ≡ 256) }
+    ensures live { IfOk result (λ v. All (λ s. (marks_of s).life ≡ Life.Live) v.items) }
+    ensures unused { IfOk result (λ v. All (λ s. (marks_of s).uses ≡ 0) v.items) }
 {
-    let mut stock = Vec::new(alloc);
+    let mut stock = Vec::with_capacity(alloc, STOCK as usize)?;
     for tag in 0..STOCK {
         stock.push(Stocked::by_tag(tag))?;
     }

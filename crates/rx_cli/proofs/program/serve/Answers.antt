@@ -1,6 +1,7 @@
 use Rattle.std.proofs.Common.{Err}
 use Rattle.rx_device.specs.declared.fault.ScriptError.TheVariants.{Memory}
-use Rattle.rx_cli.proofs.Running.{ran_without_memory, audited_without_memory}
+use Rattle.rx_storm.specs.declared.StormFault.TheVariants.{Memory as NoMemory}
+use Rattle.rx_cli.proofs.Running.{ran_without_memory, audited_without_memory, stormed_without_memory}
 use Rattle.rx_cli.proofs.program.serve.Goals as goal
 
 -- a run for which memory was refused before it began
@@ -19,6 +20,17 @@ pub returns-then-eq-clause-audited : goal.returns-then-eq-clause-audited
 returns-then-eq-clause-audited g c = λ _. (
   Err Memory,
   audited_without_memory _ _ _ _,
+  record {
+    says = c.out_of_memory.ensures.status;
+    line = c.out_of_memory.ensures.line;
+  },
+)
+
+-- and of a storm
+pub returns-then-eq-clause-stormed : goal.returns-then-eq-clause-stormed
+returns-then-eq-clause-stormed g c = λ sources workers items _. (
+  Err NoMemory,
+  stormed_without_memory _ _,
   record {
     says = c.out_of_memory.ensures.status;
     line = c.out_of_memory.ensures.line;

@@ -1,16 +1,28 @@
-use Rattle.std.proofs.Common.{◌≡◌, ◌∙◌, ap, ap₂, codes, rules}
+use Rattle.std.proofs.Common.{◌≡◌, ◌∙◌, ◌&&◌, not, Bool, true, false, ap, ap₂, refl, true≢false, sym}
 use Rattle.std.proofs.lemmas.Result.{IfOk-weaker}
-use Rattle.clap.specs.Words.{App, app_of, rule_of, new_app, with_rule, with_subcommand}
-use Rattle.rx_cli.specs.Words.{run_app, dump_rule}
+use Rattle.clap.specs.Words.{App, with_subcommand}
 use Rattle.rx_cli.proofs.words.program.Goals as goal
+
+top_is : {a b : App} → a ≡ b → a.top ≡ b.top
+top_is e = ap (λ (a : App). a.top) e
+
+-- a plain command has no global argument
+no_globals : (groups external globals rest : Bool) → (groups && (not external && (not globals && rest))) ≡ true → globals ≡ false
+no_globals groups external false rest plain = refl
+no_globals true false true rest plain = absurd (true≢false (sym plain))
+no_globals true true true rest plain = absurd (true≢false (sym plain))
+no_globals false external true rest plain = absurd (true≢false (sym plain))
+
+plain_is : {a b : App} → a ≡ b → a.top.is_plain ≡ b.top.is_plain
+plain_is e = ap (λ (a : App). a.top.is_plain) e
 
 pub returns : goal.returns
 returns c =
-    let dump_is : rule_of c.help-dump.result ≡ dump_rule = search rules in
-    let made : app_of c.about.result ≡ new_app (codes "run") = search rules in
-    let run_is : app_of c.in_ok-run.run' ≡ run_app = c.in_ok-run.ensures.shape (search rules) ∙ ap₂ with_rule made dump_is in
-    let audit_is : app_of c.about-audit.result ≡ new_app (codes "audit") = search rules in
-    let top : app_of c.about-2.result ≡ new_app (codes "rxbook") = search rules in
-    let one : app_of c.in_ok-subcommand.field-0 ≡ with_subcommand (new_app (codes "rxbook")) run_app.top =
-    c.in_ok-subcommand.ensures.shape (search rules) ∙ ap₂ with_subcommand top (ap (λ (a : App). a.top) run_is) in
-    IfOk-weaker c.subcommand-2.result _ _ (λ r h. h.shape (search rules) ∙ ap₂ with_subcommand one (ap (λ (a : App). a.top) audit_is)) c.subcommand-2.ensures
+    let top = c.top_command.ensures in
+    let run_is = c.in_ok-run.ensures in
+    let audit_is = c.audit_command.ensures in
+    let storm_is = c.in_ok-storm.ensures in
+    let one = c.in_ok-subcommand.ensures.shape (no_globals _ _ _ _ (plain_is run_is)) ∙ ap₂ with_subcommand top (top_is run_is) in
+    let two = c.in_ok-subcommand-2.ensures.shape (no_globals _ _ _ _ (plain_is audit_is)) ∙ ap₂ with_subcommand one (top_is audit_is) in
+    IfOk-weaker c.subcommand-3.result _ _
+    (λ r h. h.shape (no_globals _ _ _ _ (plain_is storm_is)) ∙ ap₂ with_subcommand two (top_is storm_is)) c.subcommand-3.ensures

@@ -1,0 +1,31 @@
+//! How a storm ended.
+
+ghost use Rattle.std.specs.Prelude.{◌≡◌};
+ghost use Rattle.rx_storm.specs.Storms.{outcome_of};
+
+use crate::figures::Figures;
+use rx_crew::{Mismatch, Totals};
+
+/// What keeps a storm from its end.
+#[derive(Clone, Copy)]
+pub enum Lack {
+    /// Memory was refused.
+    Memory,
+    /// A thread could not be started.
+    Thread,
+}
+
+/// What kept the storm from its end, where something did; else its figures, and whether the seats and
+/// receipts agree with the book.
+pub fn outcome_of(
+    lack: Option<Lack>,
+    figures: Figures,
+    verdict: Result<Totals, Mismatch>,
+) -> Result<(Figures, bool), Lack>
+    ensures { result ≡ outcome_of lack figures verdict }
+{
+    match lack {
+        Some(lack) => Err(lack),
+        None => Ok((figures, verdict.is_ok())),
+    }
+}

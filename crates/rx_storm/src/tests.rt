@@ -1,0 +1,212 @@
+//! Storms that were run: their figures, faults of writer, memory and threads, and releases at one time.
+
+ghost use Rattle.std.specs.Prelude.{◌≡◌, vec_len, IfOk};
+ghost use Rattle.std.specs.List.{All};
+ghost use Rattle.rx_resource.specs.declared.Life.{Life};
+ghost use Rattle.rx_ledger.specs.Shares.{Opens};
+
+use crate::threads::run_threads;
+use crate::{StormFault, storm};
+use rx_audit::{Verdict, audit};
+use rx_book::Book;
+use rx_crew::{Desk, Gate, finish};
+use rx_device::Watched;
+use rx_event::Event;
+use rx_ledger::PARTS;
+use rx_resource::Sample;
+use rx_scarce::Scarce;
+use std::alloc::{AllocError, Global};
+use std::io::Write;
+use std::marker::Brand;
+use std::sync::Wait;
+use std::sync::atomic::{AtomicU64, Ordering};
+use std::sync::ledger::{Blank, Ledger};
+use std::test::Fail;
+use std::thread::Threads;
+use std::{io, thread};
+
+const FIGURES: &str =
+    "accepted 4\ntaken 4\nreleased 4\nfaults 1\nheld 0\nwaiting 0\nnotes 404\nevents 424\n";
+
+// A resource for each of four sources; the release of the one of tag 3 meets the fault 2.
+fn four_samples(alloc: Global) -> Result<Vec<Sample>, AllocError>
+    ensures length { IfOk result (λ v. vec_len v ≡ 4) }
+    ensures live { IfOk result (λ v. All (λ s. s.life ≡ Life.Live) v.items) }
+    ensures unused { IfOk result (λ v. All (λ s. s.uses ≡ 0) v.items) }
+{
+    Ok(vec![in alloc;
+        Sample::new(0),
+        Sample::new(1),
+        Sample::new(2),
+        Sample::faulty(3, 2),
+    ]?)
+}
+
+// A storm of four sources, three workers and a hundred items.
+fn usual<G: Gate, T: Threads + Wait + Sync, W: Write>(
+    rt: &T,
+    alloc: Global,
+    gate: &G,
+    writer: &mut W,
+) -> Result<bool, StormFault> {
+    let Ok(stock) = four_samples(alloc) else {
+        return Err(StormFault::Memory);
+    };
+    storm(rt, alloc, 4, 3, 100, stock, gate, &mut Watched::new(writer))
+}
+
+// A gate that does nothing.
+struct Open;
+
+impl Gate for Open {
+    fn before(&self, _number: u64) {}
+
+    fn after(&self, _number: u64) {}
+}
+
+#[test]
+fn a_storm_tells_its_figures(rt: HostRuntime) -> Result<(), Fail> {
+    let mut output = Vec::new(rt.alloc());
+    assert_eq!(rt; usual(&rt, rt.alloc(), &Open, &mut output), Ok(true));
+    assert_eq!(rt; output.as_slice(), FIGURES.as_bytes());
+    Ok(())
+}
+
+// Takes ten bytes and fails then.
+#[derive(Drop)]
+struct Narrow {
+    taken: Vec<u8>,
+}
+
+impl Write for Narrow {
+    fn write(&mut self, buf: &[u8]) -> io::Result<usize> {
+        let end = buf.len().min(10 - self.taken.len().min(10));
+        if end == 0 {
+            return Err(io::Error::from(io::ErrorKind::Other));
+        }
+        self.taken.extend_from_slice(&buf[..end])?;
+        Ok(end)
+    }
+
+    fn flush(&mut self) -> io::Result<()> {
+        Ok(())
+    }
+}
+
+#[test]
+fn a_writer_that_fails_is_a_write_fault(rt: HostRuntime) -> Result<(), Fail> {
+    let mut narrow = Narrow {
+        taken: Vec::new(rt.alloc()),
+    };
+    let told = usual(&rt, rt.alloc(), &Open, &mut narrow);
+    assert_eq!(rt; told, Err(StormFault::Write));
+    assert_eq!(rt; narrow.taken.as_slice(), &FIGURES.as_bytes()[..10]);
+    Ok(())
+}
+
+#[test]
+fn a_storm_without_memory_or_threads_ends_and_writes_nothing(rt: HostRuntime) -> Result<(), Fail> {
+    let mut output = Vec::with_capacity(rt.alloc(), 256)?;
+    let mut scarce = Scarce::new(rt.alloc())?;
+    let (mut for_memory, mut for_threads) = (0u32, 0u32);
+    for _turn in 0..100_000u32 {
+        match usual(&rt, rt.alloc(), &Open, &mut output) {
+            Ok(agrees) => {
+                assert!(rt; agrees);
+                break;
+            }
+            Err(StormFault::Memory) => for_memory = for_memory.saturating_add(1),
+            Err(StormFault::Thread) => for_threads = for_threads.saturating_add(1),
+            Err(StormFault::Write) => assert!(rt; false),
+        }
+        assert!(rt; output.is_empty());
+        assert!(rt; scarce.give_back_one());
+    }
+    drop(scarce);
+    assert!(rt;
+        for_memory > 0 && for_threads > 0,
+        "{for_memory} {for_threads}"
+    );
+    Ok(())
+}
+
+// Holds the first release until the call after another one, for a million turns at most.
+#[derive(Drop)]
+struct Pair {
+    entered: AtomicU64,
+    left: AtomicU64,
+    has_met: AtomicU64,
+}
+
+impl Gate for Pair {
+    fn before(&self, _number: u64) {
+        if self.entered.fetch_add(1, Ordering::SeqCst) > 0 {
+            return;
+        }
+        for _ in 0..1_000_000u32 {
+            if self.left.load(Ordering::SeqCst) > 0 {
+                self.has_met.store(1, Ordering::SeqCst);
+                return;
+            }
+            thread::yield_now();
+        }
+    }
+
+    fn after(&self, _number: u64) {
+        self.left.fetch_add(1, Ordering::SeqCst);
+    }
+}
+
+#[test]
+fn two_releases_of_a_storm_run_at_the_same_time(rt: HostRuntime) -> Result<(), Fail> {
+    let gate = Pair {
+        entered: AtomicU64::new(0),
+        left: AtomicU64::new(0),
+        has_met: AtomicU64::new(0),
+    };
+    let mut output = Vec::new(rt.alloc());
+    assert_eq!(rt; usual(&rt, rt.alloc(), &gate, &mut output), Ok(true));
+    assert_eq!(rt; gate.has_met.load(Ordering::SeqCst), 1);
+    Ok(())
+}
+
+// The history that the threads of a storm write.
+fn history_of<
+    I: Ledger + Send + Sync,
+    A: Ledger + Send + Sync,
+    K: Ledger + Send + Sync,
+    T: Threads + Wait + Sync,
+>(rt: &T, alloc: Global, blanks: (Blank, Blank, Blank)) -> Result<Vec<Event>, Fail>
+    requires items { Opens I.name I.parts blanks.0.name blanks.0.parts }
+    requires accepted { Opens A.name A.parts blanks.1.name blanks.1.parts }
+    requires taken { Opens K.name K.parts blanks.2.name blanks.2.parts }
+{
+    let book = Book::new(alloc, 1000);
+    let (desk, first) = Desk::<Sample, I, A, K>::new(book, blanks.0, blanks.1, blanks.2);
+    let stock = four_samples(alloc)?;
+    let gathered = run_threads(rt, alloc, &desk, first, stock, 3, 20, &Open);
+    let finished = finish(desk, gathered.seats, &gathered.receipts);
+    let mut events = Vec::new(alloc);
+    for place in 0..finished.book.len() {
+        events.push(finished.book.event(place).ok_or("no event")?)?;
+    }
+    Ok(events)
+}
+
+#[test]
+fn the_audit_of_a_storm_is_lawful(rt: HostRuntime) -> Result<(), Fail> {
+    let blanks = (Blank::new(PARTS), Blank::new(PARTS), Blank::new(PARTS));
+    let events = history_of::<Brand, Brand, Brand, _>(&rt, rt.alloc(), blanks)?;
+    assert_eq!(rt; events.len(), 104);
+    match audit(rt.alloc(), &events) {
+        Ok(
+            Verdict::Lawful {
+                live,
+                held,
+                waiting,
+            },
+        ) => assert!(rt; live.is_empty() && held.is_empty() && waiting.is_empty()),
+        _ => return Err(Fail::from("the history is not lawful")),
+    }
+    Ok(())
+}
