@@ -89,6 +89,13 @@ pub fn told(book: &mut Book<Sample>, number: u64) -> Result<(), Halt>
     take_note(book, Note::Next(number as i64))
 }
 
+/// Takes the next note, which is to be this item for a FlatMap to project.
+pub fn told_projected(book: &mut Book<Sample>, number: u64) -> Result<(), Halt>
+    requires { number < 2 ^ 63 }
+{
+    take_note(book, Note::Project(number as i64))
+}
+
 /// Takes the next note, which is to be the end without an error.
 pub fn told_completed(book: &mut Book<Sample>) -> Result<(), Halt> {
     take_note(book, Note::End(Terminal::Completed))

@@ -1,6 +1,7 @@
 //! The cases, and their names.
 
 ghost use Rattle.std.specs.Prelude.{◌≤◌};
+ghost use Rattle.rx_bench.specs.Cases.{most_of};
 
 /// What can be measured. The operations of each are in the crate's head.
 #[derive(Clone, Copy)]
@@ -19,10 +20,14 @@ pub enum Case {
     Items,
     /// Mirroring nodes of a book below one another.
     Chain,
+    /// Nodes of a tree that come and go below one that has others.
+    Inner,
     /// Resources at one node of a book.
     Hold,
     /// A scenario in JSON, run over memory.
     Scenario,
+    /// Threads at one desk.
+    Storm,
 }
 
 impl Case {
@@ -36,20 +41,23 @@ impl Case {
             Case::Crowd => "crowd",
             Case::Items => "items",
             Case::Chain => "chain",
+            Case::Inner => "inner",
             Case::Hold => "hold",
             Case::Scenario => "scenario",
+            Case::Storm => "storm",
         }
     }
 
     /// The greatest size that the case is run at.
     pub fn most(self) -> u64
-        ensures { result ≤ 10000000 }
+        ensures { result ≤ most_of self }
     {
         match self {
             Case::Timeline | Case::Trampoline | Case::Cycle | Case::Items => 10_000_000,
-            Case::Sorted | Case::Crowd | Case::Hold => 1_000_000,
+            Case::Sorted | Case::Crowd | Case::Inner | Case::Hold => 1_000_000,
             Case::Chain => 100_000,
             Case::Scenario => 65_536,
+            Case::Storm => 10_000,
         }
     }
 }
@@ -64,8 +72,10 @@ pub fn case_named(word: &str) -> Option<Case> {
         "crowd" => Some(Case::Crowd),
         "items" => Some(Case::Items),
         "chain" => Some(Case::Chain),
+        "inner" => Some(Case::Inner),
         "hold" => Some(Case::Hold),
         "scenario" => Some(Case::Scenario),
+        "storm" => Some(Case::Storm),
         _ => None,
     }
 }

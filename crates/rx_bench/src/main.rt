@@ -15,8 +15,10 @@
 //! | `crowd` | N subscriptions opened that stay open; then N times one more opened, an item emitted at it, its end and its notes taken; then the disposal of those that stayed | N: each subscription that comes and goes |
 //! | `items` | N items of a leaf below a mirroring root, whose notes are taken as they come | N: each item |
 //! | `chain` | N mirroring nodes, each at the source of the one before, and a leaf at the last; one item; the disposal of the root | N: each node |
+//! | `inner` | a FlatMap with N inners below it; then N times an item projected, its inner opened and ended; then the disposal of the root | N: each inner that comes and goes |
 //! | `hold` | N resources held at one node, every second one removed, the disposal of the root, each resource taken and released | N: each resource |
 //! | `scenario` | the first N steps of this cycle, as a JSON text that is run by `rx_script` and reported: a Using root with one resource, a leaf at its source, two items, the end of the leaf or in each second cycle the disposal of the root, a drain. The text and the resources are made before the time begins | N: each step |
+//! | `storm` | a storm of 64 sources, 16 workers and N items of each source, with its start, its end and its figures | 64N: each item |
 //!
 //! The exit status is 0 where the case was run and what it did is written, 1 where memory, a call,
 //! the clock or the output refused, and 2 where the words are refused: a case that is not known, a
@@ -42,6 +44,7 @@ mod crowd;
 mod cycle;
 mod done;
 mod hold;
+mod inner;
 mod items;
 mod measure;
 mod order;
@@ -49,6 +52,7 @@ mod program;
 mod reading;
 mod scenario;
 mod sorted;
+mod storm;
 #[cfg(test)]
 mod tests;
 mod timeline;
@@ -74,5 +78,12 @@ fn main(rt: HostRuntime) -> ExitCode {
         return ExitCode::from(REFUSED);
     };
     let mut output = io::writer(&rt);
-    ExitCode::from(serve(rt.alloc(), words.as_slice(), &rt, &mut output, &mut errors))
+    ExitCode::from(serve(
+        &rt,
+        rt.alloc(),
+        words.as_slice(),
+        &rt,
+        &mut output,
+        &mut errors,
+    ))
 }

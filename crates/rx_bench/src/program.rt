@@ -9,6 +9,8 @@ use std::alloc::Global;
 use std::convert::AsStr;
 use std::io;
 use std::io::Write;
+use std::sync::Wait;
+use std::thread::Threads;
 use std::time::Clock;
 
 /// The status where the case was run.
@@ -74,13 +76,14 @@ fn write_halt<E: Write>(errors: &mut E, halt: Halt) -> io::Result<()> {
 }
 
 /// Measures what is asked for, and writes what was done.
-fn bench<C: Clock, O: Write>(
+fn bench<T: Threads + Wait + Sync, C: Clock, O: Write>(
+    rt: &T,
     alloc: Global,
     request: Request,
     clock: &C,
     output: &mut O,
 ) -> Result<Measured, Halt> {
-    let measured = measure(clock, alloc, request)?;
+    let measured = measure(rt, clock, alloc, request)?;
     if write_done(output, request, measured.done).is_err() {
         return Err(Halt::Write);
     }
@@ -93,7 +96,8 @@ fn bench<C: Clock, O: Write>(
 /// The status is 0 where the case was run and what it did is written, 2 where the words are
 /// refused, and 1 where memory, a call, the clock or the output refused. What is said beside it
 /// goes to `errors`; what `errors` refuses is lost, and the status stays.
-pub fn serve<S: AsStr, C: Clock, O: Write, E: Write>(
+pub fn serve<T: Threads + Wait + Sync, S: AsStr, C: Clock, O: Write, E: Write>(
+    rt: &T,
     alloc: Global,
     words: &[S],
     clock: &C,
@@ -101,7 +105,7 @@ pub fn serve<S: AsStr, C: Clock, O: Write, E: Write>(
     errors: &mut E,
 ) -> u8 {
     match request(words) {
-        Ok(request) => match bench(alloc, request, clock, output) {
+        Ok(request) => match bench(rt, alloc, request, clock, output) {
             Ok(measured) => {
                 let _ = write_times(errors, request, measured);
                 DONE

@@ -1,6 +1,7 @@
 //! What the words of a command line ask for, and why they are refused.
 
 ghost use Rattle.std.specs.Prelude.{◌<◌, ◌≤◌};
+ghost use Rattle.rx_bench.specs.Cases.{most_of};
 
 use crate::case::Case;
 
@@ -10,7 +11,7 @@ pub struct Request {
     pub case: Case,
     pub size: u64,
     ghost from_one: { 0 < size },
-    ghost in_range: { size ≤ 10000000 },
+    ghost in_range: { size ≤ most_of case },
 }
 
 impl Request {

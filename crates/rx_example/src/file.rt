@@ -2,7 +2,7 @@
 
 ghost use Rattle.rx_resource.specs.declared.Life.{Life};
 
-use rx_resource::{Life, Resource};
+use rx_book::{Life, Resource};
 
 /// A stand-in for an open file, which counts what is written to it.
 #[derive(Drop)]

@@ -5,9 +5,7 @@ ghost use Rattle.rx_event.specs.Totals.{accepted_count, taken_count, held_count,
 
 use crate::file::File;
 use crate::stopped::Stopped;
-use rx_book::{At, Book};
-use rx_event::{Kind, Terminal};
-use rx_script::{Closed, close};
+use rx_book::{At, Book, Closed, Kind, Terminal};
 
 /// Subscribes with a file, passes one item and the end on, tells the observer and releases the file; then
 /// subscribes with another file and forgets it.
@@ -19,8 +17,7 @@ pub fn watch(rt: &impl Print, book: &mut Book<File>) -> Result<(), Stopped> {
     while let Some(mail) = book.take_mail() {
         println!(rt; "observer {} is told {:?}", mail.to, mail.note)?;
     }
-    for _ in 0..book.waiting() {
-        let Some(handed) = book.take() else { break };
+    while let Some(handed) = book.take() {
         println!(rt; "file {} is released", handed.release().tag)?;
     }
     book.open_using(At::Root, File::open(8))?;
@@ -37,7 +34,7 @@ pub fn finish(book: &mut Book<File>) -> Closed
     ensures released { result.released ≡ held_count book.old.history + waiting_count book.old.history }
 {
     book.promise();
-    let closed = close(book);
+    let closed = book.close();
     book.promise();
     closed
 }

@@ -1,7 +1,6 @@
 //! Why the program ends early.
 
-use rx_book::Refused;
-use rx_event::Refusal;
+use rx_book::{Refusal, Refused};
 use std::io;
 use thiserror::Error;
 
@@ -9,28 +8,16 @@ use thiserror::Error;
 #[derive(Debug, Drop, Error)]
 pub enum Stopped {
     /// The book refused a call.
-    #[error("the book refuses: {0:?}")]
-    Refused(Refusal),
+    #[error("the book refuses: {0}")]
+    Refused(#[from] Refusal),
     /// The output failed.
-    #[error("{0}")]
-    Output(io::Error),
-}
-
-impl From<Refusal> for Stopped {
-    fn from(why: Refusal) -> Stopped {
-        Stopped::Refused(why)
-    }
+    #[error(transparent)]
+    Output(#[from] io::Error),
 }
 
 impl<R: Drop> From<Refused<R>> for Stopped {
     // The resource that came back is dropped: a program that has to close it releases it here.
     fn from(refused: Refused<R>) -> Stopped {
         Stopped::Refused(refused.why)
-    }
-}
-
-impl From<io::Error> for Stopped {
-    fn from(error: io::Error) -> Stopped {
-        Stopped::Output(error)
     }
 }

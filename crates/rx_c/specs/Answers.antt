@@ -1,0 +1,31 @@
+-- What a call answers into the caller's buffer. A prime marks the buffer after the call.
+use Rattle.std.specs.Prelude.{◌≡◌, ℕ, ◌≤◌, ◌<◌, ◌++◌, List, length, drop}
+
+-- the text stands at the front of the buffer, whose other bytes stay, and its length is told
+pub record IsGiven (text buffer buffer' : List ℕ) (told : ℕ) : Type 0 where
+  pub fits : length text ≤ length buffer
+  pub front : buffer' ≡ text ++ drop (length text) buffer
+  pub count : told ≡ length text
+
+-- the text is longer than the buffer, which stays, and its length is told
+pub record IsTooLong (text buffer buffer' : List ℕ) (told : ℕ) : Type 0 where
+  pub long : length buffer < length text
+  pub kept : buffer' ≡ buffer
+  pub count : told ≡ length text
+
+-- there is no text, the buffer stays, and 0 is told
+pub record IsSilent (buffer buffer' : List ℕ) (told : ℕ) : Type 0 where
+  pub kept : buffer' ≡ buffer
+  pub count : told ≡ 0
+
+-- a call is answered, by a text with a status of its own, or by a fault: the buffer is too small (1), the input
+-- says nothing of the kind (3), memory was refused (4), or the input was not read to its end (1)
+pub data Answers (Tells : List ℕ → ℕ → Type 0) (IsFaulty : Type 0)
+    (buffer buffer' : List ℕ) (told : ℕ) : ℕ → Type 0 where
+  gives : {text : List ℕ} {status : ℕ} → Tells text status → IsGiven text buffer buffer' told
+      → Answers Tells IsFaulty buffer buffer' told status
+  needs : {text : List ℕ} {status : ℕ} → Tells text status → IsTooLong text buffer buffer' told
+      → Answers Tells IsFaulty buffer buffer' told 1
+  faults : IsFaulty → IsSilent buffer buffer' told → Answers Tells IsFaulty buffer buffer' told 3
+  starves : IsSilent buffer buffer' told → Answers Tells IsFaulty buffer buffer' told 4
+  breaks : IsSilent buffer buffer' told → Answers Tells IsFaulty buffer buffer' told 1

@@ -1,0 +1,19 @@
+-- How an outcome is handed out. No clause of an export cites this module.
+use Rattle.std.specs.Prelude.{◌≡◌, ℕ, ◌⊎◌, List, Result, Ok, Err}
+use Rattle.rx_device.specs.declared.fault.ScriptError.{ScriptError}
+use Rattle.rx_device.specs.declared.fault.ScriptError.TheVariants.{Read, Write, Syntax, Shape, Memory}
+use Rattle.rx_c.specs.Answers.{IsGiven, IsTooLong, IsSilent}
+
+-- as the program has it, but that a text which memory does not take is want of memory
+abbrev pub fault_status : ScriptError → ℕ
+fault_status Read = 1
+fault_status Write = 4
+fault_status Syntax = 3
+fault_status Shape = 3
+fault_status Memory = 4
+
+-- the text with its status, or that the buffer is too small for it; or a fault, and nothing else
+abbrev pub IsHandedOut : Result ℕ ScriptError → (text buffer buffer' : List ℕ) → (told status : ℕ) → Type 0
+IsHandedOut (Ok said) text buffer buffer' told status =
+    (IsGiven text buffer buffer' told × (status ≡ said)) ⊎ (IsTooLong text buffer buffer' told × (status ≡ 1))
+IsHandedOut (Err e) text buffer buffer' told status = IsSilent buffer buffer' told × (status ≡ fault_status e)

@@ -1,0 +1,4 @@
+pub mod Answers
+pub mod Audited
+pub mod Ran
+pub mod Handing

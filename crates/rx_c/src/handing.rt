@@ -1,0 +1,42 @@
+//! How an outcome is handed out: its text and its status.
+
+ghost use Rattle.std.specs.Prelude.{◌≡◌};
+ghost use Rattle.rx_c.specs.Handing.{IsHandedOut, fault_status};
+
+use rx_device::ScriptError;
+
+// The status of a fault, as the program has it.
+fn fault_status(error: &ScriptError) -> u8
+    ensures { result ≡ fault_status error.now }
+{
+    match error {
+        ScriptError::Read => 1,
+        ScriptError::Syntax | ScriptError::Shape => 3,
+        // A text that is written to memory meets no other fault.
+        ScriptError::Write | ScriptError::Memory => 4,
+    }
+}
+
+/// Hands the text out, with the status that the outcome has for it: to the front of `buffer`, and its
+/// length to `told`. Where the buffer is too small it stays, and the status is 1. Where there is no text
+/// nothing is written, 0 is told, and the status is that of the fault.
+pub fn hand_out(
+    outcome: Result<u8, ScriptError>,
+    text: &[u8],
+    buffer: &mut [u8],
+    told: &mut usize,
+) -> u8
+    ensures { IsHandedOut outcome text.now buffer.old buffer.new told.new result }
+{
+    *told = 0;
+    let status = match outcome {
+        Ok(status) => status,
+        Err(error) => return fault_status(&error),
+    };
+    *told = text.len();
+    if text.len() > buffer.len() {
+        return 1;
+    }
+    buffer[..text.len()].copy_from_slice(text);
+    status
+}

@@ -1,0 +1,72 @@
+//! The run of a scenario.
+
+ghost use Rattle.std.specs.Prelude.{◌≡◌, [], IfOk, IsErrOf};
+ghost use Rattle.rx_device.specs.declared.fault.ScriptError.{ScriptError};
+ghost use Rattle.rx_script.specs.declared.Form.{Form};
+ghost use Rattle.rx_c.specs.Answers.{Answers};
+ghost use Rattle.rx_c.specs.Ran.{TellsRun, IsNoScenario};
+
+use crate::handing::hand_out;
+use crate::stock::stock;
+use rx_device::{ScriptError, Watched};
+use rx_script::{Form, run};
+use std::alloc::Global;
+
+// Runs a scenario, writes what the form says, and answers the status of a run that is done.
+fn carry_out(
+    alloc: Global,
+    scenario: &[u8],
+    form: Form,
+    text: &mut Vec<u8>,
+) -> Result<u8, ScriptError>
+    requires { text.old.items ≡ [] }
+    ensures ok { IfOk result (TellsRun scenario.now form text.new.items) }
+    ensures syntax { IsErrOf result ScriptError.Syntax → IsNoScenario scenario.now }
+    ensures shape { IsErrOf result ScriptError.Shape → IsNoScenario scenario.now }
+{
+    let Ok(stock) = stock(alloc) else {
+        return Err(ScriptError::Memory);
+    };
+    let mut left = scenario;
+    let mut input = Watched::new(&mut left);
+    let mut output = Watched::new(text);
+    run(alloc, &mut input, &mut output, stock, form)?;
+    Ok(0)
+}
+
+// Runs a scenario and hands out what the form says.
+fn run_in(alloc: Global, scenario: &[u8], form: Form, buffer: &mut [u8], told: &mut usize) -> u8
+    ensures { Answers (TellsRun scenario.now form) (IsNoScenario scenario.now) buffer.old buffer.new told.new result }
+{
+    let mut text = Vec::new(alloc);
+    let outcome = carry_out(alloc, scenario, form, &mut text);
+    hand_out(outcome, text.as_slice(), buffer, told)
+}
+
+/// Runs the scenario on a new book and writes its report to the front of `buffer`, as `rxbook run`
+/// does; `told` gets the length of that text. The book is closed before this answers.
+///
+/// The status is 0 where the run is done, 1 where the buffer is too small, 3 where the bytes are no
+/// scenario, 4 where memory was refused.
+#[unsafe(no_mangle)]
+pub extern "C" fn rx_run(alloc: Global, scenario: &[u8], buffer: &mut [u8], told: &mut usize) -> u8
+    ensures { Answers (TellsRun scenario.now Form.Report) (IsNoScenario scenario.now)
+        buffer.old buffer.new told.new result }
+{
+    run_in(alloc, scenario, Form::Report, buffer, told)
+}
+
+/// The same, but that the dump of the history before the closing is written, as `rxbook run --dump`
+/// does; [`rx_audit`](crate::rx_audit) judges it.
+#[unsafe(no_mangle)]
+pub extern "C" fn rx_run_dump(
+    alloc: Global,
+    scenario: &[u8],
+    buffer: &mut [u8],
+    told: &mut usize,
+) -> u8
+    ensures { Answers (TellsRun scenario.now Form.Dump) (IsNoScenario scenario.now)
+        buffer.old buffer.new told.new result }
+{
+    run_in(alloc, scenario, Form::Dump, buffer, told)
+}
