@@ -1,5 +1,5 @@
 -- Which causes stand against a call: the table of refusals, a row for each call. In each row the causes stand in the order of refusal.
-use Rattle.std.specs.Prelude.{ℕ, ℤ, ◌+◌, ◌*◌, Bool, true, false, ◌||◌, ◌&&◌, ◌==◌, nat_lt, List, length, count_by, if◌then◌else◌}
+use Rattle.std.specs.Prelude.{ℕ, ℤ, ◌+◌, ◌*◌, Bool, true, false, ◌&&◌, ◌==◌, nat_lt, List, length, count_by, if◌then◌else◌}
 use Rattle.std.proofs.Math.Bool.{not}
 use Rattle.std.specs.List.{list_any}
 use Rattle.std.specs.Option.{option_map_or}
@@ -20,19 +20,6 @@ use Rattle.rx_event.specs.Moments.{is_projection, owed}
 use Rattle.rx_event.specs.Allowed.{most_hubs, most_nodes, may_abort}
 use Rattle.rx_event.specs.Totals.{debt, open_count}
 use Rattle.rx_event.specs.Calls.{Call, Opening, OpeningUsing, Holding, Applying, Removing, Emitting, Ending, Aborting, Declining, Failing, Disposing, Publishing, Connecting, Disconnecting, Taking}
-
--- what is there so far --------------------------------------------------------------------------------------------------------
-
--- all kinds but the subscribers of hubs
-abbrev pub is_built_kind : Kind → Bool
-is_built_kind (Sub g) = false
-is_built_kind _ = true
-
--- hubs are not there yet; what is not there is of the wrong kind
-abbrev pub is_built : Call → Bool
-is_built (Opening place kind) = is_built_kind kind
-is_built (Publishing mode) = false
-is_built _ = true
 
 -- hubs ------------------------------------------------------------------------------------------------------------------------
 
@@ -121,7 +108,7 @@ added_by h _ = 0
 abbrev pub opening_causes : List Event → ℕ → Place → Kind → Refusal → Bool
 opening_causes h limit place kind NoHub = is_without_hub h kind
 opening_causes h limit place kind Gone = is_gone h place
-opening_causes h limit place kind WrongKind = is_wrong_place h place || not (is_built (Opening place kind))
+opening_causes h limit place kind WrongKind = is_wrong_place h place
 opening_causes h limit place kind PlaceTaken = is_taken_place h place
 opening_causes h limit place kind NothingOwed = is_unowed_place h place
 opening_causes h limit place kind HubOrder = is_out_of_order h place kind
@@ -186,7 +173,6 @@ disposing_causes h root NotRoot = not (at is_root h root)
 disposing_causes h root _ = false
 
 abbrev pub publishing_causes : List Event → ℕ → Mode → Refusal → Bool
-publishing_causes h limit mode WrongKind = not (is_built (Publishing mode))
 publishing_causes h limit mode TooMany = nat_lt most_hubs (length (hubs h) + 1)
 publishing_causes h limit mode Full = is_over h limit (added_by h (Publishing mode))
 publishing_causes h limit mode _ = false

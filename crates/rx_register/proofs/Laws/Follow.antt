@@ -3,7 +3,7 @@ use Rattle.std.proofs.Common.{◌≡◌, ℕ, ℤ, zero, suc, ◌+◌, ◌<◌, 
 use Rattle.std.proofs.Math.Bool.{◌&&◌, ◌||◌}
 use Rattle.std.specs.List.{list_any}
 use Rattle.std.specs.Option.{option_map_or}
-use Rattle.std.proofs.lemmas.Bool.{cases_Bool, not-false, ltb-false, ltb-true, false≢true, both_ways, and_parts, or_parts, eqb-true, eq-eqb}
+use Rattle.std.proofs.lemmas.Bool.{cases_Bool, not-false, ltb-false, ltb-true, false≢true, both_ways, and_parts, eqb-true, eq-eqb}
 use Rattle.std.proofs.lemmas.List.Folds.{list_any_at}
 use Rattle.std.proofs.lemmas.List.FromFn.{length-range_with_len, get_or-range_with_len}
 use Rattle.std.proofs.lemmas.List.Sums.{length-filter}
@@ -112,7 +112,7 @@ pub opening_follows : (h : List Event) (limit : ℕ) (is_fresh : Bool) (place : 
 opening_follows h limit is_fresh place kind law settled none = may_open h place kind (record {
   lawful = law;
   settled = settled;
-  free = free_where h place (clear Gone) (or_parts _ _ (clear WrongKind)).0 (clear PlaceTaken) (clear NothingOwed);
+  free = free_where h place (clear Gone) (clear WrongKind) (clear PlaceTaken) (clear NothingOwed);
   hubbed = hubbed_where h place kind (clear NoHub) (clear HubOrder);
   few = few_where h (nodes_opened h kind) (clear TooMany);
 })
