@@ -15,6 +15,7 @@ pub mod Joined
 pub mod Published
 pub mod Taking
 pub mod Told
+pub mod Ordered
 pub mod Routed
 pub mod Measuring
 pub mod Passed

@@ -1,12 +1,12 @@
 -- The hubs of a history, before and after an event that is written.
 use Rattle.std.proofs.Common.{◌≡◌, ℕ, suc, ◌+◌, ◌<◌, Bool, true, false, List, [], ◌∷◌, ◌++◌, map, length, Option, Some, None}
-use Rattle.std.proofs.Common.{◌≢◌, is_some, nat_lt, IsTrue, IsSome, IfSome, option_map, slice_get, refl, sym, ap, subst, ◌∙◌, inl, inr, ◌⊎◌, arith}
+use Rattle.std.proofs.Common.{◌≢◌, is_some, nat_lt, IsTrue, IsSome, IfSome, IfNone, option_map, slice_get, refl, sym, ap, subst, ◌∙◌, inl, inr, ◌⊎◌, arith}
 use Rattle.std.specs.Option.{option_map_or, option_to_list}
 use Rattle.std.specs.List.{AllByRecursion, AllPairs, Contains, list_all}
 use Rattle.std.proofs.lemmas.Bool.{false≢true, cases_Bool, lt-ltb, ltb-true, ltb_from_iff}
 use Rattle.std.proofs.lemmas.List.{length-map}
 use Rattle.std.proofs.lemmas.List.Sums.{length-filter}
-use Rattle.std.proofs.lemmas.Option.{none-some, slice_get_within, slice_get-get_or, get_or_from_slice_get}
+use Rattle.std.proofs.lemmas.Option.{none-some, same_Some, slice_get_within, slice_get-get_or, get_or_from_slice_get}
 use Rattle.rx_resource.specs.declared.Resource.{Ghosts}
 use Rattle.rx_event.specs.declared.event.Mode.{Mode}
 use Rattle.rx_event.specs.declared.event.Place.{Place}
@@ -15,7 +15,7 @@ use Rattle.rx_event.specs.declared.event.Kind.TheVariants.{Sub}
 use Rattle.rx_event.specs.declared.event.Event.{Event}
 use Rattle.rx_event.specs.declared.event.Event.TheVariants.{Open, Hub as Publish, Connect}
 use Rattle.rx_event.specs.declared.marks.Marks.{Marks}
-use Rattle.rx_event.specs.Events.{makes_hub}
+use Rattle.rx_event.specs.Events.{makes_hub, is_auto_hub}
 use Rattle.rx_event.specs.Allowed.{most_hubs}
 use Rattle.rx_event.specs.Lawful.{MayFollow, IsLawful}
 use Rattle.rx_event.specs.Tree.{at, places, hubs as hubs_in}
@@ -27,6 +27,7 @@ use Rattle.rx_tree.specs.declared.node.Node.{Node}
 use Rattle.rx_tree.specs.Tree.{Tree, IsSound}
 use Rattle.rx_tree.proofs.Laws.Keys.{some_of}
 use Rattle.rx_hub.specs.declared.hub.LastEnd.{LastEnd}
+use Rattle.rx_hub.specs.declared.hub.Published.{Published}
 use Rattle.rx_hub.specs.After.{joins_hubs, hubs_after, with_made, next_key, is_inside}
 use Rattle.rx_hub.specs.Closing.{without_gone}
 use Rattle.rx_hub.specs.Hubs.{Hub, Hubs, IsPromised, AreBelow, find_hub, at_hub, connected, new_hub, published_of}
@@ -35,6 +36,8 @@ use Rattle.rx_hub.proofs.Laws.AfterAll.{hubs_follow, pushed_from}
 use Rattle.rx_hub.proofs.Laws.AfterCases.{closes_none, hubs_stay, hubs_with_made, hubs_published, hubs_connected, hubs_exchanged}
 use Rattle.rx_hub.proofs.Laws.AfterReady.{ready_to_subscribe, ready_to_exchange}
 use Rattle.rx_hub.proofs.Laws.Walks.{found_hub}
+use Rattle.rx_register.specs.Causes.{has_connection}
+use Rattle.rx_ground.specs.Told.{IsHubTold}
 use Rattle.rx_ground.specs.Inners.{MakesWay, ClearsHubs, LeavesHubs}
 use Rattle.rx_ground.specs.Ties.{IsTied, AreTied, AreJoined, KeepsNodes, Remarks, joins_no_hub}
 use Rattle.rx_ground.proofs.Exchanged.{none_closed}
@@ -97,6 +100,36 @@ hub_found h hubs of g = mapped (find_hub hubs g) ∙ found_made h hubs of g wher
   mapped : (o : Option Hub) → is_some (option_map published_of o) ≡ is_some o
   mapped None = refl
   mapped (Some hub) = refl
+
+-- what is kept of it ------------------------------------------------------------------------------
+
+-- a connection is kept just where one is open
+connection_kept : (h : List Event) (hub : Hub) → IsHubOf h hub → is_some hub.connection ≡ has_connection h hub.number
+connection_kept h hub is = by_key hub.connection ∙ ap (λ (ns : List ℕ). nat_lt 0 (length ns)) is.connection where
+  by_key : (o : Option Key) → is_some o ≡ nat_lt 0 (length (numbers (option_to_list o)))
+  by_key None = refl
+  by_key (Some key) = refl
+
+hub_told : (h : List Event) (hub : Hub) → IsHubOf h hub → (g : ℕ) → hub.number ≡ g → IsHubTold h g (published_of hub)
+hub_told h hub is g same = subst (λ (n : ℕ). IsHubTold h n (published_of hub)) same (record { made = is.made; connection = connection_kept h hub is })
+
+-- what is found of a hub is so, and where none is found none was made
+pub hub_known : (h : List Event) (hubs : List Hub) → AreHubsOf h hubs → (g : ℕ) (o : Option Published) → o ≡ option_map published_of (find_hub hubs g) →
+    IfSome o (IsHubTold h g) × IfNone o (at makes_hub h g ≡ false)
+hub_known h hubs of g o is = subst (λ (o : Option Published). IfSome o (IsHubTold h g) × IfNone o (at makes_hub h g ≡ false)) (sym is) (by_hub (find_hub hubs g) refl) where
+  by_hub : (x : Option Hub) → find_hub hubs g ≡ x → IfSome (option_map published_of x) (IsHubTold h g) × IfNone (option_map published_of x) (at makes_hub h g ≡ false)
+  by_hub None none = (tt, sym (found_made h hubs of g) ∙ ap is_some none)
+  by_hub (Some hub) found = let at_i = found_hub hubs g hub found in (hub_told h hub (of.each at_i.0 hub at_i.1.0) g at_i.1.1, tt)
+
+pub no_auto_hub : (h : List Event) (g : ℕ) → at makes_hub h g ≡ false → at is_auto_hub h g ≡ false
+no_auto_hub h g none = by_place (slice_get h g) none where
+  by_event : (e : Event) → makes_hub e ≡ false → is_auto_hub e ≡ false
+  by_event (Publish mode) unmade = absurd (false≢true (sym unmade))
+  by_event _ unmade = refl
+
+  by_place : (o : Option Event) → option_map_or makes_hub o false ≡ false → option_map_or is_auto_hub o false ≡ false
+  by_place None unmade = refl
+  by_place (Some e) unmade = by_event e unmade
 
 -- there are as many as were made ------------------------------------------------------------------
 

@@ -1,23 +1,12 @@
 -- What stands first against a call on a ground.
-use Rattle.std.specs.Prelude.{ℕ, ◌+◌, Bool, true, false, nat_lt, List, Option, is_some, length}
-use Rattle.rx_event.specs.declared.event.Event.{Event}
-use Rattle.rx_event.specs.declared.event.Mode.{Mode}
+use Rattle.std.specs.Prelude.{Bool, true, Option, is_some}
 use Rattle.rx_event.specs.declared.refusal.Refusal.{Refusal}
-use Rattle.rx_event.specs.declared.refusal.Refusal.TheVariants.{TooMany, Full}
-use Rattle.rx_event.specs.Allowed.{most_hubs}
-use Rattle.rx_event.specs.Tree.{hubs}
-use Rattle.rx_event.specs.Calls.{Call, Publishing}
+use Rattle.rx_event.specs.Calls.{Call}
 use Rattle.rx_event.specs.Refusals.{first_cause}
-use Rattle.rx_register.specs.Causes.{causes, by_key, by_res_key, is_over, added_by}
+use Rattle.rx_register.specs.Causes.{causes, by_key, by_res_key}
 use Rattle.rx_slots.specs.declared.Key.{Key}
 use Rattle.rx_slots.specs.Slots.{find}
 use Rattle.rx_ground.specs.Shown.{Ground}
-
--- the causes against making a hub, but that no call makes one so far
-abbrev pub limits_of_publishing : List Event → ℕ → Mode → Refusal → Bool
-limits_of_publishing h limit mode TooMany = nat_lt most_hubs (length (hubs h) + 1)
-limits_of_publishing h limit mode Full = is_over h limit (added_by h (Publishing mode))
-limits_of_publishing h limit mode _ = false
 
 module _ {T : Type 0} where
   -- the key is an open node's

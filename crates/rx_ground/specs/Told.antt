@@ -1,15 +1,20 @@
--- What a node's record says.
-use Rattle.std.specs.Prelude.{◌≡◌, ◌==◌, Bool, true, false, List, Some, is_some, slice_get}
+-- What the record of a node and of a hub says.
+use Rattle.std.specs.Prelude.{◌≡◌, ℕ, ◌==◌, Bool, true, false, List, Option, Some, is_some, slice_get}
+use Rattle.std.specs.List.{list_any}
+use Rattle.std.specs.Option.{option_map_or}
 use Rattle.rx_event.specs.declared.marks.Marks.{Marks}
 use Rattle.rx_event.specs.declared.event.Place.{Place}
 use Rattle.rx_event.specs.declared.event.Place.TheVariants.{Root, Source, Inner, Notifier}
 use Rattle.rx_event.specs.declared.event.Event.{Event}
+use Rattle.rx_event.specs.declared.event.Event.TheVariants.{Hub}
 use Rattle.rx_event.specs.Events.{has_source, is_merging, is_until}
-use Rattle.rx_event.specs.Tree.{is_open}
+use Rattle.rx_event.specs.Tree.{at, ancestors, is_open}
 use Rattle.rx_event.specs.Marks.{marks_of}
 use Rattle.rx_slots.specs.declared.Key.{Key}
 use Rattle.rx_slots.specs.Slots.{Slots, find}
 use Rattle.rx_tree.specs.declared.node.Node.{Node}
+use Rattle.rx_hub.specs.declared.hub.Published.{Published}
+use Rattle.rx_register.specs.Causes.{has_connection, connects_up_to}
 use Rattle.rx_ground.specs.declared.base.Record.{Record}
 
 -- the key is an open node's, and the record says which event made it and how the history marks it
@@ -39,3 +44,12 @@ is_unowed m Root = false
 is_unowed m (Source p) = false
 is_unowed m (Inner p) = m.owed == 0
 is_unowed m (Notifier p) = false
+
+-- a hub of this number was made in this mode, and it has an open connection just where one is kept
+pub record IsHubTold (h : List Event) (g : ℕ) (p : Published) : Type 0 where
+  pub made : slice_get h g ≡ Some (Hub p.mode)
+  pub connection : is_some p.connection ≡ has_connection h g
+
+-- this node, where there is one, or one above it connects the hub of this number or an earlier one
+abbrev pub is_inside_up_to : List Event → ℕ → Option ℕ → Bool
+is_inside_up_to h g node = option_map_or (λ n. list_any (at (connects_up_to g) h) (ancestors h n)) node false

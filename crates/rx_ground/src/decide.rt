@@ -1,8 +1,7 @@
 //! What stands first against a call.
 
-ghost use Rattle.std.specs.Prelude.{◌≡◌, ◌||◌, ◌&&◌, true, false, Some, None, is_some, option_map};
+ghost use Rattle.std.specs.Prelude.{◌≡◌, ◌&&◌, true, false, Some, None, is_some, option_map};
 ghost use Rattle.std.specs.Prelude.{if◌then◌else◌, IfSome, IfNone};
-ghost use Rattle.std.proofs.Math.Bool.{not};
 ghost use Rattle.rx_event.specs.Events.{named_by, is_merging};
 ghost use Rattle.rx_event.specs.Tree.{at};
 ghost use Rattle.rx_event.specs.Moments.{owed};
@@ -11,7 +10,7 @@ ghost use Rattle.rx_event.specs.Calls.{Ending, Aborting, Declining, Failing, Dis
 ghost use Rattle.rx_event.specs.Refusals.{first_cause};
 ghost use Rattle.rx_slots.specs.Slots.{find};
 ghost use Rattle.rx_tree.specs.Resources.{is_held_at};
-ghost use Rattle.rx_register.specs.Causes.{by_key, projecting_causes, is_built_kind, end_at as end_at_in};
+ghost use Rattle.rx_register.specs.Causes.{by_key, projecting_causes, end_at as end_at_in};
 ghost use Rattle.rx_register.specs.Causes.{is_without_hub as is_without_hub_in, is_wrong_place as is_wrong_place_in};
 ghost use Rattle.rx_register.specs.Causes.{is_taken_place as is_taken_place_in, is_unowed_place as is_unowed_place_in};
 ghost use Rattle.rx_register.specs.Causes.{is_crowded as is_crowded_in, is_over as is_over_in};
@@ -25,13 +24,6 @@ use rx_event::{Event, Kind, Marks, Place, Refusal};
 use rx_note::Terminal;
 use rx_resource::Resource;
 use rx_tree::{Key, ResKey};
-
-/// Whether nodes of this kind are opened so far: all but the subscribers of hubs.
-fn is_built(kind: Kind) -> bool
-    ensures { result ≡ is_built_kind kind }
-{
-    !matches!(kind, Kind::Sub(_))
-}
 
 /// Whether a node that this event made has such a place below it.
 fn has_place(made: Event, place: Place) -> bool
@@ -80,7 +72,7 @@ pub fn end_at(place: Place) -> u64
 impl<R: Resource> Ground<R> {
     /// What is known of an open node; None where the key finds none.
     #[tactic(auto, using(crate::proofs::Told::told))]
-    fn told(&self, node: Key) -> Option<Record>
+    pub(crate) fn told(&self, node: Key) -> Option<Record>
         requires { IsStanding R.Resource self.now }
         ensures some { IfSome result (IsTold self.now.register.history self.now.tree.nodes node) }
         ensures none { IfNone result (is_some (find self.now.tree.nodes node) ≡ false) }
@@ -109,17 +101,14 @@ impl<R: Resource> Ground<R> {
         }
     }
 
-    /// Whether the node above has no such place, or nodes of this kind are not there so far.
+    /// Whether the node above has no such place.
     #[tactic(auto, using(crate::proofs::Told::wrong_at))]
-    fn is_wrong_place(&self, place: Place, above: Option<Key>, kind: Kind) -> bool
+    fn is_wrong_place(&self, place: Place, above: Option<Key>) -> bool
         requires standing { IsStanding R.Resource self.now }
         requires named { named_by place ≡ option_map (λ key. key.number) above }
         requires there { is_there self.now.tree.nodes above ≡ true }
-        ensures { result ≡ (is_wrong_place_in self.now.register.history place || not (is_built_kind kind)) }
+        ensures { result ≡ is_wrong_place_in self.now.register.history place }
     {
-        if !is_built(kind) {
-            return true;
-        }
         match above {
             Some(key) => match self.told(key) {
                 Some(record) => !has_place(record.made, place),
@@ -164,7 +153,7 @@ impl<R: Resource> Ground<R> {
     }
 
     /// Whether so many open nodes more would be too many.
-    fn is_crowded(&self, more: u64) -> bool
+    pub(crate) fn is_crowded(&self, more: u64) -> bool
         requires { IsStanding R.Resource self.now }
         ensures { result ≡ is_crowded_in self.now.register.history more }
     {
@@ -194,7 +183,7 @@ impl<R: Resource> Ground<R> {
         if !self.is_there(above) {
             return Some(Refusal::Gone);
         }
-        if self.is_wrong_place(place, above, kind) {
+        if self.is_wrong_place(place, above) {
             return Some(Refusal::WrongKind);
         }
         if self.is_taken_place(place, above) {
@@ -203,10 +192,13 @@ impl<R: Resource> Ground<R> {
         if self.is_unowed_place(place, above) {
             return Some(Refusal::NothingOwed);
         }
-        if self.is_crowded(1) {
+        if self.is_out_of_order(place, above, kind) {
+            return Some(Refusal::HubOrder);
+        }
+        if self.is_crowded(self.nodes_opened(kind)) {
             return Some(Refusal::TooMany);
         }
-        if self.is_over(1 + end_at(place)) {
+        if self.is_over(self.added_by_opening(place, kind)) {
             return Some(Refusal::Full);
         }
         None
@@ -230,7 +222,7 @@ impl<R: Resource> Ground<R> {
         if !self.is_there(above) {
             return Some(Refusal::Gone);
         }
-        if self.is_wrong_place(place, above, Kind::Pass) {
+        if self.is_wrong_place(place, above) {
             return Some(Refusal::WrongKind);
         }
         if self.is_taken_place(place, above) {

@@ -1,20 +1,25 @@
-//! Hubs: what stands against making one, the event that makes it, and the one that connects it.
+//! Hubs: what stands against making, connecting and disconnecting one, the event that makes one, and the one that
+//! connects it.
 
-ghost use Rattle.std.specs.Prelude.{◌≡◌, ◌+◌, ◌<◌, ◌++◌, ◌∷◌, [], nat_lt, length};
+ghost use Rattle.std.specs.Prelude.{◌≡◌, ◌+◌, ◌<◌, ◌++◌, ◌∷◌, [], nat_lt, length, true, false, IfSome, IfNone};
 ghost use Rattle.rx_event.specs.declared.event.Event.{Event};
 ghost use Rattle.rx_event.specs.Allowed.{most_hubs};
 ghost use Rattle.rx_event.specs.Events.{makes_hub};
 ghost use Rattle.rx_event.specs.Tree.{at, hubs};
-ghost use Rattle.rx_event.specs.Refusals.{first_cause};
+ghost use Rattle.rx_event.specs.Calls.{Opening, Publishing, Connecting, Disconnecting};
 ghost use Rattle.rx_hub.specs.After.{hubs_after};
 ghost use Rattle.rx_hub.specs.Hubs.{new_hub};
+ghost use Rattle.rx_register.specs.Causes.{forces_connect, nodes_opened, added_by};
 ghost use Rattle.rx_register.specs.State.{Writes};
-ghost use Rattle.rx_ground.specs.FirstCause.{limits_of_publishing};
+ghost use Rattle.rx_ground.specs.FirstCause.{first_by_key};
 ghost use Rattle.rx_ground.specs.Memory.{TakesNoMemory};
 ghost use Rattle.rx_ground.specs.Ties.{AreTied, IsReady, IsStanding, IsNewNode};
+ghost use Rattle.rx_ground.specs.Told.{IsHubTold};
 
 use crate::base::Ground;
-use rx_event::{Event, Mode, Refusal};
+use crate::decide::end_at;
+use rx_event::{Event, Kind, Mode, Place, Refusal};
+use rx_hub::Published;
 use rx_resource::Resource;
 use rx_tree::Key;
 
@@ -30,6 +35,52 @@ impl<R: Resource> Ground<R> {
         self.hubs.get(hub).is_some()
     }
 
+    /// What is known of a hub; None where no hub has this number.
+    fn published(&self, hub: u64) -> Option<Published>
+        requires standing { IsStanding R.Resource self.now }
+        ensures some { IfSome result (IsHubTold self.now.register.history hub) }
+        ensures none { IfNone result (at makes_hub self.now.register.history hub ≡ false) }
+    {
+        self.hubs.get(hub)
+    }
+
+    /// Whether opening such a node forces a connection: it subscribes to a RefCount hub that has none.
+    #[tactic(auto, using(crate::proofs::Published::no_auto_hub))]
+    pub fn forces_connect(&self, kind: Kind) -> bool
+        requires standing { IsStanding R.Resource self.now }
+        ensures { result ≡ forces_connect self.now.register.history kind }
+    {
+        match kind {
+            Kind::Sub(hub) => match self.published(hub) {
+                Some(published) => {
+                    Event::Hub(published.mode).is_auto_hub() && !published.connection.is_some()
+                }
+                None => false,
+            },
+            _ => false,
+        }
+    }
+
+    /// How many nodes an opening makes: its own, and a connection where it forces one.
+    pub fn nodes_opened(&self, kind: Kind) -> u64
+        requires standing { IsStanding R.Resource self.now }
+        ensures { result ≡ nodes_opened self.now.register.history kind }
+    {
+        if self.forces_connect(kind) { 2 } else { 1 }
+    }
+
+    /// How many events an opening adds, with those that the ends of the nodes will be that it makes.
+    pub fn added_by_opening(&self, place: Place, kind: Kind) -> u64
+        requires standing { IsStanding R.Resource self.now }
+        ensures { result ≡ added_by self.now.register.history (Opening place kind) }
+    {
+        if self.forces_connect(kind) {
+            3 + end_at(place)
+        } else {
+            1 + end_at(place)
+        }
+    }
+
     /// Whether one hub more would be too many.
     fn has_most_hubs(&self) -> bool
         requires standing { IsStanding R.Resource self.now }
@@ -42,7 +93,7 @@ impl<R: Resource> Ground<R> {
     /// What stands first against making a hub: `TooMany` at 1,024 hubs, `Full`.
     pub fn publishing_cause(&self, mode: Mode) -> Option<Refusal>
         requires standing { IsStanding R.Resource self.now }
-        ensures { result ≡ first_cause (limits_of_publishing self.now.register.history self.now.register.limit mode) }
+        ensures { result ≡ first_by_key self.now true true (Publishing mode) }
     {
         let _ = mode;
         if self.has_most_hubs() {
@@ -50,6 +101,48 @@ impl<R: Resource> Ground<R> {
         }
         if self.is_over(1) {
             return Some(Refusal::Full);
+        }
+        None
+    }
+
+    /// What stands first against connecting a hub by hand: `NoHub`, `WrongKind` where it connects by itself,
+    /// `Connected`, `TooMany`, `Full`.
+    pub fn connecting_cause(&self, hub: u64) -> Option<Refusal>
+        requires standing { IsStanding R.Resource self.now }
+        ensures { result ≡ first_by_key self.now true true (Connecting hub) }
+    {
+        let Some(published) = self.published(hub) else {
+            return Some(Refusal::NoHub);
+        };
+        if !Event::Hub(published.mode).is_manual_hub() {
+            return Some(Refusal::WrongKind);
+        }
+        if published.connection.is_some() {
+            return Some(Refusal::Connected);
+        }
+        if self.is_crowded(1) {
+            return Some(Refusal::TooMany);
+        }
+        if self.is_over(2) {
+            return Some(Refusal::Full);
+        }
+        None
+    }
+
+    /// What stands first against disconnecting a hub by hand: `NoHub`, `WrongKind` where it connects by itself,
+    /// `NotConnected`.
+    pub fn disconnecting_cause(&self, hub: u64) -> Option<Refusal>
+        requires standing { IsStanding R.Resource self.now }
+        ensures { result ≡ first_by_key self.now true true (Disconnecting hub) }
+    {
+        let Some(published) = self.published(hub) else {
+            return Some(Refusal::NoHub);
+        };
+        if !Event::Hub(published.mode).is_manual_hub() {
+            return Some(Refusal::WrongKind);
+        }
+        if !published.connection.is_some() {
+            return Some(Refusal::NotConnected);
         }
         None
     }

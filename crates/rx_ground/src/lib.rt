@@ -45,6 +45,7 @@ mod counts;
 mod decide;
 mod hubs;
 mod opening;
+mod order;
 mod route;
 mod settle;
 mod write;

@@ -1,0 +1,61 @@
+-- Which connections a node stands inside of, by its record and those above it.
+use Rattle.std.proofs.Common.{◌≡◌, ℕ, suc, ◌<◌, Bool, true, false, List, [], Option, Some, None, is_some, option_map, refl, sym, ap, subst, ◌∙◌, arith}
+use Rattle.std.proofs.Math.Bool.{◌||◌}
+use Rattle.std.specs.List.{list_any}
+use Rattle.std.specs.Option.{option_and_then, option_map_or}
+use Rattle.rx_resource.specs.declared.Resource.{Ghosts}
+use Rattle.rx_event.specs.declared.event.Event.{Event}
+use Rattle.rx_event.specs.Events.{parent_named}
+use Rattle.rx_event.specs.Tree.{at, parent, if_less, ancestors}
+use Rattle.rx_event.proofs.Laws.Parents.{ancestors_step, parent-lt}
+use Rattle.rx_slots.specs.declared.Key.{Key}
+use Rattle.rx_slots.specs.Slots.{find}
+use Rattle.rx_tree.specs.Tree.{Tree, named_above, parent_number}
+use Rattle.rx_tree.proofs.Laws.Keys.{some_of}
+use Rattle.rx_register.specs.Causes.{connects_up_to}
+use Rattle.rx_ground.specs.Ties.{IsTied}
+use Rattle.rx_ground.specs.Told.{is_inside_up_to}
+
+-- a record names the node above as the history does
+pub parent_told : {T : Type 0} (g : Ghosts T) (h : List Event) (tree : Tree T) → IsTied g h tree → (key : Key) → is_some (find tree.nodes key) ≡ true →
+    parent_number tree.nodes key ≡ parent h key.number
+unfolding parent
+parent_told g h tree tied key there =
+    let x = some_of (find tree.nodes key) there in
+    let is = tied.records.each key x.0 x.1 in
+    ap (option_and_then (named_above key.number)) x.1 ∙ ap (λ o. option_and_then (if_less key.number) (option_and_then parent_named o)) (sym is.made)
+
+-- a node is inside such a connection where it is one itself, or where the node above is inside one
+inside_step : (h : List Event) (g n : ℕ) → is_inside_up_to h g (Some n) ≡ (at (connects_up_to g) h n || is_inside_up_to h g (parent h n))
+inside_step h g n = ap (list_any (at (connects_up_to g) h)) (ancestors_step h n) ∙ ap (λ b. at (connects_up_to g) h n || b) (by_parent (parent h n)) where
+  by_parent : (o : Option ℕ) → list_any (at (connects_up_to g) h) (option_map_or (ancestors h) o []) ≡ is_inside_up_to h g o
+  by_parent None = refl
+  by_parent (Some p) = refl
+
+pub inside_here : (h : List Event) (g n : ℕ) → at (connects_up_to g) h n ≡ true → is_inside_up_to h g (Some n) ≡ true
+inside_here h g n is = inside_step h g n ∙ ap (λ b. b || is_inside_up_to h g (parent h n)) is
+
+pub inside_above : (h : List Event) (g n : ℕ) → at (connects_up_to g) h n ≡ false → is_inside_up_to h g (Some n) ≡ is_inside_up_to h g (parent h n)
+inside_above h g n is = inside_step h g n ∙ ap (λ b. b || is_inside_up_to h g (parent h n)) is
+
+-- a climb from a key, if there is one: it ends at such a connection, and else goes on at the key above, whose number is less
+abbrev pub number_of : Option Key → Option ℕ
+number_of o = option_map (λ (key : Key). key.number) o
+
+abbrev pub steps_from : Option Key → ℕ
+steps_from o = option_map_or (λ (key : Key). suc key.number) o 0
+
+module _ (h : List Event) (g : ℕ) (from : Option Key) (key : Key) (is : from ≡ Some key) where
+  pub climb_ends : at (connects_up_to g) h key.number ≡ true → is_inside_up_to h g (number_of from) ≡ true
+  climb_ends here = ap (λ (o : Option Key). is_inside_up_to h g (number_of o)) is ∙ inside_here h g key.number here
+
+  pub climb_on : at (connects_up_to g) h key.number ≡ false → (above : Option Key) → number_of above ≡ parent h key.number →
+      is_inside_up_to h g (number_of above) ≡ is_inside_up_to h g (number_of from)
+  climb_on elsewhere above named =
+      ap (is_inside_up_to h g) named ∙ sym (inside_above h g key.number elsewhere) ∙ ap (λ (o : Option Key). is_inside_up_to h g (number_of o)) (sym is)
+
+pub climb_nearer : (h : List Event) (from above : Option Key) (key : Key) → from ≡ Some key → number_of above ≡ parent h key.number → steps_from above < steps_from from
+climb_nearer h from above key is named = subst (λ (o : Option Key). steps_from above < steps_from o) (sym is) (by_above above named) where
+  by_above : (o : Option Key) → number_of o ≡ parent h key.number → steps_from o < suc key.number
+  by_above None named = omega arith
+  by_above (Some k) named = let l = parent-lt h key.number k.number (sym named) in omega arith

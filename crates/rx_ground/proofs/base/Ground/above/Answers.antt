@@ -1,0 +1,13 @@
+use Rattle.std.proofs.Common.{◌≡◌, true, is_some, ◌∙◌}
+use Rattle.rx_slots.specs.Slots.{find}
+use Rattle.rx_ground.specs.Ties.{IsTied}
+use Rattle.rx_ground.proofs.Ordered.{parent_told}
+use Rattle.rx_ground.proofs.base.Ground.above.Goals as goal
+
+pub returns-clause-number : goal.returns-clause-number
+returns-clause-number g c =
+    let h = c.self.inside.register.history in
+    let tree = c.self.inside.tree in
+    let tied : IsTied g.R.Resource h tree = rw (← c.self.view_is) at c.requires.standing.tied.of_tree in
+    let there : is_some (find tree.nodes c.args.node) ≡ true = rw (← c.self.view_is) at c.requires.there in
+    rw (← c.self.view_is) (c.parent.ensures.number ∙ parent_told g.R.Resource h tree tied c.args.node there)

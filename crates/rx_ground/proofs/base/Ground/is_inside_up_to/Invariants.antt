@@ -1,0 +1,16 @@
+use Rattle.std.proofs.Common.{◌≡◌, suc, true, option_map}
+use Rattle.std.specs.Option.{option_map_or}
+use Rattle.rx_slots.specs.declared.Key.{Key}
+use Rattle.rx_ground.specs.Ties.{is_there}
+use Rattle.rx_ground.specs.Told.{is_inside_up_to}
+use Rattle.rx_ground.proofs.base.Ground.is_inside_up_to.Given as goal
+
+abbrev pub invariant-loop-at : goal.invariant-loop-at
+invariant-loop-at g l = record {
+  there : is_there l.fn.self.tree.nodes l.at ≡ true;
+  same : is_inside_up_to l.fn.self.register.history l.fn.hub (option_map (λ (key : Key). key.number) l.at) ≡
+      is_inside_up_to l.fn.self.register.history l.fn.hub (option_map (λ (key : Key). key.number) l.fn.node);
+}
+
+abbrev pub decreases-loop-at : goal.decreases-loop-at
+decreases-loop-at g l = option_map_or (λ (key : Key). suc key.number) l.at 0
