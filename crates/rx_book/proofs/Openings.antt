@@ -1,14 +1,16 @@
--- An opening against which nothing stands: its kind is there, it has the room that was counted, and the node above is open.
-use Rattle.std.proofs.Common.{◌≡◌, ℕ, ◌+◌, ◌<◌, Bool, true, List, length, None, IsSome, refl, arith}
-use Rattle.std.proofs.Math.Bool.{not}
-use Rattle.std.proofs.lemmas.Bool.{false≢true, not-false, or_parts}
+-- An opening against which nothing stands where there are no hubs: it subscribes to none, it has the room that was counted, and the node
+-- above is open.
+use Rattle.std.proofs.Common.{◌≡◌, ℕ, ◌+◌, ◌<◌, Bool, true, List, [], length, None, IsSome, refl, sym, ◌∙◌, arith}
+use Rattle.std.proofs.lemmas.Bool.{false≢true, not-false}
 use Rattle.rx_resource.specs.declared.Resource.{Ghosts}
 use Rattle.rx_event.specs.declared.event.Place.{Place}
 use Rattle.rx_event.specs.declared.event.Kind.{Kind}
 use Rattle.rx_event.specs.declared.event.Kind.TheVariants.{Sub}
 use Rattle.rx_event.specs.declared.event.Event.{Event}
 use Rattle.rx_event.specs.declared.event.Event.TheVariants.{Open}
-use Rattle.rx_event.specs.declared.refusal.Refusal.TheVariants.{WrongKind}
+use Rattle.rx_event.specs.declared.refusal.Refusal.TheVariants.{NoHub}
+use Rattle.rx_event.specs.Events.{makes_hub}
+use Rattle.rx_event.specs.Tree.{at}
 use Rattle.rx_event.specs.Calls.{Opening}
 use Rattle.rx_event.specs.Refusals.{first_cause}
 use Rattle.rx_event.proofs.Laws.Openness.{is_open_within}
@@ -16,25 +18,26 @@ use Rattle.rx_slots.specs.declared.Key.{Key}
 use Rattle.rx_slots.specs.Slots.{find}
 use Rattle.rx_tree.specs.Tree.{Tree, IsPlaced}
 use Rattle.rx_tree.proofs.Laws.Keys.{some_of}
-use Rattle.rx_register.specs.Causes.{causes, added_by, end_at, is_built, is_wrong_place}
+use Rattle.rx_register.specs.Causes.{causes, added_by, end_at}
 use Rattle.rx_register.specs.Paid.{notes_added}
 use Rattle.rx_register.proofs.Laws.NoCause.{no_cause}
-use Rattle.rx_ground.specs.Ties.{IsTied, joins_no_hub, is_there}
+use Rattle.rx_ground.specs.Shown.{Ground}
+use Rattle.rx_ground.specs.Ties.{IsTied, IsStanding, joins_no_hub, is_there}
+use Rattle.rx_ground.proofs.Laws.Unpublished.{none_made}
 use Rattle.rx_book.specs.declared.answer.At.{At}
 use Rattle.rx_book.specs.declared.answer.At.TheVariants.{Root as AtRoot, Source as AtSource, Inner as AtInner, Notifier as AtNotifier}
 use Rattle.rx_book.specs.Requests.{place_of}
 use Rattle.rx_book.specs.Places.{key_above}
 use Rattle.rx_book.specs.Shown.{tree_key_of}
 
--- kinds that are there are plain
-plain_built : (place : Place) (kind : Kind) → is_built (Opening place kind) ≡ true → joins_no_hub (Open place kind) ≡ true
-plain_built place (Sub g) built = absurd (false≢true built)
-plain_built place kind built = refl
-
-pub plain_opening : (h : List Event) (limit : ℕ) (fresh : Bool) (place : Place) (kind : Kind) →
-    first_cause (causes h limit fresh (Opening place kind)) ≡ None → joins_no_hub (Open place kind) ≡ true
-plain_opening h limit fresh place kind none = plain_built place kind (not-false (is_built (Opening place kind))
-    (or_parts (is_wrong_place h place) (not (is_built (Opening place kind))) (no_cause (causes h limit fresh (Opening place kind)) none WrongKind)).1)
+-- where there are no hubs nobody subscribes to one
+pub plain_opening : {T : Type 0} (g : Ghosts T) (b : Ground T) (place : Place) (kind : Kind) → IsStanding g b → b.hubs.hubs ≡ [] →
+    first_cause (causes b.register.history b.register.limit true (Opening place kind)) ≡ None → joins_no_hub (Open place kind) ≡ true
+plain_opening g b place (Sub hub) standing unpublished none =
+    let h = b.register.history in
+    let made = not-false (at makes_hub h hub) (no_cause (causes h b.register.limit true (Opening place (Sub hub))) none NoHub) in
+    absurd (false≢true (sym (none_made h b.hubs.hubs standing.tied.published unpublished hub) ∙ made))
+plain_opening g b place kind standing unpublished none = refl
 
 -- what it adds
 pub opening_counted : (h : List Event) (place : Place) (kind : Kind) → joins_no_hub (Open place kind) ≡ true →

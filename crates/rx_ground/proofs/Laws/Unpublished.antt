@@ -11,7 +11,7 @@ use Rattle.rx_hub.specs.Records.{AreHubsOf}
 use Rattle.rx_ground.specs.Shown.{Ground}
 use Rattle.rx_ground.specs.Ties.{IsStanding}
 
-none_made : (h : List Event) (hubs : List Hub) → AreHubsOf h hubs → hubs ≡ [] → (n : ℕ) → at makes_hub h n ≡ false
+pub none_made : (h : List Event) (hubs : List Hub) → AreHubsOf h hubs → hubs ≡ [] → (n : ℕ) → at makes_hub h n ≡ false
 none_made h hubs of none n = by_test (at makes_hub h n) refl where
   by_test : (b : Bool) → at makes_hub h n ≡ b → b ≡ false
   by_test false made = refl

@@ -1,10 +1,10 @@
-use Rattle.std.proofs.Common.{◌+◌, Bool, true, cond, length, Some, None, refl, sym, ap, subst, ◌∙◌, arith}
+use Rattle.std.proofs.Common.{◌≡◌, ◌+◌, Bool, true, cond, length, Some, None, refl, sym, ap, subst, ◌∙◌, arith}
 use Rattle.std.specs.Prelude.{Ok}
 use Rattle.std.proofs.lemmas.Bool.{and_from}
 use Rattle.rx_event.specs.declared.event.Event.TheVariants.{Open}
 use Rattle.rx_event.specs.Calls.{Opening}
 use Rattle.rx_register.specs.Causes.{causes, end_at}
-use Rattle.rx_ground.specs.Ties.{IsReady}
+use Rattle.rx_ground.specs.Ties.{IsReady, joins_no_hub}
 use Rattle.rx_ground.proofs.Laws.KeysKept.{keeps_opened}
 use Rattle.rx_book.specs.State.{State}
 use Rattle.rx_book.specs.Requests.{open_request, stands, place_of}
@@ -41,10 +41,19 @@ admit-requires-clause-within g c κs within = λ none.
     let first = first_by_place b.tree stand c.opening_cause-cause.result c.args.at
     (rw (c.spot_of-spot.ensures.place, c.spot_of-spot.ensures.above) at c.opening_cause-cause.ensures) in
     let within = within_full call _ true b.register.history b.register.limit refl (first ∙ none) in
-    let plain = plain_opening b.register.history b.register.limit true (place_of c.args.at) c.args.kind (unstood call _ stand (first ∙ none)).1 in
+    let plain = plain_opening g.R.Resource b (place_of c.args.at) c.args.kind c.self.invariant.0 c.self.invariant.1 (unstood call _ stand (first ∙ none)).1 in
     let added = (opening_counted b.register.history (place_of c.args.at) c.args.kind plain).0 in
     let end = c.end_at-end.ensures ∙ ap end_at c.spot_of-spot.ensures.place in
     omega arith
+
+plain : (g : given.Over) (c : After-promise g) → joins_no_hub (Open (place_of c.args.at) c.args.kind) ≡ true
+plain g c =
+    let old = c.self.inside.ground in
+    let stand = causes old.register.history old.register.limit true (Opening (place_of c.args.at) c.args.kind) in
+    let first = first_by_place old.tree stand c.opening_cause-cause.result c.args.at
+    (rw (c.spot_of-spot.ensures.place, c.spot_of-spot.ensures.above) at c.opening_cause-cause.ensures) in
+    plain_opening g.R.Resource old (place_of c.args.at) c.args.kind c.self.invariant.0 c.self.invariant.1
+    (unstood (Opening (place_of c.args.at) c.args.kind) _ stand (first ∙ c.in_ok-admit.ensures.none)).1
 
 called : (g : given.Over) (c : After-promise g) → (let b = c.admit.new.ground in IsLetIn g.R.Resource b (open_request (state_of g.R.Resource b) c.args.at c.args.kind))
 called g c =
@@ -56,9 +65,7 @@ called g c =
     let first = first_by_place old.tree stand cause c.args.at
     (rw (c.spot_of-spot.ensures.place, c.spot_of-spot.ensures.above) at c.opening_cause-cause.ensures) in
     let a = c.in_ok-admit.ensures in
-    let plain = plain_opening old.register.history old.register.limit true (place_of c.args.at) c.args.kind
-    (unstood (Opening (place_of c.args.at) c.args.kind) _ stand (first ∙ a.none)).1 in
-    let counted = opening_counted b.register.history (place_of c.args.at) c.args.kind plain in
+    let counted = opening_counted b.register.history (place_of c.args.at) c.args.kind (plain g c) in
     let added = counted.0 in
     let told = counted.1 in
     let end = c.end_at-end.ensures ∙ ap end_at c.spot_of-spot.ensures.place in
@@ -88,10 +95,10 @@ settle-requires-clause-paid g c κs within =
 
 pub settle-requires-clause-unjoined : goal.settle-requires-clause-unjoined
 settle-requires-clause-unjoined g c κs within =
-    let b = c.admit.new.ground in
-    let l = called g (goal.at.settle-requires-clause-unjoined g c).After-promise in
+    let p = (goal.at.settle-requires-clause-unjoined g c).After-promise in
+    let l = called g p in
     unjoins g.R.Resource c.admit.new.ground _ l c.write_open-key.new.self.register (rw c.spot_of-spot.ensures.place at c.write_open-key.ensures.written)
-    (and_from _ _ (plain_opening b.register.history b.register.limit true (place_of c.args.at) c.args.kind l.may.no_cause) refl)
+    (and_from _ _ (plain g p) refl)
 
 pub returns : goal.returns
 returns g c =
@@ -105,8 +112,7 @@ returns g c =
     let w = rw c.spot_of-spot.ensures.place at o.written in
     let p = (goal.at.returns g c).After-promise in
     let l = called g p in
-    let plain = plain_opening h b.register.limit true (place_of c.args.at) c.args.kind l.may.no_cause in
-    let rest = rests R b.register mid _ l.may.lawful l.may.settled l.standing.unjoined (ready g p) w plain refl (λ n. refl) in
+    let rest = rests R b.register mid _ l.may.lawful l.may.settled l.standing.unjoined (ready g p) w (plain g p) refl (λ n. refl) in
     let key = key_listed R mid new o.tied.of_tree rest.1 s.forced s.nodes (length h) c.write_open-key.result c.shown_key.result c.shown_key.ensures o.new.numbered
     o.new.found in
     let alone = ap (λ (x : Bool). cond x (Some (length h + 1)) None) (sym (unconnected new.register.history (length h + 1) s.standing.unjoined)) in
