@@ -53,7 +53,7 @@ impl<R: Resource> Ground<R> {
         match kind {
             Kind::Sub(hub) => match self.published(hub) {
                 Some(published) => {
-                    Event::Hub(published.mode).is_auto_hub() && !published.connection.is_some()
+                    Event::Hub(published.mode).is_auto_hub() && published.connection.is_none()
                 }
                 None => false,
             },
@@ -69,7 +69,8 @@ impl<R: Resource> Ground<R> {
         if self.forces_connect(kind) { 2 } else { 1 }
     }
 
-    /// How many events an opening adds, with those that the ends of the nodes will be that it makes.
+    /// How many events an opening adds, with one for the end of each node that it makes; for an inner's the item
+    /// was given one that it was projected for.
     pub fn added_by_opening(&self, place: Place, kind: Kind) -> u64
         requires standing { IsStanding R.Resource self.now }
         ensures { result ≡ added_by self.now.register.history (Opening place kind) }
@@ -141,7 +142,7 @@ impl<R: Resource> Ground<R> {
         if !Event::Hub(published.mode).is_manual_hub() {
             return Some(Refusal::WrongKind);
         }
-        if !published.connection.is_some() {
+        if published.connection.is_none() {
             return Some(Refusal::NotConnected);
         }
         None

@@ -21,7 +21,8 @@
 //! - A [`Reach`] is what an item of a leaf wants, wherever it goes: how many events with what FlatMaps and
 //!   Switches then owe, and how many notes. `IsReach` (`specs/Reached`) says of which item it is that.
 //! - What stands first against a call is `first_at`, of a call by an open node's key, and `first_by_key` and
-//!   `first_by_res_key` (`specs/FirstCause`), by the register's table of causes.
+//!   `first_by_res_key` (`specs/FirstCause`), by the register's table of causes. So it is told for each call
+//!   of a book; whether a subscriber stands in the order of hubs is told by a climb from its place.
 //! - `Writes` (of the register) says that just these events were added. `KeepsNodes` and `KeepsHeld`
 //!   say that the keys of what is still there are as before.
 //!
