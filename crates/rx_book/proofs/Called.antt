@@ -25,9 +25,10 @@ use Rattle.rx_register.proofs.Laws.Paid.{call_room, call_mail_room, paid_room, w
 use Rattle.rx_register.proofs.Laws.Calls.{call_follows, call_fits, called_paid}
 use Rattle.rx_ground.specs.declared.base.Wanted.{Wanted}
 use Rattle.rx_ground.specs.Shown.{Ground}
-use Rattle.rx_ground.specs.Ties.{IsStanding, IsRoomier, HasRoomBeside, IsReady, KeepsNodes, joins_no_hub}
-use Rattle.rx_ground.proofs.Laws.Unjoined.{unjoined-push}
-use Rattle.rx_ground.proofs.Laws.KeysKept.{KeepsKeys, keeps_on, keeps_closed}
+use Rattle.rx_ground.specs.Ties.{IsStanding, IsRoomier, HasRoomBeside, IsReady, KeepsOlder, HasRoomToConnect}
+use Rattle.rx_ground.specs.Ties.{IsTied}
+use Rattle.rx_ground.proofs.Laws.Unjoined.{joins_no_hub, unjoined-push, unjoined_hubless, none_made, nobody_waits, hubless_roomier}
+use Rattle.rx_ground.proofs.Laws.KeysKept.{KeepsKeys, keeps_on, keeps_settled}
 use Rattle.rx_ground.proofs.Laws.Unforced.{ends_or_declines, settled_on}
 use Rattle.rx_book.specs.State.{State}
 use Rattle.rx_book.specs.Requests.{Request, stands}
@@ -80,6 +81,8 @@ pub record IsLetIn {T : Type 0} (g : Ghosts T) (b : Ground T) (asked : Request) 
   pub none : first_cause (stands (state_of g b) asked) ≡ None
   pub may : MayCall b.register.history b.register.limit asked.is_fresh asked.call
   pub has : HasRoomFor b.register asked.call
+  -- no hub was made so far
+  pub hubless : b.hubs.hubs ≡ []
 
 module _ {T : Type 0} (g : Ghosts T) (b : Ground T) (asked : Request) where
   abbrev h : List Event
@@ -88,19 +91,20 @@ module _ {T : Type 0} (g : Ghosts T) (b : Ground T) (asked : Request) where
   abbrev outside : List Event
   outside = outside_of b.register.history asked.call
 
-  let_in : IsStanding g b → IsPromised b.register → first_cause (stands (state_of g b) asked) ≡ None → IsReadyFor h asked.call →
+  let_in : IsStanding g b → b.hubs.hubs ≡ [] → IsPromised b.register → first_cause (stands (state_of g b) asked) ≡ None → IsReadyFor h asked.call →
       HasRoomFor b.register asked.call → IsLetIn g b asked
-  let_in standing promised none ready has = record {
+  let_in standing hubless promised none ready has = record {
     standing = standing;
     none = none;
     may = record { lawful = promised.lawful; settled = standing.settled; no_cause = (unstood asked.call asked.is_known _ none).1; ready = ready };
     has = has;
+    hubless = hubless;
   }
 
   -- a call that takes no memory
-  pub let_in_free : IsStanding g b → IsPromised b.register → first_cause (stands (state_of g b) asked) ≡ None → IsReadyFor h asked.call →
+  pub let_in_free : IsStanding g b → b.hubs.hubs ≡ [] → IsPromised b.register → first_cause (stands (state_of g b) asked) ≡ None → IsReadyFor h asked.call →
       added_by h asked.call ≡ 0 → notes_added h asked.call ≡ 0 → IsLetIn g b asked
-  let_in_free standing promised none ready added noted = let_in standing promised none ready (paid_room b.register asked.call standing.paid added noted)
+  let_in_free standing hubless promised none ready added noted = let_in standing hubless promised none ready (paid_room b.register asked.call standing.paid added noted)
 
   module _ (l : IsLetIn g b asked) where
     -- its key is known
@@ -151,16 +155,21 @@ module _ {T : Type 0} (g : Ghosts T) (b : Ground T) (asked : Request) where
     pub pays : (new : Register) → Writes b.register outside new → IsPaid new
     pays new w = called_paid b.register new b.register.limit asked.is_fresh asked.call l.may l.has w
 
-    -- and still nobody joined a hub
-    pub unjoins : (new : Register) → Writes b.register outside new → list_all joins_no_hub outside ≡ true → list_all joins_no_hub new.history ≡ true
-    unjoins new w plain = unjoined_on l.standing.unjoined w plain
+    -- nobody joined a hub so far
+    pub unjoined : list_all joins_no_hub h ≡ true
+    unjoined = unjoined_hubless h l.may.lawful (none_made h b.hubs.hubs l.standing.tied.published l.hubless)
+
+    -- and so none waits for its connection
+    pub connects_none : (new : Register) → Writes b.register outside new → list_all joins_no_hub outside ≡ true → {room space : ℕ} → HasRoomToConnect new.history room space
+    connects_none new w plain = λ n waits. absurd (nobody_waits new.history (unjoined_on unjoined w plain) n waits)
 
     -- and after what they force it is accepted
-    pub accepts : (mid new : Ground T) → Writes b.register outside mid.register → KeepsKeys b.tree mid.tree (length h) →
-        IsStanding g new → IsForcedOn mid.register.history new.register.history → KeepsNodes new.register.history mid.tree.nodes new.tree.nodes →
+    pub accepts : (mid new : Ground T) → Writes b.register outside mid.register → KeepsKeys b.tree mid.tree (length h) → IsTied g mid.register.history mid.tree →
+        IsStanding g new → IsForcedOn mid.register.history new.register.history →
+        KeepsOlder new.register.history (length mid.register.history) mid.tree.nodes new.tree.nodes →
         new.tree.resources ≡ mid.tree.resources → new.register.limit ≡ mid.register.limit → new.register.given ≡ mid.register.given →
         Accepts (state_of g b) asked (state_of g new)
-    accepts mid new w kept standing on nodes resources limit given = record {
+    accepts mid new w kept tied standing on nodes resources limit given = record {
       no_cause = l.none;
       step = record { forced = goes_on; lawful = lawful; settled = standing.settled };
       limit = limit ∙ w.limit;
@@ -172,12 +181,18 @@ module _ {T : Type 0} (g : Ghosts T) (b : Ground T) (asked : Request) where
         goes_on : IsForcedOn (h ++ outside) new.register.history
         goes_on = subst (λ (k : List Event). IsForcedOn k new.register.history) w.history on
 
+        lawful_mid : IsLawful (h ++ outside)
+        lawful_mid = lawful_in_turn h outside l.may.lawful (follows outside refl)
+
         lawful : IsLawful new.register.history
-        lawful = lawful_forced (lawful_in_turn h outside l.may.lawful (follows outside refl)) goes_on
+        lawful = lawful_forced lawful_mid goes_on
+
+        longer : length mid.register.history ≡ length h + length outside
+        longer = ap (λ (k : List Event). length k) w.history ∙ length-append h outside
 
         all : KeepsKeys b.tree new.tree (length h)
-        all = keeps_on b.tree mid.tree new.tree (length h) (length h) (omega arith) kept
-            (keeps_closed new.register.history mid.tree new.tree (length h) nodes resources)
+        all = keeps_on b.tree mid.tree new.tree (length h) (length mid.register.history) (let l = longer in omega arith) kept
+            (keeps_settled g mid.register.history new.register.history mid.tree new.tree (subst IsLawful (sym w.history) lawful_mid) tied nodes resources)
 
 -- room --------------------------------------------------------------------------------------------
 
@@ -192,13 +207,13 @@ state_roomier g old new r = λ i. state_of g (record {
 
 -- a call for which room was gotten, after nothing stood against it
 pub let_in_roomy : {T : Type 0} (g : Ghosts T) (old b : Ground T) (asked : State → Request) (wanted : Wanted) →
-    IsRoomier old b → IsStanding g b → IsPromised b.register →
+    IsRoomier old b → old.hubs.hubs ≡ [] → IsStanding g b → IsPromised b.register →
     first_cause (stands (state_of g old) (asked (state_of g old))) ≡ None → IsReadyFor b.register.history (asked (state_of g b)).call → HasRoomBeside b wanted →
     added_by b.register.history (asked (state_of g b)).call ≤ wanted.events → notes_added b.register.history (asked (state_of g b)).call ≤ wanted.notes →
     IsLetIn g b (asked (state_of g b))
-let_in_roomy g old b asked wanted roomier standing promised none ready has events notes =
+let_in_roomy g old b asked wanted roomier hubless standing promised none ready has events notes =
     let none_now = subst (λ (s : State). first_cause (stands s (asked s)) ≡ None) (sym (state_roomier g old b roomier)) none in
-    let_in g b (asked (state_of g b)) standing promised none_now ready (record {
+    let_in g b (asked (state_of g b)) standing (hubless_roomier roomier hubless) promised none_now ready (record {
       events = let e = has.events in omega arith;
       notes = let n = has.notes in omega arith;
     })

@@ -1,5 +1,5 @@
 -- What a call made is listed after what it forced.
-use Rattle.std.proofs.Common.{◌≡◌, ℕ, zero, suc, true, false, List, [], ◌∷◌, IsSome, refl, ◌∙◌}
+use Rattle.std.proofs.Common.{◌≡◌, ℕ, zero, suc, true, false, List, [], ◌∷◌, length, IsSome, refl, ◌∙◌}
 use Rattle.std.specs.List.{list_all}
 use Rattle.std.proofs.lemmas.Bool.{and_parts, false≢true}
 use Rattle.rx_resource.specs.declared.Resource.{Ghosts}
@@ -13,7 +13,8 @@ use Rattle.rx_slots.specs.Slots.{find}
 use Rattle.rx_tree.specs.declared.node.ResKey.{ResKey as TreeResKey}
 use Rattle.rx_tree.specs.Resources.{is_held_at}
 use Rattle.rx_ground.specs.Shown.{Ground}
-use Rattle.rx_ground.specs.Ties.{IsTied, KeepsNodes, joins_no_hub}
+use Rattle.rx_ground.specs.Ties.{IsTied, KeepsOlder}
+use Rattle.rx_ground.proofs.Laws.Unjoined.{joins_no_hub}
 use Rattle.rx_ground.proofs.Laws.Unforced.{node_stays, resource_stays}
 use Rattle.rx_book.specs.declared.key.Key.{Key}
 use Rattle.rx_book.specs.declared.key.ResKey.{ResKey}
@@ -22,18 +23,18 @@ use Rattle.rx_book.specs.Answers.{makes_connection, IsNewKey, IsNewResKey}
 use Rattle.rx_book.proofs.ShownKeys.{has_key_is, has_res_key_is}
 
 module _ {T : Type 0} (g : Ghosts T) (mid new : Ground T) (tied : IsTied g mid.register.history mid.tree) (settled : IsSettled mid.register.history)
-    (on : IsForcedOn mid.register.history new.register.history) (nodes : KeepsNodes new.register.history mid.tree.nodes new.tree.nodes) (place : ℕ) where
+    (on : IsForcedOn mid.register.history new.register.history) (nodes : KeepsOlder new.register.history (length mid.register.history) mid.tree.nodes new.tree.nodes) (place : ℕ) where
   pub key_listed : (key : TreeKey) (k : Key) → k ≡ key_shown key → key.number ≡ place → IsSome (find mid.tree.nodes key) → IsNewKey (state_of g new) place k
   key_listed key k shown number there = rw shown (record {
     number = number;
-    listed = has_key_is new.tree (key_shown key) ∙ node_stays g mid new tied settled on nodes key there;
+    listed = has_key_is new.tree (key_shown key) ∙ node_stays g mid new tied settled on _ nodes key there;
   })
 
   pub res_key_listed : (res : TreeResKey) (k : ResKey) → k ≡ res_key_shown res → new.tree.resources ≡ mid.tree.resources → res.number ≡ place →
       is_held_at mid.tree res ≡ true → IsNewResKey (state_of g new) place k
   res_key_listed res k shown same number held = rw shown (record {
     number = number;
-    listed = has_res_key_is new.tree (res_key_shown res) ∙ resource_stays g mid new tied settled on nodes same res held;
+    listed = has_res_key_is new.tree (res_key_shown res) ∙ resource_stays g mid new tied settled on _ nodes same res held;
   })
 
 -- there are no connections

@@ -1,6 +1,6 @@
 -- An opening against which nothing stands where there are no hubs: it subscribes to none, it has the room that was counted, and the node
 -- above is open.
-use Rattle.std.proofs.Common.{◌≡◌, ℕ, ◌+◌, ◌<◌, Bool, true, List, [], length, None, IsSome, refl, sym, ◌∙◌, arith}
+use Rattle.std.proofs.Common.{◌≡◌, ◌+◌, ◌<◌, true, List, [], length, None, IsSome, refl, sym, ◌∙◌, arith}
 use Rattle.std.proofs.lemmas.Bool.{false≢true, not-false}
 use Rattle.rx_resource.specs.declared.Resource.{Ghosts}
 use Rattle.rx_event.specs.declared.event.Place.{Place}
@@ -22,8 +22,8 @@ use Rattle.rx_register.specs.Causes.{causes, added_by, end_at}
 use Rattle.rx_register.specs.Paid.{notes_added}
 use Rattle.rx_register.proofs.Laws.NoCause.{no_cause}
 use Rattle.rx_ground.specs.Shown.{Ground}
-use Rattle.rx_ground.specs.Ties.{IsTied, IsStanding, joins_no_hub, is_there}
-use Rattle.rx_ground.proofs.Laws.Unpublished.{none_made}
+use Rattle.rx_ground.specs.Ties.{IsTied, IsStanding, is_there}
+use Rattle.rx_ground.proofs.Laws.Unjoined.{joins_no_hub, none_made}
 use Rattle.rx_book.specs.declared.answer.At.{At}
 use Rattle.rx_book.specs.declared.answer.At.TheVariants.{Root as AtRoot, Source as AtSource, Inner as AtInner, Notifier as AtNotifier}
 use Rattle.rx_book.specs.Requests.{place_of}

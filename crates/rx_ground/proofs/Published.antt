@@ -1,12 +1,12 @@
 -- The hubs of a history, before and after an event that is written.
-use Rattle.std.proofs.Common.{◌≡◌, ℕ, suc, ◌+◌, ◌<◌, Bool, true, false, List, [], ◌∷◌, ◌++◌, map, length, Option, Some, None}
+use Rattle.std.proofs.Common.{◌≡◌, ℕ, ◌+◌, ◌<◌, Bool, true, false, List, [], ◌∷◌, ◌++◌, map, length, Option, Some, None}
 use Rattle.std.proofs.Common.{◌≢◌, is_some, nat_lt, IsTrue, IsSome, IfSome, IfNone, option_map, slice_get, refl, sym, ap, subst, ◌∙◌, inl, inr, ◌⊎◌, arith}
 use Rattle.std.specs.Option.{option_map_or, option_to_list}
-use Rattle.std.specs.List.{AllByRecursion, AllPairs, Contains, list_all}
+use Rattle.std.specs.List.{AllByRecursion, AllPairs, Contains}
 use Rattle.std.proofs.lemmas.Bool.{false≢true, cases_Bool, lt-ltb, ltb-true, ltb_from_iff}
 use Rattle.std.proofs.lemmas.List.{length-map}
 use Rattle.std.proofs.lemmas.List.Sums.{length-filter}
-use Rattle.std.proofs.lemmas.Option.{none-some, slice_get_within, slice_get-get_or, get_or_from_slice_get}
+use Rattle.std.proofs.lemmas.Option.{slice_get_within, slice_get-get_or, get_or_from_slice_get}
 use Rattle.rx_resource.specs.declared.Resource.{Ghosts}
 use Rattle.rx_event.specs.declared.event.Mode.{Mode}
 use Rattle.rx_event.specs.declared.event.Place.{Place}
@@ -39,39 +39,12 @@ use Rattle.rx_hub.proofs.Laws.Walks.{found_hub}
 use Rattle.rx_register.specs.Causes.{has_connection}
 use Rattle.rx_ground.specs.Told.{IsHubTold}
 use Rattle.rx_ground.specs.Inners.{MakesWay, ClearsHubs, LeavesHubs}
-use Rattle.rx_ground.specs.Ties.{IsTied, AreTied, AreJoined, KeepsNodes, Remarks, joins_no_hub}
+use Rattle.rx_ground.specs.Ties.{IsTied, AreTied, AreJoined, KeepsNodes, Remarks}
 use Rattle.rx_ground.proofs.Exchanged.{none_closed}
 use Rattle.rx_ground.proofs.Joined.{joined_without, joined_still, joined_found, joined_cut, joined_opened, joined_connected, found_named}
 use Rattle.rx_ground.proofs.Tied.{still_there}
 use Rattle.rx_ground.proofs.Laws.Members.{Contains-map, Contains-from_map, All-members, AllPairs-map}
 use Rattle.rx_ground.proofs.Laws.Numbers.{ListsJust, just_counted}
-use Rattle.rx_ground.proofs.Unjoined.{no_open_subscribers, no_open_connections}
-
--- hubs that nobody joined -------------------------------------------------------------------------
-
-no_keys : (keys : List Key) → numbers keys ≡ [] → keys ≡ []
-no_keys [] none = refl
-no_keys (k ∷ keys) none = absurd (let l = ap (length {A = ℕ}) none in omega arith)
-
-no_key : (o : Option Key) → numbers (option_to_list o) ≡ [] → o ≡ None
-no_key None none = refl
-no_key (Some k) none = absurd (let l = ap (length {A = ℕ}) none in omega arith)
-
--- no closing changes them
-module _ (h : List Event) (unjoined : list_all joins_no_hub h ≡ true) (gone : Key → Bool) (ended : Option LastEnd) where
-  one_unchanged : (hub : Hub) → IsHubOf h hub → without_gone gone ended hub ≡ hub
-  one_unchanged hub is = by_fields hub.connection hub.subscribers
-      (no_key hub.connection (is.connection ∙ no_open_connections h unjoined hub.number))
-      (no_keys hub.subscribers (is.subscribers ∙ no_open_subscribers h unjoined hub.number)) where
-        by_fields : (o : Option Key) (keys : List Key) → o ≡ None → keys ≡ [] →
-            without_gone gone ended (record hub { connection = o; subscribers = keys }) ≡ record hub { connection = o; subscribers = keys }
-        by_fields None [] unconnected unsubscribed = refl
-        by_fields (Some key) keys unconnected unsubscribed = absurd (none-some key (sym unconnected))
-        by_fields None (key ∷ keys) unconnected unsubscribed = absurd (let l = ap (length {A = Key}) unsubscribed in omega arith)
-
-  pub all_unchanged : (hubs : List Hub) → ((i : ℕ) (hub : Hub) → slice_get hubs i ≡ Some hub → IsHubOf h hub) → map (without_gone gone ended) hubs ≡ hubs
-  all_unchanged [] each = refl
-  all_unchanged (hub ∷ hubs) each = λ i. one_unchanged hub (each 0 hub refl) i ∷ all_unchanged hubs (λ j x at_j. each (suc j) x at_j) i
 
 -- numbers -----------------------------------------------------------------------------------------
 

@@ -1,22 +1,25 @@
 -- What an opening, an end, and the loop that settles, leave of the tie.
-use Rattle.std.proofs.Common.{◌≡◌, ℕ, ◌<◌, Bool, true, false, cond, List, [], ◌∷◌, ◌++◌, length, Option, Some, None, is_some, IsSome, IfSome, option_map, slice_get, drop, refl, sym, ap, subst, ◌∙◌, arith}
+use Rattle.std.proofs.Common.{◌≡◌, ℕ, ◌<◌, Bool, true, false, cond, List, [], ◌∷◌, ◌++◌, length, Option, Some, None, is_some, IsSome, IfSome, option_map, slice_get, drop, refl, sym, ap, subst, ◌∙◌, ◌≤◌, ◌+◌, arith, length-append}
 use Rattle.std.specs.Prelude.{IfNone}
-use Rattle.std.specs.List.{list_all}
+use Rattle.std.specs.List.{AllByRecursion}
 use Rattle.std.specs.Option.{option_and_then}
 use Rattle.std.proofs.Math.Bool.{◌||◌}
-use Rattle.std.proofs.lemmas.Bool.{false≢true, and_parts, both_ways}
+use Rattle.std.proofs.lemmas.Bool.{false≢true, both_ways}
 use Rattle.std.proofs.lemmas.Option.{none-some, same_Some}
 use Rattle.rx_resource.specs.declared.Resource.{Ghosts}
 use Rattle.rx_note.specs.declared.note.Terminal.{Terminal}
 use Rattle.rx_event.specs.declared.marks.Marks.{Marks}
 use Rattle.rx_event.specs.declared.event.Event.{Event}
-use Rattle.rx_event.specs.declared.event.Event.TheVariants.{End}
+use Rattle.rx_event.specs.declared.event.Event.TheVariants.{Connect, End}
 use Rattle.rx_event.specs.Events.{source_named, is_merging}
 use Rattle.rx_event.specs.Tree.{is_open, parent}
 use Rattle.rx_event.specs.Marks.{marks_of, due_at, terminal_due, after_child}
-use Rattle.rx_event.specs.Forced.{IsForced, IsSettled}
+use Rattle.rx_event.specs.Notes.{mail_of}
+use Rattle.rx_event.specs.Forced.{IsConnectDue, IsConnected, IsForced, IsSettled, connecting, due}
 use Rattle.rx_event.specs.Lawful.{MayFollow, IsLawful, IsForcedOn, forced, stays, more}
-use Rattle.rx_event.proofs.Laws.Openness.{is_open_outside-end}
+use Rattle.rx_event.proofs.Laws.MarksDue.{due_at_forced, settled_by_marks}
+use Rattle.rx_event.proofs.Laws.Openness.{is_open_outside-end, is_open_within, stays_closed}
+use Rattle.rx_event.proofs.Laws.Waits.{forced_connected}
 use Rattle.rx_event.proofs.Laws.MarksTouched.{child_counted}
 use Rattle.rx_slots.specs.declared.Key.{Key}
 use Rattle.rx_slots.specs.Slots.{Slots, find}
@@ -28,15 +31,17 @@ use Rattle.rx_register.specs.Paid.{IsPaid}
 use Rattle.rx_register.proofs.Laws.Paid.{forced_room, end_room, forced_pays}
 use Rattle.rx_register.proofs.Laws.Fits.{told_by_end}
 use Rattle.rx_ground.specs.declared.settle.Due.{Due}
-use Rattle.rx_ground.specs.Ties.{IsTied, AreTied, IsReady, WithChain, IsDueNext, AllQuiet, KeepsNodes, Remarks, Cuts, joins_no_hub, left_inside}
+use Rattle.rx_ground.specs.Ties.{IsTied, AreTied, IsReady, WithChain, IsDueNext, IsNext, AllQuiet, KeepsNodes, KeepsOlder, Remarks, Cuts, HasRoomToConnect, is_there, key_due}
 use Rattle.rx_ground.specs.Memory.{TakesNoMemory}
 use Rattle.rx_ground.proofs.Memory.{memory_on}
 use Rattle.rx_ground.specs.Shown.{Ground}
 use Rattle.rx_ground.proofs.Records.{rechained}
-use Rattle.rx_hub.specs.After.{is_inside, end_by}
-use Rattle.rx_ground.proofs.Published.{all_unchanged}
-use Rattle.rx_ground.proofs.Unjoined.{forced_unjoined, settled_unjoined}
-use Rattle.rx_ground.proofs.Laws.Unjoined.{unjoined-push}
+use Rattle.rx_hub.specs.declared.hub.HubDue.{HubDue}
+use Rattle.rx_hub.specs.declared.hub.HubDue.TheVariants.{Connect as ConnectDue, End as EndDue, Close as CloseDue}
+use Rattle.rx_hub.specs.Due.{event_of, IsDueIn, IsQuiet, ConcernsHub}
+use Rattle.rx_hub.specs.Hubs.{Hub, find_hub}
+use Rattle.rx_hub.proofs.Laws.Dues.{hubs_forced, none_waits, none_cut, none_left}
+use Rattle.rx_hub.proofs.Laws.Walks.{found_hub}
 use Rattle.rx_ground.proofs.Tied.{tied_end_top, tied_end_child, parent_stays, cut_keeps, keeps_marked}
 
 -- ends ----------------------------------------------------------------------------------------------
@@ -63,37 +68,91 @@ module _ {T : Type 0} (g : Ghosts T) (h : List Event) (c : ℕ) (t : Terminal) (
 
 -- settling ------------------------------------------------------------------------------------------
 
-module _ {T : Type 0} (g : Ghosts T) (s : Register) (tree : Tree T) (tied : IsTied g s.history tree) (unjoined : list_all joins_no_hub s.history ≡ true) (law : IsLawful s.history) where
-  -- what is due by a record is forced
-  pub due_forced : (next : Due) → IsDueNext tree.nodes next → IsForced s.history (End next.node.number next.terminal)
-  due_forced next due =
-      let is = tied.records.each next.node due.node due.found in
-      forced_unjoined s.history unjoined next.node.number due.node.made (End next.node.number next.terminal) is.alive is.made (ap (λ m. due_at due.node.made m next.node.number) (sym is.marks) ∙ ap (option_map (λ t. End next.node.number t)) due.due)
+-- a Connect is forced where its hub waits for it
+connect_due : {h : List Event} {n : ℕ} → IsForced h (Connect n) → IsConnectDue h n
+connect_due (connecting d) = d
+connect_due (due none d) = absurd (elim d [ ])
 
-  pub due_ready : (next : Due) → IsDueNext tree.nodes next → IsPaid s → IsReady s (End next.node.number next.terminal)
-  due_ready next due paid =
-      let f = due_forced next due in
-      record {
-        next = forced f;
-        room = forced_room s (End next.node.number next.terminal) law f paid;
-        notes = let one = told_by_end s.history next.node.number next.terminal in let room = end_room s next.node.number next.terminal f paid in omega arith;
-        pending = paid.pending;
-      }
+-- a key that is among those that are found is found
+found_on : (nodes : Slots Node) (key : Key) (keys : List Key) → AllByRecursion (λ k. IsSome (find nodes k)) keys → is_on key keys ≡ true → IsSome (find nodes key)
+found_on nodes key [] all on = absurd (false≢true on)
+found_on nodes key (k ∷ keys) all on = by_test (is_key key k) refl (found_on nodes key keys all.1) where
+  by_test : (b : Bool) → is_key key k ≡ b → (is_on key keys ≡ true → IsSome (find nodes key)) → IsSome (find nodes key)
+  by_test true here later = ap (λ (x : Key). is_some (find nodes x)) (key_is key k here) ∙ all.0
+  by_test false here later = later (ap (λ b. b || is_on key keys) (sym here) ∙ on)
 
-  -- where nothing is due by any record nothing is forced
-  pub quiet_settled : AllQuiet tree.nodes → IsSettled s.history
-  quiet_settled all = settled_unjoined s.history unjoined (λ n made alive at_n.
-      let has = tied.records.every n alive in
-      let is = tied.records.each has.key has.value has.found in
-      let same : has.value.made ≡ made = same_Some _ _ (sym is.made ∙ ap (slice_get s.history) has.numbered ∙ at_n) in
-      ap (λ (e : Event). due_at e (marks_of s.history n) n) (sym same) ∙ ap (λ (m : ℕ). due_at has.value.made (marks_of s.history m) n) (sym has.numbered) ∙ ap (λ m. due_at has.value.made m n) (sym is.marks) ∙ ap (option_map (λ t. End n t)) (all.quiet has.key has.value has.found))
+module _ {T : Type 0} (g : Ghosts T) (b : Ground T) (tied : AreTied g b.register.history b.tree b.hubs) where
+  -- what is due at a hub comes next
+  pub hub_next : (d : HubDue) → IsDueIn b.hubs.hubs d → ConcernsHub b.hubs.hubs d → IsNext b d
+  hub_next d is concerns = record { forced = hubs_forced b.register.history b.hubs.hubs d tied.published is; there = by_due d concerns } where
+    at_hub : (hub : Hub) → find_hub b.hubs.hubs hub.number ≡ Some hub → (i : ℕ) × (slice_get b.hubs.hubs i ≡ Some hub)
+    at_hub hub found = let f = found_hub b.hubs.hubs hub.number hub found in (f.0, f.1.0)
 
--- nodes that stay, end after end
-pub keeps_end : (k : List Event) (n : ℕ) (t : Terminal) (old mid new : Slots Node) → KeepsNodes k old mid → KeepsNodes (k ++ End n t ∷ []) mid new → KeepsNodes (k ++ End n t ∷ []) old new
-keeps_end k n t old mid new first then = record {
-  from = λ key some. first.from key (then.from key some);
-  still = λ key some alive. then.still key (first.still key some (and_parts (is_open k key.number) _ (sym (is_open_outside-end k n t key.number) ∙ alive)).0) alive;
+    by_due : (d : HubDue) → ConcernsHub b.hubs.hubs d → is_there b.tree.nodes (key_due d) ≡ true
+    by_due (ConnectDue n) c = refl
+    by_due (EndDue key t) c = let at_i = at_hub c.hub c.there in found_on b.tree.nodes key c.hub.subscribers (tied.joined.subscribers at_i.0 c.hub at_i.1) c.own
+    by_due (CloseDue key) c =
+        let at_i = at_hub c.hub c.there in
+        subst (λ (o : Option Key). IfSome o (λ k. IsSome (find b.tree.nodes k))) c.own (tied.joined.connection at_i.0 c.hub at_i.1)
+
+  module _ (quiet : IsQuiet b.hubs.hubs) where
+    connected : IsConnected b.register.history
+    connected = none_waits b.register.history b.hubs.hubs tied.published quiet.connected
+
+    -- and where nothing is, what is due by a record
+    pub node_next : (next : Due) → IsDueNext b.tree.nodes next → IsNext b (EndDue next.node next.terminal)
+    node_next next is_due =
+        let is = tied.of_tree.records.each next.node is_due.node is_due.found in
+        record {
+          forced = due_at_forced b.register.history next.node.number is_due.node.made (End next.node.number next.terminal) connected is.alive is.made
+              (ap (λ m. due_at is_due.node.made m next.node.number) (sym is.marks) ∙ ap (option_map (λ t. End next.node.number t)) is_due.due);
+          there = ap is_some is_due.found;
+        }
+
+    -- and where nothing is either, nothing is forced
+    pub quiet_settled : AllQuiet b.tree.nodes → IsSettled b.register.history
+    quiet_settled all = settled_by_marks b.register.history connected
+        (λ n t alive. none_cut b.register.history b.hubs.hubs tied.published quiet n t alive) (none_left b.register.history b.hubs.hubs tied.published quiet)
+        (λ n made alive at_n.
+        let has = tied.of_tree.records.every n alive in
+        let is = tied.of_tree.records.each has.key has.value has.found in
+        let same : has.value.made ≡ made = same_Some _ _ (sym is.made ∙ ap (slice_get b.register.history) has.numbered ∙ at_n) in
+        ap (λ (e : Event). due_at e (marks_of b.register.history n) n) (sym same) ∙ ap (λ (m : ℕ). due_at has.value.made (marks_of b.register.history m) n) (sym has.numbered) ∙
+        ap (λ m. due_at has.value.made m n) (sym is.marks) ∙ ap (option_map (λ t. End n t)) (all.quiet has.key has.value has.found))
+
+  -- what comes next may be written
+  pub next_ready : (d : HubDue) → IsLawful b.register.history → IsNext b d → IsPaid b.register → IsReady b.register (event_of d)
+  next_ready d law next paid = record {
+    next = forced next.forced;
+    room = forced_room b.register (event_of d) law next.forced paid;
+    notes = by_due d next.forced;
+    pending = paid.pending;
+  }
+    where
+      by_due : (d : HubDue) → IsForced b.register.history (event_of d) → length (mail_of b.register.history (event_of d)) ≤ b.register.mail_room
+      by_due (ConnectDue n) f = omega arith
+      by_due (EndDue key t) f = let one = told_by_end b.register.history key.number t in let room = end_room b.register key.number t f paid in omega arith
+      by_due (CloseDue key) f = omega arith
+
+-- nodes that stay, change after change ---------------------------------------------------------------
+
+-- what is open after one event more was open before
+open_before : (h : List Event) (e : Event) (n : ℕ) → n < length h → is_open (h ++ e ∷ []) n ≡ true → is_open h n ≡ true
+open_before h e n l alive = by_test (is_open h n) refl where
+  by_test : (b : Bool) → is_open h n ≡ b → b ≡ true
+  by_test true was = refl
+  by_test false was = absurd (false≢true (sym (stays_closed h e n l was) ∙ alive))
+
+older_on : (h : List Event) (e : Event) (number : ℕ) (old mid new : Slots Node) → number ≤ length h → ((key : Key) → IsSome (find old key) → key.number < length h) →
+    KeepsOlder h number old mid → KeepsOlder (h ++ e ∷ []) (length h) mid new → KeepsOlder (h ++ e ∷ []) number old new
+older_on h e number old mid new le within first then = record {
+  from = λ key some l. first.from key (then.from key some (omega arith)) l;
+  still = λ key some alive. then.still key (first.still key some (open_before h e key.number (within key some) alive)) alive;
 }
+
+-- and nodes of which none came
+pub none_newer : {h : List Event} {old new : Slots Node} (number : ℕ) → KeepsNodes h old new → KeepsOlder h number old new
+none_newer number kept = record { from = λ key some l. kept.from key some; still = kept.still }
 
 -- the loop that settles -----------------------------------------------------------------------------
 
@@ -101,28 +160,46 @@ keeps_end k n t old mid new first then = record {
 pub record IsOnTheWay {T : Type 0} (g : Ghosts T) (start now : Ground T) : Type 0 where
   pub tied : AreTied g now.register.history now.tree now.hubs
   pub paid : IsPaid now.register
-  pub unjoined : list_all joins_no_hub now.register.history ≡ true
+  pub room : HasRoomToConnect now.register.history now.tree.nodes.room now.space
   pub forced : IsForcedOn start.register.history now.register.history
-  pub nodes : KeepsNodes now.register.history start.tree.nodes now.tree.nodes
+  pub grown : length start.register.history ≤ length now.register.history
+  pub within : (key : Key) → IsSome (find start.tree.nodes key) → key.number < length now.register.history
+  pub nodes : KeepsOlder now.register.history (length start.register.history) start.tree.nodes now.tree.nodes
   pub resources : now.tree.resources ≡ start.tree.resources
-  pub hubs : now.hubs ≡ start.hubs
+  pub hubs : length now.hubs.hubs ≡ length start.hubs.hubs
   pub limit : now.register.limit ≡ start.register.limit
   pub given : now.register.given ≡ start.register.given
   pub memory : TakesNoMemory start now
 
-pub way_starts : {T : Type 0} (g : Ghosts T) (b : Ground T) → AreTied g b.register.history b.tree b.hubs → IsPaid b.register → list_all joins_no_hub b.register.history ≡ true → IsOnTheWay g b b
-way_starts g b tied paid unjoined = record { tied = tied; paid = paid; unjoined = unjoined; forced = stays; nodes = record { from = λ key some. some; still = λ key some alive. some }; resources = refl; hubs = refl; limit = refl; given = refl; memory = record { events = refl; notes = refl; nodes = refl; resources = refl; hubs = refl; slots = refl; closing = refl } }
+pub way_starts : {T : Type 0} (g : Ghosts T) (b : Ground T) → AreTied g b.register.history b.tree b.hubs → IsPaid b.register →
+    HasRoomToConnect b.register.history b.tree.nodes.room b.space → IsOnTheWay g b b
+way_starts g b tied paid room = record {
+  tied = tied;
+  paid = paid;
+  room = room;
+  forced = stays;
+  grown = omega arith;
+  within = λ key some. let x = some_of (find b.tree.nodes key) some in is_open_within b.register.history key.number (tied.of_tree.records.each key x.0 x.1).alive;
+  nodes = record { from = λ key some l. some; still = λ key some alive. some };
+  resources = refl;
+  hubs = refl;
+  limit = refl;
+  given = refl;
+  memory = record { events = refl; notes = refl; nodes = refl; resources = refl; hubs = refl; slots = refl; closing = refl };
+}
 
 -- another chain is no other way
 pub way_rechained : {T : Type 0} (g : Ghosts T) (start old new : Ground T) → IsOnTheWay g start old → WithChain old new → AreTied g new.register.history new.tree new.hubs → IsOnTheWay g start new
 way_rechained {T = T} g start old new w kept tied = record {
   tied = tied;
   paid = subst IsPaid (sym register) w.paid;
-  unjoined = ap (λ (s : Register). list_all joins_no_hub s.history) register ∙ w.unjoined;
+  room = subst (λ (b : Ground T). HasRoomToConnect b.register.history b.tree.nodes.room b.space) (sym kept.same) w.room;
   forced = subst (λ (s : Register). IsForcedOn start.register.history s.history) (sym register) w.forced;
-  nodes = subst (λ (ns : Slots Node). KeepsNodes new.register.history start.tree.nodes ns) (sym (ap (λ (b : Ground T). b.tree.nodes) kept.same)) (subst (λ (s : Register). KeepsNodes s.history start.tree.nodes old.tree.nodes) (sym register) w.nodes);
+  grown = let l = ap (λ (s : Register). length s.history) register in let n = w.grown in omega arith;
+  within = λ key some. let l = ap (λ (s : Register). length s.history) register in let n = w.within key some in omega arith;
+  nodes = subst (λ (b : Ground T). KeepsOlder b.register.history (length start.register.history) start.tree.nodes b.tree.nodes) (sym kept.same) w.nodes;
   resources = ap (λ (b : Ground T). b.tree.resources) kept.same ∙ w.resources;
-  hubs = ap (λ (b : Ground T). b.hubs) kept.same ∙ w.hubs;
+  hubs = ap (λ (b : Ground T). length b.hubs.hubs) kept.same ∙ w.hubs;
   limit = ap (λ (s : Register). s.limit) register ∙ w.limit;
   given = ap (λ (s : Register). s.given) register ∙ w.given;
   memory = subst (TakesNoMemory start) (sym kept.same) (record { events = w.memory.events; notes = w.memory.notes; nodes = w.memory.nodes; resources = w.memory.resources; hubs = w.memory.hubs; slots = w.memory.slots; closing = w.memory.closing });
@@ -131,23 +208,36 @@ way_rechained {T = T} g start old new w kept tied = record {
     register : new.register ≡ old.register
     register = ap (λ (b : Ground T). b.register) kept.same
 
--- one more forced end
-pub way_on : {T : Type 0} (g : Ghosts T) (start old new : Ground T) (next : Due) → IsOnTheWay g start old → IsLawful old.register.history → IsDueNext old.tree.nodes next → Writes old.register (End next.node.number next.terminal ∷ []) new.register → AreTied g new.register.history new.tree new.hubs → KeepsNodes new.register.history old.tree.nodes new.tree.nodes → new.tree.resources ≡ old.tree.resources → new.hubs ≡ left_inside old.register.history next.node.number (end_by (length old.register.history) (End next.node.number next.terminal)) old.hubs → TakesNoMemory old new → IsOnTheWay g start new
-way_on g start old new next w law due written tied kept resources hubs memory = record {
+-- what comes next, if it is a Connect, has room
+pub next_room : {T : Type 0} (b : Ground T) (d : HubDue) → IsNext b d → HasRoomToConnect b.register.history b.tree.nodes.room b.space →
+    (n : ℕ) → d ≡ ConnectDue n → (0 < b.tree.nodes.room) × (0 < b.space)
+next_room b d next room n is = room n (connect_due (subst (λ (x : HubDue). IsForced b.register.history (event_of x)) is next.forced))
+
+-- one event more
+pub way_on : {T : Type 0} (g : Ghosts T) (start old new : Ground T) (d : HubDue) → IsOnTheWay g start old → IsLawful old.register.history → IsNext old d →
+    Writes old.register (event_of d ∷ []) new.register → AreTied g new.register.history new.tree new.hubs →
+    KeepsOlder new.register.history (length old.register.history) old.tree.nodes new.tree.nodes → new.tree.resources ≡ old.tree.resources →
+    length new.hubs.hubs ≡ length old.hubs.hubs → TakesNoMemory old new → IsOnTheWay g start new
+way_on g start old new d w law next written tied kept resources hubs memory = record {
   tied = tied;
-  paid = forced_pays old.register new.register (End next.node.number next.terminal) law f w.paid written;
-  unjoined = ap (list_all joins_no_hub) written.history ∙ unjoined-push old.register.history (End next.node.number next.terminal) w.unjoined refl;
-  forced = subst (IsForcedOn start.register.history) (sym written.history) (more w.forced f);
-  nodes = subst (λ (k : List Event). KeepsNodes k start.tree.nodes new.tree.nodes) (sym written.history) (keeps_end old.register.history next.node.number next.terminal start.tree.nodes old.tree.nodes new.tree.nodes w.nodes (subst (λ (k : List Event). KeepsNodes k old.tree.nodes new.tree.nodes) written.history kept));
+  paid = forced_pays old.register new.register (event_of d) law next.forced w.paid written;
+  room = λ n waits. absurd (forced_connected old.register.history (event_of d) w.paid.waits w.paid.may_wait next.forced n
+      (subst (λ (k : List Event). IsConnectDue k n) written.history waits));
+  forced = subst (IsForcedOn start.register.history) (sym written.history) (more w.forced next.forced);
+  grown = let n = w.grown in let l = longer in omega arith;
+  within = λ key some. let n = w.within key some in let l = longer in omega arith;
+  nodes = subst (λ (k : List Event). KeepsOlder k (length start.register.history) start.tree.nodes new.tree.nodes) (sym written.history)
+      (older_on old.register.history (event_of d) (length start.register.history) start.tree.nodes old.tree.nodes new.tree.nodes w.grown w.within w.nodes
+      (subst (λ (k : List Event). KeepsOlder k (length old.register.history) old.tree.nodes new.tree.nodes) written.history kept));
   resources = resources ∙ w.resources;
-  hubs = hubs ∙ (λ i. record old.hubs { hubs = all_unchanged old.register.history w.unjoined (is_inside old.register.history next.node.number) (end_by (length old.register.history) (End next.node.number next.terminal)) old.hubs.hubs w.tied.published.each i }) ∙ w.hubs;
+  hubs = hubs ∙ w.hubs;
   limit = written.limit ∙ w.limit;
   given = written.given ∙ w.given;
   memory = memory_on start old new w.memory memory;
 }
   where
-    f : IsForced old.register.history (End next.node.number next.terminal)
-    f = due_forced g old.register old.tree w.tied.of_tree w.unjoined law next due
+    longer : length new.register.history ≡ length old.register.history + 1
+    longer = ap (λ (k : List Event). length k) written.history ∙ length-append old.register.history (event_of d ∷ [])
 
 -- the chain -----------------------------------------------------------------------------------------
 

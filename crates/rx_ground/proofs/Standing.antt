@@ -1,6 +1,5 @@
 -- A ground that has just been made stands, and one that stands does so with more room.
 use Rattle.std.proofs.Common.{◌≡◌, ℕ, List, [], get_or, slice_get, Option, None, sym, ap, subst, ◌∙◌, arith, is_some}
-use Rattle.std.specs.List.{list_all}
 use Rattle.std.proofs.lemmas.Bool.{both_ways, false≢true}
 use Rattle.std.proofs.lemmas.Option.{none-some}
 use Rattle.rx_resource.specs.declared.Resource.{Ghosts}
@@ -19,7 +18,7 @@ use Rattle.rx_register.specs.State.{State as Register}
 use Rattle.rx_register.proofs.Laws.Empty.{settled_empty, paid_empty}
 use Rattle.rx_ground.specs.Shown.{Ground}
 use Rattle.rx_hub.specs.Hubs.{Hub, Hubs}
-use Rattle.rx_ground.specs.Ties.{HasKey, AreRecords, IsStored, IsTied, AreTied, IsStanding, IsRoomier, joins_no_hub}
+use Rattle.rx_ground.specs.Ties.{HasKey, AreRecords, IsStored, IsTied, AreTied, IsStanding, IsRoomier}
 use Rattle.rx_ground.proofs.Published.{tied_beside}
 
 -- slots of the same entries find the same
@@ -68,7 +67,6 @@ module _ {T : Type 0} (g : Ghosts T) where
     tied = subst (λ (h : List Event). AreTied g h b.tree b.hubs) (sym empty) (hubs_empty b.tree b.hubs none (tied_empty b.tree nodes resources));
     settled = subst IsSettled (sym empty) settled_empty;
     paid = paid_empty b.register empty told;
-    unjoined = ap (list_all joins_no_hub) empty;
   }
 
   -- a tree of the same entries and chain
@@ -117,7 +115,6 @@ module _ {T : Type 0} (g : Ghosts T) where
       notes = let o = ap (λ (h : List Event). open_count h) history in let n = s.paid.notes in let m = more.mail_room in omega arith;
       pending = ap (λ (r : Register). r.pending) more.register ∙ s.paid.pending;
     };
-    unjoined = ap (list_all joins_no_hub) history ∙ s.unjoined;
   }
     where
       history : new.register.history ≡ old.register.history

@@ -1,16 +1,15 @@
 -- How a tree and hubs are tied to the history beside them, and what each write asks for and changes.
 use Rattle.std.specs.Prelude.{◌≡◌, ℕ, ◌+◌, ◌<◌, ◌≤◌, cond, map, length, Bool, true, false, Option, Some, None, is_some, IsSome, IfSome, List, []}
 use Rattle.std.specs.Prelude.{slice_get}
-use Rattle.std.specs.List.{AllByRecursion, list_all, list_any, Contains}
+use Rattle.std.specs.List.{AllByRecursion, list_any, Contains}
 use Rattle.std.specs.Option.{option_map_or}
 use Rattle.rx_resource.specs.declared.Resource.{Ghosts}
 use Rattle.rx_resource.specs.declared.Life.TheVariants.{Live}
 use Rattle.rx_event.specs.declared.marks.Marks.{Marks}
 use Rattle.rx_event.specs.declared.event.Place.{Place}
 use Rattle.rx_event.specs.declared.event.Place.TheVariants.{Root, Source, Inner, Notifier}
-use Rattle.rx_event.specs.declared.event.Kind.TheVariants.{Sub}
 use Rattle.rx_event.specs.declared.event.Event.{Event}
-use Rattle.rx_event.specs.declared.event.Event.TheVariants.{Open, Connect, Accept}
+use Rattle.rx_event.specs.declared.event.Event.TheVariants.{Accept}
 use Rattle.rx_event.specs.Events.{makes_resource, is_remove_of, is_take_of}
 use Rattle.rx_event.specs.Tree.{at, is_open}
 use Rattle.rx_event.specs.Resources.{uses}
@@ -18,7 +17,7 @@ use Rattle.rx_event.specs.Marks.{marks_of, due_at, terminal_due, after_source, a
 use Rattle.rx_event.specs.Notes.{mail_of}
 use Rattle.rx_event.specs.Totals.{debt, open_count}
 use Rattle.rx_event.specs.Lawful.{MayFollow}
-use Rattle.rx_event.specs.Forced.{IsSettled}
+use Rattle.rx_event.specs.Forced.{IsConnectDue, IsForced, IsSettled}
 use Rattle.rx_slots.specs.declared.Key.{Key}
 use Rattle.rx_slots.specs.Slots.{Slots, find}
 use Rattle.rx_tree.specs.declared.node.Node.{Node}
@@ -28,9 +27,12 @@ use Rattle.rx_tree.specs.Below.{is_below}
 use Rattle.rx_tree.specs.Closing.{outside}
 use Rattle.rx_tree.specs.Resources.{is_held_at}
 use Rattle.rx_tree.specs.Tree.{Tree, Rewrites, is_on, with_last, with_marks}
+use Rattle.rx_hub.specs.declared.hub.HubDue.{HubDue}
+use Rattle.rx_hub.specs.declared.hub.HubDue.TheVariants.{Connect as ConnectDue, End as EndDue, Close as CloseDue}
 use Rattle.rx_hub.specs.declared.hub.LastEnd.{LastEnd}
 use Rattle.rx_hub.specs.After.{is_inside}
 use Rattle.rx_hub.specs.Closing.{without_gone}
+use Rattle.rx_hub.specs.Due.{event_of}
 use Rattle.rx_hub.specs.Hubs.{Hub, Hubs}
 use Rattle.rx_hub.specs.Records.{AreHubsOf}
 use Rattle.rx_register.specs.State.{State as Register}
@@ -41,12 +43,6 @@ use Rattle.rx_ground.specs.declared.base.Wanted.{Wanted}
 use Rattle.rx_ground.specs.Shown.{Ground, label_of, label_in, waiting_in}
 
 -- nodes -------------------------------------------------------------------------------------------
-
--- an event that subscribes nobody to a hub and connects none, which are not there so far; a hub may be made
-abbrev pub joins_no_hub : Event → Bool
-joins_no_hub (Open place (Sub g)) = false
-joins_no_hub (Connect g) = false
-joins_no_hub _ = true
 
 -- how an opening at this place marks the node above, where an inner takes the place of an open one or not
 abbrev pub opened_marks : Bool → Place → Marks → Marks
@@ -115,12 +111,11 @@ module _ {T : Type 0} where
     pub published : AreHubsOf h hubs.hubs
     pub joined : AreJoined tree.nodes hubs.hubs
 
-  -- and no rule is left undone, and what closing everything needs is reserved; nobody joined a hub so far
+  -- and no rule is left undone, and what closing everything needs is reserved
   pub record IsStanding (g : Ghosts T) (b : Ground T) : Type 0 where
     pub tied : AreTied g b.register.history b.tree b.hubs
     pub settled : IsSettled b.register.history
     pub paid : IsPaid b.register
-    pub unjoined : list_all joins_no_hub b.register.history ≡ true
 
   -- there may be more room, and nothing else changed
   pub record IsRoomier (old new : Ground T) : Type 0 where
@@ -185,6 +180,11 @@ pub record KeepsNodes (h : List Event) (old new : Slots Node) : Type 0 where
   pub from : (key : Key) → IsSome (find new key) → IsSome (find old key)
   pub still : (key : Key) → IsSome (find old key) → is_open h key.number ≡ true → IsSome (find new key)
 
+-- no node came that is older than this, and those that stay open keep their records' keys
+pub record KeepsOlder (h : List Event) (number : ℕ) (old new : Slots Node) : Type 0 where
+  pub from : (key : Key) → IsSome (find new key) → key.number < number → IsSome (find old key)
+  pub still : (key : Key) → IsSome (find old key) → is_open h key.number ≡ true → IsSome (find new key)
+
 -- a node came under this number, and no other
 pub record IsNewNode (old new : Slots Node) (number : ℕ) (key : Key) : Type 0 where
   pub numbered : key.number ≡ number
@@ -200,6 +200,22 @@ pub record IsDueNext (nodes : Slots Node) (next : Due) : Type 0 where
   pub node : Node
   pub found : find nodes next.node ≡ Some node
   pub due : terminal_due node.made node.marks ≡ Some next.terminal
+
+-- the key of the node that ends or closes by what is due, if one does
+abbrev pub key_due : HubDue → Option Key
+key_due (ConnectDue g) = None
+key_due (EndDue key terminal) = Some key
+key_due (CloseDue key) = Some key
+
+-- where a hub waits for its connection there is room for its node
+abbrev pub HasRoomToConnect : List Event → (room space : ℕ) → Type 0
+HasRoomToConnect h room space = (g : ℕ) → IsConnectDue h g → (0 < room) × (0 < space)
+
+module _ {T : Type 0} where
+  -- it is forced, and the node that ends or closes by it is there
+  pub record IsNext (b : Ground T) (due : HubDue) : Type 0 where
+    pub forced : IsForced b.register.history (event_of due)
+    pub there : is_there b.tree.nodes (key_due due) ≡ true
 
 -- the event may be written, and there is room for it and its notes
 pub record IsReady (s : Register) (e : Event) : Type 0 where

@@ -13,7 +13,7 @@ ghost use Rattle.rx_register.specs.Causes.{forces_connect, nodes_opened, added_b
 ghost use Rattle.rx_register.specs.State.{Writes};
 ghost use Rattle.rx_ground.specs.FirstCause.{first_by_key};
 ghost use Rattle.rx_ground.specs.Memory.{TakesNoMemory};
-ghost use Rattle.rx_ground.specs.Ties.{AreTied, IsReady, IsStanding, IsNewNode};
+ghost use Rattle.rx_ground.specs.Ties.{AreTied, IsReady, IsStanding, IsNewNode, KeepsOlder};
 ghost use Rattle.rx_ground.specs.Told.{IsHubTold};
 
 use crate::base::Ground;
@@ -178,6 +178,8 @@ impl<R: Resource> Ground<R> {
         ensures written { Writes self.old.register (Event.Connect hub ∷ []) self.new.register }
         ensures tied { AreTied R.Resource self.new.register.history self.new.tree self.new.hubs }
         ensures new { IsNewNode self.old.tree.nodes self.new.tree.nodes (length self.old.register.history) result }
+        ensures nodes { KeepsOlder self.new.register.history (length self.old.register.history)
+            self.old.tree.nodes self.new.tree.nodes }
         ensures resources { self.new.tree.resources ≡ self.old.tree.resources }
         ensures hubs { self.new.hubs ≡ record self.old.hubs {
           hubs = hubs_after self.old.register.history (Event.Connect hub) result.slot self.old.hubs.hubs;

@@ -1,17 +1,22 @@
-//! What operators still have to do, done.
+//! What operators and hubs still have to do, done.
 
-ghost use Rattle.std.specs.Prelude.{◌≡◌, true, MatchOption};
-ghost use Rattle.std.specs.List.{list_all};
+ghost use Rattle.std.specs.Prelude.{◌≡◌, ◌<◌, ◌∷◌, [], true, length, IfSome, IfNone, MatchOption};
 ghost use Rattle.std.specs.Option.{option_and_then};
 ghost use Rattle.rx_slots.specs.Slots.{find};
+ghost use Rattle.rx_event.specs.Forced.{IsSettled};
 ghost use Rattle.rx_event.specs.Marks.{terminal_due};
 ghost use Rattle.rx_event.specs.Lawful.{IsForcedOn};
 ghost use Rattle.rx_register.specs.Paid.{IsPaid};
-ghost use Rattle.rx_ground.specs.Ties.{AreTied, IsStanding, IsDueNext, KeepsNodes, AllQuiet, WithChain, joins_no_hub};
+ghost use Rattle.rx_register.specs.State.{Writes};
+ghost use Rattle.rx_hub.specs.declared.hub.HubDue.{HubDue};
+ghost use Rattle.rx_hub.specs.Due.{event_of};
+ghost use Rattle.rx_ground.specs.Ties.{AreTied, IsStanding, IsReady, IsDueNext, IsNext, KeepsOlder, AllQuiet, WithChain};
+ghost use Rattle.rx_ground.specs.Ties.{HasRoomToConnect, is_there, key_due};
 ghost use Rattle.rx_ground.specs.Memory.{TakesNoMemory};
 
 use crate::base::Ground;
 use rx_event::Terminal;
+use rx_hub::HubDue;
 use rx_resource::Resource;
 use rx_tree::Key;
 
@@ -49,23 +54,65 @@ impl<R: Resource> Ground<R> {
         None
     }
 
-    /// Writes what is forced until nothing is, where nobody joined a hub so far. It takes no memory.
+    /// What is forced next; None where nothing is. What is due at a hub comes first, since nothing else
+    /// is forced while one waits for its connection.
+    fn next_forced(&mut self) -> Option<HubDue>
+        requires tied { AreTied R.Resource self.old.register.history self.old.tree self.old.hubs }
+        ensures tied { AreTied R.Resource self.new.register.history self.new.tree self.new.hubs }
+        ensures next { MatchOption result (IsSettled self.new.register.history) (IsNext self.new) }
+        ensures kept { WithChain self.old self.new }
+    {
+        if let Some(due) = self.hubs.next_forced() {
+            return Some(due);
+        }
+        match self.next_due() {
+            Some(due) => Some(HubDue::End(due.node, due.terminal)),
+            None => None,
+        }
+    }
+
+    /// Writes what is due: a hub connects, a node ends, or a connection closes.
+    fn write_due(&mut self, due: HubDue)
+        requires tied { AreTied R.Resource self.old.register.history self.old.tree self.old.hubs }
+        requires ready { IsReady self.old.register (event_of due) }
+        requires there { is_there self.old.tree.nodes (key_due due) ≡ true }
+        requires room { (g : _) → due ≡ HubDue.Connect g → (0 < self.old.tree.nodes.room) × (0 < self.old.space) }
+        ensures written { Writes self.old.register (event_of due ∷ []) self.new.register }
+        ensures tied { AreTied R.Resource self.new.register.history self.new.tree self.new.hubs }
+        ensures nodes { KeepsOlder self.new.register.history (length self.old.register.history)
+            self.old.tree.nodes self.new.tree.nodes }
+        ensures resources { self.new.tree.resources ≡ self.old.tree.resources }
+        ensures hubs { length self.new.hubs.hubs ≡ length self.old.hubs.hubs }
+        ensures memory { TakesNoMemory self.old self.new }
+    {
+        match due {
+            HubDue::Connect(hub) => {
+                let _ = self.write_connect(hub);
+            }
+            HubDue::End(node, terminal) => self.write_end(node, terminal),
+            HubDue::Close(connection) => self.write_close(connection),
+        }
+    }
+
+    /// Writes what is forced until nothing is. It takes no memory: for the one connection that may be
+    /// forced there is room.
     pub fn settle(&mut self)
         requires tied { AreTied R.Resource self.old.register.history self.old.tree self.old.hubs }
         requires paid { IsPaid self.old.register }
-        requires unjoined { list_all joins_no_hub self.old.register.history ≡ true }
+        requires room { HasRoomToConnect self.old.register.history self.old.tree.nodes.room self.old.space }
         ensures standing { IsStanding R.Resource self.new }
         ensures forced { IsForcedOn self.old.register.history self.new.register.history }
-        ensures nodes { KeepsNodes self.new.register.history self.old.tree.nodes self.new.tree.nodes }
+        ensures nodes { KeepsOlder self.new.register.history (length self.old.register.history)
+            self.old.tree.nodes self.new.tree.nodes }
         ensures resources { self.new.tree.resources ≡ self.old.tree.resources }
         ensures limit { self.new.register.limit ≡ self.old.register.limit }
         ensures given { self.new.register.given ≡ self.old.register.given }
-        ensures hubs { self.new.hubs ≡ self.old.hubs }
+        ensures hubs { length self.new.hubs.hubs ≡ length self.old.hubs.hubs }
         ensures memory { TakesNoMemory self.old self.new }
     {
-        while let Some(due) = self.next_due() {
+        while let Some(due) = self.next_forced() {
             self.promise();
-            self.write_end(due.node, due.terminal);
+            self.write_due(due);
             self.promise();
         }
         self.promise();

@@ -13,7 +13,7 @@ use Rattle.rx_tree.specs.declared.node.Stowed.{Stowed}
 use Rattle.rx_tree.specs.declared.node.ResKey.{ResKey}
 use Rattle.rx_tree.specs.Tree.{Tree}
 use Rattle.rx_tree.specs.Resources.{store_key, is_held, is_held_at}
-use Rattle.rx_ground.specs.Ties.{IsTied, KeepsNodes, KeepsHeld, IsNewNode}
+use Rattle.rx_ground.specs.Ties.{IsTied, KeepsNodes, KeepsOlder, KeepsHeld, IsNewNode}
 use Rattle.rx_ground.proofs.Stored.{stored_within}
 
 module _ {T : Type 0} where
@@ -64,13 +64,22 @@ module _ {T : Type 0} where
     held = λ res held l. ap (λ (tree : Tree T). is_held_at tree res) (sym same) ∙ held;
   }
 
-  -- an opening: each resource is held at an older node
-  pub keeps_opened : (g : Ghosts T) (h : List Event) (old new : Tree T) (key : Key) → IsLawful h → IsTied g h old →
-      IsNewNode old.nodes new.nodes (length h) key → new.resources ≡ old.resources → KeepsKeys old new (length h)
-  keeps_opened g h old new key law tied opened same = record {
-    nodes = opened.from;
-    held = λ res held l. held_before old new same res (λ s found there. opened.from s.node there (older (store_key res) s found)) held;
+  -- an opening, or more than one: each resource is held at an older node
+  pub keeps_older : (g : Ghosts T) (h : List Event) (old new : Tree T) → IsLawful h → IsTied g h old →
+      ((key : Key) → IsSome (find new.nodes key) → key.number < length h → IsSome (find old.nodes key)) → new.resources ≡ old.resources → KeepsKeys old new (length h)
+  keeps_older g h old new law tied from same = record {
+    nodes = from;
+    held = λ res held l. held_before old new same res (λ s found there. from s.node there (older (store_key res) s found)) held;
   }
     where
       older : (k : Key) (s : Stowed T) → find old.resources k ≡ Some s → s.node.number < length h
       older k s found = let w = stored_within g h law old.nodes k.number s (tied.stored.each k s found) in let r = w.0 in let n = w.1 in omega arith
+
+  pub keeps_opened : (g : Ghosts T) (h : List Event) (old new : Tree T) (key : Key) → IsLawful h → IsTied g h old →
+      IsNewNode old.nodes new.nodes (length h) key → new.resources ≡ old.resources → KeepsKeys old new (length h)
+  keeps_opened g h old new key law tied opened same = keeps_older g h old new law tied opened.from same
+
+  -- and what was forced
+  pub keeps_settled : (g : Ghosts T) (h k : List Event) (old new : Tree T) → IsLawful h → IsTied g h old →
+      KeepsOlder k (length h) old.nodes new.nodes → new.resources ≡ old.resources → KeepsKeys old new (length h)
+  keeps_settled g h k old new law tied kept same = keeps_older g h old new law tied kept.from same

@@ -34,7 +34,8 @@ use Rattle.rx_tree.specs.declared.node.ResKey.{ResKey}
 use Rattle.rx_tree.specs.Resources.{is_held_at}
 use Rattle.rx_tree.proofs.Laws.Keys.{some_of}
 use Rattle.rx_ground.specs.Shown.{Ground}
-use Rattle.rx_ground.specs.Ties.{IsTied, KeepsNodes, joins_no_hub}
+use Rattle.rx_ground.specs.Ties.{IsTied, KeepsOlder}
+use Rattle.rx_ground.proofs.Laws.Unjoined.{joins_no_hub}
 use Rattle.rx_ground.proofs.Unjoined.{settled_unjoined}
 use Rattle.rx_ground.proofs.Laws.KeysKept.{held_before}
 
@@ -166,7 +167,7 @@ unforced settled (more {e = e} on f) = absurd (settled.none e (subst (λ (k : Li
 -- what stays --------------------------------------------------------------------------------------
 
 module _ {T : Type 0} (g : Ghosts T) (mid new : Ground T) (tied : IsTied g mid.register.history mid.tree) (settled : IsSettled mid.register.history)
-    (on : IsForcedOn mid.register.history new.register.history) (nodes : KeepsNodes new.register.history mid.tree.nodes new.tree.nodes) where
+    (on : IsForcedOn mid.register.history new.register.history) (number : ℕ) (nodes : KeepsOlder new.register.history number mid.tree.nodes new.tree.nodes) where
   pub node_stays : (key : Key) → IsSome (find mid.tree.nodes key) → IsSome (find new.tree.nodes key)
   node_stays key there =
       let x = some_of (find mid.tree.nodes key) there in

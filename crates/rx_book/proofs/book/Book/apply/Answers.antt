@@ -9,7 +9,7 @@ use Rattle.rx_book.specs.Answers.{AnswersWord}
 use Rattle.rx_book.specs.Shown.{state_of}
 use Rattle.rx_book.proofs.Answered.{answers_ok, passed_refusal}
 use Rattle.rx_book.proofs.CausesByKey.{first_by_res_key, refused_for}
-use Rattle.rx_book.proofs.Called.{IsLetIn, let_in_roomy, state_roomier, one_ready, pays, unjoins, accepts}
+use Rattle.rx_book.proofs.Called.{IsLetIn, let_in_roomy, state_roomier, one_ready, pays, connects_none, accepts}
 use Rattle.rx_book.proofs.book.Book.apply.Given as given
 use Rattle.rx_book.proofs.book.Book.apply.Goals as goal
 use Rattle.rx_book.proofs.book.Book.apply.Goals.{After-promise}
@@ -32,7 +32,7 @@ called g c =
     let stand = causes old.register.history old.register.limit true (Applying c.args.res.number) in
     let first = first_by_res_key old.tree stand c.applying_cause-cause.result c.args.res (rw c.tree_res_key-key.ensures at c.applying_cause-cause.ensures) in
     let a = c.in_ok-admit.ensures in
-    let_in_roomy g.R.Resource old c.admit.new.ground (λ (s : State). apply_request s c.args.res) _ a.kept a.standing c.promise.ensures.register
+    let_in_roomy g.R.Resource old c.admit.new.ground (λ (s : State). apply_request s c.args.res) _ a.kept c.self.invariant.1 a.standing c.promise.ensures.register
     (first ∙ a.none) tt a.ok (omega arith) (omega arith)
 
 pub write_use-answer-requires-clause-ready : goal.write_use-answer-requires-clause-ready
@@ -45,10 +45,10 @@ settle-requires-clause-paid g c κs within =
     let l = called g (goal.at.settle-requires-clause-paid g c).After-promise in
     pays g.R.Resource c.admit.new.ground _ l c.write_use-answer.new.self.register (rw c.tree_res_key-key.ensures at c.write_use-answer.ensures.written)
 
-pub settle-requires-clause-unjoined : goal.settle-requires-clause-unjoined
-settle-requires-clause-unjoined g c κs within =
-    let l = called g (goal.at.settle-requires-clause-unjoined g c).After-promise in
-    unjoins g.R.Resource c.admit.new.ground _ l c.write_use-answer.new.self.register (rw c.tree_res_key-key.ensures at c.write_use-answer.ensures.written) refl
+pub settle-requires-clause-room : goal.settle-requires-clause-room
+settle-requires-clause-room g c κs within =
+    let l = called g (goal.at.settle-requires-clause-room g c).After-promise in
+    connects_none g.R.Resource c.admit.new.ground _ l c.write_use-answer.new.self.register (rw c.tree_res_key-key.ensures at c.write_use-answer.ensures.written) refl
 
 pub returns : goal.returns
 returns g c =
@@ -61,7 +61,7 @@ returns g c =
     let w = rw c.tree_res_key-key.ensures at u.written in
     let l = called g (goal.at.returns g c).After-promise in
     let kept = keeps_held b.tree mid.tree (length b.register.history) u.nodes u.kept in
-    let done = accepts R b _ l mid new w kept s.standing s.forced s.nodes s.resources s.limit s.given in
+    let done = accepts R b _ l mid new w kept c.write_use-answer.ensures.tied.of_tree s.standing s.forced s.nodes s.resources s.limit s.given in
     let same = state_roomier R c.self.inside.ground b c.admit.ensures.kept in
     subst (λ (x : State). AnswersWord x (apply_request x c.args.res) (state_of R new) (Ok c.write_use-answer.result)) (same ∙ c.self.view_is)
     (answers_ok tt done)

@@ -6,7 +6,7 @@ use Rattle.rx_book.specs.Requests.{dispose_request}
 use Rattle.rx_book.specs.Shown.{state_of}
 use Rattle.rx_book.proofs.Answered.{answers_ok, answers_err}
 use Rattle.rx_book.proofs.CausesByKey.{first_by_key}
-use Rattle.rx_book.proofs.Called.{IsLetIn, let_in_free, one_ready, pays, unjoins, accepts}
+use Rattle.rx_book.proofs.Called.{IsLetIn, let_in_free, one_ready, pays, connects_none, accepts}
 use Rattle.rx_book.proofs.book.Book.dispose.Given as given
 use Rattle.rx_book.proofs.book.Book.dispose.Goals as goal
 use Rattle.rx_book.proofs.book.Book.dispose.Goals.{In_default}
@@ -23,7 +23,7 @@ called g c =
     let b = c.self.inside.ground in
     let stand = causes b.register.history b.register.limit true (Disposing c.args.root.number) in
     let first = first_by_key b.tree stand None c.args.root (rw c.tree_key-key.ensures at c.in_default.ensures) in
-    let_in_free g.R.Resource b _ c.self.invariant.0 c.promise.ensures.register first tt refl refl
+    let_in_free g.R.Resource b _ c.self.invariant.0 c.self.invariant.1 c.promise.ensures.register first tt refl refl
 
 pub write_close-requires-clause-ready : goal.write_close-requires-clause-ready
 write_close-requires-clause-ready g c κs within =
@@ -35,10 +35,10 @@ settle-requires-clause-paid g c κs within =
     let l = called g (goal.at.settle-requires-clause-paid g c).In_default in
     pays g.R.Resource c.self.inside.ground _ l c.write_close.new.self.register (rw c.tree_key-key.ensures at c.write_close.ensures.written)
 
-pub settle-requires-clause-unjoined : goal.settle-requires-clause-unjoined
-settle-requires-clause-unjoined g c κs within =
-    let l = called g (goal.at.settle-requires-clause-unjoined g c).In_default in
-    unjoins g.R.Resource c.self.inside.ground _ l c.write_close.new.self.register (rw c.tree_key-key.ensures at c.write_close.ensures.written) refl
+pub settle-requires-clause-room : goal.settle-requires-clause-room
+settle-requires-clause-room g c κs within =
+    let l = called g (goal.at.settle-requires-clause-room g c).In_default in
+    connects_none g.R.Resource c.self.inside.ground _ l c.write_close.new.self.register (rw c.tree_key-key.ensures at c.write_close.ensures.written) refl
 
 pub returns : goal.returns
 returns g c =
@@ -48,6 +48,6 @@ returns g c =
     let s = c.settle.ensures in
     let l = called g (goal.at.returns g c).In_default in
     let kept = keeps_closed mid.register.history b.tree mid.tree (length b.register.history) w.kept w.resources in
-    let done = accepts g.R.Resource b _ l mid c.settle.new.self (rw c.tree_key-key.ensures at w.written) kept
+    let done = accepts g.R.Resource b _ l mid c.settle.new.self (rw c.tree_key-key.ensures at w.written) kept w.tied.of_tree
     s.standing s.forced s.nodes s.resources s.limit s.given in
     rw (← c.self.view_is) (answers_ok c.len-place.ensures done)

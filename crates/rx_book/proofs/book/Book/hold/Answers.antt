@@ -9,7 +9,7 @@ use Rattle.rx_book.specs.Answers.{AnswersResKey}
 use Rattle.rx_book.specs.Shown.{state_of}
 use Rattle.rx_book.proofs.Answered.{answers_ok, answers_err}
 use Rattle.rx_book.proofs.CausesByKey.{first_by_key, refused_for}
-use Rattle.rx_book.proofs.Called.{IsLetIn, let_in_roomy, state_roomier, rests, one_ready, pays, unjoins, accepts}
+use Rattle.rx_book.proofs.Called.{IsLetIn, let_in_roomy, state_roomier, rests, one_ready, pays, unjoined, connects_none, accepts}
 use Rattle.rx_book.proofs.Listed.{res_key_listed}
 use Rattle.rx_book.proofs.book.Book.hold.Given as given
 use Rattle.rx_book.proofs.book.Book.hold.Goals as goal
@@ -35,7 +35,7 @@ called g c =
     let cause = c.holding_cause-cause.result in
     let first = first_by_key old.tree stand cause c.args.node (rw (c.tree_key-key.ensures, c.is_fresh-fresh.ensures) at c.holding_cause-cause.ensures) in
     let a = c.in_default.ensures in
-    let_in_roomy g.R.Resource old c.admit.new.ground asked _ a.kept a.standing c.promise.ensures.register (first ∙ a.none) tt a.ok (omega arith) (omega arith)
+    let_in_roomy g.R.Resource old c.admit.new.ground asked _ a.kept c.self.invariant.1 a.standing c.promise.ensures.register (first ∙ a.none) tt a.ok (omega arith) (omega arith)
 
 pub write_accept-res-requires-clause-ready : goal.write_accept-res-requires-clause-ready
 write_accept-res-requires-clause-ready g c κs within =
@@ -47,10 +47,10 @@ settle-requires-clause-paid g c κs within =
     let l = called g (goal.at.settle-requires-clause-paid g c).After-promise in
     pays g.R.Resource c.admit.new.ground _ l c.write_accept-res.new.self.register (rw c.tree_key-key.ensures at c.write_accept-res.ensures.written)
 
-pub settle-requires-clause-unjoined : goal.settle-requires-clause-unjoined
-settle-requires-clause-unjoined g c κs within =
-    let l = called g (goal.at.settle-requires-clause-unjoined g c).After-promise in
-    unjoins g.R.Resource c.admit.new.ground _ l c.write_accept-res.new.self.register (rw c.tree_key-key.ensures at c.write_accept-res.ensures.written) refl
+pub settle-requires-clause-room : goal.settle-requires-clause-room
+settle-requires-clause-room g c κs within =
+    let l = called g (goal.at.settle-requires-clause-room g c).After-promise in
+    connects_none g.R.Resource c.admit.new.ground _ l c.write_accept-res.new.self.register (rw c.tree_key-key.ensures at c.write_accept-res.ensures.written) refl
 
 pub returns : goal.returns
 returns g c =
@@ -63,10 +63,10 @@ returns g c =
     let w = rw c.tree_key-key.ensures at a.written in
     let l = called g (goal.at.returns g c).After-promise in
     let n = length b.register.history in
-    let rest = rests R b.register mid _ l.may.lawful l.may.settled l.standing.unjoined (one_ready R b _ l _ refl) w refl refl (λ n. refl) in
+    let rest = rests R b.register mid _ l.may.lawful l.may.settled (unjoined R b _ l) (one_ready R b _ l _ refl) w refl refl (λ n. refl) in
     let key = res_key_listed R mid new a.tied.of_tree rest.1 s.forced s.nodes n c.write_accept-res.result c.shown_res_key.result c.shown_res_key.ensures s.resources
     a.number a.held in
-    let done = accepts R b _ l mid new w (keeps_held b.tree mid.tree n a.nodes a.kept) s.standing s.forced s.nodes s.resources s.limit s.given in
+    let done = accepts R b _ l mid new w (keeps_held b.tree mid.tree n a.nodes a.kept) a.tied.of_tree s.standing s.forced s.nodes s.resources s.limit s.given in
     let same = state_roomier R c.self.inside.ground b c.admit.ensures.kept in
     subst (λ (x : State). AnswersResKey x (hold_request R x c.args.node c.args.resource) c.args.resource (state_of R new) (Ok c.shown_res_key.result))
     (same ∙ c.self.view_is) (answers_ok key done)

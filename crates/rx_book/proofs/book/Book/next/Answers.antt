@@ -15,7 +15,7 @@ use Rattle.rx_book.specs.Answers.{AnswersPlaceOrWant}
 use Rattle.rx_book.specs.Shown.{state_of}
 use Rattle.rx_book.proofs.Answered.{answers_ok, passed_refusal}
 use Rattle.rx_book.proofs.CausesByKey.{first_by_key}
-use Rattle.rx_book.proofs.Called.{IsLetIn, within_full, let_in_roomy, state_roomier, one_ready, pays, unjoins, accepts}
+use Rattle.rx_book.proofs.Called.{IsLetIn, within_full, let_in_roomy, state_roomier, one_ready, pays, connects_none, accepts}
 use Rattle.rx_book.proofs.Emitted.{reach_roomier, roomier_after}
 use Rattle.rx_book.proofs.book.Book.next.Given as given
 use Rattle.rx_book.proofs.book.Book.next.Goals as goal
@@ -72,7 +72,7 @@ called g c =
     let is = rw c.tree_key-key.ensures at (reached g c) in
     let added = added_by-emitting b.register.history b.tree.nodes _ c.args.value c.in_ok-reach.reach is in
     let told = is.notes c.args.value in
-    let_in_roomy g.R.Resource old b (λ (s : State). next_request s c.args.leaf c.args.value) _ (roomier g c) m.standing c.promise.ensures.register first tt m.ok
+    let_in_roomy g.R.Resource old b (λ (s : State). next_request s c.args.leaf c.args.value) _ (roomier g c) c.self.invariant.1 m.standing c.promise.ensures.register first tt m.ok
     (omega arith) (omega arith)
 
 pub write_item-requires-clause-ready : goal.write_item-requires-clause-ready
@@ -88,10 +88,10 @@ settle-requires-clause-paid g c κs within =
     let l = called g (goal.at.settle-requires-clause-paid g c).After-promise in
     pays g.R.Resource c.make_room.new.self _ l c.write_item.new.self.register (rw (c.tree_key-key.ensures, to_z-of_z w64 c.args.value c.ranges.value) at c.write_item.ensures.written)
 
-pub settle-requires-clause-unjoined : goal.settle-requires-clause-unjoined
-settle-requires-clause-unjoined g c κs within =
-    let l = called g (goal.at.settle-requires-clause-unjoined g c).After-promise in
-    unjoins g.R.Resource c.make_room.new.self _ l c.write_item.new.self.register (rw (c.tree_key-key.ensures, to_z-of_z w64 c.args.value c.ranges.value) at c.write_item.ensures.written) refl
+pub settle-requires-clause-room : goal.settle-requires-clause-room
+settle-requires-clause-room g c κs within =
+    let l = called g (goal.at.settle-requires-clause-room g c).After-promise in
+    connects_none g.R.Resource c.make_room.new.self _ l c.write_item.new.self.register (rw (c.tree_key-key.ensures, to_z-of_z w64 c.args.value c.ranges.value) at c.write_item.ensures.written) refl
 
 pub returns : goal.returns
 returns g c =
@@ -103,7 +103,7 @@ returns g c =
     let w = rw (c.tree_key-key.ensures, to_z-of_z w64 c.args.value c.ranges.value) at c.write_item.ensures.written in
     let l = called g (goal.at.returns g c).After-promise in
     let kept = keeps_closed mid.register.history b.tree mid.tree _ c.write_item.ensures.kept c.write_item.ensures.resources in
-    let done = accepts R b _ l mid new w kept s.standing s.forced s.nodes s.resources s.limit s.given in
+    let done = accepts R b _ l mid new w kept c.write_item.ensures.tied.of_tree s.standing s.forced s.nodes s.resources s.limit s.given in
     let same = state_roomier R c.self.inside.ground b (roomier g (goal.at.returns g c).After-promise) in
     subst (λ (x : State). AnswersPlaceOrWant x (next_request x c.args.leaf c.args.value) (state_of R new) (Ok c.len-place.result)) (same ∙ c.self.view_is)
     (answers_ok c.len-place.ensures done)

@@ -4,7 +4,8 @@ use Rattle.std.proofs.lemmas.Bool.{and_from}
 use Rattle.rx_event.specs.declared.event.Event.TheVariants.{Open}
 use Rattle.rx_event.specs.Calls.{Opening}
 use Rattle.rx_register.specs.Causes.{causes, end_at}
-use Rattle.rx_ground.specs.Ties.{IsReady, joins_no_hub}
+use Rattle.rx_ground.specs.Ties.{IsReady}
+use Rattle.rx_ground.proofs.Laws.Unjoined.{joins_no_hub, none_as_long, hubless_still, unjoined_hubless, none_made}
 use Rattle.rx_ground.proofs.Laws.KeysKept.{keeps_opened}
 use Rattle.rx_book.specs.State.{State}
 use Rattle.rx_book.specs.Requests.{open_request, stands, place_of}
@@ -13,7 +14,7 @@ use Rattle.rx_book.specs.Shown.{state_of}
 use Rattle.rx_book.proofs.ShownKeys.{is_known_place_is}
 use Rattle.rx_book.proofs.Answered.{answers_ok, passed_refusal}
 use Rattle.rx_book.proofs.CausesByKey.{first_by_place, refused_for, unstood}
-use Rattle.rx_book.proofs.Called.{IsLetIn, within_full, let_in_roomy, state_roomier, rests, known, one_ready, pays, unjoins, accepts}
+use Rattle.rx_book.proofs.Called.{IsLetIn, within_full, let_in_roomy, state_roomier, rests, known, one_ready, pays, unjoined, connects_none, accepts}
 use Rattle.rx_book.proofs.Openings.{plain_opening, opening_counted, placed_at}
 use Rattle.rx_book.proofs.Listed.{key_listed, unconnected}
 use Rattle.rx_book.proofs.book.Book.open.Given as given
@@ -69,7 +70,7 @@ called g c =
     let added = counted.0 in
     let told = counted.1 in
     let end = c.end_at-end.ensures ∙ ap end_at c.spot_of-spot.ensures.place in
-    let_in_roomy g.R.Resource old b asked _ a.kept a.standing c.promise.ensures.register (first ∙ a.none) tt a.ok (omega arith) (omega arith)
+    let_in_roomy g.R.Resource old b asked _ a.kept c.self.invariant.1 a.standing c.promise.ensures.register (first ∙ a.none) tt a.ok (omega arith) (omega arith)
 
 ready : (g : given.Over) (c : After-promise g) → (let b = c.admit.new.ground in IsReady b.register (Open (place_of c.args.at) c.args.kind))
 ready g c =
@@ -93,11 +94,11 @@ settle-requires-clause-paid g c κs within =
     let l = called g (goal.at.settle-requires-clause-paid g c).After-promise in
     pays g.R.Resource c.admit.new.ground _ l c.write_open-key.new.self.register (rw c.spot_of-spot.ensures.place at c.write_open-key.ensures.written)
 
-pub settle-requires-clause-unjoined : goal.settle-requires-clause-unjoined
-settle-requires-clause-unjoined g c κs within =
-    let p = (goal.at.settle-requires-clause-unjoined g c).After-promise in
+pub settle-requires-clause-room : goal.settle-requires-clause-room
+settle-requires-clause-room g c κs within =
+    let p = (goal.at.settle-requires-clause-room g c).After-promise in
     let l = called g p in
-    unjoins g.R.Resource c.admit.new.ground _ l c.write_open-key.new.self.register (rw c.spot_of-spot.ensures.place at c.write_open-key.ensures.written)
+    connects_none g.R.Resource c.admit.new.ground _ l c.write_open-key.new.self.register (rw c.spot_of-spot.ensures.place at c.write_open-key.ensures.written)
     (and_from _ _ (plain g p) refl)
 
 pub returns : goal.returns
@@ -112,12 +113,14 @@ returns g c =
     let w = rw c.spot_of-spot.ensures.place at o.written in
     let p = (goal.at.returns g c).After-promise in
     let l = called g p in
-    let rest = rests R b.register mid _ l.may.lawful l.may.settled l.standing.unjoined (ready g p) w (plain g p) refl (λ n. refl) in
+    let rest = rests R b.register mid _ l.may.lawful l.may.settled (unjoined R b _ l) (ready g p) w (plain g p) refl (λ n. refl) in
     let key = key_listed R mid new o.tied.of_tree rest.1 s.forced s.nodes (length h) c.write_open-key.result c.shown_key.result c.shown_key.ensures o.new.numbered
     o.new.found in
-    let alone = ap (λ (x : Bool). cond x (Some (length h + 1)) None) (sym (unconnected new.register.history (length h + 1) s.standing.unjoined)) in
     let kept = keeps_opened R h b.tree mid.tree c.write_open-key.result l.may.lawful l.standing.tied.of_tree o.new o.resources in
-    let done = accepts R b _ l mid new w kept s.standing s.forced s.nodes s.resources s.limit s.given in
+    let done = accepts R b _ l mid new w kept o.tied.of_tree s.standing s.forced s.nodes s.resources s.limit s.given in
+    let hubless = none_as_long mid.hubs.hubs new.hubs.hubs s.hubs (hubless_still o.memory o.hubs l.hubless) in
+    let unjoined = unjoined_hubless new.register.history done.step.lawful (none_made new.register.history new.hubs.hubs s.standing.tied.published hubless) in
+    let alone = ap (λ (x : Bool). cond x (Some (length h + 1)) None) (sym (unconnected new.register.history (length h + 1) unjoined)) in
     let same = state_roomier R c.self.inside.ground b c.admit.ensures.kept in
     subst (λ (x : State). AnswersOpened x (open_request x c.args.at c.args.kind) (state_of R new)
     (Ok (record { key = c.shown_key.result; connected = None }))) (same ∙ c.self.view_is)

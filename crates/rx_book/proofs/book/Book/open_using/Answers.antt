@@ -18,7 +18,7 @@ use Rattle.rx_book.specs.Shown.{state_of}
 use Rattle.rx_book.proofs.ShownKeys.{is_known_place_is}
 use Rattle.rx_book.proofs.Answered.{answers_ok, answers_err}
 use Rattle.rx_book.proofs.CausesByKey.{first_by_place, refused_for}
-use Rattle.rx_book.proofs.Called.{IsLetIn, unjoined_on, within_full, let_in_roomy, state_roomier, rests, known, first_ready, second_ready, pays, unjoins, accepts}
+use Rattle.rx_book.proofs.Called.{IsLetIn, unjoined_on, within_full, let_in_roomy, state_roomier, rests, known, first_ready, second_ready, pays, unjoined, connects_none, accepts}
 use Rattle.rx_book.proofs.Openings.{placed_at}
 use Rattle.rx_book.proofs.Listed.{key_listed, res_key_listed}
 use Rattle.rx_book.proofs.book.Book.open_using.Given as given
@@ -61,7 +61,7 @@ called g c =
     (rw (c.spot_of-spot.ensures.place, c.spot_of-spot.ensures.above, c.tag-tag.ensures, c.is_fresh-fresh.ensures) at c.using_cause-cause.ensures) in
     let a = c.in_default.ensures in
     let end = c.end_at-end.ensures ∙ ap end_at c.spot_of-spot.ensures.place in
-    let_in_roomy R old b asked _ a.kept a.standing c.promise.ensures.register (first ∙ a.none) tt a.ok (omega arith) (omega arith)
+    let_in_roomy R old b asked _ a.kept c.self.invariant.1 a.standing c.promise.ensures.register (first ∙ a.none) tt a.ok (omega arith) (omega arith)
 
 -- the opening may be written
 opens : (g : given.Over) (c : After-promise g) → (let b = c.admit.new.ground in IsReady b.register (Open (place_of c.args.at) Pass))
@@ -107,8 +107,8 @@ settle-requires-clause-paid g c κs within =
     let l = called g (goal.at.settle-requires-clause-paid g c).After-promise in
     pays g.R.Resource b _ l last (Writes-append b.register mid last (e ∷ []) (f ∷ []) w v)
 
-pub settle-requires-clause-unjoined : goal.settle-requires-clause-unjoined
-settle-requires-clause-unjoined g c κs within =
+pub settle-requires-clause-room : goal.settle-requires-clause-room
+settle-requires-clause-room g c κs within =
     let b = c.admit.new.ground in
     let mid = c.write_open-node.new.self.register in
     let last = c.write_accept-res.new.self.register in
@@ -116,8 +116,8 @@ settle-requires-clause-unjoined g c κs within =
     let f = Accept (length b.register.history) (g.R.Resource.tag_of c.args.resource) in
     let w = rw c.spot_of-spot.ensures.place at c.write_open-node.ensures.written in
     let v = rw c.write_open-node.ensures.new.numbered at c.write_accept-res.ensures.written in
-    let l = called g (goal.at.settle-requires-clause-unjoined g c).After-promise in
-    unjoins g.R.Resource b _ l last (Writes-append b.register mid last (e ∷ []) (f ∷ []) w v) refl
+    let l = called g (goal.at.settle-requires-clause-room g c).After-promise in
+    connects_none g.R.Resource b _ l last (Writes-append b.register mid last (e ∷ []) (f ∷ []) w v) refl
 
 pub returns : goal.returns
 returns g c =
@@ -137,8 +137,8 @@ returns g c =
     let p = (goal.at.returns g c).After-promise in
     let l = called g p in
     let longer : length mid.register.history ≡ length h + 1 = ap (λ (k : List Event). length k) w.history ∙ length-append h (e ∷ []) in
-    let rest = rests R b.register mid e l.may.lawful l.may.settled l.standing.unjoined (opens g p) w refl refl (λ n. refl) in
-    let rest_after = rests R mid.register last f rest.0 rest.1 (unjoined_on l.standing.unjoined w refl) (holds g p mid.register w) v refl refl (λ n. refl) in
+    let rest = rests R b.register mid e l.may.lawful l.may.settled (unjoined R b _ l) (opens g p) w refl refl (λ n. refl) in
+    let rest_after = rests R mid.register last f rest.0 rest.1 (unjoined_on (unjoined R b _ l) w refl) (holds g p mid.register w) v refl refl (λ n. refl) in
     let found = ap (λ (nodes : Slots Node). is_some (find nodes c.write_open-node.result)) a.nodes ∙ o.new.found in
     let key = key_listed R last new a.tied.of_tree rest_after.1 s.forced s.nodes (length h) c.write_open-node.result c.shown_key.result c.shown_key.ensures
     o.new.numbered found in
@@ -149,7 +149,7 @@ returns g c =
     let kept = keeps_on b.tree mid.tree last.tree (length h) (length mid.register.history) (omega arith) opened
     (keeps_held mid.tree last.tree (length mid.register.history) a.nodes a.kept) in
     let both = Writes-append b.register mid.register last.register (e ∷ []) (f ∷ []) w v in
-    let done = accepts R b _ l last new both kept s.standing s.forced s.nodes s.resources s.limit s.given in
+    let done = accepts R b _ l last new both kept a.tied.of_tree s.standing s.forced s.nodes s.resources s.limit s.given in
     let same = state_roomier R c.self.inside.ground b c.admit.ensures.kept in
     subst (λ (x : State). AnswersOpenedUsing x (using_request R x c.args.at c.args.resource) c.args.resource (state_of R new)
     (Ok (record { key = c.shown_key.result; res = c.shown_res_key.result }))) (same ∙ c.self.view_is)

@@ -3,7 +3,7 @@ use Rattle.rx_event.specs.declared.event.Event.TheVariants.{Take}
 use Rattle.rx_ground.proofs.Laws.KeysKept.{keeps_held}
 use Rattle.rx_ground.proofs.Laws.Unforced.{unforced}
 use Rattle.rx_book.specs.Requests.{take_request}
-use Rattle.rx_book.proofs.Called.{IsLetIn, let_in_free, rests, one_ready, pays, unjoins, accepts}
+use Rattle.rx_book.proofs.Called.{IsLetIn, let_in_free, rests, one_ready, pays, unjoined, connects_none, accepts}
 use Rattle.rx_book.proofs.Taken.{listed_waits, fewer_wait}
 use Rattle.rx_book.proofs.book.Book.take.Given as given
 use Rattle.rx_book.proofs.book.Book.take.Goals as goal
@@ -12,7 +12,7 @@ use Rattle.rx_book.proofs.book.Book.take.Goals.{In_ok-handed}
 pub write_take-requires-clause-room : goal.write_take-requires-clause-room
 write_take-requires-clause-room g c κs within = λ r waits.
     let b = c.self.inside.ground in
-    one_ready g.R.Resource b (take_request r) (let_in_free g.R.Resource b (take_request r) c.self.invariant.0 c.promise.ensures.register refl waits refl refl) _
+    one_ready g.R.Resource b (take_request r) (let_in_free g.R.Resource b (take_request r) c.self.invariant.0 c.self.invariant.1 c.promise.ensures.register refl waits refl refl) _
     refl
 
 called : (g : given.Over) (c : In_ok-handed g) → IsLetIn g.R.Resource c.self.inside.ground (take_request c.in_ok-handed.handed.0)
@@ -20,17 +20,17 @@ called g c =
     let b = c.self.inside.ground in
     let waits = listed_waits g.R.Resource b.register.history b.tree c.self.invariant.0.tied.of_tree c.promise.ensures.tree.resources_apart c.in_ok-handed.handed
     c.in_ok-handed.ensures.waited in
-    let_in_free g.R.Resource b _ c.self.invariant.0 c.promise.ensures.register refl waits refl refl
+    let_in_free g.R.Resource b _ c.self.invariant.0 c.self.invariant.1 c.promise.ensures.register refl waits refl refl
 
 pub settle-requires-clause-paid : goal.settle-requires-clause-paid
 settle-requires-clause-paid g c κs within =
     let l = called g (goal.at.settle-requires-clause-paid g c).In_ok-handed in
     pays g.R.Resource c.self.inside.ground _ l c.write_take.new.self.register c.in_ok-handed.ensures.written
 
-pub settle-requires-clause-unjoined : goal.settle-requires-clause-unjoined
-settle-requires-clause-unjoined g c κs within =
-    let l = called g (goal.at.settle-requires-clause-unjoined g c).In_ok-handed in
-    unjoins g.R.Resource c.self.inside.ground _ l c.write_take.new.self.register c.in_ok-handed.ensures.written refl
+pub settle-requires-clause-room : goal.settle-requires-clause-room
+settle-requires-clause-room g c κs within =
+    let l = called g (goal.at.settle-requires-clause-room g c).In_ok-handed in
+    connects_none g.R.Resource c.self.inside.ground _ l c.write_take.new.self.register c.in_ok-handed.ensures.written refl
 
 pub returns : goal.returns
 returns g c =
@@ -43,11 +43,11 @@ returns g c =
     let r = c.in_ok-handed.handed.0 in
     let l = called g (goal.at.returns g c).In_ok-handed in
     let ready = one_ready R b _ l (Take r) refl in
-    let rest = rests R b.register mid (Take r) l.may.lawful l.may.settled l.standing.unjoined ready t.written refl refl (λ n. refl) in
+    let rest = rests R b.register mid (Take r) l.may.lawful l.may.settled (unjoined R b _ l) ready t.written refl refl (λ n. refl) in
     let grown = unforced rest.1 s.forced ∙ t.written.history in
     rw (← c.self.view_is) (record {
       cases = t.waited.listed;
-      accepted = accepts R b _ l mid new t.written (keeps_held b.tree mid.tree (length b.register.history) t.nodes t.kept) s.standing s.forced s.nodes
+      accepted = accepts R b _ l mid new t.written (keeps_held b.tree mid.tree (length b.register.history) t.nodes t.kept) t.tied.of_tree s.standing s.forced s.nodes
           s.resources s.limit s.given;
       kept = tt;
       fewer = fewer_wait R b new r l.standing.tied.of_tree s.standing.tied.of_tree c.promise.ensures.tree.resources_apart c.promise-2.ensures.tree.resources_apart

@@ -10,7 +10,7 @@ use Rattle.rx_hub.specs.After.{hubs_after}
 use Rattle.rx_hub.specs.Hubs.{Hub, Hubs, connected}
 use Rattle.rx_hub.proofs.Laws.AfterReady.{ready_to_connect}
 use Rattle.rx_ground.specs.Shown.{Ground}
-use Rattle.rx_ground.specs.Ties.{AreTied, IsNewNode}
+use Rattle.rx_ground.specs.Ties.{AreTied, IsNewNode, KeepsOlder}
 use Rattle.rx_ground.proofs.Tied.{IsOpenedIn, found_still, tied_top}
 use Rattle.rx_ground.proofs.Records.{all_left}
 use Rattle.rx_ground.proofs.Joined.{as_many_at}
@@ -73,15 +73,30 @@ returns-clause-tied g c =
     let made = ap (λ (hs : Hubs). hs.hubs) c.connect.ensures in
     rw c.write.ensures.events (tied_connected g.R.Resource {later = c.connect.new.self} c.args.hub c.in-Ok.key law next was opened.numbered made still (ap is_some opened.found) tied)
 
+-- nodes that are older were there
+before : (g : Over) (c : goal.After-write g) → (k : Key) → IsSome (find c.open.new.self.nodes k) → k.number < length c.self.inside.register.history →
+    IsSome (find c.self.inside.tree.nodes k)
+before g c k some less =
+    let o = opened_in g c in
+    ap is_some (sym (o.others k (λ same. absurd (let n = ap (λ (j : Key). j.number) same in let m = o.numbered in omega arith)))) ∙ some
+
 pub returns-clause-new : goal.returns-clause-new
 returns-clause-new g c =
+    let o = opened_in g c in
+    let new : IsNewNode c.self.inside.tree.nodes c.open.new.self.nodes (length c.self.inside.register.history) c.in-Ok.key =
+    record { numbered = o.numbered; found = ap is_some o.found; from = before g c } in
+    rw (← c.self.view_is) new
+
+pub returns-clause-nodes : goal.returns-clause-nodes
+returns-clause-nodes g c =
     let h = c.self.inside.register.history in
     let old = c.self.inside.tree in
-    let o = opened_in g c in
-    let before : (k : Key) → IsSome (find c.open.new.self.nodes k) → k.number < length h → IsSome (find old.nodes k) =
-    λ k some less. ap is_some (sym (o.others k (λ same. absurd (let n = ap (λ (j : Key). j.number) same in let m = o.numbered in omega arith)))) ∙ some in
-    let new : IsNewNode old.nodes c.open.new.self.nodes (length h) c.in-Ok.key = record { numbered = o.numbered; found = ap is_some o.found; from = before } in
-    rw (← c.self.view_is) new
+    let was : AreTied g.R.Resource h old c.self.inside.hubs = rw (← c.self.view_is) at c.requires.tied in
+    let kept : KeepsOlder c.write.new.self.history (length h) old.nodes c.open.new.self.nodes = record {
+      from = before g c;
+      still = λ k some alive. ap is_some (found_still g.R.Resource h c.promise.ensures.lawful old old c.open.new.self was.of_tree c.in-Ok.key (Connect c.args.hub) None (opened_in g c) k some) ∙ some;
+    } in
+    rw (← c.self.view_is) kept
 
 pub returns-clause-resources : goal.returns-clause-resources
 returns-clause-resources g c = rw (← c.self.view_is) c.in-Ok.ensures.resources
