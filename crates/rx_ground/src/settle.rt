@@ -1,6 +1,6 @@
 //! What operators and hubs still have to do, done.
 
-ghost use Rattle.std.specs.Prelude.{◌≡◌, ◌<◌, ◌∷◌, [], true, length, IfSome, IfNone, MatchOption};
+ghost use Rattle.std.specs.Prelude.{◌≡◌, ◌<◌, ◌∷◌, [], true, length, MatchOption};
 ghost use Rattle.std.specs.Option.{option_and_then};
 ghost use Rattle.rx_slots.specs.Slots.{find};
 ghost use Rattle.rx_event.specs.Forced.{IsSettled};
