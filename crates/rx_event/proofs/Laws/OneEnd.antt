@@ -38,25 +38,42 @@ end_by (Item leaf v) = Some Completed
 end_by (Decline f) = Some Completed
 end_by _ = None
 
-open_old : (h : List Event) (e : Event) (n : ℕ) → n < length h → is_open (h ++ e ∷ []) n ≡ true → is_open h n ≡ true
+-- how the event ends a node
+abbrev pub ends_as : Event → Option Terminal
+ends_as (End c t) = Some t
+ends_as _ = None
+
+-- the event completes a node, or declines what one owes
+abbrev pub completes : Event → Bool
+completes (End c Completed) = true
+completes (Decline f) = true
+completes _ = false
+
+-- why the end of n is due now, where it was not before: by an end, by a completion or a declining, or since n was fired
+pub data IsReason (h : List Event) (e : Event) (n : ℕ) (u : Terminal) : Type 0 where
+  ends_so : ends_as e ≡ Some u → IsReason h e n u
+  completes_one : completes e ≡ true → u ≡ Completed → IsReason h e n u
+  fires_it : list_any (is_firing_of n) (stops_of h e) ≡ true → u ≡ Completed → IsReason h e n u
+
+pub open_old : (h : List Event) (e : Event) (n : ℕ) → n < length h → is_open (h ++ e ∷ []) n ≡ true → is_open h n ≡ true
 open_old h e n l o = (and_parts (is_open h n) (not (is_cut h e n)) (sym (is_open_cut h e n l) ∙ o)).0
 
 -- a child that ended had ended, or ends by this event
 child_ended_before : (h : List Event) (e : Event) → IsLawful h → (n : ℕ) (u : Terminal) → ChildEnded (h ++ e ∷ []) n u →
-    (ChildEnded h n u × (n < length h)) ⊎ (end_by e ≡ Some u)
+    (ChildEnded h n u × (n < length h)) ⊎ (ends_as e ≡ Some u)
 child_ended_before h e law n u c = by_place (cases_push h e (End c.child u) c.ended.place c.ended.found) where
-  by_place : (slice_get h c.ended.place ≡ Some (End c.child u)) ⊎ (e ≡ End c.child u) → (ChildEnded h n u × (n < length h)) ⊎ (end_by e ≡ Some u)
-  by_place (inr same) = inr (ap end_by same)
+  by_place : (slice_get h c.ended.place ≡ Some (End c.child u)) ⊎ (e ≡ End c.child u) → (ChildEnded h n u × (n < length h)) ⊎ (ends_as e ≡ Some u)
+  by_place (inr same) = inr (ap ends_as same)
   by_place (inl found) =
       let l : c.child < length h = ended_older h law c.ended.place (End c.child u) found c.child u refl in
       let below : parent h c.child ≡ Some n = sym (parent-append h (e ∷ []) c.child l) ∙ c.below in
       inl (record { child = c.child; below = below; ended = record { place = c.ended.place; found = found } }, (let p = parent-lt h c.child n below in omega arith))
 
 source_ended_before : (h : List Event) (e : Event) → IsLawful h → (n : ℕ) (u : Terminal) → SourceEnded (h ++ e ∷ []) n u →
-    (SourceEnded h n u × (n < length h)) ⊎ (end_by e ≡ Some u)
+    (SourceEnded h n u × (n < length h)) ⊎ (ends_as e ≡ Some u)
 source_ended_before h e law n u s = by_place (cases_push h e (End s.connection u) s.place s.ended) where
-  by_place : (slice_get h s.place ≡ Some (End s.connection u)) ⊎ (e ≡ End s.connection u) → (SourceEnded h n u × (n < length h)) ⊎ (end_by e ≡ Some u)
-  by_place (inr same) = inr (ap end_by same)
+  by_place : (slice_get h s.place ≡ Some (End s.connection u)) ⊎ (e ≡ End s.connection u) → (SourceEnded h n u × (n < length h)) ⊎ (ends_as e ≡ Some u)
+  by_place (inr same) = inr (ap ends_as same)
   by_place (inl found) =
       let l : s.place < length h = slice_get_within h s.place _ found in
       let before : s.connection < s.place = ended_after h law s.place s.connection u found in
@@ -77,14 +94,6 @@ source_ended_before h e law n u s = by_place (cases_push h e (End s.connection u
 
 -- a completion of a FlatMap or Switch -----------------------------------------------------------------
 
-stops_end : (h : List Event) (e : Event) (n : ℕ) → list_any (is_firing_of n) (stops_of h e) ≡ true → end_by e ≡ Some Completed
-stops_end h (Item leaf v) n fires = refl
-stops_end h _ n fires = absurd (false≢true fires)
-
-projects_none : (h : List Event) (e : Event) (n : ℕ) → (end_by e ≡ Some Completed → ⊥) → count_by (is_projection_to n) (stops_of h e) ≡ 0
-projects_none h (Item leaf v) n silent = absurd (silent refl)
-projects_none h _ n silent = refl
-
 -- where no child of n is open, the event opens none
 opens_none : (h : List Event) (e : Event) → IsLawful h → MayFollow h e → (n : ℕ) →
     ((c : ℕ) → parent (h ++ e ∷ []) c ≡ Some n → is_open (h ++ e ∷ []) c ≡ false) → adds_child n e ≡ true → ⊥
@@ -92,8 +101,8 @@ opens_none h e law next n closed adds =
     let new = and_parts (is_open (h ++ e ∷ []) (length h)) (is_child_of (h ++ e ∷ []) n (length h)) (child_new h e law next n ∙ adds) in
     both_ways (is_open (h ++ e ∷ []) (length h)) (closed (length h) (is_child_parent (h ++ e ∷ []) n (length h) new.1)) new.0
 
-pays_none : (h : List Event) (e : Event) (n : ℕ) → (end_by e ≡ Some Completed → ⊥) → (adds_child n e ≡ true → ⊥) → pays n e ≡ false
-pays_none h (Decline f) n silent opens = absurd (silent refl)
+pays_none : (h : List Event) (e : Event) (n : ℕ) → completes e ≡ false → (adds_child n e ≡ true → ⊥) → pays n e ≡ false
+pays_none h (Decline f) n silent opens = absurd (false≢true (sym silent))
 pays_none h (Open (Inner f) kind) n silent opens = by_test (f == n) refl where
   by_test : (b : Bool) → (f == n) ≡ b → b ≡ false
   by_test false other = refl
@@ -105,8 +114,8 @@ pays_none h _ n silent opens = refl
 
 -- what takes a child of n away, but not n
 child_shut : (h : List Event) (e : Event) → IsLawful h → MayFollow h e → (n k : ℕ) → parent h k ≡ Some n → shuts h k e ≡ true →
-    (end_by e ≡ Some Completed → ⊥) → (adds_child n e ≡ true → ⊥) → (code : ℕ) × (e ≡ End k (Error code))
-child_shut h (End c Completed) law next n k below shut silent opens = absurd (silent refl)
+    completes e ≡ false → (adds_child n e ≡ true → ⊥) → (code : ℕ) × (e ≡ End k (Error code))
+child_shut h (End c Completed) law next n k below shut silent opens = absurd (false≢true (sym silent))
 child_shut h (End c (Error code)) law next n k below shut silent opens = (code, ap (λ q. End q (Error code)) (eqb-true c k shut))
 child_shut h (Close c) law next n k below shut silent opens =
     let made = event_at h k (parent_within h k n below) in
@@ -140,7 +149,7 @@ source_parent h law n s source = by_event (slice_get h s) refl source where
   by_event (Some _) at_s source = absurd (false≢true source)
 
 -- a completion that is due without such an event was due before
-completed_before : (h : List Event) (e : Event) → IsLawful h → MayFollow h e → (n s : ℕ) → (end_by e ≡ Some Completed → ⊥) → is_open (h ++ e ∷ []) n ≡ true →
+completed_before : (h : List Event) (e : Event) → IsLawful h → MayFollow h e → (n s : ℕ) → completes e ≡ false → is_open (h ++ e ∷ []) n ≡ true →
     at is_merging (h ++ e ∷ []) n ≡ true → ((code : ℕ) → ¬ ChildEnded (h ++ e ∷ []) n (Error code)) → at (is_source_of n) (h ++ e ∷ []) s ≡ true →
     Has (h ++ e ∷ []) (End s Completed) → ((c : ℕ) → parent (h ++ e ∷ []) c ≡ Some n → is_open (h ++ e ∷ []) c ≡ false) → owed (h ++ e ∷ []) n ≡ 0 →
     IsDue h (End n Completed)
@@ -172,7 +181,7 @@ completed_before h e law next n s silent o merging unfailed source ended closed 
   cut_apart k below whole false unshut = rw (ancestors_step h k, below, unshut) whole
 
   by_place : (slice_get h ended.place ≡ Some (End s Completed)) ⊎ (e ≡ End s Completed) → IsDue h (End n Completed)
-  by_place (inr same) = absurd (silent (ap end_by same))
+  by_place (inr same) = absurd (both_ways (completes e) silent (ap completes same))
   by_place (inl found) =
       let s_old : s < length h = ended_older h law ended.place (End s Completed) found s Completed refl in
       let source_old : at (is_source_of n) h s ≡ true = sym (at-append (is_source_of n) h (e ∷ []) s s_old) ∙ source in
@@ -181,49 +190,59 @@ completed_before h e law next n s silent o merging unfailed source ended closed 
       let whole : is_cut h e n ≡ false = not_false (is_cut h e n) stays.1 in
       let push = owed-push h e law next n in
       let unpaid : cond {A = ℕ} (pays n e) 1 0 ≡ 0 = ap (λ b. cond {A = ℕ} b 1 0) (pays_none h e n silent opens) in
-      let unprojected = projects_none h e n silent in
       completed stays.0 (sym (at-append is_merging h (e ∷ []) n n_old) ∙ merging) failed_after source_old (record { place = ended.place; found = found }) (λ k below.
       let k_old = parent_within h k n below in
       let gone = closed k (from_child k k_old below) in
       now_closed (is_open h k) (is_cut h e k) (sym (is_open_cut h e k k_old) ∙ gone) (cut_apart k below whole (shuts h k e) refl)) (omega arith)
 
-completed_is_no_error : (code : ℕ) → Completed ≡ Error code → ⊥
-completed_is_no_error code same = false≢true (ap is_error same) where
-  is_error : Terminal → Bool
-  is_error Completed = false
-  is_error (Error c) = true
-
--- what is due after the event was due before, or ends as the event says
-due_before : (h : List Event) (e : Event) → IsLawful h → MayFollow h e → (n : ℕ) (u : Terminal) → IsDue (h ++ e ∷ []) (End n u) →
-    IsDue h (End n u) ⊎ (end_by e ≡ Some u)
+-- what is due after the event was due before, or the event is its reason
+pub due_before : (h : List Event) (e : Event) → IsLawful h → MayFollow h e → (n : ℕ) (u : Terminal) → IsDue (h ++ e ∷ []) (End n u) →
+    IsDue h (End n u) ⊎ IsReason h e n u
 due_before h e law next n u (mirrored o m c) = by_case (child_ended_before h e law n u c) where
-  by_case : (ChildEnded h n u × (n < length h)) ⊎ (end_by e ≡ Some u) → IsDue h (End n u) ⊎ (end_by e ≡ Some u)
-  by_case (inr now) = inr now
+  by_case : (ChildEnded h n u × (n < length h)) ⊎ (ends_as e ≡ Some u) → IsDue h (End n u) ⊎ IsReason h e n u
+  by_case (inr now) = inr (ends_so now)
   by_case (inl old) = inl (mirrored (open_old h e n old.1 o) (sym (at-append is_mirroring h (e ∷ []) n old.1) ∙ m) old.0)
 due_before h e law next n u (failed {c = code} o m c) = by_case (child_ended_before h e law n (Error code) c) where
-  by_case : (ChildEnded h n (Error code) × (n < length h)) ⊎ (end_by e ≡ Some (Error code)) → IsDue h (End n (Error code)) ⊎ (end_by e ≡ Some (Error code))
-  by_case (inr now) = inr now
+  by_case : (ChildEnded h n (Error code) × (n < length h)) ⊎ (ends_as e ≡ Some (Error code)) → IsDue h (End n (Error code)) ⊎ IsReason h e n (Error code)
+  by_case (inr now) = inr (ends_so now)
   by_case (inl old) = inl (failed (open_old h e n old.1 o) (sym (at-append is_merging h (e ∷ []) n old.1) ∙ m) old.0)
 due_before h e law next n u (fired o m f) = by_fired (or_cases (is_fired h n) (list_any (is_firing_of n) (stops_of h e)) (sym (is_fired-push h e n) ∙ f)) where
-  by_old : is_fired h n ≡ true → (n < length h) ⊎ (length h ≤ n) → IsDue h (End n Completed) ⊎ (end_by e ≡ Some Completed)
+  by_old : is_fired h n ≡ true → (n < length h) ⊎ (length h ≤ n) → IsDue h (End n Completed) ⊎ IsReason h e n Completed
   by_old before (inl l) = inl (fired (open_old h e n l o) (sym (at-append is_until h (e ∷ []) n l) ∙ m) before)
   by_old before (inr past) = absurd (both_ways (is_fired h n) (fired_past h law n past) before)
 
-  by_fired : (is_fired h n ≡ true) ⊎ (list_any (is_firing_of n) (stops_of h e) ≡ true) → IsDue h (End n Completed) ⊎ (end_by e ≡ Some Completed)
-  by_fired (inr now) = inr (stops_end h e n now)
+  by_fired : (is_fired h n ≡ true) ⊎ (list_any (is_firing_of n) (stops_of h e) ≡ true) → IsDue h (End n Completed) ⊎ IsReason h e n Completed
+  by_fired (inr now) = inr (fires_it now refl)
   by_fired (inl before) = by_old before (cases_lt n (length h))
-due_before h e law next n u (completed {s = s} o m unfailed source ended closed paid) = by_end (end_by e) refl where
-  before : (end_by e ≡ Some Completed → ⊥) → IsDue h (End n Completed)
-  before silent = completed_before h e law next n s silent o m unfailed source ended closed paid
-
-  by_end : (t : Option Terminal) → end_by e ≡ t → IsDue h (End n Completed) ⊎ (end_by e ≡ Some Completed)
-  by_end (Some Completed) now = inr now
-  by_end (Some (Error code)) now = inl (before (λ same. completed_is_no_error code (same_Some Completed (Error code) (sym same ∙ now))))
-  by_end None now = inl (before (λ same. none-some Completed (sym now ∙ same)))
+due_before h e law next n u (completed {s = s} o m unfailed source ended closed paid) = by_test (completes e) refl where
+  by_test : (b : Bool) → completes e ≡ b → IsDue h (End n Completed) ⊎ IsReason h e n Completed
+  by_test true now = inr (completes_one now refl)
+  by_test false silent = inl (completed_before h e law next n s silent o m unfailed source ended closed paid)
 due_before h e law next n u (cut o s) = by_case (source_ended_before h e law n u s) where
-  by_case : (SourceEnded h n u × (n < length h)) ⊎ (end_by e ≡ Some u) → IsDue h (End n u) ⊎ (end_by e ≡ Some u)
-  by_case (inr now) = inr now
+  by_case : (SourceEnded h n u × (n < length h)) ⊎ (ends_as e ≡ Some u) → IsDue h (End n u) ⊎ IsReason h e n u
+  by_case (inr now) = inr (ends_so now)
   by_case (inl old) = inl (cut (open_old h e n old.1 o) old.0)
+
+-- each reason ends as the event says
+reason_end : (h : List Event) (e : Event) (n : ℕ) (u : Terminal) → IsReason h e n u → end_by e ≡ Some u
+reason_end h e n u (ends_so now) = by_event e now where
+  by_event : (x : Event) → ends_as x ≡ Some u → end_by x ≡ Some u
+  by_event (End c t) same = same
+  by_event _ same = absurd (none-some u same)
+reason_end h e n u (completes_one now whole) = by_event e now ∙ ap (λ t. Some t) (sym whole) where
+  by_event : (x : Event) → completes x ≡ true → end_by x ≡ Some Completed
+  by_event (End c Completed) yes_so = refl
+  by_event (End c (Error code)) yes_so = absurd (false≢true yes_so)
+  by_event (Decline f) yes_so = refl
+  by_event _ yes_so = absurd (false≢true yes_so)
+reason_end h e n u (fires_it now whole) = by_event e now ∙ ap (λ t. Some t) (sym whole) where
+  by_event : (x : Event) → list_any (is_firing_of n) (stops_of h x) ≡ true → end_by x ≡ Some Completed
+  by_event (Item leaf v) fires = refl
+  by_event _ fires = absurd (false≢true fires)
+
+due_or_now : (h : List Event) (e : Event) (n : ℕ) (u : Terminal) → IsDue h (End n u) ⊎ IsReason h e n u → IsDue h (End n u) ⊎ (end_by e ≡ Some u)
+due_or_now h e n u (inl before) = inl before
+due_or_now h e n u (inr now) = inr (reason_end h e n u now)
 
 none_due : (h : List Event) (e : Event) → IsSettled h → IsDue h e → ⊥
 none_due h e settled d = settled.none e (due (settled_connected h settled) d)
@@ -253,7 +272,7 @@ same_end h e next before n m t u (inr a) (inl b) = end_alike h e next before m u
 
 -- two ends that are due in a lawful history are alike
 pub one_end : (h : List Event) → IsLawful h → (n m : ℕ) (t u : Terminal) → IsDue h (End n t) → IsDue h (End m u) → t ≡ u
-one_end = by_events (λ h. (n m : ℕ) (t u : Terminal) → IsDue h (End n t) → IsDue h (End m u) → t ≡ u) (λ n m t u a b. absurd (nothing_due n t a)) (λ h e law next before n m t u a b. same_end h e next before n m t u (due_before h e law next n t a) (due_before h e law next m u b))
+one_end = by_events (λ h. (n m : ℕ) (t u : Terminal) → IsDue h (End n t) → IsDue h (End m u) → t ≡ u) (λ n m t u a b. absurd (nothing_due n t a)) (λ h e law next before n m t u a b. same_end h e next before n m t u (due_or_now h e n t (due_before h e law next n t a)) (due_or_now h e m u (due_before h e law next m u b)))
 
 -- what is due to end a node in a lawful history, but for the end of a connection, is what its marks say
 pub due_by_marks_alone : (h : List Event) → IsLawful h → (n : ℕ) (made : Event) (t : Terminal) → is_open h n ≡ true → slice_get h n ≡ Some made →
