@@ -28,4 +28,6 @@ pub mod Waits
 pub mod Stands
 pub mod Released
 pub mod OneEnd
+pub mod Calm
+pub mod StaysOpen
 pub mod OpenAfter

@@ -155,7 +155,8 @@ kept_due h e none (completed {f = m} o k n s c d w) = kept_end h m _ none
 kept_due h e none (cut {s = s} {t = t} o c) = kept_end h s t none
 kept_due h e none (left {c = c} o at_c a n) = kept_close h c none (left o at_c a n)
 
-is_both : (o : Option Event) → option_map_or is_manual_hub o false ≡ true → option_map_or is_auto_hub o false ≡ true → ⊥
+-- no hub is both
+pub is_both : (o : Option Event) → option_map_or is_manual_hub o false ≡ true → option_map_or is_auto_hub o false ≡ true → ⊥
 is_both None m a = false≢true m
 is_both (Some (Hub Auto)) m a = false≢true m
 is_both (Some (Hub Manual)) m a = false≢true a
