@@ -7,3 +7,4 @@ pub mod Climbs
 pub mod Notes
 pub mod Forced
 pub mod Marks
+pub mod Stays

@@ -7,6 +7,7 @@ mod marks;
 mod nodes;
 mod notes;
 mod resources;
+mod stays;
 
 pub use changes::what_one_event_changes;
 pub use climbs::climbs_go_on_in_order;
@@ -15,3 +16,4 @@ pub use marks::marks_say_what_is_due;
 pub use nodes::{a_switch_has_one_open_inner, closed_stays_closed, nodes_stand_below_nodes};
 pub use notes::notes_obey_the_grammar;
 pub use resources::{a_closed_history_holds_nothing, each_resource_is_in_one_place};
+pub use stays::{calm_events_force_little, what_is_opened_stays_open};

@@ -20,7 +20,8 @@ use Rattle.rx_event.specs.Moments.{is_firing_of, stops_of}
 use Rattle.rx_event.specs.Marks.{marks_of, terminal_due, due_at}
 use Rattle.rx_event.specs.Forced.{mirrored, fired, failed, completed, cut, left, connecting, due, IsDue, IsForced, IsConnectDue, IsConnected, IsSettled}
 use Rattle.rx_event.specs.Allowed.{connected, IsAllowed}
-use Rattle.rx_event.specs.Lawful.{forced, allowed, MayFollow, IsLawful}
+use Rattle.rx_event.specs.Lawful.{forced, allowed, stays, more, MayFollow, IsLawful, IsForcedOn}
+use Rattle.rx_event.specs.Claims.Stays.{ends_or_declines, FiresNone, ClosesNone, ConnectsAtMost, is_done, is_waiting_for}
 use Rattle.rx_event.proofs.Laws.Lists.{first_passes, filter_nonempty}
 use Rattle.rx_event.proofs.Laws.Places.{slice_get-append, slice_get_last, at-append, at_within}
 use Rattle.rx_event.proofs.Laws.Openness.{is_open_within, is_open_kept, is_open_cut, is_cut, self_cut, stays_closed_after}
@@ -34,19 +35,12 @@ use Rattle.rx_event.proofs.Laws.OneEnd.{ends_as, completes, ends_so, completes_o
 
 -- ends --------------------------------------------------------------------------------------------
 
--- the event ends a node, or declines what a FlatMap or Switch owes
-abbrev pub ends_or_declines : Event → Bool
-ends_or_declines (End c t) = true
-ends_or_declines (Decline f) = true
-ends_or_declines _ = false
-
 -- no node is due to end
 abbrev pub EndsNone : List Event → Type 0
 EndsNone h = (n : ℕ) (t : Terminal) → ¬ IsDue h (End n t)
 
 -- after such an event what is due to end was so before
-pub due_calm : (h : List Event) (e : Event) → IsLawful h → MayFollow h e → ends_or_declines e ≡ false →
-    ((n : ℕ) → list_any (is_firing_of n) (stops_of h e) ≡ false) → (n : ℕ) (t : Terminal) → IsDue (h ++ e ∷ []) (End n t) → IsDue h (End n t)
+pub due_calm : (h : List Event) (e : Event) → IsLawful h → MayFollow h e → ends_or_declines e ≡ false → FiresNone h e → (n : ℕ) (t : Terminal) → IsDue (h ++ e ∷ []) (End n t) → IsDue h (End n t)
 due_calm h e law next calm unfired n t d = by_reason (due_before h e law next n t d) where
   ends_calm : (x : Event) → ends_or_declines x ≡ false → ends_as x ≡ Some t → ⊥
   ends_calm (End c u) still now = false≢true (sym still)
@@ -62,6 +56,9 @@ due_calm h e law next calm unfired n t d = by_reason (due_before h e law next n 
   by_reason (inr (ends_so now)) = absurd (ends_calm e calm now)
   by_reason (inr (completes_one now whole)) = absurd (completes_calm e calm now)
   by_reason (inr (fires_it now whole)) = absurd (both_ways (list_any (is_firing_of n) (stops_of h e)) (unfired n) now)
+
+pub ends_none_on : (h : List Event) (e : Event) → IsLawful h → MayFollow h e → ends_or_declines e ≡ false → FiresNone h e → EndsNone h → EndsNone (h ++ e ∷ [])
+ends_none_on h e law next calm unfired ends_none n t d = ends_none n t (due_calm h e law next calm unfired n t d)
 
 pub settled_ends_none : (h : List Event) → IsSettled h → EndsNone h
 settled_ends_none h settled n t d = settled.none (End n t) (due (settled_connected h settled) d)
@@ -113,8 +110,7 @@ data IsLeft (h : List Event) (e : Event) (c : ℕ) : Type 0 where
   left_before : IsDue h (Close c) → IsLeft h e c
   left_at_once : {g : ℕ} → e ≡ Connect g → at is_auto_hub (h ++ e ∷ []) g ≡ true → open_subscribers (h ++ e ∷ []) g ≡ [] → IsLeft h e c
 
-how_left : (h : List Event) (e : Event) (c : ℕ) → IsLawful (h ++ e ∷ []) → ((n : ℕ) → is_open h n ≡ true → is_open (h ++ e ∷ []) n ≡ true) →
-    IsDue (h ++ e ∷ []) (Close c) → IsLeft h e c
+how_left : (h : List Event) (e : Event) (c : ℕ) → IsLawful (h ++ e ∷ []) → ClosesNone h e → IsDue (h ++ e ∷ []) (Close c) → IsLeft h e c
 how_left h e c law still (left {g = g} o at_c auto none) = by_place (cases_order c (length h)) where
   by_place : (c ≡ length h) ⊎ ((c < length h) ⊎ (length h < c)) → IsLeft h e c
   by_place (inl same) = left_at_once (same_Some e (Connect g) (sym (slice_get_last h e) ∙ ap (slice_get (h ++ e ∷ [])) (sym same) ∙ at_c)) auto none
@@ -146,22 +142,16 @@ pub connect_manual : {h : List Event} {g : ℕ} → IsSettled h → MayFollow h 
 connect_manual {g = g} settled (forced f) = absurd (settled.none (Connect g) f)
 connect_manual settled (allowed s a) = allowed_manual a
 
-module _ (h : List Event) (e : Event) (law : IsLawful h) (next : MayFollow h e) (settled : IsSettled h) (calm : ends_or_declines e ≡ false)
-    (unfired : (n : ℕ) → list_any (is_firing_of n) (stops_of h e) ≡ false)
-    (still : (n : ℕ) → is_open h n ≡ true → is_open (h ++ e ∷ []) n ≡ true) where
-  ends_none_on : EndsNone (h ++ e ∷ [])
-  ends_none_on n t d = settled_ends_none h settled n t (due_calm h e law next calm unfired n t d)
+-- what closes nothing is no closing
+closes_none_by : (h : List Event) (e : Event) → MayFollow h e → ends_or_declines e ≡ false → ClosesNone h e → closes_none e ≡ true
+closes_none_by h (End n t) next calm still = absurd (false≢true (sym calm))
+closes_none_by h (Close n) next calm still =
+    let o = may_close next in
+    let gone : is_open (h ++ Close n ∷ []) n ≡ false = is_open_cut h (Close n) n (is_open_within h n o) ∙ rw (self_cut h (Close n) n (eq-eqb n n refl), o) refl in
+    absurd (both_ways (is_open (h ++ Close n ∷ []) n) gone (still n o))
+closes_none_by h _ next calm still = refl
 
-  closes_none_on : closes_none e ≡ true
-  closes_none_on = by_event e next calm still where
-    by_event : (x : Event) → MayFollow h x → ends_or_declines x ≡ false → ((n : ℕ) → is_open h n ≡ true → is_open (h ++ x ∷ []) n ≡ true) → closes_none x ≡ true
-    by_event (End n t) may quiet keeps = absurd (false≢true (sym quiet))
-    by_event (Close n) may quiet keeps =
-        let o = may_close may in
-        let gone : is_open (h ++ Close n ∷ []) n ≡ false = is_open_cut h (Close n) n (is_open_within h n o) ∙ rw (self_cut h (Close n) n (eq-eqb n n refl), o) refl in
-        absurd (both_ways (is_open (h ++ Close n ∷ []) n) gone (keeps n o))
-    by_event _ may quiet keeps = refl
-
+module _ (h : List Event) (e : Event) (law : IsLawful h) (next : MayFollow h e) (settled : IsSettled h) (still : ClosesNone h e) where
   none_left_on : ((g : ℕ) → e ≡ Connect g → at is_auto_hub (h ++ e ∷ []) g ≡ true → ⊥) → (c : ℕ) → ¬ IsDue (h ++ e ∷ []) (Close c)
   none_left_on connects_none c d = by_way (how_left h e c (IsLawful-push h e law next) still d) where
     by_way : IsLeft h e c → ⊥
@@ -169,25 +159,28 @@ module _ (h : List Event) (e : Event) (law : IsLawful h) (next : MayFollow h e) 
     by_way (left_at_once {g = g} is auto none) = connects_none g is auto
 
   -- After such an event nothing is left undone, where it closes nothing and subscribes to no hub
-  pub settled_on : hub_subscribed e ≡ None → IsSettled (h ++ e ∷ [])
-  settled_on unsubscribed = settled_undue (h ++ e ∷ []) (kept_unsubscribed h e law (settled_connected h settled) closes_none_on unsubscribed) ends_none_on (none_left_on manual_alone) where
+  pub settled_on : ends_or_declines e ≡ false → FiresNone h e → hub_subscribed e ≡ None → IsSettled (h ++ e ∷ [])
+  settled_on calm unfired unsubscribed =
+      settled_undue (h ++ e ∷ []) (kept_unsubscribed h e law (settled_connected h settled) (closes_none_by h e next calm still) unsubscribed)
+      (ends_none_on h e law next calm unfired (settled_ends_none h settled)) (none_left_on manual_alone)
+    where
     manual_alone : (g : ℕ) → e ≡ Connect g → at is_auto_hub (h ++ e ∷ []) g ≡ true → ⊥
     manual_alone g is auto =
         let manual = connect_manual settled (subst (λ (x : Event). MayFollow h x) is next) in
         is_both (slice_get h g) manual (sym (at-append is_auto_hub h (e ∷ []) g (at_within is_manual_hub h g manual)) ∙ auto)
 
--- subscribers ---------------------------------------------------------------------------------------
+-- to a settled history nothing is added
+pub unforced : {h k : List Event} → IsForcedOn h k → IsSettled h → k ≡ h
+unforced stays settled = refl
+unforced (more {e = e} on f) settled = absurd (settled.none e (subst (λ (q : List Event). IsForced q e) (unforced on settled) f))
 
--- What is forced after a subscriber of g came: nothing, or just that g is connected, and then nothing
-pub data IsSubscribed (h : List Event) (g : ℕ) : Type 0 where
-  is_connected : IsSettled h → IsSubscribed h g
-  is_waiting_for : IsForced h (Connect g) → ((e : Event) → IsForced h e → e ≡ Connect g) → IsSettled (h ++ Connect g ∷ []) → IsSubscribed h g
+-- subscribers ---------------------------------------------------------------------------------------
 
 -- after one subscriber came, and no other hub waits
 subscribed_on : (h : List Event) (g s : ℕ) → IsLawful h → EndsNone h → ((c : ℕ) → ¬ IsDue h (Close c)) → ((k : ℕ) → IsConnectDue h k → k ≡ g) →
-    at (is_subscriber_of g) h s ≡ true → is_open h s ≡ true → IsSubscribed h g
+    at (is_subscriber_of g) h s ≡ true → is_open h s ≡ true → ConnectsAtMost h g
 subscribed_on h g s law ends_none none_left only subscribes o = by_test (at is_auto_hub h g) refl where
-  still : (n : ℕ) → is_open h n ≡ true → is_open (h ++ Connect g ∷ []) n ≡ true
+  still : ClosesNone h (Connect g)
   still n was = is_open_kept h (Connect g) n (is_open_within h n was) refl ∙ was
 
   none_left_after : MayFollow h (Connect g) → (c : ℕ) → ¬ IsDue (h ++ Connect g ∷ []) (Close c)
@@ -199,19 +192,19 @@ subscribed_on h g s law ends_none none_left only subscribes o = by_test (at is_a
         subscriber_listed (h ++ Connect g ∷ []) g s (at-append (is_subscriber_of g) h (Connect g ∷ []) s (is_open_within h s o) ∙ subscribes) (still s o)
         (ap (open_subscribers (h ++ Connect g ∷ [])) same ∙ none)
 
-  waiting : IsConnectDue h g → IsSubscribed h g
-  waiting d = is_waiting_for (connecting d) alone (settled_undue (h ++ Connect g ∷ []) (connected_first h g only) (λ n t x. ends_none n t (due_calm h (Connect g) law (forced (connecting d)) refl (λ m. refl) n t x)) (none_left_after (forced (connecting d)))) where
+  waiting : IsConnectDue h g → ConnectsAtMost h g
+  waiting d = is_waiting_for (connecting d) alone (settled_undue (h ++ Connect g ∷ []) (connected_first h g only) (ends_none_on h (Connect g) law (forced (connecting d)) refl (λ m. refl) ends_none) (none_left_after (forced (connecting d)))) where
     alone : (e : Event) → IsForced h e → e ≡ Connect g
     alone e (connecting {g = k} w) = ap (λ q. Connect q) (only k w)
     alone e (due none x) = absurd (none g d)
 
-  by_list : at is_auto_hub h g ≡ true → (cs : List ℕ) → open_connections h g ≡ cs → IsSubscribed h g
+  by_list : at is_auto_hub h g ≡ true → (cs : List ℕ) → open_connections h g ≡ cs → ConnectsAtMost h g
   by_list auto [] found = waiting (record { auto = auto; subscriber = s; subscribes = subscribes; subscribed = o; waits = λ t ended. ends_none s t (cut o ended); unconnected = found })
-  by_list auto (c ∷ cs) found = is_connected (settled_undue h (λ k d. let none : c ∷ cs ≡ [] = sym found ∙ ap (open_connections h) (sym (only k d)) ∙ d.unconnected in cc) ends_none none_left)
+  by_list auto (c ∷ cs) found = is_done (settled_undue h (λ k d. let none : c ∷ cs ≡ [] = sym found ∙ ap (open_connections h) (sym (only k d)) ∙ d.unconnected in cc) ends_none none_left)
 
-  by_test : (b : Bool) → at is_auto_hub h g ≡ b → IsSubscribed h g
+  by_test : (b : Bool) → at is_auto_hub h g ≡ b → ConnectsAtMost h g
   by_test true auto = by_list auto (open_connections h g) refl
-  by_test false manual = is_connected (settled_undue h (λ k d. both_ways (at is_auto_hub h g) manual (ap (at is_auto_hub h) (sym (only k d)) ∙ d.auto)) ends_none none_left)
+  by_test false manual = is_done (settled_undue h (λ k d. both_ways (at is_auto_hub h g) manual (ap (at is_auto_hub h) (sym (only k d)) ∙ d.auto)) ends_none none_left)
 
 -- what is opened is opened after a settled history
 pub opened_settled : {h : List Event} {place : Place} {kind : Kind} → MayFollow h (Open place kind) → IsSettled h
@@ -220,9 +213,9 @@ opened_settled (allowed settled a) = settled
 
 -- After the opening of a subscriber that closes nothing either nothing is forced, or just that its hub is connected, and then nothing
 pub subscribed_after : (h : List Event) (place : Place) (g : ℕ) → IsLawful h → MayFollow h (Open place (Sub g)) →
-    ((n : ℕ) → is_open h n ≡ true → is_open (h ++ Open place (Sub g) ∷ []) n ≡ true) → IsSubscribed (h ++ Open place (Sub g) ∷ []) g
+    ClosesNone h (Open place (Sub g)) → ConnectsAtMost (h ++ Open place (Sub g) ∷ []) g
 subscribed_after h place g law next still =
     let settled = opened_settled next in
-    subscribed_on (h ++ Open place (Sub g) ∷ []) g (length h) (IsLawful-push h (Open place (Sub g)) law next) (ends_none_on h (Open place (Sub g)) law next settled refl (λ n. refl) still)
-    (none_left_on h (Open place (Sub g)) law next settled refl (λ n. refl) still (λ k is auto. cc)) (kept_subscribed h place g law (settled_connected h settled))
+    subscribed_on (h ++ Open place (Sub g) ∷ []) g (length h) (IsLawful-push h (Open place (Sub g)) law next) (ends_none_on h (Open place (Sub g)) law next refl (λ n. refl) (settled_ends_none h settled))
+    (none_left_on h (Open place (Sub g)) law next settled still (λ k is auto. cc)) (kept_subscribed h place g law (settled_connected h settled))
     (rw (slice_get_last h (Open place (Sub g))) (eq-eqb g g refl)) (is_open_new h (Open place (Sub g)) next)

@@ -17,6 +17,7 @@ use Rattle.rx_event.specs.Tree.{at, parent, ancestors, is_open, is_within, shuts
 use Rattle.rx_event.specs.Moments.{is_firing_of, stops_of}
 use Rattle.rx_event.specs.Forced.{mirrored, fired, failed, completed, cut, left, connecting, due, IsDue, IsForced, IsConnected, IsSettled}
 use Rattle.rx_event.specs.Lawful.{forced, allowed, opened_with, stays, more, MayFollow, IsLawful, IsForcedOn}
+use Rattle.rx_event.specs.Claims.Stays.{ends_or_declines, FiresNone}
 use Rattle.rx_event.proofs.Laws.Places.{slice_get-append, slice_get_last, at-append, at_within}
 use Rattle.rx_event.proofs.Laws.Parents.{ancestors_step, ancestors-append, within_cases, within_parent, is_within-le, parent-lt, parent_name}
 use Rattle.rx_event.proofs.Laws.Openness.{is_open_within, is_open_kept, is_open_cut, is_open_outside-close, is_cut, shuts_none}
@@ -26,7 +27,7 @@ use Rattle.rx_event.proofs.Laws.Totals.{is_open_new}
 use Rattle.rx_event.proofs.Laws.Hubs.{hubs_in_order}
 use Rattle.rx_event.proofs.Laws.Waits.{settled_connected}
 use Rattle.rx_event.proofs.Laws.MarksInner.{switched_parent}
-use Rattle.rx_event.proofs.Laws.Calm.{EndsNone, ends_or_declines, due_calm, settled_ends_none, subscriber_listed, left_older, opened_settled, settled_on}
+use Rattle.rx_event.proofs.Laws.Calm.{EndsNone, ends_none_on, settled_ends_none, left_older, opened_settled, settled_on, unforced}
 
 -- what a step may not harm --------------------------------------------------------------------------
 
@@ -59,8 +60,7 @@ module _ (h k : List Event) (n : ℕ) (w : IsUnharmed h k n) where
     was_due q same = subst (λ (x : List Event). IsLawful x → is_open x c ≡ true → slice_get x c ≡ Some (Connect g) → at is_auto_hub x g ≡ true → open_subscribers x g ≡ [] → ((s : ℕ) → at (is_subscriber_of g) h s ≡ true → is_open h s ≡ true → is_open x s ≡ true) → IsDue h (Close c)) (sym same) (λ law o at_c auto none still. left_older h w.added c g law l o at_c auto none still)
 
   -- one more event that keeps n, and the subscribers, open
-  carried : (e : Event) → MayFollow k e → ends_or_declines e ≡ false → ((m : ℕ) → list_any (is_firing_of m) (stops_of k e) ≡ false) →
-      is_open (k ++ e ∷ []) n ≡ true →
+  carried : (e : Event) → MayFollow k e → ends_or_declines e ≡ false → FiresNone k e → is_open (k ++ e ∷ []) n ≡ true →
       ((c g j s : ℕ) → is_within k c n ≡ true → slice_get k c ≡ Some (Connect g) → g ≤ j → at (is_subscriber_of j) h s ≡ true → is_open k s ≡ true →
       is_open (k ++ e ∷ []) s ≡ true) →
       IsUnharmed h (k ++ e ∷ []) n
@@ -69,7 +69,7 @@ module _ (h k : List Event) (n : ℕ) (w : IsUnharmed h k n) where
     added = w.added ++ e ∷ [];
     grown = ap (λ (q : List Event). q ++ e ∷ []) w.grown ∙ append_assoc h w.added (e ∷ []);
     law = IsLawful-push k e w.law next;
-    ends_none = λ m t d. w.ends_none m t (due_calm k e w.law next calm unfired m t d);
+    ends_none = ends_none_on k e w.law next calm unfired w.ends_none;
     alive = alive;
     older = λ c g above at_c. w.older c g (above_before c above) (event_before c above ∙ at_c);
     subscribed = λ c g j s above at_c le subscribes was. still c g j s (above_before c above) (event_before c above ∙ at_c) le subscribes (w.subscribed c g j s (above_before c above) (event_before c above ∙ at_c) le subscribes was);
@@ -81,7 +81,7 @@ module _ (h k : List Event) (n : ℕ) (w : IsUnharmed h k n) where
     event_before c above = let le = is_within-le k c n (above_before c above) in let l : n < length k = within in sym (slice_get-append k (e ∷ []) c (omega arith))
 
   -- one that shuts nothing
-  carried_whole : (e : Event) → MayFollow k e → ends_or_declines e ≡ false → ((m : ℕ) → list_any (is_firing_of m) (stops_of k e) ≡ false) → shuts_none e ≡ true →
+  carried_whole : (e : Event) → MayFollow k e → ends_or_declines e ≡ false → FiresNone k e → shuts_none e ≡ true →
       IsUnharmed h (k ++ e ∷ []) n
   carried_whole e next calm unfired spares = carried e next calm unfired (still n w.alive) (λ c g j s above at_c le subscribes was. still s was) where
     still : (m : ℕ) → is_open k m ≡ true → is_open (k ++ e ∷ []) m ≡ true
@@ -193,7 +193,7 @@ module _ (h : List Event) (place : Place) (kind : Kind) (law : IsLawful h) (next
     added = Open place kind ∷ [];
     grown = refl;
     law = IsLawful-push h (Open place kind) law next;
-    ends_none = λ m t d. settled_ends_none h (opened_settled next) m t (due_calm h (Open place kind) law next refl (λ x. refl) m t d);
+    ends_none = ends_none_on h (Open place kind) law next refl (λ x. refl) (settled_ends_none h (opened_settled next));
     alive = is_open_new h (Open place kind) next;
     older = older_above;
     subscribed = λ c g j s above at_c le subscribes was. is_open_cut h (Open place kind) s (is_open_within h s was) ∙ by_test s was (uncut c g j s above at_c le subscribes) (is_cut h (Open place kind) s) refl;
@@ -232,3 +232,20 @@ pub accepted_stays : (h k : List Event) (n tag : ℕ) → IsLawful h → MayFoll
 accepted_stays h k n tag law next on =
     let b = accepted_begun h n tag law next in
     (unharmed_on on b.before n (carried_whole b.before h n b.unharmed (Accept n tag) next refl (λ m. refl) refl)).alive
+
+-- also right after its opening
+pub opened_using_stays : (h k : List Event) (place : Place) (tag : ℕ) → IsLawful h → MayFollow h (Open place Pass) →
+    IsForcedOn (h ++ Open place Pass ∷ Accept (length h) tag ∷ []) k → is_open k (length h) ≡ true
+opened_using_stays h k place tag law next on =
+    let last : slice_get (h ++ Open place Pass ∷ []) (length h) ≡ Some (Open place Pass) = slice_get_last h (Open place Pass) in
+    let accept : MayFollow (h ++ Open place Pass ∷ []) (Accept (length h) tag) = opened_with last (length-append h (Open place Pass ∷ [])) (is_open_new h (Open place Pass) next) in
+    accepted_stays (h ++ Open place Pass ∷ []) k (length h) tag (IsLawful-push h (Open place Pass) law next) accept
+    (subst (λ (q : List Event). IsForcedOn q k) (sym (append_assoc h (Open place Pass ∷ []) (Accept (length h) tag ∷ []))) on)
+
+-- What a caller connects stays connected
+pub connected_stays : (h k : List Event) (g : ℕ) → IsLawful h → IsSettled h → MayFollow h (Connect g) → IsForcedOn (h ++ Connect g ∷ []) k → is_open k (length h) ≡ true
+connected_stays h k g law settled next on =
+    ap (λ (q : List Event). is_open q (length h)) (unforced on (settled_on h (Connect g) law next settled still refl (λ m. refl) refl)) ∙ is_open_new h (Connect g) next
+  where
+    still : (n : ℕ) → is_open h n ≡ true → is_open (h ++ Connect g ∷ []) n ≡ true
+    still n was = is_open_kept h (Connect g) n (is_open_within h n was) refl ∙ was

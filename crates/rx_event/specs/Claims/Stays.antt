@@ -1,0 +1,61 @@
+-- What is promised of what stays open through what is forced, and of events that force nothing.
+use Rattle.std.specs.Prelude.{◌≡◌, ℕ, Bool, true, false, Some, None, List, [], ◌∷◌, ◌++◌, length, IsTrue}
+use Rattle.std.specs.List.{list_any}
+use Rattle.rx_note.specs.declared.note.Terminal.{Terminal}
+use Rattle.rx_event.specs.declared.event.Place.{Place}
+use Rattle.rx_event.specs.declared.event.Kind.{Kind}
+use Rattle.rx_event.specs.declared.event.Kind.TheVariants.{Pass, Sub}
+use Rattle.rx_event.specs.declared.event.Event.{Event}
+use Rattle.rx_event.specs.declared.event.Event.TheVariants.{Open, Connect, Accept, Decline, End}
+use Rattle.rx_event.specs.Events.{hub_subscribed}
+use Rattle.rx_event.specs.Tree.{is_open}
+use Rattle.rx_event.specs.Moments.{is_firing_of, stops_of}
+use Rattle.rx_event.specs.Forced.{IsDue, IsForced, IsSettled}
+use Rattle.rx_event.specs.Lawful.{MayFollow, IsLawful, IsForcedOn}
+
+-- the event ends a node, or declines what a FlatMap or Switch owes
+abbrev pub ends_or_declines : Event → Bool
+ends_or_declines (End n t) = true
+ends_or_declines (Decline f) = true
+ends_or_declines _ = false
+
+-- it fires no TakeUntil
+abbrev pub FiresNone : List Event → Event → Type 0
+FiresNone h e = (u : ℕ) → list_any (is_firing_of u) (stops_of h e) ≡ false
+
+-- all that was open is open after it
+abbrev pub ClosesNone : List Event → Event → Type 0
+ClosesNone h e = (n : ℕ) → IsTrue (is_open h n) → IsTrue (is_open (h ++ e ∷ []) n)
+
+-- what a subscriber of g leaves to be done: nothing, or just that g is connected, and after that nothing
+pub data ConnectsAtMost (h : List Event) (g : ℕ) : Type 0 where
+  is_done : IsSettled h → ConnectsAtMost h g
+  is_waiting_for : IsForced h (Connect g) → ((e : Event) → IsForced h e → e ≡ Connect g) → IsSettled (h ++ Connect g ∷ []) →
+      ConnectsAtMost h g
+
+-- an event that ends and declines nothing and fires none leaves little to be done
+pub record CalmForcesLittle : Type 0 where
+  -- it makes no node due to end
+  pub ended : (h : List Event) (e : Event) → IsLawful h → MayFollow h e → ends_or_declines e ≡ false → FiresNone h e →
+      (n : ℕ) (t : Terminal) → IsDue (h ++ e ∷ []) (End n t) → IsDue h (End n t)
+  -- where it closes nothing and subscribes to no hub either, nothing is left to be done
+  pub settled : (h : List Event) (e : Event) → IsLawful h → MayFollow h e → IsSettled h → ends_or_declines e ≡ false →
+      FiresNone h e → ClosesNone h e → hub_subscribed e ≡ None → IsSettled (h ++ e ∷ [])
+  -- and after a subscriber the connection of its hub alone
+  pub subscribed : (h : List Event) (place : Place) (g : ℕ) → IsLawful h → MayFollow h (Open place (Sub g)) →
+      ClosesNone h (Open place (Sub g)) → ConnectsAtMost (h ++ Open place (Sub g) ∷ []) g
+
+-- what a caller opens stays open through all that is forced after it
+pub record OpenedStays : Type 0 where
+  -- also what takes the place of a Switch's open inner
+  pub opened : (h k : List Event) (place : Place) (kind : Kind) → IsLawful h → MayFollow h (Open place kind) →
+      IsForcedOn (h ++ Open place kind ∷ []) k → IsTrue (is_open k (length h))
+  -- with its resource (Using)
+  pub opened_using : (h k : List Event) (place : Place) (tag : ℕ) → IsLawful h → MayFollow h (Open place Pass) →
+      IsForcedOn (h ++ Open place Pass ∷ Accept (length h) tag ∷ []) k → IsTrue (is_open k (length h))
+  -- a connection
+  pub connected : (h k : List Event) (g : ℕ) → IsLawful h → IsSettled h → MayFollow h (Connect g) →
+      IsForcedOn (h ++ Connect g ∷ []) k → IsTrue (is_open k (length h))
+  -- and so does the node at which it hands in a resource
+  pub accepted : (h k : List Event) (n tag : ℕ) → IsLawful h → MayFollow h (Accept n tag) →
+      IsForcedOn (h ++ Accept n tag ∷ []) k → IsTrue (is_open k n)
