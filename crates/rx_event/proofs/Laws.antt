@@ -31,3 +31,5 @@ pub mod OneEnd
 pub mod Calm
 pub mod StaysOpen
 pub mod OpenAfter
+pub mod LetGo
+pub mod Closings

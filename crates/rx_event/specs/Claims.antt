@@ -8,3 +8,4 @@ pub mod Notes
 pub mod Forced
 pub mod Marks
 pub mod Stays
+pub mod Closing

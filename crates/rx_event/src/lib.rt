@@ -31,7 +31,7 @@ pub use rx_note::Terminal;
 pub use theorems::{
     a_closed_history_holds_nothing, a_hub_connects_once, a_step_connects_one_hub,
     a_switch_has_one_open_inner, calm_events_force_little, climbs_go_on_in_order,
-    closed_stays_closed, each_resource_is_in_one_place, marks_say_what_is_due,
-    nodes_stand_below_nodes, notes_obey_the_grammar, what_is_opened_stays_open,
-    what_one_event_changes,
+    closed_stays_closed, closing_opens_nothing_anew, each_resource_is_in_one_place,
+    marks_say_what_is_due, nodes_stand_below_nodes, notes_obey_the_grammar,
+    nothing_stays_open_by_itself, what_is_opened_stays_open, what_one_event_changes,
 };

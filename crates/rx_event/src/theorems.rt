@@ -2,6 +2,7 @@
 
 mod changes;
 mod climbs;
+mod closing;
 mod hubs;
 mod marks;
 mod nodes;
@@ -11,6 +12,7 @@ mod stays;
 
 pub use changes::what_one_event_changes;
 pub use climbs::climbs_go_on_in_order;
+pub use closing::{closing_opens_nothing_anew, nothing_stays_open_by_itself};
 pub use hubs::{a_hub_connects_once, a_step_connects_one_hub};
 pub use marks::marks_say_what_is_due;
 pub use nodes::{a_switch_has_one_open_inner, closed_stays_closed, nodes_stand_below_nodes};

@@ -1,0 +1,155 @@
+-- Where a caller holds nothing open, nothing is open. What keeps a RefCount hub connected is a subscriber, which stands below a
+-- connection of a later hub; so were one connected, hubs would be endless.
+use Rattle.std.proofs.Common.{◌≡◌, ℕ, zero, suc, ◌+◌, ◌<◌, ◌≤◌, Bool, true, false, List, [], ◌∷◌, length, Option, Some, None, cond, refl, sym, ap, ◌∙◌, arith, inl, inr, ◌⊎◌, slice_get, take}
+use Rattle.std.proofs.Math.Bool.{◌&&◌}
+use Rattle.std.specs.List.{count_by, range_with_len}
+use Rattle.std.specs.Option.{option_map_or}
+use Rattle.std.proofs.lemmas.Bool.{cases_Bool, cases_lt, both_ways, false≢true, and_parts, and_from, eq-eqb, false_from_ne_true}
+use Rattle.std.proofs.lemmas.Option.{slice_get_within}
+use Rattle.rx_event.specs.declared.event.Place.TheVariants.{Root, Source, Inner, Notifier}
+use Rattle.rx_event.specs.declared.event.Mode.TheVariants.{Auto, Manual}
+use Rattle.rx_event.specs.declared.event.Event.{Event}
+use Rattle.rx_event.specs.declared.event.Event.TheVariants.{Open, Hub, Connect}
+use Rattle.rx_event.specs.Events.{makes_node, makes_hub, is_root, is_auto_hub, is_manual_hub, is_connect_of, is_subscriber_of}
+use Rattle.rx_event.specs.Tree.{at, places, parent, is_within, is_open, open_subscribers, open_connections}
+use Rattle.rx_event.specs.Totals.{open_count}
+use Rattle.rx_event.specs.Forced.{IsSettled}
+use Rattle.rx_event.specs.Lawful.{IsLawful}
+use Rattle.rx_event.specs.Claims.Closing.{is_open_root, is_manual_connection, open_root_count, manual_connection_count, IsLetGo}
+use Rattle.rx_event.proofs.Laws.Lists.{first_passes, filter_nonempty}
+use Rattle.rx_event.proofs.Laws.Places.{at-take, at_within}
+use Rattle.rx_event.proofs.Laws.Parents.{parent-lt, within_parent}
+use Rattle.rx_event.proofs.Laws.Openness.{is_open_within, parent_open}
+use Rattle.rx_event.proofs.Laws.Lawful.{lawful_at}
+use Rattle.rx_event.proofs.Laws.Steps.{parent-named}
+use Rattle.rx_event.proofs.Laws.Stands.{open_node}
+use Rattle.rx_event.proofs.Laws.Sums.{sum_by_none, term_in_sum}
+use Rattle.rx_event.proofs.Laws.Totals.{is_within_self}
+use Rattle.rx_event.proofs.Laws.Hubs.{at_connect, may_connect_hub, connection_hub, unsubscribed_unconnected, hubs_in_order}
+
+-- the topmost node ---------------------------------------------------------------------------------
+
+-- An open node that n stands below, and which stands below none: a root, or a connection
+pub record IsTopOf (h : List Event) (n a : ℕ) : Type 0 where
+  pub above : is_within h a n ≡ true
+  pub alive : is_open h a ≡ true
+  pub sort : (at is_root h a ≡ true) ⊎ ((g : ℕ) × (slice_get h a ≡ Some (Connect g)))
+
+-- each open node has one
+topmost_below : (h : List Event) → IsLawful h → (steps n : ℕ) → n < steps → is_open h n ≡ true → (a : ℕ) × IsTopOf h n a
+topmost_below h law zero n l o = absurd (omega arith)
+topmost_below h law (suc steps) n l o = by_event (topmost_below h law steps) (slice_get h n) refl (open_node h n o) where
+  below : ((p : ℕ) → p < steps → is_open h p ≡ true → (a : ℕ) × IsTopOf h p a) → (p : ℕ) → parent h n ≡ Some p → (a : ℕ) × IsTopOf h n a
+  below rest p under =
+      let s : p < n = parent-lt h n p under in
+      let top : (a : ℕ) × IsTopOf h p a = rest p (omega arith) (parent_open h n p o under) in
+      (top.0, record { above = within_parent h top.0 n p under top.1.above; alive = top.1.alive; sort = top.1.sort })
+
+  by_event : ((p : ℕ) → p < steps → is_open h p ≡ true → (a : ℕ) × IsTopOf h p a) → (e : Option Event) → slice_get h n ≡ e →
+      option_map_or makes_node e false ≡ true → (a : ℕ) × IsTopOf h n a
+  by_event rest None at_n node = absurd (false≢true node)
+  by_event rest (Some (Connect g)) at_n node = (n, record { above = is_within_self h n; alive = o; sort = inr (g, at_n) })
+  by_event rest (Some (Open Root kind)) at_n node = (n, record { above = is_within_self h n; alive = o; sort = inl (rw at_n refl) })
+  by_event rest (Some (Open (Source p) kind)) at_n node = below rest p (parent-named h law n p (Open (Source p) kind) at_n refl)
+  by_event rest (Some (Open (Inner p) kind)) at_n node = below rest p (parent-named h law n p (Open (Inner p) kind) at_n refl)
+  by_event rest (Some (Open (Notifier p) kind)) at_n node = below rest p (parent-named h law n p (Open (Notifier p) kind) at_n refl)
+  by_event rest (Some _) at_n node = absurd (false≢true node)
+
+pub topmost : (h : List Event) → IsLawful h → (n : ℕ) → is_open h n ≡ true → (a : ℕ) × IsTopOf h n a
+topmost h law n o = topmost_below h law (suc n) n (omega arith) o
+
+-- connections --------------------------------------------------------------------------------------
+
+-- an open connection is one of its hub's
+pub connection_listed : (h : List Event) (g c : ℕ) → slice_get h c ≡ Some (Connect g) → is_open h c ≡ true → open_connections h g ≡ [] → ⊥
+connection_listed h g c connects alive none =
+    let w = is_open_within h c alive in
+    filter_nonempty (λ n. at (is_connect_of g) h n && is_open h n) 0 (length h) c (omega arith) (omega arith) (and_from _ _ (rw connects (eq-eqb g g refl)) alive) none
+
+-- and what is one of its hub's is an open connection
+pub first_connection : (h : List Event) (g c : ℕ) (cs : List ℕ) → open_connections h g ≡ c ∷ cs →
+    (slice_get h c ≡ Some (Connect g)) × (is_open h c ≡ true)
+first_connection h g c cs found =
+    let first : (at (is_connect_of g) h c && is_open h c) ≡ true = first_passes (λ n. at (is_connect_of g) h n && is_open h n) (places h) c cs found in
+    let parts : (at (is_connect_of g) h c ≡ true) × (is_open h c ≡ true) = and_parts _ _ first in
+    (at_connect h g c parts.0, parts.1)
+
+-- the hub of a connection is a hub
+connected_hub : (h : List Event) → IsLawful h → (g c : ℕ) → slice_get h c ≡ Some (Connect g) → at makes_hub h g ≡ true
+connected_hub h law g c connects =
+    sym (at-take makes_hub h c g (connection_hub h law g c connects) (slice_get_within h c (Connect g) connects)) ∙ may_connect_hub (lawful_at h law c (Connect g) connects)
+
+-- where a caller holds nothing open, no hub is connected
+let_go_unconnected : (h : List Event) → IsLawful h → IsSettled h → IsLetGo h → (steps g c : ℕ) → length h ≤ g + steps → slice_get h c ≡ Some (Connect g) →
+    is_open h c ≡ true → ⊥
+let_go_unconnected h law settled free zero g c l connects alive =
+    let s = connection_hub h law g c connects in
+    let w = slice_get_within h c (Connect g) connects in
+    absurd (omega arith)
+let_go_unconnected h law settled free (suc steps) g c l connects alive =
+    by_hub (let_go_unconnected h law settled free steps) (slice_get h g) refl (connected_hub h law g c connects)
+  where
+    by_top : ((k a : ℕ) → length h ≤ k + steps → slice_get h a ≡ Some (Connect k) → is_open h a ≡ true → ⊥) → (s a : ℕ) →
+        at (is_subscriber_of g) h s ≡ true → IsTopOf h s a → (at is_root h a ≡ true) ⊎ ((k : ℕ) × (slice_get h a ≡ Some (Connect k))) → ⊥
+    by_top rest s a subscribes top (inl root) = both_ways _ (free.unsubscribed a) (and_from _ _ top.alive root)
+    by_top rest s a subscribes top (inr (k, at_a)) =
+        let later : g < k = hubs_in_order h law g s a k subscribes top.above at_a in
+        rest k a (omega arith) at_a top.alive
+
+    by_subscribers : ((k a : ℕ) → length h ≤ k + steps → slice_get h a ≡ Some (Connect k) → is_open h a ≡ true → ⊥) →
+        at is_auto_hub h g ≡ true → (ss : List ℕ) → open_subscribers h g ≡ ss → ⊥
+    by_subscribers rest auto [] none = connection_listed h g c connects alive (unsubscribed_unconnected h g settled auto none)
+    by_subscribers rest auto (s ∷ ss) found =
+        let first : (at (is_subscriber_of g) h s && is_open h s) ≡ true = first_passes (λ n. at (is_subscriber_of g) h n && is_open h n) (places h) s ss found in
+        let parts : (at (is_subscriber_of g) h s ≡ true) × (is_open h s ≡ true) = and_parts _ _ first in
+        let top : (a : ℕ) × IsTopOf h s a = topmost h law s parts.1 in
+        by_top rest s top.0 parts.0 top.1 top.1.sort
+
+    by_hub : ((k a : ℕ) → length h ≤ k + steps → slice_get h a ≡ Some (Connect k) → is_open h a ≡ true → ⊥) → (e : Option Event) →
+        slice_get h g ≡ e → option_map_or makes_hub e false ≡ true → ⊥
+    by_hub rest None at_g hub = false≢true hub
+    by_hub rest (Some (Hub Manual)) at_g hub = connection_listed h g c connects alive (free.disconnected g (rw at_g refl))
+    by_hub rest (Some (Hub Auto)) at_g hub = by_subscribers rest (rw at_g refl) (open_subscribers h g) refl
+    by_hub rest (Some _) at_g hub = false≢true hub
+
+-- nothing open -------------------------------------------------------------------------------------
+
+-- where a caller holds nothing open, nothing is open
+pub nothing_open : (h : List Event) → IsLawful h → IsSettled h → IsLetGo h → (n : ℕ) → is_open h n ≡ false
+nothing_open h law settled free n = false_from_ne_true _ (λ o. let top : (a : ℕ) × IsTopOf h n a = topmost h law n o in by_top top.0 top.1 top.1.sort) where
+  by_top : (a : ℕ) → IsTopOf h n a → (at is_root h a ≡ true) ⊎ ((g : ℕ) × (slice_get h a ≡ Some (Connect g))) → ⊥
+  by_top a top (inl root) = both_ways _ (free.unsubscribed a) (and_from _ _ top.alive root)
+  by_top a top (inr (g, at_a)) = let_go_unconnected h law settled free (length h) g a (omega arith) at_a top.alive
+
+pub nothing_open_counted : (h : List Event) → IsLawful h → IsSettled h → IsLetGo h → open_count h ≡ 0
+nothing_open_counted h law settled free =
+    sum_by_none (λ n. cond (is_open h n) 1 0) (length h) (λ n l. ap (λ (b : Bool). cond {A = ℕ} b 1 0) (nothing_open h law settled free n))
+
+-- counts -------------------------------------------------------------------------------------------
+
+-- where none is counted none passes
+none_passes : (t : ℕ → Bool) (m : ℕ) → count_by t (range_with_len 0 m) ≡ 0 → (n : ℕ) → n < m → t n ≡ false
+none_passes t m none n l = by_test (cases_Bool (t n)) where
+  by_test : (t n ≡ true) ⊎ (t n ≡ false) → t n ≡ false
+  by_test (inr fails) = fails
+  by_test (inl passes) =
+      let one : cond {A = ℕ} (t n) 1 0 ≡ 1 = ap (λ (b : Bool). cond {A = ℕ} b 1 0) passes in
+      let within = term_in_sum (λ k. cond (t k) 1 0) n m l in
+      absurd (omega arith)
+
+-- what is open is in the history
+pub open_passes_within : (h : List Event) (q : Event → Bool) (n : ℕ) → (is_open h n && at q h n) ≡ true → n < length h
+open_passes_within h q n passes = is_open_within h n (and_parts _ _ passes).0
+
+none_open_passes : (h : List Event) (q : Event → Bool) → count_by (λ n. is_open h n && at q h n) (places h) ≡ 0 → (n : ℕ) →
+    (is_open h n && at q h n) ≡ false
+none_open_passes h q none n = false_from_ne_true _ (λ passes.
+    both_ways _ (none_passes (λ k. is_open h k && at q h k) (length h) none n (open_passes_within h q n passes)) passes)
+
+pub let_go_counted : (h : List Event) → open_root_count h ≡ 0 → manual_connection_count h ≡ 0 → IsLetGo h
+let_go_counted h no_root no_connection = record { unsubscribed = none_open_passes h is_root no_root; disconnected = λ g manual. by_list g manual (open_connections h g) refl } where
+  by_list : (g : ℕ) → at is_manual_hub h g ≡ true → (cs : List ℕ) → open_connections h g ≡ cs → cs ≡ []
+  by_list g manual [] found = refl
+  by_list g manual (c ∷ cs) found =
+      let first = first_connection h g c cs found in
+      absurd (both_ways (is_manual_connection h c) (none_open_passes h _ no_connection c) (and_from _ _ first.1 (rw first.0 manual)))
