@@ -5,18 +5,17 @@ use Rattle.std.specs.List.{count_by, list_all}
 use Rattle.std.specs.Option.{option_map_or}
 use Rattle.std.proofs.lemmas.Bool.{both_ways, false≢true, and_parts, and_from, and_left, eq-eqb, false_from_ne_true}
 use Rattle.std.proofs.lemmas.Option.{slice_get_within}
-use Rattle.rx_event.specs.declared.event.Place.TheVariants.{Root}
-use Rattle.rx_event.specs.declared.event.Mode.TheVariants.{Auto, Manual}
+use Rattle.rx_event.specs.declared.event.Mode.TheVariants.{Manual}
 use Rattle.rx_event.specs.declared.event.Event.{Event}
 use Rattle.rx_event.specs.declared.event.Event.TheVariants.{Open, Hub, Connect, End, Close}
-use Rattle.rx_event.specs.Events.{makes_node, makes_hub, is_root, is_auto_hub, is_manual_hub, is_connect_of}
-use Rattle.rx_event.specs.Tree.{at, places, is_within, is_open, open_connections}
+use Rattle.rx_event.specs.Events.{makes_node, makes_hub, is_root, is_auto_hub, is_manual_hub}
+use Rattle.rx_event.specs.Tree.{at, places, is_open, open_connections}
 use Rattle.rx_event.specs.Forced.{mirrored, fired, failed, completed, cut, left, connecting, due, IsDue, IsForced}
 use Rattle.rx_event.specs.Lawful.{stays, more, IsForcedOn, IsLawful}
 use Rattle.rx_event.specs.Calls.{Disconnecting, IsStepOf}
-use Rattle.rx_event.specs.Claims.Closing.{is_open_root, is_manual_connect, is_manual_connection, open_root_count, manual_connection_count, IsLetGo, makes_neither}
-use Rattle.rx_event.proofs.Laws.Places.{slice_get-append, at-append, at_within, cases_push}
-use Rattle.rx_event.proofs.Laws.Openness.{is_open_within, is_open_cut, is_open_outside-close, stays_closed}
+use Rattle.rx_event.specs.Claims.Closing.{is_open_root, is_manual_connect, is_manual_connection, open_root_count, manual_connection_count, IsLetGo, makes_neither, MakesNeither}
+use Rattle.rx_event.proofs.Laws.Places.{slice_get-append, cases_push}
+use Rattle.rx_event.proofs.Laws.Openness.{is_open_within, is_open_cut, is_open_outside-close}
 use Rattle.rx_event.proofs.Laws.Stands.{event_at}
 use Rattle.rx_event.proofs.Laws.Sums.{sum_by-places-push, sum_by_no_rise, sum_by_falls}
 use Rattle.rx_event.proofs.Laws.Totals.{is_within_self}
@@ -82,8 +81,8 @@ outside_on h m (e ∷ outside) neither before =
     rw (← append_assoc m (e ∷ []) outside) (outside_on h (m ++ e ∷ []) outside parts.1 (one_further before opens))
 
 -- so after events that make neither a node nor a hub, and what they force
-pub opens_none_outside : (h outside k : List Event) → list_all makes_neither outside ≡ true → IsForcedOn (h ++ outside) k → OpensNoneUpTo h k
-opens_none_outside h outside k neither f = forced_on f (outside_on h h outside neither stays_so)
+pub makes_neither_opens : {h k : List Event} → MakesNeither h k → OpensNoneUpTo h k
+makes_neither_opens {h = h} on = forced_on on.forced (outside_on h h on.outside on.neither stays_so)
 
 -- roots --------------------------------------------------------------------------------------------
 

@@ -1,10 +1,10 @@
 -- Where a caller holds nothing open, nothing is open. What keeps a RefCount hub connected is a subscriber, which stands below a
 -- connection of a later hub; so were one connected, hubs would be endless.
-use Rattle.std.proofs.Common.{◌≡◌, ℕ, zero, suc, ◌+◌, ◌<◌, ◌≤◌, Bool, true, false, List, [], ◌∷◌, length, Option, Some, None, cond, refl, sym, ap, ◌∙◌, arith, inl, inr, ◌⊎◌, slice_get, take}
+use Rattle.std.proofs.Common.{◌≡◌, ℕ, zero, suc, ◌+◌, ◌<◌, ◌≤◌, Bool, true, false, List, [], ◌∷◌, length, Option, Some, None, cond, refl, sym, ap, ◌∙◌, arith, inl, inr, ◌⊎◌, slice_get}
 use Rattle.std.proofs.Math.Bool.{◌&&◌}
 use Rattle.std.specs.List.{count_by, range_with_len}
 use Rattle.std.specs.Option.{option_map_or}
-use Rattle.std.proofs.lemmas.Bool.{cases_Bool, cases_lt, both_ways, false≢true, and_parts, and_from, eq-eqb, false_from_ne_true}
+use Rattle.std.proofs.lemmas.Bool.{cases_Bool, both_ways, false≢true, and_parts, and_from, eq-eqb, false_from_ne_true}
 use Rattle.std.proofs.lemmas.Option.{slice_get_within}
 use Rattle.rx_event.specs.declared.event.Place.TheVariants.{Root, Source, Inner, Notifier}
 use Rattle.rx_event.specs.declared.event.Mode.TheVariants.{Auto, Manual}
@@ -15,9 +15,9 @@ use Rattle.rx_event.specs.Tree.{at, places, parent, is_within, is_open, open_sub
 use Rattle.rx_event.specs.Totals.{open_count}
 use Rattle.rx_event.specs.Forced.{IsSettled}
 use Rattle.rx_event.specs.Lawful.{IsLawful}
-use Rattle.rx_event.specs.Claims.Closing.{is_open_root, is_manual_connection, open_root_count, manual_connection_count, IsLetGo}
+use Rattle.rx_event.specs.Claims.Closing.{is_manual_connection, open_root_count, manual_connection_count, IsLetGo}
 use Rattle.rx_event.proofs.Laws.Lists.{first_passes, filter_nonempty}
-use Rattle.rx_event.proofs.Laws.Places.{at-take, at_within}
+use Rattle.rx_event.proofs.Laws.Places.{at-take}
 use Rattle.rx_event.proofs.Laws.Parents.{parent-lt, within_parent}
 use Rattle.rx_event.proofs.Laws.Openness.{is_open_within, parent_open}
 use Rattle.rx_event.proofs.Laws.Lawful.{lawful_at}

@@ -41,24 +41,26 @@ pub record NothingStaysOpen : Type 0 where
   pub empty : (h : List Event) → IsLawful h → IsSettled h → IsLetGo h → open_count h ≡ 0
   pub counted : (h : List Event) → open_root_count h ≡ 0 → manual_connection_count h ≡ 0 → IsLetGo h
 
+-- neither a node nor a hub
 abbrev pub makes_neither : Event → Bool
 makes_neither e = not (makes_node e) && not (makes_hub e)
 
--- events that make neither a node nor a hub, and what they force, open no root and connect no hub that a caller connects
+-- the history goes on by events that make neither, and then by all that they force
+pub record MakesNeither (old new : List Event) : Type 0 where
+  pub outside : List Event
+  pub neither : IsTrue (list_all makes_neither outside)
+  pub forced : IsForcedOn (old ++ outside) new
+
+-- this opens no root, and connects no hub that a caller connects
 pub record NothingOpensAnew : Type 0 where
-  pub roots : (h outside k : List Event) → IsTrue (list_all makes_neither outside) → IsForcedOn (h ++ outside) k →
-      (n : ℕ) → IsTrue (is_open_root k n) → IsTrue (is_open_root h n)
-  pub connections : (h outside k : List Event) → IsTrue (list_all makes_neither outside) →
-      IsForcedOn (h ++ outside) k → (c : ℕ) → IsTrue (is_manual_connection k c) → IsTrue (is_manual_connection h c)
-  pub unconnected : (h outside k : List Event) → IsTrue (list_all makes_neither outside) →
-      IsForcedOn (h ++ outside) k → (g : ℕ) → IsTrue (at is_manual_hub h g) → open_connections h g ≡ [] →
-      open_connections k g ≡ []
-  pub let_go : (h outside k : List Event) → IsTrue (list_all makes_neither outside) → IsForcedOn (h ++ outside) k →
-      IsLetGo h → IsLetGo k
-  pub root_count : (h outside k : List Event) → IsTrue (list_all makes_neither outside) →
-      IsForcedOn (h ++ outside) k → open_root_count k ≤ open_root_count h
-  pub connection_count : (h outside k : List Event) → IsTrue (list_all makes_neither outside) →
-      IsForcedOn (h ++ outside) k → manual_connection_count k ≤ manual_connection_count h
+  pub roots : (h k : List Event) → MakesNeither h k → (n : ℕ) → IsTrue (is_open_root k n) → IsTrue (is_open_root h n)
+  pub connections : (h k : List Event) → MakesNeither h k → (c : ℕ) → IsTrue (is_manual_connection k c) →
+      IsTrue (is_manual_connection h c)
+  pub root_count : (h k : List Event) → MakesNeither h k → open_root_count k ≤ open_root_count h
+  pub connection_count : (h k : List Event) → MakesNeither h k → manual_connection_count k ≤ manual_connection_count h
+  pub unconnected : (h k : List Event) → MakesNeither h k → (g : ℕ) → IsTrue (at is_manual_hub h g) →
+      open_connections h g ≡ [] → open_connections k g ≡ []
+  pub let_go : (h k : List Event) → MakesNeither h k → IsLetGo h → IsLetGo k
 
 -- and where a root or such a connection is closed there is one less at least
 pub record ClosingLeavesLess : Type 0 where

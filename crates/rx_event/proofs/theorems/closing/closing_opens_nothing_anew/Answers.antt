@@ -1,14 +1,14 @@
-use Rattle.rx_event.proofs.Laws.Closings.{opens_none_outside, roots_before, manual_before, unconnected_after, let_go_after, roots_no_more, connections_no_more, root_less, connection_less, hub_disconnected}
+use Rattle.rx_event.proofs.Laws.Closings.{makes_neither_opens, roots_before, manual_before, unconnected_after, let_go_after, roots_no_more, connections_no_more, root_less, connection_less, hub_disconnected}
 use Rattle.rx_event.proofs.theorems.closing.closing_opens_nothing_anew.Goals as goal
 
 pub returns-clause-anew : goal.returns-clause-anew
 returns-clause-anew c = record {
-  roots = λ h outside k neither f. roots_before (opens_none_outside h outside k neither f);
-  connections = λ h outside k neither f. manual_before (opens_none_outside h outside k neither f);
-  unconnected = λ h outside k neither f. unconnected_after (opens_none_outside h outside k neither f);
-  let_go = λ h outside k neither f. let_go_after (opens_none_outside h outside k neither f);
-  root_count = λ h outside k neither f. roots_no_more (opens_none_outside h outside k neither f);
-  connection_count = λ h outside k neither f. connections_no_more (opens_none_outside h outside k neither f);
+  roots = λ h k on. roots_before (makes_neither_opens on);
+  connections = λ h k on. manual_before (makes_neither_opens on);
+  root_count = λ h k on. roots_no_more (makes_neither_opens on);
+  connection_count = λ h k on. connections_no_more (makes_neither_opens on);
+  unconnected = λ h k on. unconnected_after (makes_neither_opens on);
+  let_go = λ h k on. let_go_after (makes_neither_opens on);
 }
 
 pub returns-clause-less : goal.returns-clause-less
