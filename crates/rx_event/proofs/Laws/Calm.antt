@@ -164,10 +164,10 @@ module _ (h : List Event) (e : Event) (law : IsLawful h) (next : MayFollow h e) 
       settled_undue (h ++ e ∷ []) (kept_unsubscribed h e law (settled_connected h settled) (closes_none_by h e next calm still) unsubscribed)
       (ends_none_on h e law next calm unfired (settled_ends_none h settled)) (none_left_on manual_alone)
     where
-    manual_alone : (g : ℕ) → e ≡ Connect g → at is_auto_hub (h ++ e ∷ []) g ≡ true → ⊥
-    manual_alone g is auto =
-        let manual = connect_manual settled (subst (λ (x : Event). MayFollow h x) is next) in
-        is_both (slice_get h g) manual (sym (at-append is_auto_hub h (e ∷ []) g (at_within is_manual_hub h g manual)) ∙ auto)
+      manual_alone : (g : ℕ) → e ≡ Connect g → at is_auto_hub (h ++ e ∷ []) g ≡ true → ⊥
+      manual_alone g is auto =
+          let manual = connect_manual settled (subst (λ (x : Event). MayFollow h x) is next) in
+          is_both (slice_get h g) manual (sym (at-append is_auto_hub h (e ∷ []) g (at_within is_manual_hub h g manual)) ∙ auto)
 
 -- to a settled history nothing is added
 pub unforced : {h k : List Event} → IsForcedOn h k → IsSettled h → k ≡ h
