@@ -1,30 +1,28 @@
 -- After an event that ends no node, declines nothing and fires none, no node is due to end that was not before. Where it closes none
 -- either, nothing is forced that was not, but the connection of a new subscriber's hub.
-use Rattle.std.proofs.Common.{◌≡◌, ℕ, ◌+◌, ◌<◌, ◌≤◌, Bool, true, false, List, [], ◌∷◌, ◌++◌, length, Option, Some, None, option_map, slice_get, refl, sym, ap, subst, ◌∙◌, inl, inr, ◌⊎◌, arith, length-append}
+use Rattle.std.proofs.Common.{◌≡◌, ℕ, ◌<◌, Bool, true, false, List, [], ◌∷◌, ◌++◌, length, Option, Some, None, option_map, slice_get, refl, sym, ap, subst, ◌∙◌, inl, inr, ◌⊎◌, arith, length-append}
 use Rattle.std.proofs.Math.Bool.{not, ◌&&◌}
 use Rattle.std.specs.List.{list_any}
-use Rattle.std.specs.Option.{option_map_or}
 use Rattle.std.proofs.lemmas.Bool.{false≢true, cases_order, both_ways, and_parts, and_from, eq-eqb}
-use Rattle.std.proofs.lemmas.Option.{slice_get_within, same_Some, none-some}
+use Rattle.std.proofs.lemmas.Option.{same_Some, none-some}
 use Rattle.rx_note.specs.declared.note.Terminal.{Terminal}
 use Rattle.rx_note.specs.declared.note.Terminal.TheVariants.{Completed, Error}
 use Rattle.rx_event.specs.declared.event.Place.{Place}
-use Rattle.rx_event.specs.declared.event.Place.TheVariants.{Root, Source, Inner, Notifier}
 use Rattle.rx_event.specs.declared.event.Kind.{Kind}
 use Rattle.rx_event.specs.declared.event.Kind.TheVariants.{Sub}
 use Rattle.rx_event.specs.declared.event.Event.{Event}
-use Rattle.rx_event.specs.declared.event.Event.TheVariants.{Open, Connect, Item, Decline, End, Close}
-use Rattle.rx_event.specs.Events.{is_auto_hub, is_manual_hub, is_connect_of, is_subscriber_of, hub_subscribed}
+use Rattle.rx_event.specs.declared.event.Event.TheVariants.{Open, Connect, Decline, End, Close}
+use Rattle.rx_event.specs.Events.{is_auto_hub, is_manual_hub, is_subscriber_of, hub_subscribed}
 use Rattle.rx_event.specs.Tree.{at, places, is_open, open_subscribers, open_connections}
 use Rattle.rx_event.specs.Moments.{is_firing_of, stops_of}
 use Rattle.rx_event.specs.Marks.{marks_of, terminal_due, due_at}
-use Rattle.rx_event.specs.Forced.{mirrored, fired, failed, completed, cut, left, connecting, due, IsDue, IsForced, IsConnectDue, IsConnected, IsSettled}
+use Rattle.rx_event.specs.Forced.{mirrored, fired, failed, completed, cut, left, connecting, due, SourceEnded, IsDue, IsForced, IsConnectDue, IsConnected, IsSettled}
 use Rattle.rx_event.specs.Allowed.{connected, IsAllowed}
 use Rattle.rx_event.specs.Lawful.{forced, allowed, stays, more, MayFollow, IsLawful, IsForcedOn}
 use Rattle.rx_event.specs.Claims.Stays.{ends_or_declines, FiresNone, ClosesNone, ConnectsAtMost, is_done, is_waiting_for}
 use Rattle.rx_event.proofs.Laws.Lists.{first_passes, filter_nonempty}
 use Rattle.rx_event.proofs.Laws.Places.{slice_get-append, slice_get_last, at-append, at_within}
-use Rattle.rx_event.proofs.Laws.Openness.{is_open_within, is_open_kept, is_open_cut, is_cut, self_cut, stays_closed_after}
+use Rattle.rx_event.proofs.Laws.Openness.{shuts_none, is_open_within, is_open_kept, is_open_cut, is_cut, self_cut, stays_closed_after}
 use Rattle.rx_event.proofs.Laws.Lawful.{IsLawful-push}
 use Rattle.rx_event.proofs.Laws.Steps.{may_close, forced_kind}
 use Rattle.rx_event.proofs.Laws.Totals.{is_open_new}
@@ -40,7 +38,8 @@ abbrev pub EndsNone : List Event → Type 0
 EndsNone h = (n : ℕ) (t : Terminal) → ¬ IsDue h (End n t)
 
 -- after such an event what is due to end was so before
-pub due_calm : (h : List Event) (e : Event) → IsLawful h → MayFollow h e → ends_or_declines e ≡ false → FiresNone h e → (n : ℕ) (t : Terminal) → IsDue (h ++ e ∷ []) (End n t) → IsDue h (End n t)
+pub due_calm : (h : List Event) (e : Event) → IsLawful h → MayFollow h e → ends_or_declines e ≡ false → FiresNone h e → (n : ℕ) (t : Terminal) →
+    IsDue (h ++ e ∷ []) (End n t) → IsDue h (End n t)
 due_calm h e law next calm unfired n t d = by_reason (due_before h e law next n t d) where
   ends_calm : (x : Event) → ends_or_declines x ≡ false → ends_as x ≡ Some t → ⊥
   ends_calm (End c u) still now = false≢true (sym still)
@@ -57,78 +56,108 @@ due_calm h e law next calm unfired n t d = by_reason (due_before h e law next n 
   by_reason (inr (completes_one now whole)) = absurd (completes_calm e calm now)
   by_reason (inr (fires_it now whole)) = absurd (both_ways (list_any (is_firing_of n) (stops_of h e)) (unfired n) now)
 
-pub ends_none_on : (h : List Event) (e : Event) → IsLawful h → MayFollow h e → ends_or_declines e ≡ false → FiresNone h e → EndsNone h → EndsNone (h ++ e ∷ [])
+-- so no node is, where none was
+pub ends_none_on : (h : List Event) (e : Event) → IsLawful h → MayFollow h e → ends_or_declines e ≡ false → FiresNone h e → EndsNone h →
+    EndsNone (h ++ e ∷ [])
 ends_none_on h e law next calm unfired ends_none n t d = ends_none n t (due_calm h e law next calm unfired n t d)
 
 pub settled_ends_none : (h : List Event) → IsSettled h → EndsNone h
 settled_ends_none h settled n t d = settled.none (End n t) (due (settled_connected h settled) d)
 
 -- where no node is due to end, no marks of an open node give an event
-pub quiet_ends_none : (h : List Event) → EndsNone h → (n : ℕ) (made : Event) → is_open h n ≡ true → slice_get h n ≡ Some made →
+quiet_ends_none : (h : List Event) → EndsNone h → (n : ℕ) (made : Event) → is_open h n ≡ true → slice_get h n ≡ Some made →
     due_at made (marks_of h n) n ≡ None
 quiet_ends_none h ends_none n made o at_n = by_terminal (terminal_due made (marks_of h n)) refl where
   by_terminal : (u : Option Terminal) → terminal_due made (marks_of h n) ≡ u → option_map (λ t. End n t) u ≡ None
   by_terminal None found = refl
   by_terminal (Some t) found = absurd (ends_none n t (terminal_due_due h n made t o at_n found))
 
--- connections that are left -------------------------------------------------------------------------
+-- so none do after such an event
+pub quiet_on : (h : List Event) (e : Event) → IsLawful h → MayFollow h e → IsSettled h → ends_or_declines e ≡ false → FiresNone h e → (n : ℕ) (made : Event) →
+    is_open (h ++ e ∷ []) n ≡ true → slice_get (h ++ e ∷ []) n ≡ Some made → due_at made (marks_of (h ++ e ∷ []) n) n ≡ None
+quiet_on h e law next settled calm unfired n made o at_n =
+    quiet_ends_none (h ++ e ∷ []) (ends_none_on h e law next calm unfired (settled_ends_none h settled)) n made o at_n
+
+-- connections that nobody uses ----------------------------------------------------------------------
+
+-- an open connection of a RefCount hub that has no open subscriber
+pub record IsUnused (h : List Event) (c g : ℕ) : Type 0 where
+  pub alive : is_open h c ≡ true
+  pub connects : slice_get h c ≡ Some (Connect g)
+  pub auto : at is_auto_hub h g ≡ true
+  pub unsubscribed : open_subscribers h g ≡ []
+
+abbrev pub HasNoUnused : List Event → Type 0
+HasNoUnused h = (c g : ℕ) → ¬ IsUnused h c g
+
+-- in a settled history there is none
+pub settled_used : (h : List Event) → IsSettled h → HasNoUnused h
+settled_used h settled c g u = settled.none (Close c) (due (settled_connected h settled) (left u.alive u.connects u.auto u.unsubscribed))
 
 -- an open subscriber is among those of its hub
-pub subscriber_listed : (h : List Event) (g s : ℕ) → at (is_subscriber_of g) h s ≡ true → is_open h s ≡ true → open_subscribers h g ≡ [] → ⊥
+subscriber_listed : (h : List Event) (g s : ℕ) → at (is_subscriber_of g) h s ≡ true → is_open h s ≡ true → open_subscribers h g ≡ [] → ⊥
 subscriber_listed h g s subscribes o none =
     let l : s < length h = is_open_within h s o in
     filter_nonempty (λ m. at (is_subscriber_of g) h m && is_open h m) 0 (length h) s (omega arith) (omega arith) (and_from _ _ subscribes o) none
 
 -- a hub without an open one has none
-pub none_subscribed : (h : List Event) (g : ℕ) → ((s : ℕ) → at (is_subscriber_of g) h s ≡ true → is_open h s ≡ true → ⊥) → open_subscribers h g ≡ []
+none_subscribed : (h : List Event) (g : ℕ) → ((s : ℕ) → at (is_subscriber_of g) h s ≡ true → is_open h s ≡ true → ⊥) → open_subscribers h g ≡ []
 none_subscribed h g none = by_list (open_subscribers h g) refl where
+  passes : ℕ → Bool
+  passes m = at (is_subscriber_of g) h m && is_open h m
+
   by_list : (ss : List ℕ) → open_subscribers h g ≡ ss → ss ≡ []
   by_list [] found = refl
   by_list (s ∷ ss) found =
-      let first : (at (is_subscriber_of g) h s && is_open h s) ≡ true = first_passes (λ m. at (is_subscriber_of g) h m && is_open h m) (places h) s ss found in
-      let parts : (at (is_subscriber_of g) h s ≡ true) × (is_open h s ≡ true) = and_parts _ _ first in
+      let parts = and_parts (at (is_subscriber_of g) h s) (is_open h s) (first_passes passes (places h) s ss found) in
       absurd (none s parts.0 parts.1)
 
 -- what is open in a longer history was open
-pub open_older : (h t : List Event) (n : ℕ) → n < length h → is_open (h ++ t) n ≡ true → is_open h n ≡ true
+open_older : (h t : List Event) (n : ℕ) → n < length h → is_open (h ++ t) n ≡ true → is_open h n ≡ true
 open_older h t n l o = by_test (is_open h n) refl where
   by_test : (b : Bool) → is_open h n ≡ b → b ≡ true
   by_test true was = refl
   by_test false was = absurd (both_ways (is_open (h ++ t) n) (stays_closed_after h t n l was) o)
 
--- an older connection that is left was left before, where the subscribers of its hub are still open
-pub left_older : (h t : List Event) (c g : ℕ) → IsLawful (h ++ t) → c < length h → is_open (h ++ t) c ≡ true → slice_get (h ++ t) c ≡ Some (Connect g) →
-    at is_auto_hub (h ++ t) g ≡ true → open_subscribers (h ++ t) g ≡ [] →
-    ((s : ℕ) → at (is_subscriber_of g) h s ≡ true → is_open h s ≡ true → is_open (h ++ t) s ≡ true) → IsDue h (Close c)
-left_older h t c g law l o at_c auto none still =
-    let older : g < c = connection_hub (h ++ t) law g c at_c in
-    left (open_older h t c l o) (sym (slice_get-append h t c l) ∙ at_c) (sym (at-append is_auto_hub h t g (omega arith)) ∙ auto)
-    (none_subscribed h g (λ s subscribes was. subscriber_listed (h ++ t) g s (at-append (is_subscriber_of g) h t s (is_open_within h s was) ∙ subscribes) (still s subscribes was) none))
+-- the subscribers of g that were open in h are open in k
+abbrev pub KeepsSubscribers : List Event → List Event → ℕ → Type 0
+KeepsSubscribers h k g = (s : ℕ) → at (is_subscriber_of g) h s ≡ true → is_open h s ≡ true → is_open k s ≡ true
 
--- a connection that is left after an event that closes nothing was left before, or was just made
-data IsLeft (h : List Event) (e : Event) (c : ℕ) : Type 0 where
-  left_before : IsDue h (Close c) → IsLeft h e c
-  left_at_once : {g : ℕ} → e ≡ Connect g → at is_auto_hub (h ++ e ∷ []) g ≡ true → open_subscribers (h ++ e ∷ []) g ≡ [] → IsLeft h e c
+-- then an older connection of g that nobody uses was so before
+pub unused_older : (h t k : List Event) → k ≡ h ++ t → IsLawful k → (c g : ℕ) → IsUnused k c g → c < length h → KeepsSubscribers h k g → IsUnused h c g
+unused_older h t k grown law c g u l keeps = record {
+  alive = open_older h t c l (ap (λ (q : List Event). is_open q c) (sym grown) ∙ u.alive);
+  connects = sym (slice_get-append h t c l) ∙ ap (λ (q : List Event). slice_get q c) (sym grown) ∙ u.connects;
+  auto = sym (at-append is_auto_hub h t g hub_older) ∙ ap (λ (q : List Event). at is_auto_hub q g) (sym grown) ∙ u.auto;
+  unsubscribed = none_subscribed h g (λ s subscribes was. subscriber_listed k g s (subscribes_still s subscribes was) (keeps s subscribes was) u.unsubscribed);
+} where
+  hub_older : g < length h
+  hub_older = let older : g < c = connection_hub k law g c u.connects in omega arith
 
-how_left : (h : List Event) (e : Event) (c : ℕ) → IsLawful (h ++ e ∷ []) → ClosesNone h e → IsDue (h ++ e ∷ []) (Close c) → IsLeft h e c
-how_left h e c law still (left {g = g} o at_c auto none) = by_place (cases_order c (length h)) where
-  by_place : (c ≡ length h) ⊎ ((c < length h) ⊎ (length h < c)) → IsLeft h e c
-  by_place (inl same) = left_at_once (same_Some e (Connect g) (sym (slice_get_last h e) ∙ ap (slice_get (h ++ e ∷ [])) (sym same) ∙ at_c)) auto none
-  by_place (inr (inl l)) = left_before (left_older h (e ∷ []) c g law l o at_c auto none (λ s subscribes was. still s was))
-  by_place (inr (inr past)) = absurd (let w = is_open_within (h ++ e ∷ []) c o in omega (arith, length-append h (e ∷ [])))
+  subscribes_still : (s : ℕ) → at (is_subscriber_of g) h s ≡ true → is_open h s ≡ true → at (is_subscriber_of g) k s ≡ true
+  subscribes_still s subscribes was =
+      ap (λ (q : List Event). at (is_subscriber_of g) q s) grown ∙ at-append (is_subscriber_of g) h t s (is_open_within h s was) ∙ subscribes
+
+-- after an event that closes nothing only what it connects is unused that was not before
+unused_new : (h : List Event) (e : Event) (c g : ℕ) → IsLawful (h ++ e ∷ []) → ClosesNone h e → HasNoUnused h → IsUnused (h ++ e ∷ []) c g → e ≡ Connect g
+unused_new h e c g law still used u = by_place (cases_order c (length h)) where
+  by_place : (c ≡ length h) ⊎ ((c < length h) ⊎ (length h < c)) → e ≡ Connect g
+  by_place (inl same) = same_Some e (Connect g) (sym (slice_get_last h e) ∙ ap (slice_get (h ++ e ∷ [])) (sym same) ∙ u.connects)
+  by_place (inr (inl l)) = absurd (used c g (unused_older h (e ∷ []) (h ++ e ∷ []) refl law c g u l (λ s subscribes was. still s was)))
+  by_place (inr (inr past)) = absurd (let w = is_open_within (h ++ e ∷ []) c u.alive in omega (arith, length-append h (e ∷ [])))
 
 -- settled histories ---------------------------------------------------------------------------------
 
--- nothing is forced where no hub waits, and no node is due to end or to be closed
-pub settled_undue : (h : List Event) → IsConnected h → EndsNone h → ((c : ℕ) → ¬ IsDue h (Close c)) → IsSettled h
-settled_undue h none_waits ends_none none_left = record { none = none } where
+-- nothing is forced where no hub waits, no node is due to end and each connection is used
+settled_undue : (h : List Event) → IsConnected h → EndsNone h → HasNoUnused h → IsSettled h
+settled_undue h none_waits ends_none used = record { none = none } where
   undue : {e : Event} → IsDue h e → ⊥
   undue (mirrored {p = p} {t = t} o k e) = ends_none p t (mirrored o k e)
   undue (fired {u = u} o k e) = ends_none u Completed (fired o k e)
   undue (failed {f = f} {c = code} o k e) = ends_none f (Error code) (failed o k e)
   undue (completed {f = f} o k n s e c w) = ends_none f Completed (completed o k n s e c w)
   undue (cut {s = s} {t = t} o e) = ends_none s t (cut o e)
-  undue (left {c = c} o at_c a n) = none_left c (left o at_c a n)
+  undue (left {c = c} {g = g} o at_c a n) = used c g (record { alive = o; connects = at_c; auto = a; unsubscribed = n })
 
   none : (e : Event) → IsForced h e → ⊥
   none e (connecting {g = g} d) = none_waits g d
@@ -138,36 +167,35 @@ allowed_manual : {h : List Event} {g : ℕ} → IsAllowed h (Connect g) → at i
 allowed_manual (connected manual unconnected few) = manual
 
 -- what is connected after a settled history is a hub that a caller connects
-pub connect_manual : {h : List Event} {g : ℕ} → IsSettled h → MayFollow h (Connect g) → at is_manual_hub h g ≡ true
+connect_manual : {h : List Event} {g : ℕ} → IsSettled h → MayFollow h (Connect g) → at is_manual_hub h g ≡ true
 connect_manual {g = g} settled (forced f) = absurd (settled.none (Connect g) f)
 connect_manual settled (allowed s a) = allowed_manual a
 
--- what closes nothing is no closing
+-- what shuts nothing closes nothing
+pub closes_none_kept : (h : List Event) (e : Event) → shuts_none e ≡ true → ClosesNone h e
+closes_none_kept h e spares n was = is_open_kept h e n (is_open_within h n was) spares ∙ was
+
+-- and what closes nothing is no closing
 closes_none_by : (h : List Event) (e : Event) → MayFollow h e → ends_or_declines e ≡ false → ClosesNone h e → closes_none e ≡ true
 closes_none_by h (End n t) next calm still = absurd (false≢true (sym calm))
 closes_none_by h (Close n) next calm still =
     let o = may_close next in
-    let gone : is_open (h ++ Close n ∷ []) n ≡ false = is_open_cut h (Close n) n (is_open_within h n o) ∙ rw (self_cut h (Close n) n (eq-eqb n n refl), o) refl in
-    absurd (both_ways (is_open (h ++ Close n ∷ []) n) gone (still n o))
+    let whole : is_open (h ++ Close n ∷ []) n ≡ (is_open h n && not (is_cut h (Close n) n)) = is_open_cut h (Close n) n (is_open_within h n o) in
+    absurd (both_ways (is_open (h ++ Close n ∷ []) n) (whole ∙ rw (self_cut h (Close n) n (eq-eqb n n refl), o) refl) (still n o))
 closes_none_by h _ next calm still = refl
 
-module _ (h : List Event) (e : Event) (law : IsLawful h) (next : MayFollow h e) (settled : IsSettled h) (still : ClosesNone h e) where
-  none_left_on : ((g : ℕ) → e ≡ Connect g → at is_auto_hub (h ++ e ∷ []) g ≡ true → ⊥) → (c : ℕ) → ¬ IsDue (h ++ e ∷ []) (Close c)
-  none_left_on connects_none c d = by_way (how_left h e c (IsLawful-push h e law next) still d) where
-    by_way : IsLeft h e c → ⊥
-    by_way (left_before before) = settled.none (Close c) (due (settled_connected h settled) before)
-    by_way (left_at_once {g = g} is auto none) = connects_none g is auto
-
-  -- After such an event nothing is left undone, where it closes nothing and subscribes to no hub
-  pub settled_on : ends_or_declines e ≡ false → FiresNone h e → hub_subscribed e ≡ None → IsSettled (h ++ e ∷ [])
-  settled_on calm unfired unsubscribed =
-      settled_undue (h ++ e ∷ []) (kept_unsubscribed h e law (settled_connected h settled) (closes_none_by h e next calm still) unsubscribed)
-      (ends_none_on h e law next calm unfired (settled_ends_none h settled)) (none_left_on manual_alone)
-    where
-      manual_alone : (g : ℕ) → e ≡ Connect g → at is_auto_hub (h ++ e ∷ []) g ≡ true → ⊥
-      manual_alone g is auto =
-          let manual = connect_manual settled (subst (λ (x : Event). MayFollow h x) is next) in
-          is_both (slice_get h g) manual (sym (at-append is_auto_hub h (e ∷ []) g (at_within is_manual_hub h g manual)) ∙ auto)
+-- After a calm event that closes nothing and subscribes to no hub nothing is forced, where nothing was before
+pub settled_on : (h : List Event) (e : Event) → IsLawful h → MayFollow h e → IsSettled h → ends_or_declines e ≡ false → FiresNone h e → ClosesNone h e →
+    hub_subscribed e ≡ None → IsSettled (h ++ e ∷ [])
+settled_on h e law next settled calm unfired still unsubscribed =
+    settled_undue (h ++ e ∷ []) (kept_unsubscribed h e law (settled_connected h settled) (closes_none_by h e next calm still) unsubscribed)
+    (ends_none_on h e law next calm unfired (settled_ends_none h settled)) used
+  where
+    used : HasNoUnused (h ++ e ∷ [])
+    used c g u =
+        let is = unused_new h e c g (IsLawful-push h e law next) still (settled_used h settled) u in
+        let manual = connect_manual settled (subst (λ (x : Event). MayFollow h x) is next) in
+        is_both (slice_get h g) manual (sym (at-append is_auto_hub h (e ∷ []) g (at_within is_manual_hub h g manual)) ∙ u.auto)
 
 -- to a settled history nothing is added
 pub unforced : {h k : List Event} → IsForcedOn h k → IsSettled h → k ≡ h
@@ -176,35 +204,42 @@ unforced (more {e = e} on f) settled = absurd (settled.none e (subst (λ (q : Li
 
 -- subscribers ---------------------------------------------------------------------------------------
 
--- after one subscriber came, and no other hub waits
-subscribed_on : (h : List Event) (g s : ℕ) → IsLawful h → EndsNone h → ((c : ℕ) → ¬ IsDue h (Close c)) → ((k : ℕ) → IsConnectDue h k → k ≡ g) →
+-- where no other hub waits than that of s, and nothing else is due
+connects_at_most : (h : List Event) (g s : ℕ) → IsLawful h → EndsNone h → HasNoUnused h → ((k : ℕ) → IsConnectDue h k → k ≡ g) →
     at (is_subscriber_of g) h s ≡ true → is_open h s ≡ true → ConnectsAtMost h g
-subscribed_on h g s law ends_none none_left only subscribes o = by_test (at is_auto_hub h g) refl where
+connects_at_most h g s law ends_none used only subscribes o = by_test (at is_auto_hub h g) refl where
   still : ClosesNone h (Connect g)
-  still n was = is_open_kept h (Connect g) n (is_open_within h n was) refl ∙ was
+  still = closes_none_kept h (Connect g) refl
 
-  none_left_after : MayFollow h (Connect g) → (c : ℕ) → ¬ IsDue (h ++ Connect g ∷ []) (Close c)
-  none_left_after next c d = by_way (how_left h (Connect g) c (IsLawful-push h (Connect g) law next) still d) where
-    by_way : IsLeft h (Connect g) c → ⊥
-    by_way (left_before before) = none_left c before
-    by_way (left_at_once {g = k} is auto none) =
-        let same : g ≡ k = cc in
-        subscriber_listed (h ++ Connect g ∷ []) g s (at-append (is_subscriber_of g) h (Connect g ∷ []) s (is_open_within h s o) ∙ subscribes) (still s o)
-        (ap (open_subscribers (h ++ Connect g ∷ [])) same ∙ none)
+  used_after : MayFollow h (Connect g) → HasNoUnused (h ++ Connect g ∷ [])
+  used_after next c k u =
+      let is = unused_new h (Connect g) c k (IsLawful-push h (Connect g) law next) still used u in
+      let same : g ≡ k = cc in
+      let subscribes_on = at-append (is_subscriber_of g) h (Connect g ∷ []) s (is_open_within h s o) ∙ subscribes in
+      subscriber_listed (h ++ Connect g ∷ []) g s subscribes_on (still s o) (ap (open_subscribers (h ++ Connect g ∷ [])) same ∙ u.unsubscribed)
+
+  alone : IsConnectDue h g → (e : Event) → IsForced h e → e ≡ Connect g
+  alone d e (connecting {g = k} w) = ap (λ q. Connect q) (only k w)
+  alone d e (due none x) = absurd (none g d)
 
   waiting : IsConnectDue h g → ConnectsAtMost h g
-  waiting d = is_waiting_for (connecting d) alone (settled_undue (h ++ Connect g ∷ []) (connected_first h g only) (ends_none_on h (Connect g) law (forced (connecting d)) refl (λ m. refl) ends_none) (none_left_after (forced (connecting d)))) where
-    alone : (e : Event) → IsForced h e → e ≡ Connect g
-    alone e (connecting {g = k} w) = ap (λ q. Connect q) (only k w)
-    alone e (due none x) = absurd (none g d)
+  waiting d =
+      let next = forced (connecting d) in
+      is_waiting_for (connecting d) (alone d)
+      (settled_undue (h ++ Connect g ∷ []) (connected_first h g only) (ends_none_on h (Connect g) law next refl (λ m. refl) ends_none) (used_after next))
+
+  done : ((k : ℕ) → IsConnectDue h k → k ≡ g → ⊥) → ConnectsAtMost h g
+  done other = is_done (settled_undue h (λ k d. other k d (only k d)) ends_none used)
 
   by_list : at is_auto_hub h g ≡ true → (cs : List ℕ) → open_connections h g ≡ cs → ConnectsAtMost h g
-  by_list auto [] found = waiting (record { auto = auto; subscriber = s; subscribes = subscribes; subscribed = o; waits = λ t ended. ends_none s t (cut o ended); unconnected = found })
-  by_list auto (c ∷ cs) found = is_done (settled_undue h (λ k d. let none : c ∷ cs ≡ [] = sym found ∙ ap (open_connections h) (sym (only k d)) ∙ d.unconnected in cc) ends_none none_left)
+  by_list auto [] found =
+      let whole : (t : Terminal) → ¬ SourceEnded h s t = (λ t ended. ends_none s t (cut o ended)) in
+      waiting (record { auto = auto; subscriber = s; subscribes = subscribes; subscribed = o; waits = whole; unconnected = found })
+  by_list auto (c ∷ cs) found = done (λ k d same. let none : c ∷ cs ≡ [] = sym found ∙ ap (open_connections h) (sym same) ∙ d.unconnected in cc)
 
   by_test : (b : Bool) → at is_auto_hub h g ≡ b → ConnectsAtMost h g
   by_test true auto = by_list auto (open_connections h g) refl
-  by_test false manual = is_done (settled_undue h (λ k d. both_ways (at is_auto_hub h g) manual (ap (at is_auto_hub h) (sym (only k d)) ∙ d.auto)) ends_none none_left)
+  by_test false manual = done (λ k d same. both_ways (at is_auto_hub h g) manual (ap (at is_auto_hub h) (sym same) ∙ d.auto))
 
 -- what is opened is opened after a settled history
 pub opened_settled : {h : List Event} {place : Place} {kind : Kind} → MayFollow h (Open place kind) → IsSettled h
@@ -212,10 +247,13 @@ opened_settled (forced f) = absurd (false≢true (forced_kind f))
 opened_settled (allowed settled a) = settled
 
 -- After the opening of a subscriber that closes nothing either nothing is forced, or just that its hub is connected, and then nothing
-pub subscribed_after : (h : List Event) (place : Place) (g : ℕ) → IsLawful h → MayFollow h (Open place (Sub g)) →
-    ClosesNone h (Open place (Sub g)) → ConnectsAtMost (h ++ Open place (Sub g) ∷ []) g
-subscribed_after h place g law next still =
+pub subscribed_on : (h : List Event) (place : Place) (g : ℕ) → IsLawful h → MayFollow h (Open place (Sub g)) → ClosesNone h (Open place (Sub g)) →
+    ConnectsAtMost (h ++ Open place (Sub g) ∷ []) g
+subscribed_on h place g law next still =
     let settled = opened_settled next in
-    subscribed_on (h ++ Open place (Sub g) ∷ []) g (length h) (IsLawful-push h (Open place (Sub g)) law next) (ends_none_on h (Open place (Sub g)) law next refl (λ n. refl) (settled_ends_none h settled))
-    (none_left_on h (Open place (Sub g)) law next settled still (λ k is auto. cc)) (kept_subscribed h place g law (settled_connected h settled))
-    (rw (slice_get_last h (Open place (Sub g))) (eq-eqb g g refl)) (is_open_new h (Open place (Sub g)) next)
+    let law_on = IsLawful-push h (Open place (Sub g)) law next in
+    let ends_none = ends_none_on h (Open place (Sub g)) law next refl (λ n. refl) (settled_ends_none h settled) in
+    let subscribes : at (is_subscriber_of g) (h ++ Open place (Sub g) ∷ []) (length h) ≡ true = rw (slice_get_last h (Open place (Sub g))) (eq-eqb g g refl) in
+    connects_at_most (h ++ Open place (Sub g) ∷ []) g (length h) law_on ends_none
+    (λ c k u. let is : Open place (Sub g) ≡ Connect k = unused_new h (Open place (Sub g)) c k law_on still (settled_used h settled) u in cc)
+    (kept_subscribed h place g law (settled_connected h settled)) subscribes (is_open_new h (Open place (Sub g)) next)

@@ -1,7 +1,7 @@
 -- All that is due in a lawful history ends in one way: as what was ended in this step did, or by a completion.
 use Rattle.std.proofs.Common.{◌≡◌, ℕ, ◌<◌, ◌≤◌, Bool, true, false, List, [], ◌∷◌, ◌++◌, length, Option, Some, None, cond, refl, sym, ap, ◌∙◌, arith, inl, inr, ◌⊎◌, ◌==◌, slice_get}
 use Rattle.std.proofs.Math.Bool.{not, ◌&&◌}
-use Rattle.std.specs.List.{list_any, count_by}
+use Rattle.std.specs.List.{list_any}
 use Rattle.std.specs.Option.{option_map_or}
 use Rattle.std.proofs.lemmas.Bool.{cases_lt, both_ways, false≢true, and_parts, or_cases, eq-eqb, eqb-true}
 use Rattle.std.proofs.lemmas.Option.{slice_get_within, same_Some, none-some}
@@ -12,7 +12,7 @@ use Rattle.rx_event.specs.declared.event.Event.{Event}
 use Rattle.rx_event.specs.declared.event.Event.TheVariants.{Open, Item, Decline, End, Close}
 use Rattle.rx_event.specs.Events.{is_mirroring, is_merging, is_until, is_source_of, is_inner_of, is_subscriber_of, pays}
 use Rattle.rx_event.specs.Tree.{at, parent, is_open, shuts}
-use Rattle.rx_event.specs.Moments.{owed, is_fired, is_firing_of, is_projection_to, stops_of}
+use Rattle.rx_event.specs.Moments.{owed, is_fired, is_firing_of, stops_of}
 use Rattle.rx_event.specs.Forced.{mirrored, fired, failed, completed, cut, due, Has, ChildEnded, SourceEnded, IsDue, IsForced, IsSettled}
 use Rattle.rx_event.specs.Marks.{due_at, marks_of, is_child_of}
 use Rattle.rx_event.specs.Lawful.{forced, allowed, opened_with, MayFollow, IsLawful}

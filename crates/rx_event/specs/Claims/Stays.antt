@@ -1,5 +1,5 @@
 -- What is promised of what stays open through what is forced, and of events that force nothing.
-use Rattle.std.specs.Prelude.{◌≡◌, ℕ, Bool, true, false, Some, None, List, [], ◌∷◌, ◌++◌, length, IsTrue}
+use Rattle.std.specs.Prelude.{◌≡◌, ℕ, Bool, true, false, Some, None, List, [], ◌∷◌, ◌++◌, length, slice_get, IsTrue}
 use Rattle.std.specs.List.{list_any}
 use Rattle.rx_note.specs.declared.note.Terminal.{Terminal}
 use Rattle.rx_event.specs.declared.event.Place.{Place}
@@ -10,6 +10,7 @@ use Rattle.rx_event.specs.declared.event.Event.TheVariants.{Open, Connect, Accep
 use Rattle.rx_event.specs.Events.{hub_subscribed}
 use Rattle.rx_event.specs.Tree.{is_open}
 use Rattle.rx_event.specs.Moments.{is_firing_of, stops_of}
+use Rattle.rx_event.specs.Marks.{marks_of, due_at}
 use Rattle.rx_event.specs.Forced.{IsDue, IsForced, IsSettled}
 use Rattle.rx_event.specs.Lawful.{MayFollow, IsLawful, IsForcedOn}
 
@@ -30,14 +31,18 @@ ClosesNone h e = (n : ℕ) → IsTrue (is_open h n) → IsTrue (is_open (h ++ e 
 -- what a subscriber of g leaves to be done: nothing, or just that g is connected, and after that nothing
 pub data ConnectsAtMost (h : List Event) (g : ℕ) : Type 0 where
   is_done : IsSettled h → ConnectsAtMost h g
-  is_waiting_for : IsForced h (Connect g) → ((e : Event) → IsForced h e → e ≡ Connect g) → IsSettled (h ++ Connect g ∷ []) →
-      ConnectsAtMost h g
+  is_waiting_for : IsForced h (Connect g) → ((e : Event) → IsForced h e → e ≡ Connect g) →
+      IsSettled (h ++ Connect g ∷ []) → ConnectsAtMost h g
 
 -- an event that ends and declines nothing and fires none leaves little to be done
 pub record CalmForcesLittle : Type 0 where
   -- it makes no node due to end
   pub ended : (h : List Event) (e : Event) → IsLawful h → MayFollow h e → ends_or_declines e ≡ false → FiresNone h e →
       (n : ℕ) (t : Terminal) → IsDue (h ++ e ∷ []) (End n t) → IsDue h (End n t)
+  -- so no marks of an open node give an event
+  pub quiet : (h : List Event) (e : Event) → IsLawful h → MayFollow h e → IsSettled h → ends_or_declines e ≡ false →
+      FiresNone h e → (n : ℕ) (made : Event) → IsTrue (is_open (h ++ e ∷ []) n) →
+      slice_get (h ++ e ∷ []) n ≡ Some made → due_at made (marks_of (h ++ e ∷ []) n) n ≡ None
   -- where it closes nothing and subscribes to no hub either, nothing is left to be done
   pub settled : (h : List Event) (e : Event) → IsLawful h → MayFollow h e → IsSettled h → ends_or_declines e ≡ false →
       FiresNone h e → ClosesNone h e → hub_subscribed e ≡ None → IsSettled (h ++ e ∷ [])

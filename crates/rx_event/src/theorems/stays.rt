@@ -2,9 +2,9 @@
 
 ghost use Rattle.rx_event.specs.Claims.Stays.{CalmForcesLittle, OpenedStays};
 
-/// An event that ends and declines nothing, and fires no TakeUntil, makes no node due to end. Where
-/// it closes nothing either, nothing is forced after it but the connection of a new subscriber's
-/// hub (RefCount), and after that nothing.
+/// An event that ends and declines nothing, and fires no TakeUntil, makes no node due to end, so
+/// that no marks of an open node say anything. Where it closes nothing either, nothing is forced
+/// after it but the connection of a new subscriber's hub (RefCount), and after that nothing.
 pub fn calm_events_force_little()
     ensures { CalmForcesLittle }
 {}

@@ -1,5 +1,5 @@
-use Rattle.rx_event.proofs.Laws.Calm.{due_calm, settled_on, subscribed_after}
+use Rattle.rx_event.proofs.Laws.Calm.{due_calm, quiet_on, settled_on, subscribed_on}
 use Rattle.rx_event.proofs.theorems.stays.calm_events_force_little.Goals as goal
 
 pub returns : goal.returns
-returns c = record { ended = due_calm; settled = λ h e law next settled calm unfired still out. settled_on h e law next settled still calm unfired out; subscribed = subscribed_after }
+returns c = record { ended = due_calm; quiet = quiet_on; settled = settled_on; subscribed = subscribed_on }
