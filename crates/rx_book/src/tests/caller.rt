@@ -6,6 +6,7 @@ ghost use Rattle.rx_book.specs.declared.answer.At.{At};
 ghost use Rattle.rx_book.specs.Requests.{using_request};
 ghost use Rattle.rx_book.specs.Answers.{IsGivenBack};
 
+use super::probe::Probe;
 use crate::{At, Book, Refused};
 use rx_resource::{Released, Resource, Sample};
 use std::test::Fail;
@@ -30,16 +31,19 @@ fn use_once<R: Resource>(book: &mut Book<R>, resource: R) -> Result<Option<Relea
     Ok(taken)
 }
 
+// The number, the tag and the fault of the resource that was used.
+fn used_up(book: &mut Book<Sample>) -> Option<(u64, u64, Option<u32>)> {
+    match use_once(book, Sample::new(7)) {
+        Ok(Some(left)) => Some((left.number, left.tag, left.fault)),
+        _ => None,
+    }
+}
+
 #[test]
 fn a_resource_is_used_for_one_subscription(rt: HostRuntime) -> Result<(), Fail> {
-    let mut book = Book::new(rt.alloc(), 1000);
-    match use_once(&mut book, Sample::new(7)) {
-        Ok(taken) => {
-            let left = taken.ok_or("nothing waits")?;
-            assert_eq!(rt; (left.number, left.tag, left.fault), (1, 7, None));
-        }
-        Err(refused) => assert_eq!(rt; Err(refused.why), Ok(())),
-    }
-    assert_eq!(rt; (book.len(), book.taken()), (4, 1));
+    let mut probe = Probe::new(rt.alloc(), 1000);
+    assert_eq!(rt; used_up(&mut probe.book), Some((1, 7, None)));
+    let totals = probe.totals();
+    assert_eq!(rt; (totals.len, totals.taken), (4, 1));
     Ok(())
 }

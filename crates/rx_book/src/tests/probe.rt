@@ -1,14 +1,21 @@
 //! A book as the tests see it: its calls with answers that can be compared. They have no contract, as
 //! a test compares values when it runs.
 
-use crate::{At, Book, Closed, Key, Opened, OpenedUsing, Refused, ResKey};
-use rx_event::{Kind, Refusal};
+use crate::{At, Book, Closed, Key, Mail, Opened, OpenedUsing, Refused, ResKey};
+use rx_event::{Event, Kind, Refusal, Terminal};
 use rx_resource::{Life, Resource};
 use std::alloc::Global;
 
-#[derive(Drop)]
+// Its drop is written out, so that where one is let go there is one call to prove and not the drop of each
+// field of a book in turn.
 pub(super) struct Probe<R: Resource> {
-    book: Book<R>,
+    pub(super) book: Book<R>,
+}
+
+impl<R: Resource> Drop for Probe<R> {
+    fn drop(self) {
+        let Probe { book: _book } = self;
+    }
 }
 
 // The numbers that a book answers.
@@ -74,6 +81,26 @@ impl<R: Resource> Probe<R> {
         self.book.remove(res)
     }
 
+    pub(super) fn next(&mut self, leaf: Key, value: i64) -> Result<u64, Refusal> {
+        self.book.next(leaf, value)
+    }
+
+    pub(super) fn end(&mut self, leaf: Key, terminal: Terminal) -> Result<u64, Refusal> {
+        self.book.end(leaf, terminal)
+    }
+
+    pub(super) fn abort(&mut self, node: Key, code: u32) -> Result<u64, Refusal> {
+        self.book.abort(node, code)
+    }
+
+    pub(super) fn decline(&mut self, merging: Key) -> Result<u64, Refusal> {
+        self.book.decline(merging)
+    }
+
+    pub(super) fn fail(&mut self, merging: Key, code: u32) -> Result<u64, Refusal> {
+        self.book.fail(merging, code)
+    }
+
     pub(super) fn dispose(&mut self, root: Key) -> Result<u64, Refusal> {
         self.book.dispose(root)
     }
@@ -82,8 +109,13 @@ impl<R: Resource> Probe<R> {
         self.book.close()
     }
 
+    pub(super) fn release_waiting(&mut self) -> Closed {
+        self.book.release_waiting()
+    }
+
     pub(super) fn finish(self) -> Closed {
-        self.book.finish()
+        let Probe { book } = self;
+        book.finish()
     }
 
     // Takes a resource and releases it.
@@ -115,8 +147,28 @@ impl<R: Resource> Probe<R> {
         }
     }
 
+    pub(super) fn take_mail(&mut self) -> Option<Mail> {
+        self.book.take_mail()
+    }
+
     pub(super) fn open_root(&self) -> Option<Key> {
         self.book.open_root()
+    }
+
+    pub(super) fn open_count(&self) -> u64 {
+        self.book.open_count()
+    }
+
+    pub(super) fn is_open(&self, node: Key) -> bool {
+        self.book.is_open(node)
+    }
+
+    pub(super) fn is_held(&self, res: ResKey) -> bool {
+        self.book.is_held(res)
+    }
+
+    pub(super) fn event(&self, place: u64) -> Option<Event> {
+        self.book.event(place)
     }
 }
 
