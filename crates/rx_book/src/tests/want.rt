@@ -9,8 +9,7 @@ use rx_scarce::{MOST_BLOCKS, Scarce};
 use std::alloc::Global;
 use std::test::Fail;
 
-// So many calls, each of them refused until there is memory, that each list of a book has to grow at some
-// of them.
+// So many calls that each list that they ask for has to grow at some of them.
 const CALLS: usize = 20;
 
 // Makes a call again and again, each time with one more block of memory, until it is done; answers the
