@@ -1,16 +1,14 @@
 -- A call, from where nothing stands against it: its events may be written, what they force is paid for, and it is accepted.
 use Rattle.std.proofs.Common.{◌≡◌, ℕ, ◌+◌, ◌≤◌, Bool, true, false, List, [], ◌∷◌, ◌++◌, length, None, refl, sym, ap, subst, ◌∙◌, arith}
 use Rattle.std.proofs.Common.{length-append, append_assoc, append-nil}
-use Rattle.std.specs.List.{list_all, list_any}
+use Rattle.std.specs.List.{list_all}
 use Rattle.std.proofs.lemmas.Bool.{and_parts, and_from}
 use Rattle.rx_resource.specs.declared.Resource.{Ghosts}
 use Rattle.rx_event.specs.declared.mail.Mail.{Mail}
 use Rattle.rx_event.specs.declared.event.Event.{Event}
-use Rattle.rx_event.specs.Moments.{is_firing_of, stops_of}
 use Rattle.rx_event.specs.Notes.{notes, mail_of}
 use Rattle.rx_event.specs.Totals.{debt}
 use Rattle.rx_event.specs.Calls.{Call, outside_of}
-use Rattle.rx_event.specs.Forced.{IsSettled}
 use Rattle.rx_event.specs.Lawful.{MayFollow, IsLawful, IsForcedOn, stays, more, forced}
 use Rattle.rx_event.specs.declared.refusal.Refusal.TheVariants.{Full}
 use Rattle.rx_event.specs.Refusals.{first_cause}
@@ -27,9 +25,8 @@ use Rattle.rx_ground.specs.declared.base.Wanted.{Wanted}
 use Rattle.rx_ground.specs.Shown.{Ground}
 use Rattle.rx_ground.specs.Ties.{IsStanding, IsRoomier, HasRoomBeside, IsReady, KeepsOlder, HasRoomToConnect}
 use Rattle.rx_ground.specs.Ties.{IsTied}
-use Rattle.rx_ground.proofs.Laws.Unjoined.{joins_no_hub, unjoined-push, unjoined_hubless, none_made, nobody_waits, hubless_roomier}
+use Rattle.rx_ground.proofs.Laws.Unjoined.{joins_no_hub, unjoined_hubless, none_made, nobody_waits, hubless_roomier}
 use Rattle.rx_ground.proofs.Laws.KeysKept.{KeepsKeys, keeps_on, keeps_settled}
-use Rattle.rx_ground.proofs.Laws.Unforced.{ends_or_declines, settled_on}
 use Rattle.rx_book.specs.State.{State}
 use Rattle.rx_book.specs.Requests.{Request, stands}
 use Rattle.rx_book.specs.Answers.{Accepts}
@@ -48,7 +45,7 @@ lawful_forced law stays = law
 lawful_forced law (more {k = k} {e = e} on f) = IsLawful-push k e (lawful_forced law on) (forced f)
 
 -- where nobody joined a hub, nobody does by events that join none
-pub unjoined_on : {s t : Register} {es : List Event} → list_all joins_no_hub s.history ≡ true → Writes s es t → list_all joins_no_hub es ≡ true →
+unjoined_on : {s t : Register} {es : List Event} → list_all joins_no_hub s.history ≡ true → Writes s es t → list_all joins_no_hub es ≡ true →
     list_all joins_no_hub t.history ≡ true
 unjoined_on {s = s} {t = t} {es = es} unjoined w plain = ap (list_all joins_no_hub) w.history ∙ in_turn s.history es unjoined plain where
   in_turn : (h es : List Event) → list_all joins_no_hub h ≡ true → list_all joins_no_hub es ≡ true → list_all joins_no_hub (h ++ es) ≡ true
@@ -56,14 +53,6 @@ unjoined_on {s = s} {t = t} {es = es} unjoined w plain = ap (list_all joins_no_h
   in_turn (x ∷ h) es first then =
       let parts = and_parts (joins_no_hub x) (list_all joins_no_hub h) first in
       and_from (joins_no_hub x) (list_all joins_no_hub (h ++ es)) parts.0 (in_turn h es parts.1 then)
-
--- after an event that ends no node, declines nothing and fires none nothing is left undone
-pub rests : {T : Type 0} (g : Ghosts T) (old : Register) (mid : Ground T) (e : Event) → IsLawful old.history → IsSettled old.history → list_all joins_no_hub old.history ≡ true → IsReady old e →
-    Writes old (e ∷ []) mid.register → joins_no_hub e ≡ true → ends_or_declines e ≡ false →
-    ((n : ℕ) → list_any (is_firing_of n) (stops_of old.history e) ≡ false) → IsLawful mid.register.history × IsSettled mid.register.history
-rests g old mid e law settled unjoined ready w plain calm unfired =
-    subst (λ (k : List Event). IsLawful k × IsSettled k) (sym w.history)
-    (IsLawful-push old.history e law ready.next, settled_on old.history e law ready.next calm unfired (unjoined-push old.history e unjoined plain) settled)
 
 -- calls -------------------------------------------------------------------------------------------
 
@@ -156,7 +145,7 @@ module _ {T : Type 0} (g : Ghosts T) (b : Ground T) (asked : Request) where
     pays new w = called_paid b.register new b.register.limit asked.is_fresh asked.call l.may l.has w
 
     -- nobody joined a hub so far
-    pub unjoined : list_all joins_no_hub h ≡ true
+    unjoined : list_all joins_no_hub h ≡ true
     unjoined = unjoined_hubless h l.may.lawful (none_made h b.hubs.hubs l.standing.tied.published l.hubless)
 
     -- and so none waits for its connection

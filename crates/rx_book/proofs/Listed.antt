@@ -1,13 +1,11 @@
 -- What a call made is listed after what it forced.
-use Rattle.std.proofs.Common.{◌≡◌, ℕ, zero, suc, true, false, List, [], ◌∷◌, length, IsSome, refl, ◌∙◌}
+use Rattle.std.proofs.Common.{◌≡◌, ℕ, zero, suc, true, false, List, [], ◌∷◌, length, Some, IsSome, slice_get, refl, ap, ◌∙◌}
 use Rattle.std.specs.List.{list_all}
 use Rattle.std.proofs.lemmas.Bool.{and_parts, false≢true}
 use Rattle.rx_resource.specs.declared.Resource.{Ghosts}
 use Rattle.rx_event.specs.declared.event.Event.{Event}
-use Rattle.rx_event.specs.declared.event.Event.TheVariants.{Connect}
-use Rattle.rx_event.specs.Tree.{at}
-use Rattle.rx_event.specs.Forced.{IsSettled}
-use Rattle.rx_event.specs.Lawful.{IsForcedOn}
+use Rattle.rx_event.specs.declared.event.Event.TheVariants.{Connect, Accept}
+use Rattle.rx_event.specs.Tree.{at, is_open}
 use Rattle.rx_slots.specs.declared.Key.{Key as TreeKey}
 use Rattle.rx_slots.specs.Slots.{find}
 use Rattle.rx_tree.specs.declared.node.ResKey.{ResKey as TreeResKey}
@@ -15,27 +13,31 @@ use Rattle.rx_tree.specs.Resources.{is_held_at}
 use Rattle.rx_ground.specs.Shown.{Ground}
 use Rattle.rx_ground.specs.Ties.{IsTied, KeepsOlder}
 use Rattle.rx_ground.proofs.Laws.Unjoined.{joins_no_hub}
-use Rattle.rx_ground.proofs.Laws.Unforced.{node_stays, resource_stays}
+use Rattle.rx_ground.proofs.Laws.Unforced.{resource_stays}
 use Rattle.rx_book.specs.declared.key.Key.{Key}
 use Rattle.rx_book.specs.declared.key.ResKey.{ResKey}
 use Rattle.rx_book.specs.Shown.{key_shown, res_key_shown, state_of}
 use Rattle.rx_book.specs.Answers.{makes_connection, IsNewKey, IsNewResKey}
 use Rattle.rx_book.proofs.ShownKeys.{has_key_is, has_res_key_is}
 
-module _ {T : Type 0} (g : Ghosts T) (mid new : Ground T) (tied : IsTied g mid.register.history mid.tree) (settled : IsSettled mid.register.history)
-    (on : IsForcedOn mid.register.history new.register.history) (nodes : KeepsOlder new.register.history (length mid.register.history) mid.tree.nodes new.tree.nodes) (place : ℕ) where
-  pub key_listed : (key : TreeKey) (k : Key) → k ≡ key_shown key → key.number ≡ place → IsSome (find mid.tree.nodes key) → IsNewKey (state_of g new) place k
-  key_listed key k shown number there = rw shown (record {
+module _ {T : Type 0} (g : Ghosts T) (mid new : Ground T)
+    (nodes : KeepsOlder new.register.history (length mid.register.history) mid.tree.nodes new.tree.nodes) (place : ℕ) where
+  -- a node that is open then
+  pub key_listed : (key : TreeKey) (k : Key) → k ≡ key_shown key → key.number ≡ place → IsSome (find mid.tree.nodes key) →
+      is_open new.register.history place ≡ true → IsNewKey (state_of g new) place k
+  key_listed key k shown number there alive = rw shown (record {
     number = number;
-    listed = has_key_is new.tree (key_shown key) ∙ node_stays g mid new tied settled on _ nodes key there;
+    listed = has_key_is new.tree (key_shown key) ∙ nodes.still key there (ap (is_open new.register.history) number ∙ alive);
   })
 
-  pub res_key_listed : (res : TreeResKey) (k : ResKey) → k ≡ res_key_shown res → new.tree.resources ≡ mid.tree.resources → res.number ≡ place →
-      is_held_at mid.tree res ≡ true → IsNewResKey (state_of g new) place k
-  res_key_listed res k shown same number held = rw shown (record {
-    number = number;
-    listed = has_res_key_is new.tree (res_key_shown res) ∙ resource_stays g mid new tied settled on _ nodes same res held;
-  })
+  -- a resource of such a node
+  pub res_key_listed : IsTied g mid.register.history mid.tree → (res : TreeResKey) (k : ResKey) → k ≡ res_key_shown res →
+      new.tree.resources ≡ mid.tree.resources → res.number ≡ place → is_held_at mid.tree res ≡ true → (n tag : ℕ) →
+      slice_get mid.register.history place ≡ Some (Accept n tag) → is_open new.register.history n ≡ true → IsNewResKey (state_of g new) place k
+  res_key_listed tied res k shown same number held n tag accepted alive =
+      let at_res : slice_get mid.register.history res.number ≡ Some (Accept n tag) = ap (slice_get mid.register.history) number ∙ accepted in
+      let listed = has_res_key_is new.tree (res_key_shown res) ∙ resource_stays g mid new tied _ nodes same res n tag at_res alive held in
+      rw shown (record { number = number; listed = listed })
 
 -- there are no connections
 connects_none : (e : Event) → joins_no_hub e ≡ true → makes_connection e ≡ false

@@ -1,7 +1,6 @@
 pub mod Listed
 pub mod Records
 pub mod Stored
-pub mod Unjoined
 pub mod Owing
 pub mod Tied
 pub mod Written

@@ -27,15 +27,8 @@ joins_no_hub (Open place (Sub g)) = false
 joins_no_hub (Connect g) = false
 joins_no_hub _ = true
 
--- such a history stays so by one more
-pub unjoined-push : (h : List Event) (e : Event) → list_all joins_no_hub h ≡ true → joins_no_hub e ≡ true → list_all joins_no_hub (h ++ e ∷ []) ≡ true
-unjoined-push [] e p q = rw q refl
-unjoined-push (x ∷ h) e p q =
-    let a = and_parts (joins_no_hub x) (list_all joins_no_hub h) p in
-    and_from (joins_no_hub x) (list_all joins_no_hub (h ++ e ∷ [])) a.0 (unjoined-push h e a.1 q)
-
 -- each of its events is such a one
-pub slice_get-unjoined : (h : List Event) (n : ℕ) (e : Event) → list_all joins_no_hub h ≡ true → slice_get h n ≡ Some e → joins_no_hub e ≡ true
+slice_get-unjoined : (h : List Event) (n : ℕ) (e : Event) → list_all joins_no_hub h ≡ true → slice_get h n ≡ Some e → joins_no_hub e ≡ true
 slice_get-unjoined [] n e all at_n = absurd (none-some e at_n)
 slice_get-unjoined (x ∷ h) zero e all at_n = ap joins_no_hub (sym (same_Some x e at_n)) ∙ (and_parts (joins_no_hub x) (list_all joins_no_hub h) all).0
 slice_get-unjoined (x ∷ h) (suc n) e all at_n = slice_get-unjoined h n e (and_parts (joins_no_hub x) (list_all joins_no_hub h) all).1 at_n

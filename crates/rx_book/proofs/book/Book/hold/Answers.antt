@@ -1,6 +1,10 @@
-use Rattle.std.proofs.Common.{length, refl, subst, ◌∙◌, arith}
+use Rattle.std.proofs.Common.{List, length, slice_get, refl, ap, subst, ◌∙◌, arith}
 use Rattle.std.specs.Prelude.{Ok}
+use Rattle.rx_event.specs.declared.event.Event.{Event}
+use Rattle.rx_event.specs.declared.event.Event.TheVariants.{Accept}
 use Rattle.rx_event.specs.Calls.{Holding}
+use Rattle.rx_event.proofs.Laws.Places.{slice_get_last}
+use Rattle.rx_event.proofs.Laws.StaysOpen.{accepted_stays}
 use Rattle.rx_register.specs.Causes.{causes}
 use Rattle.rx_ground.proofs.Laws.KeysKept.{keeps_held}
 use Rattle.rx_book.specs.State.{State}
@@ -9,7 +13,7 @@ use Rattle.rx_book.specs.Answers.{AnswersResKey}
 use Rattle.rx_book.specs.Shown.{state_of}
 use Rattle.rx_book.proofs.Answered.{answers_ok, answers_err}
 use Rattle.rx_book.proofs.CausesByKey.{first_by_key, refused_for}
-use Rattle.rx_book.proofs.Called.{IsLetIn, let_in_roomy, state_roomier, rests, one_ready, pays, unjoined, connects_none, accepts}
+use Rattle.rx_book.proofs.Called.{IsLetIn, let_in_roomy, state_roomier, one_ready, pays, connects_none, accepts}
 use Rattle.rx_book.proofs.Listed.{res_key_listed}
 use Rattle.rx_book.proofs.book.Book.hold.Given as given
 use Rattle.rx_book.proofs.book.Book.hold.Goals as goal
@@ -62,11 +66,15 @@ returns g c =
     let s = c.settle.ensures in
     let w = rw c.tree_key-key.ensures at a.written in
     let l = called g (goal.at.returns g c).After-promise in
-    let n = length b.register.history in
-    let rest = rests R b.register mid _ l.may.lawful l.may.settled (unjoined R b _ l) (one_ready R b _ l _ refl) w refl refl (λ n. refl) in
-    let key = res_key_listed R mid new a.tied.of_tree rest.1 s.forced s.nodes n c.write_accept-res.result c.shown_res_key.result c.shown_res_key.ensures s.resources
-    a.number a.held in
+    let h = b.register.history in
+    let n = length h in
+    let node = c.args.node.number in
+    let tag = R.tag_of c.args.resource in
     let done = accepts R b _ l mid new w (keeps_held b.tree mid.tree n a.nodes a.kept) a.tied.of_tree s.standing s.forced s.nodes s.resources s.limit s.given in
+    let alive = accepted_stays h new.register.history node tag l.may.lawful (one_ready R b _ l (Accept node tag) refl).next done.step.forced in
+    let accepted = ap (λ (k : List Event). slice_get k n) w.history ∙ slice_get_last h (Accept node tag) in
+    let key = res_key_listed R mid new s.nodes n a.tied.of_tree c.write_accept-res.result c.shown_res_key.result c.shown_res_key.ensures s.resources
+    a.number a.held node tag accepted alive in
     let same = state_roomier R c.self.inside.ground b c.admit.ensures.kept in
     subst (λ (x : State). AnswersResKey x (hold_request R x c.args.node c.args.resource) c.args.resource (state_of R new) (Ok c.shown_res_key.result))
     (same ∙ c.self.view_is) (answers_ok key done)

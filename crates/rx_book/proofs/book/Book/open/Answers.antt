@@ -3,6 +3,7 @@ use Rattle.std.specs.Prelude.{Ok}
 use Rattle.std.proofs.lemmas.Bool.{and_from}
 use Rattle.rx_event.specs.declared.event.Event.TheVariants.{Open}
 use Rattle.rx_event.specs.Calls.{Opening}
+use Rattle.rx_event.proofs.Laws.StaysOpen.{opened_stays}
 use Rattle.rx_register.specs.Causes.{causes, end_at}
 use Rattle.rx_ground.specs.Ties.{IsReady}
 use Rattle.rx_ground.proofs.Laws.Unjoined.{joins_no_hub, none_as_long, hubless_still, unjoined_hubless, none_made}
@@ -14,7 +15,7 @@ use Rattle.rx_book.specs.Shown.{state_of}
 use Rattle.rx_book.proofs.ShownKeys.{is_known_place_is}
 use Rattle.rx_book.proofs.Answered.{answers_ok, passed_refusal}
 use Rattle.rx_book.proofs.CausesByKey.{first_by_place, refused_for, unstood}
-use Rattle.rx_book.proofs.Called.{IsLetIn, within_full, let_in_roomy, state_roomier, rests, known, one_ready, pays, unjoined, connects_none, accepts}
+use Rattle.rx_book.proofs.Called.{IsLetIn, within_full, let_in_roomy, state_roomier, known, one_ready, pays, connects_none, accepts}
 use Rattle.rx_book.proofs.Openings.{plain_opening, opening_counted, placed_at}
 use Rattle.rx_book.proofs.Listed.{key_listed, unconnected}
 use Rattle.rx_book.proofs.book.Book.open.Given as given
@@ -113,11 +114,10 @@ returns g c =
     let w = rw c.spot_of-spot.ensures.place at o.written in
     let p = (goal.at.returns g c).After-promise in
     let l = called g p in
-    let rest = rests R b.register mid _ l.may.lawful l.may.settled (unjoined R b _ l) (ready g p) w (plain g p) refl (λ n. refl) in
-    let key = key_listed R mid new o.tied.of_tree rest.1 s.forced s.nodes (length h) c.write_open-key.result c.shown_key.result c.shown_key.ensures o.new.numbered
-    o.new.found in
     let kept = keeps_opened R h b.tree mid.tree c.write_open-key.result l.may.lawful l.standing.tied.of_tree o.new o.resources in
     let done = accepts R b _ l mid new w kept o.tied.of_tree s.standing s.forced s.nodes s.resources s.limit s.given in
+    let alive = opened_stays h new.register.history (place_of c.args.at) c.args.kind l.may.lawful (ready g p).next done.step.forced in
+    let key = key_listed R mid new s.nodes (length h) c.write_open-key.result c.shown_key.result c.shown_key.ensures o.new.numbered o.new.found alive in
     let hubless = none_as_long mid.hubs.hubs new.hubs.hubs s.hubs (hubless_still o.memory o.hubs l.hubless) in
     let unjoined = unjoined_hubless new.register.history done.step.lawful (none_made new.register.history new.hubs.hubs s.standing.tied.published hubless) in
     let alone = ap (λ (x : Bool). cond x (Some (length h + 1)) None) (sym (unconnected new.register.history (length h + 1) unjoined)) in

@@ -1,9 +1,11 @@
-use Rattle.std.proofs.Common.{◌≡◌, ◌+◌, List, ◌∷◌, [], length, is_some, refl, sym, ap, subst, ◌∙◌, arith, length-append}
+use Rattle.std.proofs.Common.{◌≡◌, ◌+◌, List, ◌∷◌, [], ◌++◌, length, is_some, slice_get, refl, sym, ap, subst, ◌∙◌, arith, length-append}
 use Rattle.std.specs.Prelude.{Ok}
 use Rattle.rx_event.specs.declared.event.Kind.TheVariants.{Pass}
 use Rattle.rx_event.specs.declared.event.Event.{Event}
 use Rattle.rx_event.specs.declared.event.Event.TheVariants.{Open, Accept}
 use Rattle.rx_event.specs.Calls.{OpeningUsing}
+use Rattle.rx_event.proofs.Laws.Places.{slice_get_last}
+use Rattle.rx_event.proofs.Laws.StaysOpen.{opened_using_stays}
 use Rattle.rx_slots.specs.Slots.{Slots, find}
 use Rattle.rx_tree.specs.declared.node.Node.{Node}
 use Rattle.rx_register.specs.Causes.{causes, end_at}
@@ -18,7 +20,7 @@ use Rattle.rx_book.specs.Shown.{state_of}
 use Rattle.rx_book.proofs.ShownKeys.{is_known_place_is}
 use Rattle.rx_book.proofs.Answered.{answers_ok, answers_err}
 use Rattle.rx_book.proofs.CausesByKey.{first_by_place, refused_for}
-use Rattle.rx_book.proofs.Called.{IsLetIn, unjoined_on, within_full, let_in_roomy, state_roomier, rests, known, first_ready, second_ready, pays, unjoined, connects_none, accepts}
+use Rattle.rx_book.proofs.Called.{IsLetIn, within_full, let_in_roomy, state_roomier, known, first_ready, second_ready, pays, connects_none, accepts}
 use Rattle.rx_book.proofs.Openings.{placed_at}
 use Rattle.rx_book.proofs.Listed.{key_listed, res_key_listed}
 use Rattle.rx_book.proofs.book.Book.open_using.Given as given
@@ -137,19 +139,18 @@ returns g c =
     let p = (goal.at.returns g c).After-promise in
     let l = called g p in
     let longer : length mid.register.history ≡ length h + 1 = ap (λ (k : List Event). length k) w.history ∙ length-append h (e ∷ []) in
-    let rest = rests R b.register mid e l.may.lawful l.may.settled (unjoined R b _ l) (opens g p) w refl refl (λ n. refl) in
-    let rest_after = rests R mid.register last f rest.0 rest.1 (unjoined_on (unjoined R b _ l) w refl) (holds g p mid.register w) v refl refl (λ n. refl) in
-    let found = ap (λ (nodes : Slots Node). is_some (find nodes c.write_open-node.result)) a.nodes ∙ o.new.found in
-    let key = key_listed R last new a.tied.of_tree rest_after.1 s.forced s.nodes (length h) c.write_open-node.result c.shown_key.result c.shown_key.ensures
-    o.new.numbered found in
-    let number = a.number ∙ longer in
-    let res = res_key_listed R last new a.tied.of_tree rest_after.1 s.forced s.nodes (length h + 1) c.write_accept-res.result c.shown_res_key.result
-    c.shown_res_key.ensures s.resources number a.held in
     let opened = keeps_opened R h b.tree mid.tree c.write_open-node.result l.may.lawful l.standing.tied.of_tree o.new o.resources in
     let kept = keeps_on b.tree mid.tree last.tree (length h) (length mid.register.history) (omega arith) opened
     (keeps_held mid.tree last.tree (length mid.register.history) a.nodes a.kept) in
     let both = Writes-append b.register mid.register last.register (e ∷ []) (f ∷ []) w v in
     let done = accepts R b _ l last new both kept a.tied.of_tree s.standing s.forced s.nodes s.resources s.limit s.given in
+    let alive = opened_using_stays h new.register.history (place_of c.args.at) (R.tag_of c.args.resource) l.may.lawful (opens g p).next done.step.forced in
+    let found = ap (λ (nodes : Slots Node). is_some (find nodes c.write_open-node.result)) a.nodes ∙ o.new.found in
+    let key = key_listed R last new s.nodes (length h) c.write_open-node.result c.shown_key.result c.shown_key.ensures o.new.numbered found alive in
+    let at_last = ap (slice_get (mid.register.history ++ f ∷ [])) (sym longer) ∙ slice_get_last mid.register.history f in
+    let accepted = ap (λ (k : List Event). slice_get k (length h + 1)) v.history ∙ at_last in
+    let res = res_key_listed R last new s.nodes (length h + 1) a.tied.of_tree c.write_accept-res.result c.shown_res_key.result c.shown_res_key.ensures
+    s.resources (a.number ∙ longer) a.held (length h) (R.tag_of c.args.resource) accepted alive in
     let same = state_roomier R c.self.inside.ground b c.admit.ensures.kept in
     subst (λ (x : State). AnswersOpenedUsing x (using_request R x c.args.at c.args.resource) c.args.resource (state_of R new)
     (Ok (record { key = c.shown_key.result; res = c.shown_res_key.result }))) (same ∙ c.self.view_is)

@@ -1,9 +1,10 @@
-use Rattle.std.proofs.Common.{length, refl, ◌∙◌}
+use Rattle.std.proofs.Common.{length, refl, sym, subst, ◌∙◌}
 use Rattle.rx_event.specs.declared.event.Event.TheVariants.{Take}
+use Rattle.rx_event.specs.Forced.{IsSettled}
+use Rattle.rx_event.proofs.Laws.Calm.{closes_none_kept, settled_on, unforced}
 use Rattle.rx_ground.proofs.Laws.KeysKept.{keeps_held}
-use Rattle.rx_ground.proofs.Laws.Unforced.{unforced}
 use Rattle.rx_book.specs.Requests.{take_request}
-use Rattle.rx_book.proofs.Called.{IsLetIn, let_in_free, rests, one_ready, pays, unjoined, connects_none, accepts}
+use Rattle.rx_book.proofs.Called.{IsLetIn, let_in_free, one_ready, pays, connects_none, accepts}
 use Rattle.rx_book.proofs.Taken.{listed_waits, fewer_wait}
 use Rattle.rx_book.proofs.book.Book.take.Given as given
 use Rattle.rx_book.proofs.book.Book.take.Goals as goal
@@ -43,8 +44,9 @@ returns g c =
     let r = c.in_ok-handed.handed.0 in
     let l = called g (goal.at.returns g c).In_ok-handed in
     let ready = one_ready R b _ l (Take r) refl in
-    let rest = rests R b.register mid (Take r) l.may.lawful l.may.settled (unjoined R b _ l) ready t.written refl refl (λ n. refl) in
-    let grown = unforced rest.1 s.forced ∙ t.written.history in
+    let h = b.register.history in
+    let rests = settled_on h (Take r) l.may.lawful ready.next l.may.settled refl (λ n. refl) (closes_none_kept h (Take r) refl) refl in
+    let grown = unforced s.forced (subst IsSettled (sym t.written.history) rests) ∙ t.written.history in
     rw (← c.self.view_is) (record {
       cases = t.waited.listed;
       accepted = accepts R b _ l mid new t.written (keeps_held b.tree mid.tree (length b.register.history) t.nodes t.kept) t.tied.of_tree s.standing s.forced s.nodes
