@@ -1,7 +1,6 @@
 -- What is forced takes no resource from a node that stays open.
-use Rattle.std.proofs.Common.{◌≡◌, ℕ, true, List, Option, Some, slice_get, sym, ap, ◌∙◌}
+use Rattle.std.proofs.Common.{◌≡◌, ℕ, true, Some, slice_get, sym, ap, ◌∙◌}
 use Rattle.rx_resource.specs.declared.Resource.{Ghosts}
-use Rattle.rx_event.specs.declared.event.Event.{Event}
 use Rattle.rx_event.specs.declared.event.Event.TheVariants.{Accept}
 use Rattle.rx_event.specs.Tree.{is_open}
 use Rattle.rx_slots.specs.Slots.{Slots, find}
