@@ -83,7 +83,7 @@ quiet_on h e law next settled calm unfired n made o at_n =
 -- an open connection of a RefCount hub that has no open subscriber
 pub record IsUnused (h : List Event) (c g : ℕ) : Type 0 where
   pub alive : is_open h c ≡ true
-  pub connects : slice_get h c ≡ Some (Connect g)
+  pub made : slice_get h c ≡ Some (Connect g)
   pub auto : at is_auto_hub h g ≡ true
   pub unsubscribed : open_subscribers h g ≡ []
 
@@ -92,7 +92,7 @@ HasNoUnused h = (c g : ℕ) → ¬ IsUnused h c g
 
 -- in a settled history there is none
 pub settled_used : (h : List Event) → IsSettled h → HasNoUnused h
-settled_used h settled c g u = settled.none (Close c) (due (settled_connected h settled) (left u.alive u.connects u.auto u.unsubscribed))
+settled_used h settled c g u = settled.none (Close c) (due (settled_connected h settled) (left u.alive u.made u.auto u.unsubscribed))
 
 -- an open subscriber is among those of its hub
 subscriber_listed : (h : List Event) (g s : ℕ) → at (is_subscriber_of g) h s ≡ true → is_open h s ≡ true → open_subscribers h g ≡ [] → ⊥
@@ -127,12 +127,12 @@ KeepsSubscribers h k g = (s : ℕ) → at (is_subscriber_of g) h s ≡ true → 
 pub unused_older : (h t k : List Event) → k ≡ h ++ t → IsLawful k → (c g : ℕ) → IsUnused k c g → c < length h → KeepsSubscribers h k g → IsUnused h c g
 unused_older h t k grown law c g u l keeps = record {
   alive = open_older h t c l (ap (λ (q : List Event). is_open q c) (sym grown) ∙ u.alive);
-  connects = sym (slice_get-append h t c l) ∙ ap (λ (q : List Event). slice_get q c) (sym grown) ∙ u.connects;
+  made = sym (slice_get-append h t c l) ∙ ap (λ (q : List Event). slice_get q c) (sym grown) ∙ u.made;
   auto = sym (at-append is_auto_hub h t g hub_older) ∙ ap (λ (q : List Event). at is_auto_hub q g) (sym grown) ∙ u.auto;
   unsubscribed = none_subscribed h g (λ s subscribes was. subscriber_listed k g s (subscribes_still s subscribes was) (keeps s subscribes was) u.unsubscribed);
 } where
   hub_older : g < length h
-  hub_older = let older : g < c = connection_hub k law g c u.connects in omega arith
+  hub_older = let older : g < c = connection_hub k law g c u.made in omega arith
 
   subscribes_still : (s : ℕ) → at (is_subscriber_of g) h s ≡ true → is_open h s ≡ true → at (is_subscriber_of g) k s ≡ true
   subscribes_still s subscribes was =
@@ -142,7 +142,7 @@ unused_older h t k grown law c g u l keeps = record {
 unused_new : (h : List Event) (e : Event) (c g : ℕ) → IsLawful (h ++ e ∷ []) → ClosesNone h e → HasNoUnused h → IsUnused (h ++ e ∷ []) c g → e ≡ Connect g
 unused_new h e c g law still used u = by_place (cases_order c (length h)) where
   by_place : (c ≡ length h) ⊎ ((c < length h) ⊎ (length h < c)) → e ≡ Connect g
-  by_place (inl same) = same_Some e (Connect g) (sym (slice_get_last h e) ∙ ap (slice_get (h ++ e ∷ [])) (sym same) ∙ u.connects)
+  by_place (inl same) = same_Some e (Connect g) (sym (slice_get_last h e) ∙ ap (slice_get (h ++ e ∷ [])) (sym same) ∙ u.made)
   by_place (inr (inl l)) = absurd (used c g (unused_older h (e ∷ []) (h ++ e ∷ []) refl law c g u l (λ s subscribes was. still s was)))
   by_place (inr (inr past)) = absurd (let w = is_open_within (h ++ e ∷ []) c u.alive in omega (arith, length-append h (e ∷ [])))
 
@@ -157,7 +157,7 @@ settled_undue h none_waits ends_none used = record { none = none } where
   undue (failed {f = f} {c = code} o k e) = ends_none f (Error code) (failed o k e)
   undue (completed {f = f} o k n s e c w) = ends_none f Completed (completed o k n s e c w)
   undue (cut {s = s} {t = t} o e) = ends_none s t (cut o e)
-  undue (left {c = c} {g = g} o at_c a n) = used c g (record { alive = o; connects = at_c; auto = a; unsubscribed = n })
+  undue (left {c = c} {g = g} o at_c a n) = used c g (record { alive = o; made = at_c; auto = a; unsubscribed = n })
 
   none : (e : Event) → IsForced h e → ⊥
   none e (connecting {g = g} d) = none_waits g d

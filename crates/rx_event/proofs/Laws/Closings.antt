@@ -112,7 +112,7 @@ roots_before (one_further {k = k} {e = e} rest opens) n found = roots_before res
 
 -- An open connection of a hub that a caller connects
 pub record IsManualConnection (h : List Event) (g c : ℕ) : Type 0 where
-  pub connects : slice_get h c ≡ Some (Connect g)
+  pub connected : slice_get h c ≡ Some (Connect g)
   pub manual : slice_get h g ≡ Some (Hub Manual)
   pub alive : is_open h c ≡ true
 
@@ -127,11 +127,11 @@ pub manual_connection : (h : List Event) (c : ℕ) → is_manual_connection h c 
 manual_connection h c found = by_event (slice_get h c) refl (and_parts _ _ found).1 where
   by_event : (o : Option Event) → slice_get h c ≡ o → option_map_or (is_manual_connect h) o false ≡ true → (g : ℕ) × IsManualConnection h g c
   by_event None at_c manual = absurd (false≢true manual)
-  by_event (Some (Connect g)) at_c manual = (g, record { connects = at_c; manual = manual_hub h g manual; alive = (and_parts _ _ found).0 })
+  by_event (Some (Connect g)) at_c manual = (g, record { connected = at_c; manual = manual_hub h g manual; alive = (and_parts _ _ found).0 })
   by_event (Some _) at_c manual = absurd (false≢true manual)
 
 pub connection_manual : (h : List Event) (g c : ℕ) → IsManualConnection h g c → is_manual_connection h c ≡ true
-connection_manual h g c m = and_from _ _ m.alive (rw (m.connects, m.manual) refl)
+connection_manual h g c m = and_from _ _ m.alive (rw (m.connected, m.manual) refl)
 
 hub_before : (h : List Event) (e : Event) (g : ℕ) → OpensNone h e → slice_get (h ++ e ∷ []) g ≡ Some (Hub Manual) → slice_get h g ≡ Some (Hub Manual)
 hub_before h e g opens manual = by_place (cases_push h e (Hub Manual) g manual) where
@@ -140,7 +140,7 @@ hub_before h e g opens manual = by_place (cases_push h e (Hub Manual) g manual) 
   by_place (inr same) = absurd (both_ways (makes_hub e) opens.no_hub (ap makes_hub same))
 
 connection_before : (h : List Event) (e : Event) (g c : ℕ) → OpensNone h e → IsManualConnection (h ++ e ∷ []) g c → IsManualConnection h g c
-connection_before h e g c opens m = by_place (cases_push h e (Connect g) c m.connects) where
+connection_before h e g c opens m = by_place (cases_push h e (Connect g) c m.connected) where
   hub : slice_get h g ≡ Some (Hub Manual)
   hub = hub_before h e g opens m.manual
 
@@ -148,7 +148,7 @@ connection_before h e g c opens m = by_place (cases_push h e (Connect g) c m.con
   by_place (inr same) = absurd (both_ways _ (ap (λ (o : Option Event). option_map_or is_auto_hub o false) hub) (opens.auto g same))
   by_place (inl at_c) =
       let l : c < length h = slice_get_within h c (Connect g) at_c in
-      record { connects = at_c; manual = hub; alive = (and_parts _ _ (sym (is_open_cut h e c l) ∙ m.alive)).0 }
+      record { connected = at_c; manual = hub; alive = (and_parts _ _ (sym (is_open_cut h e c l) ∙ m.alive)).0 }
 
 pub hubs_before : {h k : List Event} → OpensNoneUpTo h k → (g : ℕ) → slice_get k g ≡ Some (Hub Manual) → slice_get h g ≡ Some (Hub Manual)
 hubs_before stays_so g manual = manual
@@ -177,8 +177,8 @@ stays_unconnected {h = h} {k = k} on g manual none = by_list (open_connections k
   by_list [] found = refl
   by_list (c ∷ cs) found =
       let first : (slice_get k c ≡ Some (Connect g)) × (is_open k c ≡ true) = first_connection k g c cs found in
-      let before : IsManualConnection h g c = connections_before on g c (record { connects = first.0; manual = manual; alive = first.1 }) in
-      absurd (connection_listed h g c before.connects before.alive none)
+      let before : IsManualConnection h g c = connections_before on g c (record { connected = first.0; manual = manual; alive = first.1 }) in
+      absurd (connection_listed h g c before.connected before.alive none)
 
 pub unconnected_after : {h k : List Event} → OpensNoneUpTo h k → (g : ℕ) → at is_manual_hub h g ≡ true → open_connections h g ≡ [] → open_connections k g ≡ []
 unconnected_after {h = h} on g manual none = stays_unconnected on g (kept_at on g (Hub Manual) (manual_hub h g manual)) none
@@ -292,8 +292,8 @@ hub_disconnected h k g c law manual alive connects f = unconnected_after (forced
   by_list [] found = refl
   by_list (d ∷ cs) found =
       let first : (slice_get (h ++ Close c ∷ []) d ≡ Some (Connect g)) × (is_open (h ++ Close c ∷ []) d ≡ true) = first_connection (h ++ Close c ∷ []) g d cs found in
-      let before : IsManualConnection h g d = connection_before h (Close c) g d (close_opens h c) (record { connects = first.0; manual = later; alive = first.1 }) in
-      let same : c ≡ d = one_connection h law g c d (record { one = rw connects (eq-eqb g g refl); one_open = alive; other = rw before.connects (eq-eqb g g refl); other_open = before.alive }) in
+      let before : IsManualConnection h g d = connection_before h (Close c) g d (close_opens h c) (record { connected = first.0; manual = later; alive = first.1 }) in
+      let same : c ≡ d = one_connection h law g c d (record { one = rw connects (eq-eqb g g refl); one_open = alive; other = rw before.connected (eq-eqb g g refl); other_open = before.alive }) in
       absurd (both_ways _ (closed_after h c) (ap (is_open (h ++ Close c ∷ [])) same ∙ first.1))
 
 -- a disconnection closes the one connection of its hub

@@ -32,7 +32,7 @@ use Rattle.rx_event.proofs.Laws.Calm.{EndsNone, IsUnused, KeepsSubscribers, ends
 -- c is a connection of g that n stands below, or n itself
 pub record IsUnder (h : List Event) (n c g : ℕ) : Type 0 where
   pub above : is_within h c n ≡ true
-  pub connects : slice_get h c ≡ Some (Connect g)
+  pub connection : slice_get h c ≡ Some (Connect g)
 
 -- A step that began after h has come to k, and n is open, and will be: the connections above it are older than the step, and their
 -- hubs, and all later ones, have the subscribers that they had
@@ -52,7 +52,7 @@ module _ (h k : List Event) (n : ℕ) (w : IsUnharmed h k n) where
   used c g l keeps u = settled_used h w.settled c g (unused_older h w.added k w.grown w.law c g u l keeps)
 
   under_before : (e : Event) (c g : ℕ) → IsUnder (k ++ e ∷ []) n c g → IsUnder k n c g
-  under_before e c g under = record { above = before; connects = sym (slice_get-append k (e ∷ []) c near) ∙ under.connects } where
+  under_before e c g under = record { above = before; connection = sym (slice_get-append k (e ∷ []) c near) ∙ under.connection } where
     l : n < length k
     l = is_open_within k n w.alive
 
@@ -97,7 +97,7 @@ module _ (h k : List Event) (n : ℕ) (w : IsUnharmed h k n) where
 
         spares_node : is_within k c n ≡ true → ⊥
         spares_node above =
-            let under : IsUnder k n c g = record { above = above; connects = u.connects } in
+            let under : IsUnder k n c g = record { above = above; connection = u.made } in
             used c g (w.older c g under) (w.keeps c g g under (omega arith)) u
 
         -- a subscriber within c is of an earlier hub than that of c
@@ -105,7 +105,7 @@ module _ (h k : List Event) (n : ℕ) (w : IsUnharmed h k n) where
         spares_subscriber d i j s under le subscribes inside =
             let l : s < length h = at_within (is_subscriber_of j) h s subscribes in
             let now = ap (λ (q : List Event). at (is_subscriber_of j) q s) w.grown ∙ at-append (is_subscriber_of j) h w.added s l ∙ subscribes in
-            let order : j < g = hubs_in_order k w.law j s c g now inside u.connects in
+            let order : j < g = hubs_in_order k w.law j s c g now inside u.made in
             let near : c ≤ s = is_within-le k c s inside in
             used c g (omega arith) (w.keeps d i g under (omega arith)) u
 
@@ -120,7 +120,7 @@ module _ (h k : List Event) (n : ℕ) (w : IsUnharmed h k n) where
     by_due (completed {f = f} o m x s y z v) = absurd (w.ends_none f Completed (completed o m x s y z v))
     by_due (cut {s = s} {t = t} o c) = absurd (w.ends_none s t (cut o c))
     by_due (left {c = c} {g = g} o at_c a s) =
-        carried_close c g (due none (left o at_c a s)) (record { alive = o; connects = at_c; auto = a; unsubscribed = s })
+        carried_close c g (due none (left o at_c a s)) (record { alive = o; made = at_c; auto = a; unsubscribed = s })
 
 -- so all that is forced keeps n open
 unharmed_on : {b k : List Event} → IsForcedOn b k → (h : List Event) (n : ℕ) → IsUnharmed h b n → IsUnharmed h k n
@@ -138,7 +138,7 @@ unharmed_settled h n law settled o = record {
   law = law;
   ends_none = settled_ends_none h settled;
   alive = o;
-  older = λ c g under. slice_get_within h c (Connect g) under.connects;
+  older = λ c g under. slice_get_within h c (Connect g) under.connection;
   keeps = λ c g j under le s subscribes was. was;
 }
 
@@ -183,7 +183,7 @@ module _ (h : List Event) (place : Place) (kind : Kind) (law : IsLawful h) (next
     by_place (inr (inl l)) = l
     by_place (inr (inr past)) = absurd (let le = is_within-le opened_on c (length h) under.above in omega arith)
     by_place (inl last) =
-        let here = ap (slice_get opened_on) (sym last) ∙ under.connects in
+        let here = ap (slice_get opened_on) (sym last) ∙ under.connection in
         let both : Some (Open place kind) ≡ Some (Connect g) = sym (slice_get_last h (Open place kind)) ∙ here in
         absurd (cc)
 
@@ -202,7 +202,7 @@ module _ (h : List Event) (place : Place) (kind : Kind) (law : IsLawful h) (next
   keeps_later : (c g j : ℕ) → IsUnder opened_on (length h) c g → g ≤ j → KeepsSubscribers h opened_on j
   keeps_later c g j under le s subscribes was = is_open_cut h (Open place kind) s (is_open_within h s was) ∙ by_test (is_cut h (Open place kind) s) refl where
     at_c : slice_get h c ≡ Some (Connect g)
-    at_c = sym (slice_get-append h (Open place kind ∷ []) c (older_above c g under)) ∙ under.connects
+    at_c = sym (slice_get-append h (Open place kind ∷ []) c (older_above c g under)) ∙ under.connection
 
     by_test : (b : Bool) → is_cut h (Open place kind) s ≡ b → (is_open h s && not b) ≡ true
     by_test false apart = rw was refl
