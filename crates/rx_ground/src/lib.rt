@@ -24,7 +24,8 @@
 //!   `first_by_res_key` (`specs/FirstCause`), by the register's table of causes. So it is told for each call
 //!   of a book; whether a subscriber stands in the order of hubs is told by a climb from its place.
 //! - `Writes` (of the register) says that just these events were added. `KeepsNodes` and `KeepsHeld`
-//!   say that the keys of what is still there are as before.
+//!   say that the keys of what is still there are as before; `KeepsOlder` says it of what is older than a
+//!   forced connection may be.
 //!
 //! # Promised, and not
 //!
@@ -38,7 +39,7 @@
 //!   connection that ended by itself its hub keeps how (Publish, RefCount).
 //! - Not promised: that a call may be accepted. A caller shows `IsReady` of each event that it writes.
 //! - A hub can be made, a subscriber of it opened and the hub connected (Publish and Connect, at
-//!   reactivex.io), each in one step. That what is due at a hub is settled is not there so far.
+//!   reactivex.io), each in one step; what is then due at a hub is settled first.
 #![tactic(auto)]
 
 mod base;
