@@ -185,7 +185,7 @@ connection_named (Connect k) g named = ap (λ n. Connect n) (same_Some k g named
 connection_named _ g named = absurd (none-some g named)
 
 -- what was connected is a hub
-connected_hub : (h : List Event) → IsLawful h → (c g : ℕ) → slice_get h c ≡ Some (Connect g) → at makes_hub h g ≡ true
+pub connected_hub : (h : List Event) → IsLawful h → (c g : ℕ) → slice_get h c ≡ Some (Connect g) → at makes_hub h g ≡ true
 connected_hub h law c g at_c =
     let made : at makes_hub (take c h) g ≡ true = may_connect_hub (lawful_at h law c (Connect g) at_c) in
     ap (λ k. at makes_hub k g) (sym (take-append-drop c h)) ∙ at-append makes_hub (take c h) (drop c h) g (at_within makes_hub (take c h) g made) ∙ made

@@ -3,7 +3,6 @@ pub mod Members
 pub mod KeysKept
 pub mod Keys
 pub mod Numbers
+pub mod Ranges
 pub mod Kept
-pub mod Unforced
-pub mod Unpublished
-pub mod Unjoined
+pub mod StaysHeld

@@ -12,6 +12,7 @@ pub mod Inners
 pub mod Exchanged
 pub mod Joined
 pub mod Published
+pub mod Connections
 pub mod Taking
 pub mod Told
 pub mod Ordered

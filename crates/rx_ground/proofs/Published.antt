@@ -77,7 +77,7 @@ hub_found h hubs of g = mapped (find_hub hubs g) ∙ found_made h hubs of g wher
 -- what is kept of it ------------------------------------------------------------------------------
 
 -- a connection is kept just where one is open
-connection_kept : (h : List Event) (hub : Hub) → IsHubOf h hub → is_some hub.connection ≡ has_connection h hub.number
+pub connection_kept : (h : List Event) (hub : Hub) → IsHubOf h hub → is_some hub.connection ≡ has_connection h hub.number
 connection_kept h hub is = by_key hub.connection ∙ ap (λ (ns : List ℕ). nat_lt 0 (length ns)) is.connection where
   by_key : (o : Option Key) → is_some o ≡ nat_lt 0 (length (numbers (option_to_list o)))
   by_key None = refl

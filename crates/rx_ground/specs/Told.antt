@@ -1,5 +1,5 @@
 -- What the record of a node and of a hub says.
-use Rattle.std.specs.Prelude.{◌≡◌, ℕ, ◌==◌, Bool, true, false, List, Option, Some, is_some, slice_get}
+use Rattle.std.specs.Prelude.{◌≡◌, ℕ, ◌==◌, ◌&&◌, Bool, true, false, List, Option, Some, is_some, slice_get}
 use Rattle.std.specs.List.{list_any}
 use Rattle.std.specs.Option.{option_map_or}
 use Rattle.rx_event.specs.declared.marks.Marks.{Marks}
@@ -7,7 +7,7 @@ use Rattle.rx_event.specs.declared.event.Place.{Place}
 use Rattle.rx_event.specs.declared.event.Place.TheVariants.{Root, Source, Inner, Notifier}
 use Rattle.rx_event.specs.declared.event.Event.{Event}
 use Rattle.rx_event.specs.declared.event.Event.TheVariants.{Hub}
-use Rattle.rx_event.specs.Events.{has_source, is_merging, is_until}
+use Rattle.rx_event.specs.Events.{has_source, is_manual_hub, is_merging, is_until}
 use Rattle.rx_event.specs.Tree.{at, ancestors, is_open}
 use Rattle.rx_event.specs.Marks.{marks_of}
 use Rattle.rx_slots.specs.declared.Key.{Key}
@@ -49,6 +49,10 @@ is_unowed m (Notifier p) = false
 pub record IsHubTold (h : List Event) (g : ℕ) (p : Published) : Type 0 where
   pub made : slice_get h g ≡ Some (Hub p.mode)
   pub connection : is_some p.connection ≡ has_connection h g
+
+-- a caller connects the hub of this number, and it has an open connection
+abbrev pub is_connected_manual : List Event → ℕ → Bool
+is_connected_manual h g = at is_manual_hub h g && has_connection h g
 
 -- this node, where there is one, or one above it connects the hub of this number or an earlier one
 abbrev pub is_inside_up_to : List Event → ℕ → Option ℕ → Bool

@@ -1,12 +1,16 @@
-//! Hubs: what stands against making, connecting and disconnecting one, the event that makes one, and the one that
-//! connects it.
+//! Hubs: what stands against making, connecting and disconnecting one, the event that makes one, the one that
+//! connects it, and which connections are open.
 
-ghost use Rattle.std.specs.Prelude.{◌≡◌, ◌+◌, ◌<◌, ◌++◌, ◌∷◌, [], nat_lt, length, true, false, IfSome, IfNone};
+ghost use Rattle.std.specs.Prelude.{◌≡◌, ◌+◌, ◌<◌, ◌++◌, ◌∷◌, ◌&&◌, [], nat_lt, length, true, false, IfSome, IfNone};
+ghost use Rattle.std.specs.Prelude.{IsSome, is_some, option_map};
+ghost use Rattle.std.specs.List.{find};
+ghost use Rattle.std.specs.Option.{option_to_list};
 ghost use Rattle.rx_event.specs.declared.event.Event.{Event};
 ghost use Rattle.rx_event.specs.Allowed.{most_hubs};
-ghost use Rattle.rx_event.specs.Events.{makes_hub};
-ghost use Rattle.rx_event.specs.Tree.{at, hubs};
+ghost use Rattle.rx_event.specs.Events.{makes_hub, is_manual_hub};
+ghost use Rattle.rx_event.specs.Tree.{at, hubs, open_connections, places};
 ghost use Rattle.rx_event.specs.Calls.{Opening, Publishing, Connecting, Disconnecting};
+ghost use Rattle.rx_slots.specs.Slots.{find as find_in};
 ghost use Rattle.rx_hub.specs.After.{hubs_after};
 ghost use Rattle.rx_hub.specs.Hubs.{new_hub};
 ghost use Rattle.rx_register.specs.Causes.{forces_connect, nodes_opened, added_by};
@@ -14,7 +18,7 @@ ghost use Rattle.rx_register.specs.State.{Writes};
 ghost use Rattle.rx_ground.specs.FirstCause.{first_by_key};
 ghost use Rattle.rx_ground.specs.Memory.{TakesNoMemory};
 ghost use Rattle.rx_ground.specs.Ties.{AreTied, IsReady, IsStanding, IsNewNode, KeepsOlder};
-ghost use Rattle.rx_ground.specs.Told.{IsHubTold};
+ghost use Rattle.rx_ground.specs.Told.{IsHubTold, is_connected_manual};
 
 use crate::base::Ground;
 use crate::decide::end_at;
@@ -25,6 +29,13 @@ use rx_tree::Key;
 
 // Beside so many other hubs there may be one more.
 const MOST_OTHERS: usize = 1_023;
+
+// Whether a caller connects the hub, and it has an open connection.
+fn is_up_by_hand(hub: Published) -> bool
+    ensures { result ≡ (is_manual_hub (Event.Hub hub.mode) && is_some hub.connection) }
+{
+    Event::Hub(hub.mode).is_manual_hub() && hub.connection.is_some()
+}
 
 impl<R: Resource> Ground<R> {
     /// Whether a hub has this number.
@@ -144,6 +155,32 @@ impl<R: Resource> Ground<R> {
         }
         if published.connection.is_none() {
             return Some(Refusal::NotConnected);
+        }
+        None
+    }
+
+    /// The key of a hub's open connection; None where it has none, and where no hub has this number.
+    pub fn connection(&self, hub: u64) -> Option<Key>
+        requires standing { IsStanding R.Resource self.now }
+        ensures number { option_to_list (option_map (λ key. key.number) result) ≡
+            open_connections self.now.register.history hub }
+        ensures there { IfSome result (λ key. IsSome (find_in self.now.tree.nodes key)) }
+    {
+        self.register.promise();
+        self.hubs.get(hub)?.connection
+    }
+
+    /// The least number of a hub that a caller connects and that has an open connection; None where there is none.
+    pub fn first_manual(&self) -> Option<u64>
+        requires standing { IsStanding R.Resource self.now }
+        ensures { result ≡ find (is_connected_manual self.now.register.history) (places self.now.register.history) }
+    {
+        self.hubs.promise();
+        for index in 0..self.hubs.len() {
+            let hub = self.hubs.nth(index)?;
+            if is_up_by_hand(hub) {
+                return Some(hub.number);
+            }
         }
         None
     }

@@ -16,8 +16,8 @@
 //!   its uses. `AreTied` says beside this that the hubs are those of the history, and that each key they
 //!   keep is an open node's. `IsReady` says that an event may come next and that there is room for it and
 //!   its notes.
-//! - `IsStanding` says that beside this no rule is left undone, that what closing everything needs is
-//!   reserved, and that nobody joined a hub so far.
+//! - `IsStanding` says that beside this no rule is left undone, and that what closing everything needs is
+//!   reserved.
 //! - A [`Reach`] is what an item of a leaf wants, wherever it goes: how many events with what FlatMaps and
 //!   Switches then owe, and how many notes. `IsReach` (`specs/Reached`) says of which item it is that.
 //! - What stands first against a call is `first_at`, of a call by an open node's key, and `first_by_key` and
@@ -40,6 +40,8 @@
 //! - Not promised: that a call may be accepted. A caller shows `IsReady` of each event that it writes.
 //! - A hub can be made, a subscriber of it opened and the hub connected (Publish and Connect, at
 //!   reactivex.io), each in one step; what is then due at a hub is settled first.
+//! - [`Ground::connection`] gives the key of a hub's open connection, and [`Ground::first_manual`] the first hub
+//!   that a caller connects and that has one: so each can be disconnected.
 #![tactic(auto)]
 
 mod base;

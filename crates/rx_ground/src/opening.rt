@@ -145,6 +145,7 @@ impl<R: Resource> Ground<R> {
         ensures tied { AreTied R.Resource self.new.register.history self.new.tree self.new.hubs }
         ensures new { IsNewNode self.old.tree.nodes self.new.tree.nodes (length self.old.register.history) result }
         ensures resources { self.new.tree.resources ≡ self.old.tree.resources }
+        ensures left { self.old.tree.nodes.room ≤ self.new.tree.nodes.room + 1 }
         ensures hubs { self.new.hubs ≡ record self.old.hubs {
           hubs = hubs_after self.old.register.history (Event.Open place kind) result.slot self.old.hubs.hubs;
         } }

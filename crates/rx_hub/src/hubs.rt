@@ -153,6 +153,13 @@ impl Hubs {
         self.store.published(self.store.index_of(hub)?)
     }
 
+    /// The hub at an index, without its subscribers: hubs stand by rising number. None past the last.
+    pub fn nth(&self, index: usize) -> Option<Published>
+        ensures { result ≡ option_map published_of (slice_get self.now.hubs index) }
+    {
+        self.store.published(index)
+    }
+
     /// The key of a hub's oldest subscriber; None where it has none, and where no hub has the number.
     pub fn first_subscriber(&self, hub: u64) -> Option<Key>
         ensures { result ≡ option_and_then (λ (h : Hub). first_of h.subscribers) (find_hub self.now.hubs hub) }

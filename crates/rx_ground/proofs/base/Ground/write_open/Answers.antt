@@ -334,3 +334,14 @@ returns-clause-memory g c =
     let counted = ap (λ (s : Slots Node). s.count) c.mark_opened.ensures.rest in
     written_memory (Open c.args.place c.args.kind ∷ []) (returns-clause-written g c) (rw (← c.self.view_is) (omega arith)) (rw (← c.self.view_is) (ap (λ (s : Slots (Stowed g.row.R.Denot)). s.count + s.room) (same_resources g c))) (rw (← c.self.view_is) (omega arith)) (rw (← c.self.view_is) hubs)
     (rw (← c.self.view_is) (ap (λ (s : Hubs). s.slots) (left_hubs g c)))
+
+pub returns-clause-left : goal.returns-clause-left
+returns-clause-left g c =
+    let old = c.self.inside in
+    let left = c.self-2.inside in
+    let room : 0 < old.tree.nodes.room = rw (← c.self.view_is) at c.requires.room in
+    let more_room : old.tree.nodes.room ≤ c.exchange-replaces.new.self.tree.nodes.room = rw (← c.self.view_is) at c.exchange-replaces.ensures.room in
+    let roomier : old.tree.nodes.room ≤ left.tree.nodes.room = rw (← c.self-2.view_is) at more_room in
+    let less = c.in-Ok.ensures.had_room (omega arith) in
+    let kept = ap (λ (s : Slots Node). s.room) c.mark_opened.ensures.rest in
+    rw (← c.self.view_is) (omega arith)
