@@ -1,19 +1,25 @@
 -- A call, from where nothing stands against it: its events may be written, what they force is paid for, and it is accepted.
-use Rattle.std.proofs.Common.{◌≡◌, ℕ, ◌+◌, ◌≤◌, Bool, true, List, [], ◌∷◌, ◌++◌, length, None, refl, sym, ap, subst, ◌∙◌, arith}
+use Rattle.std.proofs.Common.{◌≡◌, ℕ, ◌+◌, ◌≤◌, Bool, true, List, [], ◌∷◌, ◌++◌, length, Option, Some, None, is_some, refl, sym, ap, subst, ◌∙◌, arith}
 use Rattle.std.proofs.Common.{length-append, append_assoc, append-nil}
+use Rattle.std.proofs.Math.Bool.{not}
 use Rattle.std.specs.List.{list_all}
-use Rattle.std.proofs.lemmas.Bool.{and_parts, and_from}
+use Rattle.std.specs.Option.{option_map_or}
+use Rattle.std.proofs.lemmas.Bool.{and_parts, false≢true}
 use Rattle.rx_resource.specs.declared.Resource.{Ghosts}
 use Rattle.rx_event.specs.declared.mail.Mail.{Mail}
 use Rattle.rx_event.specs.declared.event.Event.{Event}
+use Rattle.rx_event.specs.declared.event.Event.TheVariants.{Accept}
+use Rattle.rx_event.specs.Events.{hub_subscribed}
+use Rattle.rx_event.specs.Forced.{IsConnected, MayWait, none_waits, one_waits}
 use Rattle.rx_event.specs.Notes.{notes, mail_of}
 use Rattle.rx_event.specs.Totals.{debt}
 use Rattle.rx_event.specs.Calls.{Call, outside_of}
-use Rattle.rx_event.specs.Lawful.{MayFollow, IsLawful, IsForcedOn, stays, more, forced}
+use Rattle.rx_event.specs.Lawful.{MayFollow, IsLawful, IsForcedOn, stays, more, forced, allowed, opened_with}
 use Rattle.rx_event.specs.declared.refusal.Refusal.TheVariants.{Full}
 use Rattle.rx_event.specs.Refusals.{first_cause}
 use Rattle.rx_event.proofs.Laws.Counts.{notes-push}
 use Rattle.rx_event.proofs.Laws.Lawful.{IsLawful-push}
+use Rattle.rx_event.proofs.Laws.Waits.{settled_connected, waits_after, forced_connected, kept_unsubscribed}
 use Rattle.rx_register.specs.State.{State as Register, IsPromised, Writes}
 use Rattle.rx_register.specs.Causes.{causes, added_by, by_key_of, is_over}
 use Rattle.rx_register.specs.Paid.{IsPaid, HasRoomFor, Fits, notes_added}
@@ -25,7 +31,6 @@ use Rattle.rx_ground.specs.declared.base.Wanted.{Wanted}
 use Rattle.rx_ground.specs.Shown.{Ground}
 use Rattle.rx_ground.specs.Ties.{IsStanding, IsRoomier, HasRoomBeside, IsReady, KeepsOlder, HasRoomToConnect}
 use Rattle.rx_ground.specs.Ties.{IsTied}
-use Rattle.rx_ground.proofs.Laws.Unjoined.{joins_no_hub, unjoined_hubless, none_made, nobody_waits, hubless_roomier}
 use Rattle.rx_ground.proofs.Laws.KeysKept.{KeepsKeys, keeps_on, keeps_settled}
 use Rattle.rx_book.specs.State.{State}
 use Rattle.rx_book.specs.Requests.{Request, stands}
@@ -44,15 +49,31 @@ lawful_forced : {h k : List Event} → IsLawful h → IsForcedOn h k → IsLawfu
 lawful_forced law stays = law
 lawful_forced law (more {k = k} {e = e} on f) = IsLawful-push k e (lawful_forced law on) (forced f)
 
--- where nobody joined a hub, nobody does by events that join none
-unjoined_on : {s t : Register} {es : List Event} → list_all joins_no_hub s.history ≡ true → Writes s es t → list_all joins_no_hub es ≡ true →
-    list_all joins_no_hub t.history ≡ true
-unjoined_on {s = s} {t = t} {es = es} unjoined w plain = ap (list_all joins_no_hub) w.history ∙ in_turn s.history es unjoined plain where
-  in_turn : (h es : List Event) → list_all joins_no_hub h ≡ true → list_all joins_no_hub es ≡ true → list_all joins_no_hub (h ++ es) ≡ true
-  in_turn [] es first then = then
-  in_turn (x ∷ h) es first then =
-      let parts = and_parts (joins_no_hub x) (list_all joins_no_hub h) first in
-      and_from (joins_no_hub x) (list_all joins_no_hub (h ++ es)) parts.0 (in_turn h es parts.1 then)
+-- the event opens no subscriber of a hub
+abbrev pub subscribes_none : Event → Bool
+subscribes_none e = not (is_some (hub_subscribed e))
+
+unsubscribed : (o : Option ℕ) → not (is_some o) ≡ true → o ≡ None
+unsubscribed None plain = refl
+unsubscribed (Some g) plain = absurd (false≢true plain)
+
+none_of : {h : List Event} (most : ℕ) → most ≡ 0 → MayWait h most → IsConnected h
+none_of most is (none_waits none) = none
+none_of most is (one_waits only) = absurd (omega arith)
+
+-- after it no hub waits for its connection, where none did before
+connected_on : (h : List Event) (e : Event) → IsLawful h → IsConnected h → MayFollow h e → subscribes_none e ≡ true → IsConnected (h ++ e ∷ [])
+connected_on h e law none (forced f) plain = forced_connected h e 0 (none_waits none) f
+connected_on h e law none (allowed settled a) plain =
+    none_of _ (ap (λ (o : Option ℕ). option_map_or (λ g. 1) o 0) (unsubscribed (hub_subscribed e) plain)) (waits_after h e law none a)
+connected_on h e law none (opened_with {n = n} {tag = tag} opened next alive) plain = kept_unsubscribed h (Accept n tag) law none refl refl
+
+connected_in_turn : (h es : List Event) → IsLawful h → IsConnected h → MayFollowInTurn h es → list_all subscribes_none es ≡ true → IsConnected (h ++ es)
+connected_in_turn h [] law none next plain = subst IsConnected (sym (append-nil h)) none
+connected_in_turn h (e ∷ es) law none next plain =
+    let parts = and_parts (subscribes_none e) (list_all subscribes_none es) plain in
+    subst IsConnected (append_assoc h (e ∷ []) es)
+    (connected_in_turn (h ++ e ∷ []) es (IsLawful-push h e law next.0) (connected_on h e law none next.0 parts.0) next.1 parts.1)
 
 -- calls -------------------------------------------------------------------------------------------
 
@@ -70,8 +91,6 @@ pub record IsLetIn {T : Type 0} (g : Ghosts T) (b : Ground T) (asked : Request) 
   pub none : first_cause (stands (state_of g b) asked) ≡ None
   pub may : MayCall b.register.history b.register.limit asked.is_fresh asked.call
   pub has : HasRoomFor b.register asked.call
-  -- no hub was made so far
-  pub hubless : b.hubs.hubs ≡ []
 
 module _ {T : Type 0} (g : Ghosts T) (b : Ground T) (asked : Request) where
   abbrev h : List Event
@@ -80,20 +99,19 @@ module _ {T : Type 0} (g : Ghosts T) (b : Ground T) (asked : Request) where
   abbrev outside : List Event
   outside = outside_of b.register.history asked.call
 
-  let_in : IsStanding g b → b.hubs.hubs ≡ [] → IsPromised b.register → first_cause (stands (state_of g b) asked) ≡ None → IsReadyFor h asked.call →
+  let_in : IsStanding g b → IsPromised b.register → first_cause (stands (state_of g b) asked) ≡ None → IsReadyFor h asked.call →
       HasRoomFor b.register asked.call → IsLetIn g b asked
-  let_in standing hubless promised none ready has = record {
+  let_in standing promised none ready has = record {
     standing = standing;
     none = none;
     may = record { lawful = promised.lawful; settled = standing.settled; no_cause = (unstood asked.call asked.is_known _ none).1; ready = ready };
     has = has;
-    hubless = hubless;
   }
 
   -- a call that takes no memory
-  pub let_in_free : IsStanding g b → b.hubs.hubs ≡ [] → IsPromised b.register → first_cause (stands (state_of g b) asked) ≡ None → IsReadyFor h asked.call →
+  pub let_in_free : IsStanding g b → IsPromised b.register → first_cause (stands (state_of g b) asked) ≡ None → IsReadyFor h asked.call →
       added_by h asked.call ≡ 0 → notes_added h asked.call ≡ 0 → IsLetIn g b asked
-  let_in_free standing hubless promised none ready added noted = let_in standing hubless promised none ready (paid_room b.register asked.call standing.paid added noted)
+  let_in_free standing promised none ready added noted = let_in standing promised none ready (paid_room b.register asked.call standing.paid added noted)
 
   module _ (l : IsLetIn g b asked) where
     -- its key is known
@@ -144,13 +162,11 @@ module _ {T : Type 0} (g : Ghosts T) (b : Ground T) (asked : Request) where
     pub pays : (new : Register) → Writes b.register outside new → IsPaid new
     pays new w = called_paid b.register new b.register.limit asked.is_fresh asked.call l.may l.has w
 
-    -- nobody joined a hub so far
-    unjoined : list_all joins_no_hub h ≡ true
-    unjoined = unjoined_hubless h l.may.lawful (none_made h b.hubs.hubs l.standing.tied.published l.hubless)
-
-    -- and so none waits for its connection
-    pub connects_none : (new : Register) → Writes b.register outside new → list_all joins_no_hub outside ≡ true → {room space : ℕ} → HasRoomToConnect new.history room space
-    connects_none new w plain = λ n waits. absurd (nobody_waits new.history (unjoined_on unjoined w plain) n waits)
+    -- where they open no subscriber of a hub, none waits for its connection
+    pub connects_none : (new : Register) → Writes b.register outside new → list_all subscribes_none outside ≡ true → {room space : ℕ} → HasRoomToConnect new.history room space
+    connects_none new w plain = λ n waits. absurd (subst IsConnected (sym w.history) connected n waits) where
+      connected : IsConnected (h ++ outside)
+      connected = connected_in_turn h outside l.may.lawful (settled_connected h l.may.settled) (follows outside refl) plain
 
     -- and after what they force it is accepted
     pub accepts : (mid new : Ground T) → Writes b.register outside mid.register → KeepsKeys b.tree mid.tree (length h) → IsTied g mid.register.history mid.tree →
@@ -196,13 +212,13 @@ state_roomier g old new r = λ i. state_of g (record {
 
 -- a call for which room was gotten, after nothing stood against it
 pub let_in_roomy : {T : Type 0} (g : Ghosts T) (old b : Ground T) (asked : State → Request) (wanted : Wanted) →
-    IsRoomier old b → old.hubs.hubs ≡ [] → IsStanding g b → IsPromised b.register →
+    IsRoomier old b → IsStanding g b → IsPromised b.register →
     first_cause (stands (state_of g old) (asked (state_of g old))) ≡ None → IsReadyFor b.register.history (asked (state_of g b)).call → HasRoomBeside b wanted →
     added_by b.register.history (asked (state_of g b)).call ≤ wanted.events → notes_added b.register.history (asked (state_of g b)).call ≤ wanted.notes →
     IsLetIn g b (asked (state_of g b))
-let_in_roomy g old b asked wanted roomier hubless standing promised none ready has events notes =
+let_in_roomy g old b asked wanted roomier standing promised none ready has events notes =
     let none_now = subst (λ (s : State). first_cause (stands s (asked s)) ≡ None) (sym (state_roomier g old b roomier)) none in
-    let_in g b (asked (state_of g b)) standing (hubless_roomier roomier hubless) promised none_now ready (record {
+    let_in g b (asked (state_of g b)) standing promised none_now ready (record {
       events = let e = has.events in omega arith;
       notes = let n = has.notes in omega arith;
     })

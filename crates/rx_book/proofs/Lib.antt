@@ -6,6 +6,7 @@ pub mod ShownRoots
 pub mod ShownPromise
 pub mod Listed
 pub mod Openings
+pub mod Connections
 pub mod Taken
 pub mod Emitted
 pub mod Closings

@@ -1,23 +1,19 @@
 -- What a call made is listed after what it forced.
-use Rattle.std.proofs.Common.{◌≡◌, ℕ, zero, suc, true, false, List, [], ◌∷◌, length, Some, IsSome, slice_get, refl, ap, ◌∙◌}
-use Rattle.std.specs.List.{list_all}
-use Rattle.std.proofs.lemmas.Bool.{and_parts, false≢true}
+use Rattle.std.proofs.Common.{◌≡◌, ℕ, true, length, Some, IsSome, slice_get, ap, ◌∙◌}
 use Rattle.rx_resource.specs.declared.Resource.{Ghosts}
-use Rattle.rx_event.specs.declared.event.Event.{Event}
-use Rattle.rx_event.specs.declared.event.Event.TheVariants.{Connect, Accept}
-use Rattle.rx_event.specs.Tree.{at, is_open}
+use Rattle.rx_event.specs.declared.event.Event.TheVariants.{Accept}
+use Rattle.rx_event.specs.Tree.{is_open}
 use Rattle.rx_slots.specs.declared.Key.{Key as TreeKey}
 use Rattle.rx_slots.specs.Slots.{find}
 use Rattle.rx_tree.specs.declared.node.ResKey.{ResKey as TreeResKey}
 use Rattle.rx_tree.specs.Resources.{is_held_at}
 use Rattle.rx_ground.specs.Shown.{Ground}
 use Rattle.rx_ground.specs.Ties.{IsTied, KeepsOlder}
-use Rattle.rx_ground.proofs.Laws.Unjoined.{joins_no_hub}
-use Rattle.rx_ground.proofs.Laws.Unforced.{resource_stays}
+use Rattle.rx_ground.proofs.Laws.StaysHeld.{resource_stays}
 use Rattle.rx_book.specs.declared.key.Key.{Key}
 use Rattle.rx_book.specs.declared.key.ResKey.{ResKey}
 use Rattle.rx_book.specs.Shown.{key_shown, res_key_shown, state_of}
-use Rattle.rx_book.specs.Answers.{makes_connection, IsNewKey, IsNewResKey}
+use Rattle.rx_book.specs.Answers.{IsNewKey, IsNewResKey}
 use Rattle.rx_book.proofs.ShownKeys.{has_key_is, has_res_key_is}
 
 module _ {T : Type 0} (g : Ghosts T) (mid new : Ground T)
@@ -38,13 +34,3 @@ module _ {T : Type 0} (g : Ghosts T) (mid new : Ground T)
       let at_res : slice_get mid.register.history res.number ≡ Some (Accept n tag) = ap (slice_get mid.register.history) number ∙ accepted in
       let listed = has_res_key_is new.tree (res_key_shown res) ∙ resource_stays g mid new tied _ nodes same res n tag at_res alive held in
       rw shown (record { number = number; listed = listed })
-
--- there are no connections
-connects_none : (e : Event) → joins_no_hub e ≡ true → makes_connection e ≡ false
-connects_none (Connect g) plain = absurd (false≢true plain)
-connects_none _ plain = refl
-
-pub unconnected : (h : List Event) (n : ℕ) → list_all joins_no_hub h ≡ true → at makes_connection h n ≡ false
-unconnected [] n plain = refl
-unconnected (e ∷ h) zero plain = connects_none e (and_parts (joins_no_hub e) (list_all joins_no_hub h) plain).0
-unconnected (e ∷ h) (suc n) plain = unconnected h n (and_parts (joins_no_hub e) (list_all joins_no_hub h) plain).1

@@ -1,31 +1,36 @@
 -- What callers see of a ground that stands keeps what a book promises.
-use Rattle.std.proofs.Common.{◌≡◌, ℕ, ◌+◌, Bool, List, [], ◌∷◌, length, map, refl, sym, ap, subst, arith}
+use Rattle.std.proofs.Common.{◌≡◌, ℕ, ◌+◌, Bool, true, List, [], ◌∷◌, length, map, nat_lt, refl, sym, ap, subst, ◌∙◌, arith}
 use Rattle.std.specs.List.{All, Contains}
 use Rattle.std.specs.Option.{option_and_then}
+use Rattle.std.proofs.lemmas.Bool.{lt-ltb}
 use Rattle.std.proofs.lemmas.List.{length-map}
 use Rattle.std.proofs.lemmas.List.Elements.{All-map}
 use Rattle.rx_resource.specs.declared.Resource.{Ghosts}
 use Rattle.rx_event.specs.declared.event.Event.{Event}
-use Rattle.rx_event.specs.Tree.{is_open}
+use Rattle.rx_event.specs.Events.{is_auto_hub}
+use Rattle.rx_event.specs.Tree.{at, is_open, open_subscribers}
+use Rattle.rx_event.specs.Forced.{IsSettled}
+use Rattle.rx_event.specs.Lawful.{IsLawful}
 use Rattle.rx_event.specs.Resources.{is_held, is_waiting}
 use Rattle.rx_event.specs.Totals.{accepted_count, taken_count}
 use Rattle.rx_event.proofs.Laws.Totals.{accepted_count-parts}
 use Rattle.rx_event.proofs.Laws.Notes.{notes_grammatical}
+use Rattle.rx_event.proofs.Laws.Hubs.{one_open_connection, one_where_subscribed, unsubscribed_unconnected}
 use Rattle.rx_slots.specs.Slots.{Slots}
 use Rattle.rx_tree.specs.declared.node.Node.{Node}
 use Rattle.rx_tree.specs.declared.node.Stowed.{Stowed}
 use Rattle.rx_tree.specs.Tree.{IsPromised as IsTreePromised}
 use Rattle.rx_register.specs.State.{IsPromised as IsRegisterPromised}
+use Rattle.rx_register.specs.Causes.{has_connection}
 use Rattle.rx_ground.specs.Shown.{Ground, Label, Kept, kept_in, held_in, waiting_in, label_in}
 use Rattle.rx_ground.specs.Ties.{IsStored, IsStanding}
 use Rattle.rx_ground.proofs.Laws.Numbers.{ListsJust}
 use Rattle.rx_ground.proofs.Laws.Kept.{numbers, stored_held, stored_waiting, just_nodes, just_held, just_waiting, length-held, length-waiting}
 use Rattle.rx_book.specs.declared.key.Key.{Key}
 use Rattle.rx_book.specs.declared.key.ResKey.{ResKey}
-use Rattle.rx_book.specs.State.{IsPromised, IsLabelOf, AreJust, accepted_tag}
+use Rattle.rx_book.specs.State.{IsPromised, IsLabelOf, AreJust, accepted_tag, has_subscriber}
 use Rattle.rx_book.specs.Shown.{key_shown, state_of}
 use Rattle.rx_ground.proofs.Laws.Members.{All-members}
-use Rattle.rx_ground.proofs.Laws.Unpublished.{unpublished}
 
 -- numbers -----------------------------------------------------------------------------------------
 
@@ -41,6 +46,17 @@ module _ {X : Type 0} where
   shown_just test f of same ks just =
       subst (λ (ns : List ℕ). AreJust test ns) (sym (map-map f of (λ (k : Kept X). k.key.number) same ks)) (record { each = just.each; every = just.every; once = just.once })
 
+-- hubs --------------------------------------------------------------------------------------------
+
+-- RefCount: connected exactly while it has a subscriber
+shared : (h : List Event) → IsLawful h → IsSettled h → (g : ℕ) → at is_auto_hub h g ≡ true → has_connection h g ≡ has_subscriber h g
+shared h law settled g auto = by_list (open_subscribers h g) refl where
+  by_list : (ss : List ℕ) → open_subscribers h g ≡ ss → has_connection h g ≡ nat_lt 0 (length ss)
+  by_list [] none = ap (λ (cs : List ℕ). nat_lt 0 (length cs)) (unsubscribed_unconnected h g settled auto none)
+  by_list (s ∷ ss) some =
+      let one = one_where_subscribed h g law settled auto (λ none. let clash : s ∷ ss ≡ [] = sym some ∙ none in absurd (cc)) in
+      ap (nat_lt 0) one ∙ sym (lt-ltb 0 (length (s ∷ ss)) (omega arith))
+
 -- states ------------------------------------------------------------------------------------------
 
 module _ {T : Type 0} (g : Ghosts T) where
@@ -51,7 +67,7 @@ module _ {T : Type 0} (g : Ghosts T) where
     label : (k : Kept (Stowed T)) → Contains ks k → IsLabelOf h (label_in g k)
     label k c = let is = stored k c in record { live = is.live; tag = ap (option_and_then accepted_tag) is.accepted; uses = is.uses }
 
-  module _ (b : Ground T) (register : IsRegisterPromised b.register) (tree : IsTreePromised b.tree) (standing : IsStanding g b) (none : b.hubs.hubs ≡ []) where
+  module _ (b : Ground T) (register : IsRegisterPromised b.register) (tree : IsTreePromised b.tree) (standing : IsStanding g b) where
     abbrev h : List Event
     h = b.register.history
 
@@ -79,7 +95,8 @@ module _ {T : Type 0} (g : Ghosts T) where
     state_promised = record {
       lawful = register.lawful;
       settled = standing.settled;
-      unpublished = unpublished g b standing none;
+      shared = shared h register.lawful standing.settled;
+      one_connection = one_open_connection h register.lawful;
       keys = shown_just (is_open h) (λ (k : Kept Node). key_shown k.key) (λ (k : Key). k.number) (λ k. refl) (kept_in b.tree.nodes) open_numbers;
       res_keys = shown_just (is_held h) held_key (λ (k : ResKey). k.number) (λ k. refl) (held_in b.tree) held_numbers;
       held = shown_just (is_held h) (label_in g) (λ (l : Label). l.number) (λ k. refl) (held_in b.tree) held_numbers;

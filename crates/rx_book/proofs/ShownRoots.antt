@@ -1,9 +1,9 @@
 -- The open root of least number.
-use Rattle.std.proofs.Common.{◌≡◌, ℕ, zero, suc, ◌+◌, ◌<◌, ◌≤◌, Bool, true, false, List, [], ◌∷◌, length, Option, Some, None, cond, IsSome, option_map, refl, sym, ap, ◌∙◌, arith, inl, inr, ◌⊎◌}
+use Rattle.std.proofs.Common.{◌≡◌, ℕ, ◌<◌, true, false, List, length, Option, Some, None, IsSome, option_map, refl, sym, ap, ◌∙◌, arith}
 use Rattle.std.specs.Prelude.{IsTrue, IfSome}
-use Rattle.std.specs.List.{find, range_with_len}
+use Rattle.std.specs.List.{find}
 use Rattle.std.specs.Option.{option_map_or}
-use Rattle.std.proofs.lemmas.Bool.{cases_order, and_parts, and_from, false_from_ne_true, false≢true}
+use Rattle.std.proofs.lemmas.Bool.{and_parts, and_from, false_from_ne_true, false≢true}
 use Rattle.rx_resource.specs.declared.Resource.{Ghosts}
 use Rattle.rx_event.specs.declared.event.Event.{Event}
 use Rattle.rx_event.specs.Events.{is_root}
@@ -14,31 +14,11 @@ use Rattle.rx_slots.specs.Slots.{find as find_in}
 use Rattle.rx_tree.specs.declared.node.Node.{Node}
 use Rattle.rx_tree.specs.Tree.{Tree, IsRoot, IsFirst, HasNone}
 use Rattle.rx_ground.specs.Ties.{IsTied}
+use Rattle.rx_ground.proofs.Laws.Ranges.{find_nothing, find_first}
 use Rattle.rx_book.specs.State.{has_key}
-use Rattle.rx_book.specs.Answers.{is_open_root}
+use Rattle.rx_event.specs.Claims.Closing.{is_open_root}
 use Rattle.rx_book.specs.Shown.{key_shown, keys_of}
 use Rattle.rx_book.proofs.ShownKeys.{has_key_is}
-
--- searches of a range -----------------------------------------------------------------------------
-
-find_nothing : (p : ℕ → Bool) → ((n : ℕ) → p n ≡ false) → (ns : List ℕ) → find p ns ≡ None
-find_nothing p none [] = refl
-find_nothing p none (n ∷ ns) = ap (λ b. cond b (Some n) (find p ns)) (none n) ∙ find_nothing p none ns
-
--- the first number that passes is found
-find_first : (p : ℕ → Bool) (first count n : ℕ) → first ≤ n → n < first + count → p n ≡ true → ((k : ℕ) → k < n → p k ≡ false) →
-    find p (range_with_len first count) ≡ Some n
-find_first p first zero n from below passes before = absurd (omega arith)
-find_first p first (suc count) n from below passes before =
-    by_place (λ (l : first < n). find_first p (first + 1) count n (omega arith) (omega arith) passes before) (cases_order first n)
-  where
-    rest : Option ℕ
-    rest = find p (range_with_len (first + 1) count)
-
-    by_place : (first < n → rest ≡ Some n) → (first ≡ n) ⊎ ((first < n) ⊎ (n < first)) → cond (p first) (Some first) rest ≡ Some n
-    by_place later (inl same) = ap (λ b. cond b (Some first) rest) (ap p same ∙ passes) ∙ ap (λ k. Some k) same
-    by_place later (inr (inl l)) = ap (λ b. cond b (Some first) rest) (before first l) ∙ later l
-    by_place later (inr (inr g)) = absurd (omega arith)
 
 -- roots -------------------------------------------------------------------------------------------
 

@@ -1,14 +1,13 @@
 -- What the answers of calls say: one relation for each kind of answer, of the state before, what was asked, the state after, and
 -- the answer.
-use Rattle.std.specs.Prelude.{◌≡◌, ℕ, ◌+◌, ◌<◌, Bool, true, false, ◌&&◌, Option, Some, None, List, [], length, option_map, IsTrue, if◌then◌else◌}
+use Rattle.std.specs.Prelude.{◌≡◌, ℕ, ◌+◌, ◌<◌, Bool, true, false, Option, Some, None, List, [], length, option_map, IsTrue, if◌then◌else◌}
 use Rattle.std.specs.Prelude.{Result, IfOk, IfErr, OnOk, OnErr, IfSome, IfNone, MatchOption, ⊤}
 use Rattle.std.specs.List.{Contains}
 use Rattle.rx_resource.specs.declared.Resource.{Ghosts}
 use Rattle.rx_event.specs.declared.refusal.Refusal.{Refusal}
 use Rattle.rx_event.specs.declared.event.Event.{Event}
 use Rattle.rx_event.specs.declared.event.Event.TheVariants.{Connect}
-use Rattle.rx_event.specs.Events.{is_root}
-use Rattle.rx_event.specs.Tree.{at, is_open}
+use Rattle.rx_event.specs.Tree.{at}
 use Rattle.rx_event.specs.Calls.{IsStepOf}
 use Rattle.rx_event.specs.Refusals.{first_cause, IsRefusal}
 use Rattle.rx_ground.specs.Shown.{label_of}
@@ -19,10 +18,6 @@ use Rattle.rx_book.specs.declared.answer.OpenedUsing.{OpenedUsing}
 use Rattle.rx_book.specs.declared.answer.Refused.{Refused}
 use Rattle.rx_book.specs.State.{State, has_key, has_res_key}
 use Rattle.rx_book.specs.Requests.{Request, stands, take_request}
-
--- the node is a root, and open
-abbrev pub is_open_root : List Event → ℕ → Bool
-is_open_root h n = is_open h n && at is_root h n
 
 abbrev pub makes_connection : Event → Bool
 makes_connection (Connect hub) = true
@@ -99,6 +94,10 @@ AnswersPlace old asked = Answers (IsPlace old) (IsCause old asked) old asked
 -- and from one that may take memory
 abbrev pub AnswersPlaceOrWant : State → Request → State → Result ℕ Refusal → Type 0
 AnswersPlaceOrWant old asked = Answers (IsPlace old) (IsCauseOrWant old asked) old asked
+
+-- the key of the new node
+abbrev pub AnswersKey : State → Request → State → Result Key Refusal → Type 0
+AnswersKey old asked new = Answers (IsNewKey new (length old.history)) (IsCauseOrWant old asked) old asked new
 
 -- a resource's own word, of which nothing is said
 abbrev pub AnswersWord : State → Request → State → Result ℕ Refusal → Type 0

@@ -7,8 +7,9 @@ use Rattle.rx_note.specs.declared.note.Terminal.{Terminal}
 use Rattle.rx_event.specs.declared.event.Place.{Place}
 use Rattle.rx_event.specs.declared.event.Place.TheVariants.{Root, Source, Inner, Notifier}
 use Rattle.rx_event.specs.declared.event.Kind.{Kind}
+use Rattle.rx_event.specs.declared.event.Mode.{Mode}
 use Rattle.rx_event.specs.declared.refusal.Refusal.{Refusal}
-use Rattle.rx_event.specs.Calls.{Call, Opening, OpeningUsing, Holding, Applying, Removing, Emitting, Ending, Aborting, Declining, Failing, Disposing, Taking}
+use Rattle.rx_event.specs.Calls.{Call, Opening, OpeningUsing, Holding, Applying, Removing, Emitting, Ending, Aborting, Declining, Failing, Disposing, Publishing, Connecting, Disconnecting, Taking}
 use Rattle.rx_register.specs.Causes.{causes, by_key_of}
 use Rattle.rx_book.specs.declared.key.Key.{Key}
 use Rattle.rx_book.specs.declared.key.ResKey.{ResKey}
@@ -81,6 +82,15 @@ fail_request s merging code = node_request s merging (Failing merging.number cod
 
 abbrev pub dispose_request : State → Key → Request
 dispose_request s root = node_request s root (Disposing root.number)
+
+abbrev pub hub_request : Mode → Request
+hub_request mode = record { call = Publishing mode; is_known = true; is_fresh = true }
+
+abbrev pub connect_request : (hub : ℕ) → Request
+connect_request hub = record { call = Connecting hub; is_known = true; is_fresh = true }
+
+abbrev pub disconnect_request : (hub : ℕ) → Request
+disconnect_request hub = record { call = Disconnecting hub; is_known = true; is_fresh = true }
 
 -- the taking of the resource of this number
 abbrev pub take_request : ℕ → Request

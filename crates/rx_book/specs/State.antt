@@ -1,17 +1,19 @@
 -- What a book is to its callers.
-use Rattle.std.specs.Prelude.{◌≡◌, ◌≢◌, ℕ, ◌+◌, ◌<◌, ◌≤◌, Bool, [], ◌&&◌, ◌==◌, Option, Some, None, List, length, map, slice_get, IsTrue}
+use Rattle.std.specs.Prelude.{◌≡◌, ◌≢◌, ℕ, ◌+◌, ◌<◌, ◌≤◌, Bool, nat_lt, ◌&&◌, ◌==◌, Option, Some, None, List, length, map, slice_get, IsTrue}
 use Rattle.std.specs.List.{All, AllPairs, Contains, list_any}
 use Rattle.std.specs.Option.{option_and_then}
 use Rattle.rx_note.specs.Notes.{IsGrammatical}
 use Rattle.rx_resource.specs.declared.Life.TheVariants.{Live}
 use Rattle.rx_event.specs.declared.event.Event.{Event}
 use Rattle.rx_event.specs.declared.event.Event.TheVariants.{Accept}
-use Rattle.rx_event.specs.Tree.{is_open, hubs}
+use Rattle.rx_event.specs.Events.{is_auto_hub}
+use Rattle.rx_event.specs.Tree.{at, is_open, open_subscribers, open_connections}
 use Rattle.rx_event.specs.Resources.{is_held, is_waiting, uses}
 use Rattle.rx_event.specs.Notes.{notes, notes_to}
 use Rattle.rx_event.specs.Totals.{debt, accepted_count, taken_count}
 use Rattle.rx_event.specs.Lawful.{IsLawful}
 use Rattle.rx_event.specs.Forced.{IsSettled}
+use Rattle.rx_register.specs.Causes.{has_connection}
 use Rattle.rx_ground.specs.Shown.{Label}
 use Rattle.rx_book.specs.declared.key.Key.{Key}
 use Rattle.rx_book.specs.declared.key.ResKey.{ResKey}
@@ -50,13 +52,19 @@ pub record IsLabelOf (h : List Event) (l : Label) : Type 0 where
   pub tag : option_and_then accepted_tag (slice_get h l.number) ≡ Some l.tag
   pub uses : l.uses ≡ uses h l.number
 
+-- the hub has an open subscriber
+abbrev pub has_subscriber : List Event → ℕ → Bool
+has_subscriber h g = nat_lt 0 (length (open_subscribers h g))
+
 -- what every book promises at each moment: the resources that it holds are exactly those that its stored lawful history leaves
 -- held, those waiting are exactly the ones closed or removed and not yet taken, each live and in one place, no operator's rule is
--- left undone, and what each observer is told obeys the Observable Contract's grammar. Hubs are not there yet
+-- left undone, a RefCount hub is connected exactly while it has a subscriber and no hub by two connections, and what each observer
+-- is told obeys the Observable Contract's grammar
 pub record IsPromised (s : State) : Type 0 where
   pub lawful : IsLawful s.history
   pub settled : IsSettled s.history
-  pub unpublished : hubs s.history ≡ []
+  pub shared : (g : ℕ) → IsTrue (at is_auto_hub s.history g) → has_connection s.history g ≡ has_subscriber s.history g
+  pub one_connection : (g : ℕ) → length (open_connections s.history g) ≤ 1
   pub keys : AreJust (is_open s.history) (map (λ k. k.number) s.keys)
   pub res_keys : AreJust (is_held s.history) (map (λ k. k.number) s.res_keys)
   pub held : AreJust (is_held s.history) (map (λ l. l.number) s.held)

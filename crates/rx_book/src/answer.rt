@@ -24,7 +24,8 @@ pub enum At {
 pub struct Opened {
     /// The node's key.
     pub key: Key,
-    /// The key of the connection that came with it; None, as there are no hubs yet.
+    /// The key of the connection that came with it, which is open until its hub disconnects; None where
+    /// none was forced.
     pub connected: Option<Key>,
 }
 

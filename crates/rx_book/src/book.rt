@@ -10,7 +10,7 @@ ghost use Rattle.rx_event.specs.Notes.{notes};
 ghost use Rattle.rx_event.specs.Totals.{open_count as open_count_in, held_count, waiting_count};
 ghost use Rattle.rx_event.specs.Totals.{accepted_count, taken_count, item_count};
 ghost use Rattle.rx_book.specs.State.{IsPromised, has_key, has_res_key};
-ghost use Rattle.rx_book.specs.Answers.{is_open_root};
+ghost use Rattle.rx_event.specs.Claims.Closing.{is_open_root};
 
 use crate::key::{Key, ResKey, shown_key, tree_key, tree_res_key};
 use rx_event::{Event, Mail};
@@ -25,13 +25,18 @@ use std::marker::Model;
 /// To its callers it is a state: its history and limit, the keys of the open nodes and of the held
 /// resources, the resources that it holds and those that wait, and the number of notes handed out.
 /// A book that is dropped drops its resources unreleased.
-#[derive(Drop)]
 pub struct Book<R: Resource> {
     pub(crate) ground: Ground<R>,
 }
 
+// Written out, so that where a book is let go there is one call to prove, and not the drop of each field in turn.
+impl<R: Resource> Drop for Book<R> {
+    fn drop(self) {
+        let Book { ground: _ground } = self;
+    }
+}
+
 impl<R: Resource> Model for Book<R> {
-    ghost use Rattle.std.specs.Prelude.{◌≡◌, []};
     ghost use Rattle.rx_book.specs.State.{State};
     ghost use Rattle.rx_book.specs.Shown.{state_of};
     ghost use Rattle.rx_ground.specs.Ties.{IsStanding};
@@ -40,7 +45,7 @@ impl<R: Resource> Model for Book<R> {
 
     ghost view = { λ b. state_of R.Resource b.ground };
 
-    ghost invariant = { λ b. IsStanding R.Resource b.ground × (b.ground.hubs.hubs ≡ []) };
+    ghost invariant = { λ b. IsStanding R.Resource b.ground };
 }
 
 impl<R: Resource> Book<R> {

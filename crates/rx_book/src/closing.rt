@@ -1,8 +1,10 @@
-//! Ending a book: all that is open is unsubscribed, and all that waits is released.
+//! Ending a book: all that is open is unsubscribed or disconnected, and all that waits is released.
 
-ghost use Rattle.std.specs.Prelude.{◌≡◌, ◌+◌, ◌≤◌, ℕ, [], false};
+ghost use Rattle.std.specs.Prelude.{◌≡◌, ◌+◌, ◌≤◌, ℕ, [], true, false};
+ghost use Rattle.rx_event.specs.Events.{is_manual_hub};
+ghost use Rattle.rx_event.specs.Tree.{at, open_connections};
 ghost use Rattle.rx_event.specs.Totals.{accepted_count, taken_count, held_count, waiting_count};
-ghost use Rattle.rx_book.specs.Answers.{is_open_root};
+ghost use Rattle.rx_event.specs.Claims.Closing.{is_open_root};
 ghost use Rattle.rx_book.specs.Drains.{Drains};
 ghost use Rattle.rx_book.specs.State.{Continues};
 
@@ -59,8 +61,24 @@ impl<R: Resource> Book<R> {
         }
     }
 
-    /// Unsubscribes all open roots, and takes and releases all that waits then: nothing is open, held or
-    /// waiting afterwards. It takes no memory. The notes that were not handed out yet still are.
+    /// Disconnects all hubs that were connected by hand. It takes no memory.
+    fn disconnect_hubs(&mut self)
+        ensures disconnected { (g : ℕ) → at is_manual_hub self.new.history g ≡ true → open_connections self.new.history g ≡ [] }
+        ensures roots { (n : ℕ) → is_open_root self.new.history n ≡ true → is_open_root self.old.history n ≡ true }
+        ensures accepted { accepted_count self.new.history ≡ accepted_count self.old.history }
+        ensures taken { taken_count self.new.history ≡ taken_count self.old.history }
+    {
+        self.promise();
+        while let Some(hub) = self.open_manual() {
+            match self.disconnect(hub) {
+                Ok(_) => self.promise(),
+                Err(_) => unreachable!(),
+            }
+        }
+    }
+
+    /// Unsubscribes all open roots, disconnects all hubs that were connected by hand, and takes and
+    /// releases all that waits then: nothing is open, held or waiting afterwards. It takes no memory. The notes that were not handed out yet still are.
     pub fn close(&mut self) -> Closed
         ensures none_open { self.new.keys ≡ [] }
         ensures none_held { self.new.held ≡ [] }
@@ -72,6 +90,7 @@ impl<R: Resource> Book<R> {
     {
         self.promise();
         self.dispose_roots();
+        self.disconnect_hubs();
         let closed = self.release_waiting();
         self.promise();
         closed

@@ -14,6 +14,11 @@
 //!   observables, which it mirrors all (FlatMap); a `Switch` mirrors the latest of them, and unsubscribes
 //!   from the previous one (Switch). Nodes and resources are numbered by the place of their event in the
 //!   history, and named by a [`Key`] and a [`ResKey`].
+//! - A **hub** is a published observable, which its **subscribers** share (Publish, at reactivex.io): nodes of
+//!   kind `Sub`, told by rising number what comes to its **connection**, a node that stands at no place and
+//!   has its source opened below it. With [`Mode::Auto`] the first subscriber connects it and the last one
+//!   that goes disconnects it (RefCount), with [`Mode::Manual`] a caller does both (Connect). How a
+//!   connection ends its subscribers end too. A hub is named by its number, and stays.
 //! - A projected item is **owed** until a caller opens its inner or declines it. What is owed holds
 //!   completion back: a FlatMap completes once its source and all inners have completed and nothing is
 //!   owed, a Switch once its source and its latest inner have. That inners are opened by hand, and what
@@ -35,23 +40,23 @@
 //!
 //! - At each moment the resources held are exactly those that the history leaves open, and those
 //!   waiting exactly the ones closed and not yet taken, each in one place; the history is lawful, and
-//!   no operator's rule is left undone (`IsPromised`, which [`Book::promise`] states).
+//!   no operator's rule is left undone; a RefCount hub is connected exactly while it has a subscriber,
+//!   and no hub by two connections (`IsPromised`, which [`Book::promise`] states).
 //! - An accepted call adds its own events, and then only what these force. A refused call changes
 //!   nothing, and gives a resource that was handed in back as it came. The refusals of each call, and
 //!   their order, are exact; that want of memory is given only where memory was really refused is
 //!   tested and not proved, as no contract can say what memory is left.
-//! - `remove`, `end`, `abort`, `decline`, `fail`, `dispose`, `take` and `take_mail` take no memory. They
-//!   are refused for no want of room: each opening call, and each item that is projected, keeps room for
+//! - `remove`, `end`, `abort`, `decline`, `fail`, `dispose`, `disconnect`, `take` and `take_mail` take no
+//!   memory. They are refused for no want of room: each opening call, and each item that is projected, keeps room for
 //!   all that closing needs.
 //! - A key is its node's as long as that is open, and nobody's afterwards, also where it was made up or
 //!   its slot has another node now.
 //! - No call searches the history. What opening, holding, emitting and using cost does not grow with
 //!   what is closed or with the length of the history; an item goes up from its leaf to the root, to a
-//!   notifier's place or to the source of a FlatMap or a Switch. A call that closes costs what it closes.
-//!   No contract speaks of time.
+//!   notifier's place or to the source of a FlatMap or a Switch, and on from each subscriber of a hub whose
+//!   connection it reaches. A call that closes costs what it closes. No contract speaks of time.
 //! - Which of several waiting resources is taken is left open, and so is the word that a resource answers.
 //! - A book that is dropped drops its resources unreleased.
-//! - There are no hubs yet: a subscriber of one is refused `NoHub`.
 #![tactic(auto)]
 
 mod admit;
@@ -60,6 +65,7 @@ mod book;
 mod closing;
 mod ending;
 mod holding;
+mod hubs;
 mod key;
 mod opening;
 mod place;
@@ -70,6 +76,6 @@ pub use answer::{At, Opened, OpenedUsing, Refused};
 pub use book::Book;
 pub use closing::Closed;
 pub use key::{Key, ResKey};
-pub use rx_event::{Event, Kind, Mail, Refusal, Terminal};
+pub use rx_event::{Event, Kind, Mail, Mode, Refusal, Terminal};
 pub use rx_note::Note;
 pub use rx_resource::{Handed, Life, Released, Resource};

@@ -1,5 +1,10 @@
 //! Opening nodes.
 
+ghost use Rattle.std.specs.Prelude.{◌≡◌, true, false, None, option_map, IsTrue, IfSome};
+ghost use Rattle.std.specs.Option.{option_to_list};
+ghost use Rattle.rx_event.specs.declared.event.Kind.{Kind};
+ghost use Rattle.rx_event.specs.Tree.{open_connections};
+ghost use Rattle.rx_book.specs.State.{has_key};
 ghost use Rattle.rx_book.specs.Requests.{open_request, using_request};
 ghost use Rattle.rx_book.specs.Answers.{AnswersOpened, AnswersOpenedUsing};
 
@@ -7,7 +12,7 @@ use crate::Book;
 use crate::admit::admit;
 use crate::answer::{At, Opened, OpenedUsing, Refused};
 use crate::holding::is_fresh;
-use crate::key::{shown_key, shown_res_key};
+use crate::key::{Key, shown_key, shown_res_key};
 use crate::place::spot_of;
 use rx_event::{Kind, Refusal};
 use rx_ground::{Wanted, end_at};
@@ -17,22 +22,26 @@ impl<R: Resource> Book<R> {
     /// Opens a node, as an observer that subscribes does, or an operator that subscribes to its source
     /// (Observable Contract), to its notifier (TakeUntil) or to what an item was projected to (FlatMap,
     /// Switch, at reactivex.io; that a caller opens inners by hand is this project's own). An inner of a
-    /// Switch takes the place of the one that is open, which is closed with all below it. The key's number
-    /// is the place of the event. Refused, in this order: `NoHub` where the kind is that of a subscriber, as
-    /// there are no hubs yet, `Gone` where the node of the place is not open, `WrongKind` where it has no
-    /// such place, `PlaceTaken` where that place was opened before, `NothingOwed` where each item that was
-    /// projected there was given an inner or declined, `TooMany` at 1,048,576 open nodes, `Full`,
-    /// `NoMemory`. A refusal changes nothing.
+    /// Switch takes the place of the one that is open, which is closed with all below it. A subscriber of a
+    /// RefCount hub that has no connection connects it, with the same call (RefCount); the key of that
+    /// connection comes with the node's. The key's number is the place of the event. Refused, in this
+    /// order: `NoHub` where the kind is that of a subscriber and no hub has that number, `Gone` where the
+    /// node of the place is not open, `WrongKind` where it has no such place, `PlaceTaken` where that place
+    /// was opened before, `NothingOwed` where each item that was projected there was given an inner or
+    /// declined, `HubOrder` where a subscriber would stand inside a connection of its own hub or of an
+    /// earlier one, `TooMany` where more than 1,048,576 nodes would be open, a connection counted in,
+    /// `Full`, which counts the connection too, `NoMemory`. A refusal changes nothing.
     pub fn open(&mut self, at: At, kind: Kind) -> Result<Opened, Refusal>
         ensures { AnswersOpened self.old (open_request self.old at kind) self.new result }
     {
         let spot = spot_of(at);
         let cause = self.ground.opening_cause(spot.place, spot.above, kind);
-        let end = end_at(spot.place);
+        let connects = self.ground.forces_connect(kind);
+        let nodes = self.ground.nodes_opened(kind);
         let wanted = Wanted {
-            events: 1 + end,
-            notes: 1,
-            nodes: 1,
+            events: self.ground.added_by_opening(spot.place, kind),
+            notes: nodes,
+            nodes: nodes as usize,
             resources: 0,
             hubs: 0,
         };
@@ -42,8 +51,25 @@ impl<R: Resource> Book<R> {
         self.ground.settle();
         Ok(Opened {
             key: shown_key(key),
-            connected: None,
+            connected: self.connection_of(kind, connects),
         })
+    }
+
+    /// The key of the connection of the hub that such a node subscribes to, where its opening forced one.
+    fn connection_of(&self, kind: Kind, connects: bool) -> Option<Key>
+        ensures forced { (g : _) → kind ≡ Kind.Sub g → connects ≡ true →
+            option_to_list (option_map (λ k. k.number) result) ≡ open_connections self.now.history g }
+        ensures known { IfSome result (λ k. IsTrue (has_key self.now.keys k)) }
+        ensures quiet { connects ≡ false → result ≡ None }
+    {
+        let Kind::Sub(hub) = kind else {
+            return None;
+        };
+        if !connects {
+            return None;
+        }
+        let connection = self.ground.connection(hub)?;
+        Some(shown_key(connection))
     }
 
     /// Opens a mirroring node that holds a resource, which waits for its release once the node ends, is

@@ -12,6 +12,7 @@ mod fresh;
 mod just;
 mod load;
 mod probe;
+mod sharing;
 mod slots;
 mod spare;
 mod want;

@@ -2,7 +2,7 @@
 
 use super::probe::{Back, Probe, Totals, untouched};
 use crate::{At, Key, ResKey};
-use rx_event::{Kind, Refusal};
+use rx_event::{Kind, Mode, Refusal};
 use rx_resource::Sample;
 
 // The tag of each resource that is handed in.
@@ -15,6 +15,11 @@ pub(super) enum Asking {
     Hold(Key),
     Apply(ResKey),
     Next(Key),
+    Hub,
+    // By hand, the hub of this number.
+    Connect(u64),
+    // At the root, to the hub of this number.
+    Subscribe(u64),
 }
 
 // What came of a call: it was done, and opened a node or not; it was refused for want of memory, and its
@@ -46,6 +51,18 @@ pub(super) fn ask(book: &mut Probe<Sample>, asking: Asking) -> Outcome {
         },
         Asking::Next(leaf) => match book.next(leaf, 1) {
             Ok(_) => Outcome::Done(None),
+            Err(why) => refused(why),
+        },
+        Asking::Hub => match book.hub(Mode::Auto) {
+            Ok(_) => Outcome::Done(None),
+            Err(why) => refused(why),
+        },
+        Asking::Connect(hub) => match book.connect(hub) {
+            Ok(key) => Outcome::Done(Some(key)),
+            Err(why) => refused(why),
+        },
+        Asking::Subscribe(hub) => match book.open(At::Root, Kind::Sub(hub)) {
+            Ok(opened) => Outcome::Done(opened.connected),
             Err(why) => refused(why),
         },
     }
@@ -94,5 +111,6 @@ fn is_there(book: &Probe<Sample>, asking: Asking) -> bool {
         },
         Asking::Hold(node) | Asking::Next(node) => book.is_open(node),
         Asking::Apply(res) => book.is_held(res),
+        Asking::Hub | Asking::Connect(_) | Asking::Subscribe(_) => true,
     }
 }

@@ -2,7 +2,7 @@
 //! a test compares values when it runs.
 
 use crate::{At, Book, Closed, Key, Mail, Opened, OpenedUsing, Refused, ResKey};
-use rx_event::{Event, Kind, Refusal, Terminal};
+use rx_event::{Event, Kind, Mode, Refusal, Terminal};
 use rx_resource::{Life, Resource};
 use std::alloc::Global;
 
@@ -99,6 +99,22 @@ impl<R: Resource> Probe<R> {
 
     pub(super) fn fail(&mut self, merging: Key, code: u32) -> Result<u64, Refusal> {
         self.book.fail(merging, code)
+    }
+
+    pub(super) fn hub(&mut self, mode: Mode) -> Result<u64, Refusal> {
+        self.book.hub(mode)
+    }
+
+    pub(super) fn connect(&mut self, hub: u64) -> Result<Key, Refusal> {
+        self.book.connect(hub)
+    }
+
+    pub(super) fn disconnect(&mut self, hub: u64) -> Result<u64, Refusal> {
+        self.book.disconnect(hub)
+    }
+
+    pub(super) fn open_manual(&self) -> Option<u64> {
+        self.book.open_manual()
     }
 
     pub(super) fn dispose(&mut self, root: Key) -> Result<u64, Refusal> {

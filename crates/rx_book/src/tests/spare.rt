@@ -2,7 +2,7 @@
 
 use super::probe::Probe;
 use crate::{At, Key, ResKey};
-use rx_event::{Kind, Refusal, Terminal};
+use rx_event::{Kind, Mode, Refusal, Terminal};
 use rx_resource::Sample;
 use rx_scarce::Scarce;
 use std::alloc::{AllocError, Global};
@@ -17,6 +17,7 @@ enum Closing {
     End(Key),
     Abort(Key),
     Dispose(Key),
+    Disconnect(u64),
     Take,
     TakeMail,
     ReleaseWaiting,
@@ -32,6 +33,7 @@ fn is_done(book: &mut Probe<Sample>, closing: Closing) -> bool {
         Closing::End(node) => book.end(node, Terminal::Completed).is_ok(),
         Closing::Abort(node) => book.abort(node, 1).is_ok(),
         Closing::Dispose(node) => book.dispose(node).is_ok(),
+        Closing::Disconnect(hub) => book.disconnect(hub).is_ok(),
         Closing::Take => book.take().is_some(),
         Closing::TakeMail => book.take_mail().is_some(),
         Closing::ReleaseWaiting => book.release_waiting().released > 0,
@@ -80,9 +82,19 @@ fn using_two(book: &mut Probe<Sample>) -> Result<(Key, Key, ResKey), Fail> {
     Ok((above.key, below.key, above.res))
 }
 
+// A hub that is connected by hand, and has a subscriber.
+fn connected_by_hand(book: &mut Probe<Sample>) -> Result<u64, Fail> {
+    let hub = book.hub(Mode::Manual)?;
+    book.open(At::Root, Kind::Sub(hub))?;
+    book.connect(hub)?;
+    Ok(hub)
+}
+
 // Some of each kind of node, and what is to be called, in turn.
-fn new_closings(book: &mut Probe<Sample>) -> Result<(Key, [Closing; 10]), Fail> {
+fn new_closings(book: &mut Probe<Sample>) -> Result<(Key, [Closing; 11]), Fail> {
     let flat = owing_two(book)?;
+    let hub = connected_by_hand(book)?;
+    let _ = connected_by_hand(book)?;
     let (_, lowest, removed) = using_two(book)?;
     let (disposed, _, _) = using_two(book)?;
     let _ = using_two(book)?;
@@ -93,6 +105,7 @@ fn new_closings(book: &mut Probe<Sample>) -> Result<(Key, [Closing; 10]), Fail> 
         Closing::Fail(flat),
         Closing::Abort(lowest),
         Closing::Dispose(disposed),
+        Closing::Disconnect(hub),
         Closing::Take,
         Closing::End(leaf),
         Closing::TakeMail,
@@ -103,7 +116,7 @@ fn new_closings(book: &mut Probe<Sample>) -> Result<(Key, [Closing; 10]), Fail> 
 }
 
 // How many of them are done, each with no memory left.
-fn done_of(alloc: Global, book: &mut Probe<Sample>, closings: [Closing; 10]) -> u32 {
+fn done_of(alloc: Global, book: &mut Probe<Sample>, closings: [Closing; 11]) -> u32 {
     let mut done = 0u32;
     for closing in closings {
         if is_done_with_none(alloc, book, closing) {
@@ -122,7 +135,7 @@ fn closings_and_handing_out_take_no_memory(rt: HostRuntime) -> Result<(), Fail> 
         fill(&mut book, leaf)
     };
     assert_eq!(rt; why, Some(Refusal::NoMemory));
-    assert_eq!(rt; done_of(rt.alloc(), &mut book, closings), 10);
+    assert_eq!(rt; done_of(rt.alloc(), &mut book, closings), 11);
     let totals = book.totals();
     assert_eq!(rt;
         (book.open_count(), totals.accepted, totals.taken),
@@ -133,10 +146,10 @@ fn closings_and_handing_out_take_no_memory(rt: HostRuntime) -> Result<(), Fail> 
 
 #[test]
 fn a_full_book_closes_and_hands_out_with_no_memory_left(rt: HostRuntime) -> Result<(), Fail> {
-    let mut book = Probe::new(rt.alloc(), 50);
+    let mut book = Probe::new(rt.alloc(), 64);
     let (leaf, closings) = new_closings(&mut book)?;
     assert_eq!(rt; fill(&mut book, leaf), Some(Refusal::Full));
-    assert_eq!(rt; done_of(rt.alloc(), &mut book, closings), 10);
+    assert_eq!(rt; done_of(rt.alloc(), &mut book, closings), 11);
     let totals = book.totals();
     assert_eq!(rt;
         (book.open_count(), totals.accepted, totals.taken),

@@ -3,7 +3,7 @@
 use super::asking::{Asking, Outcome, ask, sight_of};
 use super::probe::Probe;
 use crate::{At, Key, ResKey};
-use rx_event::Kind;
+use rx_event::{Kind, Mode};
 use rx_resource::Sample;
 use rx_scarce::{MOST_BLOCKS, Scarce};
 use std::alloc::Global;
@@ -35,19 +35,23 @@ fn done_in_the_end(
 }
 
 // The next call of the same kind: where a node was opened below another, one with a resource below it, or
-// without after one with.
+// without after one with; of a hub that was connected, the next hub.
 fn following(asking: Asking, opened: Option<Key>) -> Asking {
     match (asking, opened) {
         (Asking::Open(At::Source(_)), Some(key)) => Asking::OpenUsing(At::Source(key)),
         (Asking::OpenUsing(At::Source(_)), Some(key)) => Asking::Open(At::Source(key)),
+        (Asking::Connect(hub), Some(_)) => Asking::Connect(hub.wrapping_add(1)),
+        (Asking::Subscribe(hub), Some(_)) => Asking::Subscribe(hub.wrapping_add(1)),
         _ => asking,
     }
 }
 
-// A book with a leaf at its root 0, and a mirroring root that holds a resource.
+// A book with hubs of both modes, a leaf at a root, and a mirroring root that holds a resource.
 #[derive(Drop)]
 struct Scene {
     book: Probe<Sample>,
+    manual: u64,
+    auto: u64,
     leaf: Key,
     root: Key,
     res: ResKey,
@@ -55,10 +59,14 @@ struct Scene {
 
 fn new_scene(alloc: Global) -> Result<Scene, Fail> {
     let mut book = Probe::new(alloc, 1000);
+    let manual = make_hubs(&mut book, Mode::Manual)?;
+    let auto = make_hubs(&mut book, Mode::Auto)?;
     let leaf = book.open(At::Root, Kind::Leaf)?.key;
     let opened = book.open_using(At::Root, Sample::new(1))?;
     Ok(Scene {
         book,
+        manual,
+        auto,
         leaf,
         root: opened.key,
         res: opened.res,
@@ -74,6 +82,18 @@ enum Made {
     Hold,
     Apply,
     Next,
+    Hub,
+    Connect,
+    Subscribe,
+}
+
+// Makes as many hubs as there are calls, and answers the number of the first.
+fn make_hubs(book: &mut Probe<Sample>, mode: Mode) -> Result<u64, Fail> {
+    let first = book.hub(mode)?;
+    for _ in 1..CALLS {
+        book.hub(mode)?;
+    }
+    Ok(first)
 }
 
 fn first_of(scene: &Scene, made: Made) -> Asking {
@@ -84,6 +104,9 @@ fn first_of(scene: &Scene, made: Made) -> Asking {
         Made::Hold => Asking::Hold(scene.root),
         Made::Apply => Asking::Apply(scene.res),
         Made::Next => Asking::Next(scene.leaf),
+        Made::Hub => Asking::Hub,
+        Made::Connect => Asking::Connect(scene.manual),
+        Made::Subscribe => Asking::Subscribe(scene.auto),
     }
 }
 
@@ -125,6 +148,9 @@ fn a_call_that_is_refused_memory_changes_nothing_and_is_done_where_there_is_some
         Made::Hold,
         Made::Apply,
         Made::Next,
+        Made::Hub,
+        Made::Connect,
+        Made::Subscribe,
     ] {
         assert!(rt; is_refused_first(rt.alloc(), made)?, "{made:?}");
     }

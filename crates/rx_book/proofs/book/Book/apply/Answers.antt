@@ -32,7 +32,7 @@ called g c =
     let stand = causes old.register.history old.register.limit true (Applying c.args.res.number) in
     let first = first_by_res_key old.tree stand c.applying_cause-cause.result c.args.res (rw c.tree_res_key-key.ensures at c.applying_cause-cause.ensures) in
     let a = c.in_ok-admit.ensures in
-    let_in_roomy g.R.Resource old c.admit.new.ground (λ (s : State). apply_request s c.args.res) _ a.kept c.self.invariant.1 a.standing c.promise.ensures.register
+    let_in_roomy g.R.Resource old c.admit.new.ground (λ (s : State). apply_request s c.args.res) _ a.kept a.standing c.promise.ensures.register
     (first ∙ a.none) tt a.ok (omega arith) (omega arith)
 
 pub write_use-answer-requires-clause-ready : goal.write_use-answer-requires-clause-ready

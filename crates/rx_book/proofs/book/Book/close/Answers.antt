@@ -1,18 +1,32 @@
-use Rattle.std.proofs.Common.{◌∙◌}
+use Rattle.std.proofs.Common.{◌≡◌, [], ◌∙◌}
+use Rattle.std.proofs.lemmas.Bool.{false_from_ne_true, both_ways}
+use Rattle.rx_event.specs.Claims.Closing.{is_open_root, IsLetGo}
 use Rattle.rx_book.proofs.Closings.{closed_book, closed_released, takes_accepted}
+use Rattle.rx_book.proofs.book.Book.close.Given as given
 use Rattle.rx_book.proofs.book.Book.close.Goals as goal
+use Rattle.rx_book.proofs.book.Book.close.Goals.{After-promise-2}
+
+let_go : (g : given.Over) (c : After-promise-2 g) → IsLetGo c.disconnect_hubs.new.self.history
+let_go g c = record {
+  unsubscribed = λ n. false_from_ne_true _ (λ found. both_ways (is_open_root c.dispose_roots.new.self.history n) (c.dispose_roots.ensures.none_open n) (c.disconnect_hubs.ensures.roots n found));
+  disconnected = c.disconnect_hubs.ensures.disconnected;
+}
+
+closed : (g : given.Over) (c : After-promise-2 g) → (c.release_waiting-closed.new.self.keys ≡ []) × (c.release_waiting-closed.new.self.held ≡ [])
+closed g c = closed_book c.disconnect_hubs.new.self c.release_waiting-closed.new.self (let_go g c) c.release_waiting-closed.ensures.drains.takes c.promise-2.ensures
 
 pub returns-clause-none_open : goal.returns-clause-none_open
-returns-clause-none_open g c = (closed_book c.dispose_roots.new.self c.release_waiting-closed.new.self c.dispose_roots.ensures.none_open c.release_waiting-closed.ensures.drains.takes c.promise-2.ensures).0
+returns-clause-none_open g c = (closed g (goal.at.returns-clause-none_open g c).After-promise-2).0
 
 pub returns-clause-none_held : goal.returns-clause-none_held
-returns-clause-none_held g c = (closed_book c.dispose_roots.new.self c.release_waiting-closed.new.self c.dispose_roots.ensures.none_open c.release_waiting-closed.ensures.drains.takes c.promise-2.ensures).1
+returns-clause-none_held g c = (closed g (goal.at.returns-clause-none_held g c).After-promise-2).1
 
 pub returns-clause-accepted : goal.returns-clause-accepted
-returns-clause-accepted g c = takes_accepted c.release_waiting-closed.ensures.drains.takes ∙ c.dispose_roots.ensures.accepted
+returns-clause-accepted g c = takes_accepted c.release_waiting-closed.ensures.drains.takes ∙ c.disconnect_hubs.ensures.accepted ∙ c.dispose_roots.ensures.accepted
 
 pub returns-clause-released : goal.returns-clause-released
 returns-clause-released g c =
-    let closed = closed_book c.dispose_roots.new.self c.release_waiting-closed.new.self c.dispose_roots.ensures.none_open c.release_waiting-closed.ensures.drains.takes c.promise-2.ensures in
-    closed_released c.args.self.now c.dispose_roots.new.self c.release_waiting-closed.new.self c.release_waiting-closed.result.released c.promise.ensures c.dispose_roots.ensures.accepted c.dispose_roots.ensures.taken
-    c.release_waiting-closed.ensures.drains.takes c.promise-2.ensures closed.1 c.release_waiting-closed.ensures.none_waits c.release_waiting-closed.ensures.released
+    let held = (closed g (goal.at.returns-clause-released g c).After-promise-2).1 in
+    closed_released c.args.self.now c.disconnect_hubs.new.self c.release_waiting-closed.new.self c.release_waiting-closed.result.released c.promise.ensures
+    (c.disconnect_hubs.ensures.accepted ∙ c.dispose_roots.ensures.accepted) (c.disconnect_hubs.ensures.taken ∙ c.dispose_roots.ensures.taken)
+    c.release_waiting-closed.ensures.drains.takes c.promise-2.ensures held c.release_waiting-closed.ensures.none_waits c.release_waiting-closed.ensures.released

@@ -23,7 +23,7 @@ called g c =
     let b = c.self.inside.ground in
     let stand = causes b.register.history b.register.limit true (Ending c.args.leaf.number c.args.terminal) in
     let first = first_by_key b.tree stand None c.args.leaf (rw c.tree_key-key.ensures at c.in_default.ensures) in
-    let_in_free g.R.Resource b _ c.self.invariant.0 c.self.invariant.1 c.promise.ensures.register first tt refl refl
+    let_in_free g.R.Resource b _ c.self.invariant c.promise.ensures.register first tt refl refl
 
 pub write_end-requires-clause-ready : goal.write_end-requires-clause-ready
 write_end-requires-clause-ready g c κs within =

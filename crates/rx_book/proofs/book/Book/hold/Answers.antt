@@ -39,7 +39,7 @@ called g c =
     let cause = c.holding_cause-cause.result in
     let first = first_by_key old.tree stand cause c.args.node (rw (c.tree_key-key.ensures, c.is_fresh-fresh.ensures) at c.holding_cause-cause.ensures) in
     let a = c.in_default.ensures in
-    let_in_roomy g.R.Resource old c.admit.new.ground asked _ a.kept c.self.invariant.1 a.standing c.promise.ensures.register (first ∙ a.none) tt a.ok (omega arith) (omega arith)
+    let_in_roomy g.R.Resource old c.admit.new.ground asked _ a.kept a.standing c.promise.ensures.register (first ∙ a.none) tt a.ok (omega arith) (omega arith)
 
 pub write_accept-res-requires-clause-ready : goal.write_accept-res-requires-clause-ready
 write_accept-res-requires-clause-ready g c κs within =

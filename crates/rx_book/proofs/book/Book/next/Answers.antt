@@ -30,7 +30,7 @@ returns-in_err-reach g c =
     rw (← c.self.view_is) (passed_refusal c.from_residual.result why c.from_residual.ensures.1 (inl first) (ap (state_of g.R.Resource) c.in_err-reach.ensures.kept))
 
 pub make_room-requires-clause-standing : goal.make_room-requires-clause-standing
-make_room-requires-clause-standing g c κs within = subst (IsStanding g.R.Resource) (sym c.in_ok-reach.ensures.kept) c.self.invariant.0
+make_room-requires-clause-standing g c κs within = subst (IsStanding g.R.Resource) (sym c.in_ok-reach.ensures.kept) c.self.invariant
 
 pub make_room-requires-clause-notes : goal.make_room-requires-clause-notes
 make_room-requires-clause-notes g c κs within = let few = c.in_ok-reach.ensures.ok.few in omega arith
@@ -72,7 +72,7 @@ called g c =
     let is = rw c.tree_key-key.ensures at (reached g c) in
     let added = added_by-emitting b.register.history b.tree.nodes _ c.args.value c.in_ok-reach.reach is in
     let told = is.notes c.args.value in
-    let_in_roomy g.R.Resource old b (λ (s : State). next_request s c.args.leaf c.args.value) _ (roomier g c) c.self.invariant.1 m.standing c.promise.ensures.register first tt m.ok
+    let_in_roomy g.R.Resource old b (λ (s : State). next_request s c.args.leaf c.args.value) _ (roomier g c) m.standing c.promise.ensures.register first tt m.ok
     (omega arith) (omega arith)
 
 pub write_item-requires-clause-ready : goal.write_item-requires-clause-ready

@@ -1,23 +1,24 @@
-use Rattle.std.proofs.Common.{◌≡◌, ◌+◌, Bool, true, cond, length, Some, None, refl, sym, ap, subst, ◌∙◌, arith}
+use Rattle.std.proofs.Common.{true, length, option_map, refl, sym, ap, subst, ◌∙◌, arith}
 use Rattle.std.specs.Prelude.{Ok}
-use Rattle.std.proofs.lemmas.Bool.{and_from}
 use Rattle.rx_event.specs.declared.event.Event.TheVariants.{Open}
 use Rattle.rx_event.specs.Calls.{Opening}
 use Rattle.rx_event.proofs.Laws.StaysOpen.{opened_stays}
-use Rattle.rx_register.specs.Causes.{causes, end_at}
+use Rattle.rx_register.specs.Causes.{causes, added_by, nodes_opened, forces_connect}
+use Rattle.rx_register.specs.State.{State as Register}
 use Rattle.rx_ground.specs.Ties.{IsReady}
-use Rattle.rx_ground.proofs.Laws.Unjoined.{joins_no_hub, none_as_long, hubless_still, unjoined_hubless, none_made}
 use Rattle.rx_ground.proofs.Laws.KeysKept.{keeps_opened}
+use Rattle.rx_book.specs.declared.key.Key.{Key}
 use Rattle.rx_book.specs.State.{State}
 use Rattle.rx_book.specs.Requests.{open_request, stands, place_of}
 use Rattle.rx_book.specs.Answers.{AnswersOpened}
 use Rattle.rx_book.specs.Shown.{state_of}
 use Rattle.rx_book.proofs.ShownKeys.{is_known_place_is}
 use Rattle.rx_book.proofs.Answered.{answers_ok, passed_refusal}
-use Rattle.rx_book.proofs.CausesByKey.{first_by_place, refused_for, unstood}
-use Rattle.rx_book.proofs.Called.{IsLetIn, within_full, let_in_roomy, state_roomier, known, one_ready, pays, connects_none, accepts}
-use Rattle.rx_book.proofs.Openings.{plain_opening, opening_counted, placed_at}
-use Rattle.rx_book.proofs.Listed.{key_listed, unconnected}
+use Rattle.rx_book.proofs.CausesByKey.{first_by_place, refused_for}
+use Rattle.rx_book.proofs.Called.{IsLetIn, within_full, let_in_roomy, state_roomier, known, one_ready, pays, accepts}
+use Rattle.rx_book.proofs.Openings.{opening_room, placed_at}
+use Rattle.rx_book.proofs.Connections.{connection_answered}
+use Rattle.rx_book.proofs.Listed.{key_listed}
 use Rattle.rx_book.proofs.book.Book.open.Given as given
 use Rattle.rx_book.proofs.book.Book.open.Goals as goal
 use Rattle.rx_book.proofs.book.Book.open.Goals.{After-promise}
@@ -43,19 +44,8 @@ admit-requires-clause-within g c κs within = λ none.
     let first = first_by_place b.tree stand c.opening_cause-cause.result c.args.at
     (rw (c.spot_of-spot.ensures.place, c.spot_of-spot.ensures.above) at c.opening_cause-cause.ensures) in
     let within = within_full call _ true b.register.history b.register.limit refl (first ∙ none) in
-    let plain = plain_opening g.R.Resource b (place_of c.args.at) c.args.kind c.self.invariant.0 c.self.invariant.1 (unstood call _ stand (first ∙ none)).1 in
-    let added = (opening_counted b.register.history (place_of c.args.at) c.args.kind plain).0 in
-    let end = c.end_at-end.ensures ∙ ap end_at c.spot_of-spot.ensures.place in
+    let added = rw c.spot_of-spot.ensures.place at c.added_by_opening.ensures in
     omega arith
-
-plain : (g : given.Over) (c : After-promise g) → joins_no_hub (Open (place_of c.args.at) c.args.kind) ≡ true
-plain g c =
-    let old = c.self.inside.ground in
-    let stand = causes old.register.history old.register.limit true (Opening (place_of c.args.at) c.args.kind) in
-    let first = first_by_place old.tree stand c.opening_cause-cause.result c.args.at
-    (rw (c.spot_of-spot.ensures.place, c.spot_of-spot.ensures.above) at c.opening_cause-cause.ensures) in
-    plain_opening g.R.Resource old (place_of c.args.at) c.args.kind c.self.invariant.0 c.self.invariant.1
-    (unstood (Opening (place_of c.args.at) c.args.kind) _ stand (first ∙ c.in_ok-admit.ensures.none)).1
 
 called : (g : given.Over) (c : After-promise g) → (let b = c.admit.new.ground in IsLetIn g.R.Resource b (open_request (state_of g.R.Resource b) c.args.at c.args.kind))
 called g c =
@@ -67,11 +57,11 @@ called g c =
     let first = first_by_place old.tree stand cause c.args.at
     (rw (c.spot_of-spot.ensures.place, c.spot_of-spot.ensures.above) at c.opening_cause-cause.ensures) in
     let a = c.in_ok-admit.ensures in
-    let counted = opening_counted b.register.history (place_of c.args.at) c.args.kind (plain g c) in
-    let added = counted.0 in
-    let told = counted.1 in
-    let end = c.end_at-end.ensures ∙ ap end_at c.spot_of-spot.ensures.place in
-    let_in_roomy g.R.Resource old b asked _ a.kept c.self.invariant.1 a.standing c.promise.ensures.register (first ∙ a.none) tt a.ok (omega arith) (omega arith)
+    let added = ap (λ (r : Register). added_by r.history (Opening (place_of c.args.at) c.args.kind)) a.kept.register in
+    let nodes = ap (λ (r : Register). nodes_opened r.history c.args.kind) a.kept.register in
+    let added_then = rw c.spot_of-spot.ensures.place at c.added_by_opening.ensures in
+    let nodes_then = c.nodes_opened-nodes.ensures in
+    let_in_roomy g.R.Resource old b asked _ a.kept a.standing c.promise.ensures.register (first ∙ a.none) tt a.ok (omega arith) (omega arith)
 
 ready : (g : given.Over) (c : After-promise g) → (let b = c.admit.new.ground in IsReady b.register (Open (place_of c.args.at) c.args.kind))
 ready g c =
@@ -99,8 +89,13 @@ pub settle-requires-clause-room : goal.settle-requires-clause-room
 settle-requires-clause-room g c κs within =
     let p = (goal.at.settle-requires-clause-room g c).After-promise in
     let l = called g p in
-    connects_none g.R.Resource c.admit.new.ground _ l c.write_open-key.new.self.register (rw c.spot_of-spot.ensures.place at c.write_open-key.ensures.written)
-    (and_from _ _ (plain g p) refl)
+    let b = c.admit.new.ground in
+    let o = c.write_open-key.ensures in
+    let a = c.in_ok-admit.ensures in
+    let nodes = ap (λ (r : Register). nodes_opened r.history c.args.kind) a.kept.register in
+    let nodes_then = c.nodes_opened-nodes.ensures in
+    opening_room b c.write_open-key.new.self (place_of c.args.at) c.args.kind l.may.lawful l.may.settled (ready g p).next
+    (rw c.spot_of-spot.ensures.place at o.written) (let r = a.ok.nodes in omega arith) (let r = a.ok.space in omega arith) o.left o.memory
 
 pub returns : goal.returns
 returns g c =
@@ -118,10 +113,11 @@ returns g c =
     let done = accepts R b _ l mid new w kept o.tied.of_tree s.standing s.forced s.nodes s.resources s.limit s.given in
     let alive = opened_stays h new.register.history (place_of c.args.at) c.args.kind l.may.lawful (ready g p).next done.step.forced in
     let key = key_listed R mid new s.nodes (length h) c.write_open-key.result c.shown_key.result c.shown_key.ensures o.new.numbered o.new.found alive in
-    let hubless = none_as_long mid.hubs.hubs new.hubs.hubs s.hubs (hubless_still o.memory o.hubs l.hubless) in
-    let unjoined = unjoined_hubless new.register.history done.step.lawful (none_made new.register.history new.hubs.hubs s.standing.tied.published hubless) in
-    let alone = ap (λ (x : Bool). cond x (Some (length h + 1)) None) (sym (unconnected new.register.history (length h + 1) unjoined)) in
+    let forces = c.forces_connect-connects.ensures ∙ sym (ap (λ (r : Register). forces_connect r.history c.args.kind) c.in_ok-admit.ensures.kept.register) in
+    let of = c.connection_of.ensures in
+    let connection = connection_answered h (place_of c.args.at) l.may.lawful new.register.history done.step.lawful s.standing.settled c.args.kind
+    c.forces_connect-connects.result _ (ready g p).next done.step.forced forces of.forced (λ none. ap (option_map (λ (k : Key). k.number)) (of.quiet none)) in
     let same = state_roomier R c.self.inside.ground b c.admit.ensures.kept in
     subst (λ (x : State). AnswersOpened x (open_request x c.args.at c.args.kind) (state_of R new)
-    (Ok (record { key = c.shown_key.result; connected = None }))) (same ∙ c.self.view_is)
-    (answers_ok (record { key = key; connection = alone; connected = tt }) done)
+    (Ok (record { key = c.shown_key.result; connected = c.connection_of.result }))) (same ∙ c.self.view_is)
+    (answers_ok (record { key = key; connection = connection; connected = of.known }) done)

@@ -63,7 +63,7 @@ called g c =
     (rw (c.spot_of-spot.ensures.place, c.spot_of-spot.ensures.above, c.tag-tag.ensures, c.is_fresh-fresh.ensures) at c.using_cause-cause.ensures) in
     let a = c.in_default.ensures in
     let end = c.end_at-end.ensures ∙ ap end_at c.spot_of-spot.ensures.place in
-    let_in_roomy R old b asked _ a.kept c.self.invariant.1 a.standing c.promise.ensures.register (first ∙ a.none) tt a.ok (omega arith) (omega arith)
+    let_in_roomy R old b asked _ a.kept a.standing c.promise.ensures.register (first ∙ a.none) tt a.ok (omega arith) (omega arith)
 
 -- the opening may be written
 opens : (g : given.Over) (c : After-promise g) → (let b = c.admit.new.ground in IsReady b.register (Open (place_of c.args.at) Pass))

@@ -13,15 +13,15 @@ use Rattle.rx_book.proofs.book.Book.take.Goals.{In_ok-handed}
 pub write_take-requires-clause-room : goal.write_take-requires-clause-room
 write_take-requires-clause-room g c κs within = λ r waits.
     let b = c.self.inside.ground in
-    one_ready g.R.Resource b (take_request r) (let_in_free g.R.Resource b (take_request r) c.self.invariant.0 c.self.invariant.1 c.promise.ensures.register refl waits refl refl) _
+    one_ready g.R.Resource b (take_request r) (let_in_free g.R.Resource b (take_request r) c.self.invariant c.promise.ensures.register refl waits refl refl) _
     refl
 
 called : (g : given.Over) (c : In_ok-handed g) → IsLetIn g.R.Resource c.self.inside.ground (take_request c.in_ok-handed.handed.0)
 called g c =
     let b = c.self.inside.ground in
-    let waits = listed_waits g.R.Resource b.register.history b.tree c.self.invariant.0.tied.of_tree c.promise.ensures.tree.resources_apart c.in_ok-handed.handed
+    let waits = listed_waits g.R.Resource b.register.history b.tree c.self.invariant.tied.of_tree c.promise.ensures.tree.resources_apart c.in_ok-handed.handed
     c.in_ok-handed.ensures.waited in
-    let_in_free g.R.Resource b _ c.self.invariant.0 c.self.invariant.1 c.promise.ensures.register refl waits refl refl
+    let_in_free g.R.Resource b _ c.self.invariant c.promise.ensures.register refl waits refl refl
 
 pub settle-requires-clause-paid : goal.settle-requires-clause-paid
 settle-requires-clause-paid g c κs within =

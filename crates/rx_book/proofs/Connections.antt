@@ -1,0 +1,214 @@
+-- The connection that an opening forces: it comes directly after the opening, and is its hub's only one after all that is forced.
+use Rattle.std.proofs.Common.{◌≡◌, ℕ, ◌+◌, ◌<◌, ◌≤◌, Bool, true, false, List, [], ◌∷◌, ◌++◌, length, Option, Some, None, cond, slice_get, refl, sym, ap, subst, ◌∙◌, inl, inr, ◌⊎◌, arith}
+use Rattle.std.proofs.Common.{length-append, append_assoc, append-nil}
+use Rattle.std.specs.Prelude.{◌≢◌}
+use Rattle.std.proofs.Math.Bool.{◌&&◌, not}
+use Rattle.std.specs.Option.{option_map_or, option_to_list}
+use Rattle.std.proofs.lemmas.Bool.{false≢true, both_ways, cases_order, and_parts, and_from, eq-eqb, false_from_ne_true, not-true}
+use Rattle.std.proofs.lemmas.Option.{slice_get_within, same_Some}
+use Rattle.rx_event.specs.declared.event.Place.{Place}
+use Rattle.rx_event.specs.declared.event.Kind.{Kind}
+use Rattle.rx_event.specs.declared.event.Kind.TheVariants.{Leaf, Pass, Flat, Switch, Until, Sub}
+use Rattle.rx_event.specs.declared.event.Event.{Event}
+use Rattle.rx_event.specs.declared.event.Event.TheVariants.{Open, Connect}
+use Rattle.rx_event.specs.Events.{is_auto_hub, is_subscriber_of}
+use Rattle.rx_event.specs.Tree.{at, is_open, open_subscribers, open_connections}
+use Rattle.rx_event.specs.Forced.{mirrored, fired, failed, completed, cut, left, connecting, due, none_waits, IsConnected, IsConnectDue, IsDue, IsForced, IsSettled}
+use Rattle.rx_event.specs.Lawful.{stays, more, MayFollow, IsForcedOn, IsLawful}
+use Rattle.rx_event.proofs.Laws.Lists.{filter_nonempty}
+use Rattle.rx_event.proofs.Laws.Places.{slice_get-append, slice_get_last, at-append, at_within}
+use Rattle.rx_event.proofs.Laws.Openness.{is_open_within, stays_closed_after}
+use Rattle.rx_event.proofs.Laws.Totals.{is_open_new}
+use Rattle.rx_event.proofs.Laws.Hubs.{may_subscribe, one_where_subscribed}
+use Rattle.rx_event.proofs.Laws.LetGo.{connection_listed, first_connection}
+use Rattle.rx_event.proofs.Laws.Waits.{settled_connected, kept_subscribed, connected_first, forced_connected}
+use Rattle.rx_event.proofs.Laws.Calm.{opened_settled}
+use Rattle.rx_event.proofs.Laws.StaysOpen.{opened_stays}
+use Rattle.rx_register.specs.Causes.{has_connection, forces_connect}
+use Rattle.rx_register.proofs.Laws.Connecting.{connects_none, opening_connects}
+use Rattle.rx_book.specs.Answers.{makes_connection, connection_made}
+
+-- what is forced ------------------------------------------------------------------------------------
+
+due_connects_none : {h : List Event} {e : Event} → IsDue h e → makes_connection e ≡ false
+due_connects_none (mirrored o k c) = refl
+due_connects_none (fired o k f) = refl
+due_connects_none (failed o k c) = refl
+due_connects_none (completed o k n s e c w) = refl
+due_connects_none (cut o e) = refl
+due_connects_none (left o at_c a n) = refl
+
+-- no connection comes in or after a history in which no hub waits for one
+pub record HasNoMore (h k : List Event) : Type 0 where
+  pub none_wait : IsConnected k
+  pub none_come : (n : ℕ) → length h ≤ n → at makes_connection k n ≡ false
+
+past_none : (h : List Event) (n : ℕ) → length h ≤ n → at makes_connection h n ≡ false
+past_none h n past = false_from_ne_true _ (λ found. let l = at_within makes_connection h n found in absurd (omega arith))
+
+forced_none : {h : List Event} {e : Event} → IsConnected h → IsForced h e → makes_connection e ≡ false
+forced_none none (connecting {g = g} d) = absurd (none g d)
+forced_none none (due quiet d) = due_connects_none d
+
+one_more : {h k : List Event} {e : Event} → HasNoMore h k → IsForced k e → HasNoMore h (k ++ e ∷ [])
+one_more {h = h} {k = k} {e = e} before f = record { none_wait = forced_connected k e 0 (none_waits before.none_wait) f; none_come = none_come } where
+  none_come : (n : ℕ) → length h ≤ n → at makes_connection (k ++ e ∷ []) n ≡ false
+  none_come n past = by_place (cases_order n (length k)) where
+    by_place : (n ≡ length k) ⊎ ((n < length k) ⊎ (length k < n)) → at makes_connection (k ++ e ∷ []) n ≡ false
+    by_place (inl same) =
+        ap (λ (o : Option Event). option_map_or makes_connection o false) (ap (slice_get (k ++ e ∷ [])) same ∙ slice_get_last k e) ∙ forced_none before.none_wait f
+    by_place (inr (inl l)) = at-append makes_connection k (e ∷ []) n l ∙ before.none_come n past
+    by_place (inr (inr l)) = past_none (k ++ e ∷ []) n (omega (arith, length-append k (e ∷ [])))
+
+pub no_more : {h k : List Event} → IsConnected h → IsForcedOn h k → HasNoMore h k
+no_more {h = h} none stays = record { none_wait = none; none_come = past_none h }
+no_more none (more on f) = one_more (no_more none on) f
+
+-- where a connection alone is forced, it comes first
+connects_first : {h k : List Event} {g : ℕ} → ((e : Event) → IsForced h e → e ≡ Connect g) → IsForcedOn h k → (k ≡ h) ⊎ IsForcedOn (h ++ Connect g ∷ []) k
+connects_first alone stays = inl refl
+connects_first {h = h} {g = g} alone (more {k = k} {e = e} on f) = by_first (connects_first alone on) where
+  by_first : (k ≡ h) ⊎ IsForcedOn (h ++ Connect g ∷ []) k → ((k ++ e ∷ []) ≡ h) ⊎ IsForcedOn (h ++ Connect g ∷ []) (k ++ e ∷ [])
+  by_first (inr later) = inr (more later f)
+  by_first (inl same) =
+      let is : e ≡ Connect g = alone e (subst (λ (q : List Event). IsForced q e) same f) in
+      inr (subst (λ (q : List Event). IsForcedOn (h ++ Connect g ∷ []) q) (λ i. sym same i ++ sym is i ∷ []) stays)
+
+added_on : {h k : List Event} → IsForcedOn h k → (added : List Event) × (k ≡ h ++ added)
+added_on {h = h} stays = ([], sym (append-nil h))
+added_on {h = h} (more {e = e} on f) =
+    let before = added_on on in
+    (before.0 ++ e ∷ [], ap (λ (q : List Event). q ++ e ∷ []) before.1 ∙ append_assoc h before.0 (e ∷ []))
+
+-- the opening of a subscriber -----------------------------------------------------------------------
+
+module _ (h : List Event) (place : Place) (g : ℕ) (law : IsLawful h) (next : MayFollow h (Open place (Sub g))) (forces : forces_connect h (Sub g) ≡ true) where
+  abbrev m : List Event
+  m = h ++ Open place (Sub g) ∷ []
+
+  long : length m ≡ length h + 1
+  long = length-append h (Open place (Sub g) ∷ [])
+
+  parts : (at is_auto_hub h g ≡ true) × (not (has_connection h g) ≡ true)
+  parts = and_parts (at is_auto_hub h g) (not (has_connection h g)) forces
+
+  -- an open connection there was open before
+  older : (c : ℕ) → slice_get m c ≡ Some (Connect g) → is_open m c ≡ true → ⊥
+  older c connects alive = by_place (cases_order c (length h)) where
+    by_place : (c ≡ length h) ⊎ ((c < length h) ⊎ (length h < c)) → ⊥
+    by_place (inl same) =
+        let is : Open place (Sub g) ≡ Connect g = same_Some _ _ (sym (slice_get_last h (Open place (Sub g))) ∙ ap (slice_get m) (sym same) ∙ connects) in
+        absurd (cc)
+    by_place (inr (inr l)) = let w = is_open_within m c alive in let n = long in absurd (omega arith)
+    by_place (inr (inl l)) = by_test (is_open h c) refl where
+      by_test : (b : Bool) → is_open h c ≡ b → ⊥
+      by_test true was = connection_listed h g c (sym (slice_get-append h (Open place (Sub g) ∷ []) c l) ∙ connects) was (connects_none h g (not-true (has_connection h g) parts.1))
+      by_test false was = both_ways (is_open m c) (stays_closed_after h (Open place (Sub g) ∷ []) c l was) alive
+
+  unconnected : open_connections m g ≡ []
+  unconnected = by_list (open_connections m g) refl where
+    by_list : (cs : List ℕ) → open_connections m g ≡ cs → cs ≡ []
+    by_list [] found = refl
+    by_list (c ∷ cs) found = let first = first_connection m g c cs found in absurd (older c first.0 first.1)
+
+  subscribes : at (is_subscriber_of g) m (length h) ≡ true
+  subscribes = rw (slice_get_last h (Open place (Sub g))) (eq-eqb g g refl)
+
+  -- its hub waits for a connection, and nothing else is forced
+  waits : IsConnectDue m g
+  waits = record {
+    auto = at-append is_auto_hub h (Open place (Sub g) ∷ []) g (at_within is_auto_hub h g parts.0) ∙ parts.0;
+    subscriber = length h;
+    subscribes = subscribes;
+    subscribed = is_open_new h (Open place (Sub g)) next;
+    waits = λ t ended. let l = slice_get_within m ended.place _ ended.ended in let past = ended.later in let n = long in absurd (omega arith);
+    unconnected = unconnected;
+  }
+
+  only : (k : ℕ) → IsConnectDue m k → k ≡ g
+  only = kept_subscribed h place g law (settled_connected h (opened_settled next))
+
+  alone : (e : Event) → IsForced m e → e ≡ Connect g
+  alone e (connecting {g = k} d) = ap (λ q. Connect q) (only k d)
+  alone e (due none d) = absurd (none g waits)
+
+  module _ (k : List Event) (on : IsForcedOn m k) (law_on : IsLawful k) (settled : IsSettled k) where
+    connected : IsForcedOn (m ++ Connect g ∷ []) k
+    connected = by_first (connects_first alone on) where
+      by_first : (k ≡ m) ⊎ IsForcedOn (m ++ Connect g ∷ []) k → IsForcedOn (m ++ Connect g ∷ []) k
+      by_first (inr later) = later
+      by_first (inl same) = absurd (settled.none (Connect g) (connecting (subst (λ (q : List Event). IsConnectDue q g) (sym same) waits)))
+
+    -- the history goes on from the opening, and from the connection
+    kept : (n : ℕ) → n < length m → slice_get k n ≡ slice_get m n
+    kept n l = let grown = added_on on in ap (λ (q : List Event). slice_get q n) grown.1 ∙ slice_get-append m grown.0 n l
+
+    here : slice_get k (length m) ≡ Some (Connect g)
+    here =
+        let grown = added_on connected in
+        let within : length m < length (m ++ Connect g ∷ []) = omega (arith, length-append m (Connect g ∷ [])) in
+        ap (λ (q : List Event). slice_get q (length m)) grown.1 ∙ slice_get-append (m ++ Connect g ∷ []) grown.0 (length m) within ∙ slice_get_last m (Connect g)
+
+    pub connection_comes : at makes_connection k (length h + 1) ≡ true
+    connection_comes = ap (λ n. at makes_connection k n) (sym long) ∙ ap (λ (o : Option Event). option_map_or makes_connection o false) here
+
+    -- each open connection of the hub is this one
+    new_one : (c : ℕ) → slice_get k c ≡ Some (Connect g) → is_open k c ≡ true → c ≡ length h + 1
+    new_one c connects alive = by_place (cases_order c (length m)) where
+      by_test : c < length m → (b : Bool) → is_open m c ≡ b → ⊥
+      by_test l true was = older c (sym (kept c l) ∙ connects) was
+      by_test l false was =
+          let grown = added_on on in
+          both_ways (is_open k c) (ap (λ (q : List Event). is_open q c) grown.1 ∙ stays_closed_after m grown.0 c l was) alive
+
+      by_place : (c ≡ length m) ⊎ ((c < length m) ⊎ (length m < c)) → c ≡ length h + 1
+      by_place (inl same) = same ∙ long
+      by_place (inr (inl l)) = absurd (by_test l (is_open m c) refl)
+      by_place (inr (inr l)) =
+          let quiet = no_more (connected_first m g only) connected in
+          let out : at makes_connection k c ≡ false = quiet.none_come c (omega (arith, length-append m (Connect g ∷ []))) in
+          absurd (both_ways (at makes_connection k c) out (ap (λ (o : Option Event). option_map_or makes_connection o false) connects))
+
+    subscribed : open_subscribers k g ≢ []
+    subscribed none =
+        let near : length h < length m = let n = long in omega arith in
+        let alive = opened_stays h k place (Sub g) law next on in
+        let within = is_open_within k (length h) alive in
+        let listed : at (is_subscriber_of g) k (length h) ≡ true = ap (λ (o : Option Event). option_map_or (is_subscriber_of g) o false) (kept (length h) near) ∙ subscribes in
+        filter_nonempty (λ n. at (is_subscriber_of g) k n && is_open k n) 0 (length k) (length h) (omega arith) (omega arith) (and_from _ _ listed alive) none
+
+    pub connection_stays : open_connections k g ≡ (length h + 1) ∷ []
+    connection_stays = by_list (open_connections k g) refl (one_where_subscribed k g law_on settled auto subscribed) where
+      auto : at is_auto_hub k g ≡ true
+      auto = let l = at_within is_auto_hub m g waits.auto in ap (λ (o : Option Event). option_map_or is_auto_hub o false) (kept g l) ∙ waits.auto
+
+      by_list : (cs : List ℕ) → open_connections k g ≡ cs → length (open_connections k g) ≡ 1 → cs ≡ (length h + 1) ∷ []
+      by_list [] found one = absurd (let n = ap (length {A = ℕ}) found in omega arith)
+      by_list (c ∷ []) found one = let first = first_connection k g c [] found in ap (λ (n : ℕ). n ∷ []) (new_one c first.0 first.1)
+      by_list (c ∷ d ∷ cs) found one = absurd (let n = ap (length {A = ℕ}) found in omega arith)
+
+-- what is answered of it ----------------------------------------------------------------------------
+
+listed_one : (o : Option ℕ) (n : ℕ) → option_to_list o ≡ n ∷ [] → o ≡ Some n
+listed_one None n listed = absurd (cc)
+listed_one (Some k) n listed = let same : k ≡ n = cc in ap (λ q. Some q) same
+
+module _ (h : List Event) (place : Place) (law : IsLawful h) (k : List Event) (law_on : IsLawful k) (settled : IsSettled k) where
+  -- the connection that comes directly after the opening is the open one of its hub, where one was forced, and else there is none
+  pub connection_answered : (kind : Kind) (connects : Bool) (o : Option ℕ) → MayFollow h (Open place kind) → IsForcedOn (h ++ Open place kind ∷ []) k → connects ≡ forces_connect h kind →
+      ((g : ℕ) → kind ≡ Sub g → connects ≡ true → option_to_list o ≡ open_connections k g) → (connects ≡ false → o ≡ None) → o ≡ connection_made h k
+  connection_answered kind false o next on is forced quiet =
+      let m = h ++ Open place kind ∷ [] in
+      let settled_before = opened_settled next in
+      let none_waits_then : IsConnected m = λ g d. false≢true (is ∙ opening_connects h place kind g law settled_before (may_subscribe next) d) in
+      let out : at makes_connection k (length h + 1) ≡ false = (no_more none_waits_then on).none_come (length h + 1) (omega (arith, length-append h (Open place kind ∷ []))) in
+      quiet refl ∙ sym (ap (λ (b : Bool). cond b (Some (length h + 1)) None) out)
+  connection_answered (Sub g) true o next on is forced quiet =
+      let one = connection_stays h place g law next (sym is) k on law_on settled in
+      let here : at makes_connection k (length h + 1) ≡ true = connection_comes h place g law next (sym is) k on law_on settled in
+      listed_one o (length h + 1) (forced g refl refl ∙ one) ∙ sym (ap (λ (b : Bool). cond b (Some (length h + 1)) None) here)
+  connection_answered Leaf true o next on is forced quiet = absurd (false≢true (sym is))
+  connection_answered Pass true o next on is forced quiet = absurd (false≢true (sym is))
+  connection_answered Flat true o next on is forced quiet = absurd (false≢true (sym is))
+  connection_answered Switch true o next on is forced quiet = absurd (false≢true (sym is))
+  connection_answered Until true o next on is forced quiet = absurd (false≢true (sym is))

@@ -1,0 +1,23 @@
+use Rattle.std.proofs.Common.{◌∙◌}
+use Rattle.rx_book.proofs.Closings.{disconnected_taken, disconnected_accepted, roots_older, hub_found, hub_missing, disconnectable, closes_some, less_room}
+use Rattle.rx_book.proofs.book.Book.disconnect_hubs.Goals as goal
+
+pub loop-hub-smaller : goal.loop-hub-smaller
+loop-hub-smaller g c =
+    let linked = hub_found c.loop-hub.self.history c.in-Some.hub c.in-Some.ensures in
+    less_room c.loop-hub.self c.disconnect.new.self _ c.in-Ok.ensures.accepted c.promise-in-Ok.ensures (closes_some c.loop-hub.self.history c.in-Some.hub linked)
+
+pub loop-hub-preserved : goal.loop-hub-preserved
+loop-hub-preserved g c = record {
+  kept = c.promise-in-Ok.ensures;
+  roots = λ n found. c.loop-hub.invariant.roots n (roots_older c.in-Some.hub c.in-Ok.ensures.accepted.step n found);
+  accepted = disconnected_accepted _ _ _ c.in-Ok.ensures.accepted.step ∙ c.loop-hub.invariant.accepted;
+  taken = disconnected_taken _ _ _ c.in-Ok.ensures.accepted.step ∙ c.loop-hub.invariant.taken;
+}
+
+pub unreachable-requires : goal.unreachable-requires
+unreachable-requires g c =
+    disconnectable c.loop-hub.self c.in-Some.hub c.in-Err.field-0 (hub_found c.loop-hub.self.history c.in-Some.hub c.in-Some.ensures) c.in-Err.ensures.refused
+
+pub returns-clause-disconnected : goal.returns-clause-disconnected
+returns-clause-disconnected g c = hub_missing c.loop-hub.self.history c.in_default.ensures
