@@ -7,6 +7,7 @@ ghost use Rattle.rx_crew.specs.Counting.{sums_of, AreCountable};
 
 mod ending;
 mod holding;
+mod hubs;
 mod opening;
 mod reading;
 

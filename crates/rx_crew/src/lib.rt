@@ -7,7 +7,8 @@
 //! # Vocabulary
 //!
 //! - The [`Floor`] is what lies behind the lock: the book, the totals of the ledgers, and whether the
-//!   desk is shut. It has the book's calls by the same names, but for those that release.
+//!   desk is shut. It has the book's calls by the same names, but for those that release; of hubs too,
+//!   the published observables that threads share (Publish, Connect and RefCount, at reactivex.io).
 //! - `Counting` of `specs/` says what a call counts, `Verdicts` what [`finish`] answers.
 //!
 //! # Promised, and not

@@ -4,6 +4,7 @@ mod caller;
 mod calls;
 mod day;
 mod feeds;
+mod hubs;
 mod meetings;
 mod parts;
 mod workers;

@@ -14,7 +14,7 @@ use rx_resource::Resource;
 use std::sync::ledger::Ledger;
 
 impl<R: Resource, I: Ledger, A: Ledger, K: Ledger> Floor<R, I, A, K> {
-    /// Opens a node, as [`rx_book::Book::open`] says.
+    /// Opens a node, as [`rx_book::Book::open`] says; a subscriber may connect its hub with it (RefCount).
     pub fn open(&mut self, at: At, kind: Kind) -> Result<Opened, Refusal>
         ensures book { AnswersOpened self.old.book (open_request self.old.book at kind) self.new.book result }
         ensures shut { self.new.is_shut ≡ self.old.is_shut }

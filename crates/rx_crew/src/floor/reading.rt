@@ -8,8 +8,8 @@ ghost use Rattle.rx_event.specs.Tree.{at, places};
 ghost use Rattle.rx_event.specs.Moments.{owed};
 ghost use Rattle.rx_event.specs.Notes.{notes};
 ghost use Rattle.rx_event.specs.Totals.{open_count as open_count_in, held_count, waiting_count, accepted_count, taken_count, item_count};
+ghost use Rattle.rx_event.specs.Claims.Closing.{is_open_root};
 ghost use Rattle.rx_book.specs.State.{has_key, has_res_key};
-ghost use Rattle.rx_book.specs.Answers.{is_open_root};
 
 use crate::floor::Floor;
 use rx_book::{Key, Mail, ResKey};
