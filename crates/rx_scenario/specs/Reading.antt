@@ -6,9 +6,9 @@ use Rattle.serde_json.specs.Data.{Data, null, boolean, number, string, array, ob
 use Rattle.serde_json.specs.Find.{get, as_str, as_number, as_u64, as_i64, as_array}
 use Rattle.rx_note.specs.declared.note.Terminal.{Terminal}
 use Rattle.rx_note.specs.declared.note.Terminal.TheVariants.{Completed, Error}
-use Rattle.rx_event.specs.declared.event.Kind.{Kind}
-use Rattle.rx_event.specs.declared.event.Kind.TheVariants.{Leaf, Pass, Flat, Switch, Until}
-use Rattle.rx_scenario.specs.Scenario.{Name, Site, root, source, inner, notifier, Command, using, open_node, hold, apply, remove, next, end, abort, decline, fail, dispose, drain, Action, command, cancel, Step, no_steps, steps_of, labels_in, Script}
+use Rattle.rx_event.specs.declared.event.Mode.{Mode}
+use Rattle.rx_event.specs.declared.event.Mode.TheVariants.{Auto, Manual}
+use Rattle.rx_scenario.specs.Scenario.{Name, Site, root, source, inner, notifier, Sort, leaf, pass, flat, switch, until, sub, Command, using, open_node, hold, apply, remove, next, end, abort, decline, fail, dispose, make_hub, connect, disconnect, drain, Action, command, cancel, Step, no_steps, steps_of, labels_in, Script}
 
 -- members -----------------------------------------------------------------------------------------
 
@@ -65,6 +65,14 @@ if_name s = if is_name s then Some s else None
 unfoldable pub name_in : List ℕ → Data → Option Name
 name_in k d = option_and_then if_name (option_and_then as_str (get k d))
 
+abbrev pub name_or_none : Option Data → Option (Option Name)
+name_or_none None = Some None
+name_or_none (Some d) = option_map Some (option_and_then if_name (as_str d))
+
+-- the name at a key, if the member is there
+unfoldable pub optional_name_in : List ℕ → Data → Option (Option Name)
+optional_name_in k d = name_or_none (get k d)
+
 -- the item
 unfoldable pub value_in : Data → Option ℤ
 value_in d = option_and_then as_i64 (option_and_then as_number (get (codes "value") d))
@@ -89,7 +97,7 @@ terminal_or (Some d) = option_map Error (option_and_then if_code (option_and_the
 unfoldable pub terminal_in : Data → Option Terminal
 terminal_in d = terminal_or (get (codes "error") d)
 
--- places and kinds --------------------------------------------------------------------------------
+-- places, kinds and modes -------------------------------------------------------------------------
 
 -- a root stands below no node
 abbrev pub root_in : Data → Option Site
@@ -106,17 +114,39 @@ site_by place d =
 unfoldable pub site_in : Data → Option Site
 site_in d = option_and_then (λ place. site_by place d) (option_and_then as_str (get (codes "place") d))
 
-unfoldable pub kind_by : List ℕ → Option Kind
-kind_by kind =
-    if bytes_eq kind (codes "leaf") then Some Leaf
-    else if bytes_eq kind (codes "pass") then Some Pass
-    else if bytes_eq kind (codes "flat") then Some Flat
-    else if bytes_eq kind (codes "switch") then Some Switch
-    else if bytes_eq kind (codes "until") then Some Until
+-- the kinds that name no hub
+unfoldable pub plain_by : List ℕ → Option Sort
+plain_by kind =
+    if bytes_eq kind (codes "leaf") then Some leaf
+    else if bytes_eq kind (codes "pass") then Some pass
+    else if bytes_eq kind (codes "flat") then Some flat
+    else if bytes_eq kind (codes "switch") then Some switch
+    else if bytes_eq kind (codes "until") then Some until
     else None
 
-unfoldable pub kind_in : Data → Option Kind
-kind_in d = option_and_then kind_by (option_and_then as_str (get (codes "kind") d))
+-- a subscriber has a hub, and may have a connection
+unfoldable pub sub_in : Data → Option Sort
+sub_in d = option_and_then (λ h. option_map (sub h) (optional_name_in (codes "connection") d)) (name_in (codes "hub") d)
+
+-- every other node has neither
+unfoldable pub kind_by : List ℕ → Data → Option Sort
+kind_by kind d =
+    if bytes_eq kind (codes "sub") then sub_in d
+    else if is_some (get (codes "hub") d) || is_some (get (codes "connection") d) then None
+    else plain_by kind
+
+unfoldable pub kind_in : Data → Option Sort
+kind_in d = option_and_then (λ kind. kind_by kind d) (option_and_then as_str (get (codes "kind") d))
+
+unfoldable pub mode_by : List ℕ → Option Mode
+mode_by mode =
+    if bytes_eq mode (codes "auto") then Some Auto
+    else if bytes_eq mode (codes "manual") then Some Manual
+    else None
+
+-- how a hub is connected
+unfoldable pub mode_in : Data → Option Mode
+mode_in d = option_and_then mode_by (option_and_then as_str (get (codes "mode") d))
 
 -- commands ----------------------------------------------------------------------------------------
 
@@ -128,7 +158,7 @@ using_of d =
 
 unfoldable pub open_of : Data → Option Command
 open_of d =
-    if is_step_of (codes "name" ∷ codes "place" ∷ codes "of" ∷ codes "kind" ∷ []) d
+    if is_step_of (codes "name" ∷ codes "place" ∷ codes "of" ∷ codes "kind" ∷ codes "hub" ∷ codes "connection" ∷ []) d
     then option_and_then (λ n. option_and_then (λ s. option_map (open_node n s) (kind_in d)) (site_in d)) (name_in (codes "name") d)
     else None
 
@@ -186,6 +216,24 @@ dispose_of d =
     then option_map dispose (name_in (codes "node") d)
     else None
 
+unfoldable pub hub_of : Data → Option Command
+hub_of d =
+    if is_step_of (codes "name" ∷ codes "mode" ∷ []) d
+    then option_and_then (λ n. option_map (make_hub n) (mode_in d)) (name_in (codes "name") d)
+    else None
+
+unfoldable pub connect_of : Data → Option Command
+connect_of d =
+    if is_step_of (codes "hub" ∷ codes "name" ∷ []) d
+    then option_and_then (λ h. option_map (connect h) (optional_name_in (codes "name") d)) (name_in (codes "hub") d)
+    else None
+
+unfoldable pub disconnect_of : Data → Option Command
+disconnect_of d =
+    if is_step_of (codes "hub" ∷ []) d
+    then option_map disconnect (name_in (codes "hub") d)
+    else None
+
 unfoldable pub drain_of : Data → Option Command
 drain_of d = if is_step_of [] d then Some drain else None
 
@@ -202,6 +250,9 @@ command_by what d =
     else if bytes_eq what (codes "decline") then decline_of d
     else if bytes_eq what (codes "fail") then fail_of d
     else if bytes_eq what (codes "dispose") then dispose_of d
+    else if bytes_eq what (codes "hub") then hub_of d
+    else if bytes_eq what (codes "connect") then connect_of d
+    else if bytes_eq what (codes "disconnect") then disconnect_of d
     else if bytes_eq what (codes "drain") then drain_of d
     else None
 
@@ -216,13 +267,6 @@ unfoldable pub action_in : Data → Option Action
 action_in d = option_and_then (λ what. action_by what d) (option_and_then as_str (get (codes "do") d))
 
 -- steps -------------------------------------------------------------------------------------------
-
-abbrev pub label_or : Option Data → Option (Option Name)
-label_or None = Some None
-label_or (Some d) = option_map Some (option_and_then if_name (as_str d))
-
-unfoldable pub label_in : Data → Option (Option Name)
-label_in d = label_or (get (codes "label") d)
 
 -- a time of a step is at most 1,000,000,000,000
 abbrev pub if_time : ℕ → Option ℕ
@@ -246,7 +290,7 @@ delay_in false d = if is_some (get (codes "after") d) then None else time_in (So
 unfoldable pub head_in : Bool → Data → Option Step
 head_in follows d =
     option_and_then (λ l. option_and_then (λ t. option_map (λ a. record { label = l; delay = t; action = a; followers = no_steps }) (action_in d))
-    (delay_in follows d)) (label_in d)
+    (delay_in follows d)) (optional_name_in (codes "label") d)
 
 -- with those, where this reads them
 unfoldable pub step_with : (Data → Option (List Step)) → Bool → Data → Option Step

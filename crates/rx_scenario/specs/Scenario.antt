@@ -2,11 +2,13 @@
 use Rattle.std.specs.Prelude.{ℕ, ℤ, List, [], ◌∷◌, ◌++◌, Option, option_map, map, string_bytes, String}
 use Rattle.std.specs.declared.alloc.Global.{Global}
 use Rattle.rx_note.specs.declared.note.Terminal.{Terminal}
-use Rattle.rx_event.specs.declared.event.Kind.{Kind}
+use Rattle.rx_event.specs.declared.event.Mode.{Mode}
 use Rattle.rx_scenario.specs.declared.scenario.Site.{Site as SiteInCode}
 use Rattle.rx_scenario.specs.declared.scenario.Site.TheVariants.{Root, Source, Inner, Notifier}
+use Rattle.rx_scenario.specs.declared.scenario.Sort.{Sort as SortInCode}
+use Rattle.rx_scenario.specs.declared.scenario.Sort.TheVariants.{Leaf, Pass, Flat, Switch, Until, Sub}
 use Rattle.rx_scenario.specs.declared.scenario.Command.{Command as CommandInCode}
-use Rattle.rx_scenario.specs.declared.scenario.Command.TheVariants.{Using, Open, Hold, Apply, Remove, Next, End, Abort, Decline, Fail, Dispose, Drain}
+use Rattle.rx_scenario.specs.declared.scenario.Command.TheVariants.{Using, Open, Hold, Apply, Remove, Next, End, Abort, Decline, Fail, Dispose, Hub, Connect, Disconnect, Drain}
 use Rattle.rx_scenario.specs.declared.scenario.Action.{Action as ActionInCode}
 use Rattle.rx_scenario.specs.declared.scenario.Action.TheVariants.{Command as CommandThere, Cancel}
 use Rattle.rx_scenario.specs.declared.scenario.Step.{Step as StepInCode, fold-Step}
@@ -24,10 +26,20 @@ pub data Site : Type 0 where
   inner : Name → Site
   notifier : Name → Site
 
+-- what a node does that is to be opened; a subscriber goes by the name of its hub, and by one for the connection that its
+-- opening makes, where it has one
+pub data Sort : Type 0 where
+  leaf : Sort
+  pass : Sort
+  flat : Sort
+  switch : Sort
+  until : Sort
+  sub : (hub : Name) → (connection : Option Name) → Sort
+
 -- what is done with the book
 pub data Command : Type 0 where
   using : (name : Name) → Site → (res : Name) → Command
-  open_node : (name : Name) → Site → Kind → Command
+  open_node : (name : Name) → Site → Sort → Command
   hold : (node res : Name) → Command
   apply : (res : Name) → (word : ℕ) → Command
   remove : (res : Name) → Command
@@ -37,6 +49,9 @@ pub data Command : Type 0 where
   decline : (node : Name) → Command
   fail : (node : Name) → (code : ℕ) → Command
   dispose : (node : Name) → Command
+  make_hub : (name : Name) → Mode → Command
+  connect : (hub : Name) → (name : Option Name) → Command
+  disconnect : (hub : Name) → Command
   drain : Command
 
 -- what a step does: a command of the book, or it takes the waiting step that has this label off the timeline
@@ -88,9 +103,17 @@ site_of (Source n) = source (string_bytes n)
 site_of (Inner n) = inner (string_bytes n)
 site_of (Notifier n) = notifier (string_bytes n)
 
+abbrev pub sort_of : SortInCode → Sort
+sort_of Leaf = leaf
+sort_of Pass = pass
+sort_of Flat = flat
+sort_of Switch = switch
+sort_of Until = until
+sort_of (Sub h c) = sub (string_bytes h) (option_map string_bytes c)
+
 abbrev pub command_of : CommandInCode → Command
 command_of (Using n s r) = using (string_bytes n) (site_of s) (string_bytes r)
-command_of (Open n s k) = open_node (string_bytes n) (site_of s) k
+command_of (Open n s k) = open_node (string_bytes n) (site_of s) (sort_of k)
 command_of (Hold n r) = hold (string_bytes n) (string_bytes r)
 command_of (Apply r w) = apply (string_bytes r) w
 command_of (Remove r) = remove (string_bytes r)
@@ -100,6 +123,9 @@ command_of (Abort n c) = abort (string_bytes n) c
 command_of (Decline n) = decline (string_bytes n)
 command_of (Fail n c) = fail (string_bytes n) c
 command_of (Dispose n) = dispose (string_bytes n)
+command_of (Hub n m) = make_hub (string_bytes n) m
+command_of (Connect h n) = connect (string_bytes h) (option_map string_bytes n)
+command_of (Disconnect h) = disconnect (string_bytes h)
 command_of Drain = drain
 
 abbrev pub action_of : ActionInCode → Action

@@ -2,7 +2,7 @@
 
 ghost use Rattle.std.specs.Prelude.{◌≡◌, ◌≤◌, ◌<◌, IfSome, IfNone};
 
-use rx_event::{Kind, Terminal};
+use rx_event::{Mode, Terminal};
 use std::marker::Model;
 
 /// A scenario: steps that wait for their times, how many events the book may have, and when time
@@ -78,7 +78,7 @@ pub enum Action {
     Cancel(String),
 }
 
-/// What is done with a book. Nodes and resources go by the names that earlier steps gave them.
+/// What is done with a book. Nodes, hubs and resources go by the names that earlier steps gave them.
 #[derive(Debug, Drop)]
 pub enum Command {
     /// Opens a mirroring node with the first resource of the stock.
@@ -91,7 +91,7 @@ pub enum Command {
     Open {
         name: String,
         place: Site,
-        kind: Kind,
+        kind: Sort,
     },
     /// Has a node hold the first resource of the stock.
     Hold {
@@ -117,7 +117,7 @@ pub enum Command {
         node: String,
         terminal: Terminal,
     },
-    /// A node that is no leaf ends with an error.
+    /// A node that is neither a leaf nor a subscriber ends with an error.
     Abort {
         node: String,
         code: u32,
@@ -135,6 +135,20 @@ pub enum Command {
     Dispose {
         node: String,
     },
+    /// A hub is published; it is connected by RefCount, or by hand.
+    Hub {
+        name: String,
+        mode: Mode,
+    },
+    /// A hub is connected by hand; its connection gets the name, where there is one.
+    Connect {
+        hub: String,
+        name: Option<String>,
+    },
+    /// A hub's connection is closed by hand.
+    Disconnect {
+        hub: String,
+    },
     /// All that waits is taken and released.
     Drain,
 }
@@ -148,4 +162,24 @@ pub enum Site {
     Inner(String),
     /// The notifier of a TakeUntil.
     Notifier(String),
+}
+
+/// What a node does that is to be opened.
+#[derive(Debug, Drop)]
+pub enum Sort {
+    /// A source that the scenario drives.
+    Leaf,
+    /// It mirrors its source.
+    Pass,
+    /// FlatMap.
+    Flat,
+    Switch,
+    /// TakeUntil.
+    Until,
+    /// A subscriber of the hub of this name. Where it is the one for which the hub is connected, the
+    /// connection gets the other name, if there is one.
+    Sub {
+        hub: String,
+        connection: Option<String>,
+    },
 }

@@ -3,10 +3,11 @@
 ghost use Rattle.serde_json.specs.View.{view};
 ghost use Rattle.rx_scenario.specs.Scenario.{command_of as command_meant, action_of as action_meant};
 ghost use Rattle.rx_device.specs.Gives.{Gives};
-ghost use Rattle.rx_scenario.specs.Reading.{using_of, open_of, hold_of, apply_of, remove_of, next_of, end_of, abort_of, decline_of, fail_of, dispose_of, drain_of, command_by, cancel_of, action_by, action_in};
+ghost use Rattle.rx_scenario.specs.Reading.{using_of, open_of, hold_of, apply_of, remove_of, next_of, end_of, abort_of, decline_of, fail_of, dispose_of, hub_of, connect_of, disconnect_of, drain_of, command_by, cancel_of, action_by, action_in};
 
 use super::members::{
-    code_in, is_step_of, kind_in, name_in, site_in, terminal_in, value_in, word_in,
+    code_in, is_step_of, kind_in, mode_in, name_in, optional_name_in, site_in, terminal_in,
+    value_in, word_in,
 };
 use crate::scenario::{Action, Command};
 use rx_device::ShapeError;
@@ -30,12 +31,15 @@ fn using_of(alloc: Global, object: &Value) -> Result<Command, ShapeError>
 fn open_of(alloc: Global, object: &Value) -> Result<Command, ShapeError>
     ensures { Gives command_meant result (open_of (view object.now)) }
 {
-    if !is_step_of(object, &["name", "place", "of", "kind"]) {
+    if !is_step_of(
+        object,
+        &["name", "place", "of", "kind", "hub", "connection"],
+    ) {
         return Err(ShapeError::Shape);
     }
     let name = name_in(alloc, object, "name")?;
     let place = site_in(alloc, object)?;
-    let kind = kind_in(object)?;
+    let kind = kind_in(alloc, object)?;
     Ok(Command::Open { name, place, kind })
 }
 
@@ -144,6 +148,41 @@ fn dispose_of(alloc: Global, object: &Value) -> Result<Command, ShapeError>
     Ok(Command::Dispose { node })
 }
 
+#[tactic(auto, unfolding(crate::specs::Reading::hub_of))]
+fn hub_of(alloc: Global, object: &Value) -> Result<Command, ShapeError>
+    ensures { Gives command_meant result (hub_of (view object.now)) }
+{
+    if !is_step_of(object, &["name", "mode"]) {
+        return Err(ShapeError::Shape);
+    }
+    let name = name_in(alloc, object, "name")?;
+    let mode = mode_in(object)?;
+    Ok(Command::Hub { name, mode })
+}
+
+#[tactic(auto, unfolding(crate::specs::Reading::connect_of))]
+fn connect_of(alloc: Global, object: &Value) -> Result<Command, ShapeError>
+    ensures { Gives command_meant result (connect_of (view object.now)) }
+{
+    if !is_step_of(object, &["hub", "name"]) {
+        return Err(ShapeError::Shape);
+    }
+    let hub = name_in(alloc, object, "hub")?;
+    let name = optional_name_in(alloc, object, "name")?;
+    Ok(Command::Connect { hub, name })
+}
+
+#[tactic(auto, unfolding(crate::specs::Reading::disconnect_of))]
+fn disconnect_of(alloc: Global, object: &Value) -> Result<Command, ShapeError>
+    ensures { Gives command_meant result (disconnect_of (view object.now)) }
+{
+    if !is_step_of(object, &["hub"]) {
+        return Err(ShapeError::Shape);
+    }
+    let hub = name_in(alloc, object, "hub")?;
+    Ok(Command::Disconnect { hub })
+}
+
 #[tactic(auto, unfolding(crate::specs::Reading::drain_of))]
 fn drain_of(object: &Value) -> Result<Command, ShapeError>
     ensures { Gives command_meant result (drain_of (view object.now)) }
@@ -170,6 +209,9 @@ fn command_by(alloc: Global, what: &str, object: &Value) -> Result<Command, Shap
         "decline" => decline_of(alloc, object),
         "fail" => fail_of(alloc, object),
         "dispose" => dispose_of(alloc, object),
+        "hub" => hub_of(alloc, object),
+        "connect" => connect_of(alloc, object),
+        "disconnect" => disconnect_of(alloc, object),
         "drain" => drain_of(object),
         _ => Err(ShapeError::Shape),
     }

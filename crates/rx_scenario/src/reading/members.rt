@@ -4,13 +4,13 @@ ghost use Rattle.std.specs.Prelude.{◌≡◌, ◌≤◌, ◌||◌, map, option_
 ghost use Rattle.std.specs.List.{list_all};
 ghost use Rattle.std.specs.Map.{keys_of};
 ghost use Rattle.serde_json.specs.View.{view, members_view};
-ghost use Rattle.rx_scenario.specs.Scenario.{site_of};
+ghost use Rattle.rx_scenario.specs.Scenario.{site_of, sort_of};
 ghost use Rattle.rx_device.specs.Gives.{Gives};
-ghost use Rattle.rx_scenario.specs.Reading.{is_one_of, has_only, is_object_of, is_of_steps, has_only_steps, is_step_of, is_name_byte, is_name, name_in, value_in, word_in, code_in, terminal_in, site_by, site_in, kind_by, kind_in, events_in, until_in, label_in, time_in, delay_in};
+ghost use Rattle.rx_scenario.specs.Reading.{is_one_of, has_only, is_object_of, is_of_steps, has_only_steps, is_step_of, is_name_byte, is_name, name_in, optional_name_in, value_in, word_in, code_in, terminal_in, site_by, site_in, plain_by, sub_in, kind_by, kind_in, mode_by, mode_in, events_in, until_in, time_in, delay_in};
 
-use crate::scenario::{Site, Ticks};
+use crate::scenario::{Site, Sort, Ticks};
 use rx_device::ShapeError;
-use rx_event::{Kind, Terminal};
+use rx_event::{Mode, Terminal};
 use serde_json::{Map, Value};
 use std::alloc::Global;
 
@@ -107,6 +107,27 @@ pub fn name_in(alloc: Global, object: &Value, key: &str) -> Result<String, Shape
     Ok(String::from_str(alloc, text)?)
 }
 
+/// The name at a key, or None where there is no such member.
+#[tactic(auto, unfolding(crate::specs::Reading::optional_name_in))]
+pub fn optional_name_in(
+    alloc: Global,
+    object: &Value,
+    key: &str,
+) -> Result<Option<String>, ShapeError>
+    ensures { Gives (option_map string_bytes) result (optional_name_in key.now (view object.now)) }
+{
+    let Some(member) = object.get(key) else {
+        return Ok(None);
+    };
+    let Some(text) = member.as_str() else {
+        return Err(ShapeError::Shape);
+    };
+    if !is_name(text) {
+        return Err(ShapeError::Shape);
+    }
+    Ok(Some(String::from_str(alloc, text)?))
+}
+
 /// The member `value`, an item.
 #[tactic(auto, unfolding(crate::specs::Reading::value_in))]
 pub fn value_in(object: &Value) -> Result<i64, ShapeError>
@@ -181,29 +202,75 @@ pub fn site_in(alloc: Global, object: &Value) -> Result<Site, ShapeError>
     site_by(alloc, place, object)
 }
 
-#[tactic(auto, unfolding(crate::specs::Reading::kind_by))]
-fn kind_by(kind: &str) -> Result<Kind, ShapeError>
-    ensures { Gives (λ k. k) result (kind_by kind.now) }
+#[tactic(auto, unfolding(crate::specs::Reading::plain_by))]
+fn plain_by(kind: &str) -> Result<Sort, ShapeError>
+    ensures { Gives sort_of result (plain_by kind.now) }
 {
     match kind {
-        "leaf" => Ok(Kind::Leaf),
-        "pass" => Ok(Kind::Pass),
-        "flat" => Ok(Kind::Flat),
-        "switch" => Ok(Kind::Switch),
-        "until" => Ok(Kind::Until),
+        "leaf" => Ok(Sort::Leaf),
+        "pass" => Ok(Sort::Pass),
+        "flat" => Ok(Sort::Flat),
+        "switch" => Ok(Sort::Switch),
+        "until" => Ok(Sort::Until),
         _ => Err(ShapeError::Shape),
     }
 }
 
-/// The member `kind`: a leaf, a node that mirrors its source, a FlatMap, a Switch or a TakeUntil.
+// The members `hub` and `connection` of a subscriber, which need not have the second.
+#[tactic(auto, unfolding(crate::specs::Reading::sub_in))]
+fn sub_in(alloc: Global, object: &Value) -> Result<Sort, ShapeError>
+    ensures { Gives sort_of result (sub_in (view object.now)) }
+{
+    let hub = name_in(alloc, object, "hub")?;
+    let connection = optional_name_in(alloc, object, "connection")?;
+    Ok(Sort::Sub { hub, connection })
+}
+
+#[tactic(auto, unfolding(crate::specs::Reading::kind_by))]
+fn kind_by(alloc: Global, kind: &str, object: &Value) -> Result<Sort, ShapeError>
+    ensures { Gives sort_of result (kind_by kind.now (view object.now)) }
+{
+    if kind == "sub" {
+        return sub_in(alloc, object);
+    }
+    if object.get("hub").is_some() || object.get("connection").is_some() {
+        return Err(ShapeError::Shape);
+    }
+    plain_by(kind)
+}
+
+/// The member `kind`: a leaf, a node that mirrors its source, a FlatMap, a Switch or a TakeUntil; or a
+/// subscriber, which alone has the members `hub` and `connection`.
 #[tactic(auto, unfolding(crate::specs::Reading::kind_in))]
-pub fn kind_in(object: &Value) -> Result<Kind, ShapeError>
-    ensures { Gives (λ k. k) result (kind_in (view object.now)) }
+pub fn kind_in(alloc: Global, object: &Value) -> Result<Sort, ShapeError>
+    ensures { Gives sort_of result (kind_in (view object.now)) }
 {
     let Some(kind) = object.get("kind").and_then(Value::as_str) else {
         return Err(ShapeError::Shape);
     };
-    kind_by(kind)
+    kind_by(alloc, kind, object)
+}
+
+#[tactic(auto, unfolding(crate::specs::Reading::mode_by))]
+fn mode_by(mode: &str) -> Result<Mode, ShapeError>
+    ensures { Gives (λ m. m) result (mode_by mode.now) }
+{
+    match mode {
+        "auto" => Ok(Mode::Auto),
+        "manual" => Ok(Mode::Manual),
+        _ => Err(ShapeError::Shape),
+    }
+}
+
+/// The member `mode`, how a hub is connected: by RefCount, or by hand.
+#[tactic(auto, unfolding(crate::specs::Reading::mode_in))]
+pub fn mode_in(object: &Value) -> Result<Mode, ShapeError>
+    ensures { Gives (λ m. m) result (mode_in (view object.now)) }
+{
+    let Some(mode) = object.get("mode").and_then(Value::as_str) else {
+        return Err(ShapeError::Shape);
+    };
+    mode_by(mode)
 }
 
 /// The member `events`, a limit from 1 to 4,294,967,295, which is 1,048,576 where there is none.
@@ -234,23 +301,6 @@ pub fn until_in(object: &Value) -> Result<u64, ShapeError>
         Some(number) if number <= 1_000_000_000_000_000 => Ok(number),
         _ => Err(ShapeError::Shape),
     }
-}
-
-/// The member `label`, a name, if it is there.
-#[tactic(auto, unfolding(crate::specs::Reading::label_in))]
-pub fn label_in(alloc: Global, object: &Value) -> Result<Option<String>, ShapeError>
-    ensures { Gives (option_map string_bytes) result (label_in (view object.now)) }
-{
-    let Some(label) = object.get("label") else {
-        return Ok(None);
-    };
-    let Some(text) = label.as_str() else {
-        return Err(ShapeError::Shape);
-    };
-    if !is_name(text) {
-        return Err(ShapeError::Shape);
-    }
-    Ok(Some(String::from_str(alloc, text)?))
 }
 
 // The time at a key, or the other where there is no such member.

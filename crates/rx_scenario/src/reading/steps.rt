@@ -8,7 +8,7 @@ ghost use Rattle.rx_scenario.specs.Reading.{head_in, step_in, each_step, then_in
 
 use super::commands::action_in;
 use super::labels::are_distinct;
-use super::members::{delay_in, events_in, is_object_of, label_in, until_in};
+use super::members::{delay_in, events_in, is_object_of, optional_name_in, until_in};
 use crate::scenario::{Scenario, Step};
 use rx_device::ShapeError;
 use serde_json::Value;
@@ -25,7 +25,7 @@ const MOST_LEVELS: u32 = 16;
 fn head_in(alloc: Global, object: &Value, follows: bool) -> Result<Step, ShapeError>
     ensures { Gives step_meant result (head_in follows (view object.now)) }
 {
-    let label = label_in(alloc, object)?;
+    let label = optional_name_in(alloc, object, "label")?;
     let delay = delay_in(object, follows)?;
     let action = action_in(alloc, object)?;
     Ok(Step {
