@@ -38,7 +38,7 @@ module _ {K : Type 0} (n : Named K) where
       let taken : bytes_eq (name_of n) q ≡ true → key_of names q ≡ None = λ is. let same : name_of n ≡ q = (bytes_eq-Decides (name_of n) q).0 is in subst (λ name. key_of names name ≡ None) same free in
       ap (option_map (λ m. m.key)) (find-push p names n ∙ same_last p (find p names)) ∙ answered (bytes_eq (name_of n) q) (find p names) taken
 
-none_there : {K : Type 0} (o : Option K) → is_some o ≡ false → o ≡ None
+pub none_there : {K : Type 0} (o : Option K) → is_some o ≡ false → o ≡ None
 none_there None free = refl
 none_there (Some k) free = absurd (cc)
 

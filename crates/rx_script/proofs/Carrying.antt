@@ -21,7 +21,7 @@ use Rattle.rx_script.specs.Stage.{Stage, own_cause, call_of, after}
 use Rattle.rx_book.specs.Drains.{Drains}
 use Rattle.rx_script.specs.Course.{Executes, refused, refused_by_book, accepted, drained, book_cause}
 use Rattle.rx_script.specs.Shelf.{Shelf}
-use Rattle.rx_script.specs.Engine.{node_binding, res_binding, stage_of, IsNodeKey, IsHeldKey, IsSound, Carries}
+use Rattle.rx_script.specs.Engine.{node_binding, res_binding, number_binding, stage_of, IsNodeKey, IsHeldKey, IsSound, Carries}
 use Rattle.rx_book.proofs.Laws.Going.{step_taken, accepted_continues}
 use Rattle.rx_script.proofs.Going.{node_keys_kept, held_keys_kept}
 
@@ -37,14 +37,14 @@ pub record Agrees (s : State) (asked : Request) (stage : Stage) (step : Command)
 
 -- the engine with another book and stock
 abbrev pub with : {R : Type 0} → Engine R → State → Shelf → Engine R
-with e book stock = record { book = book; nodes = e.nodes; resources = e.resources; stock = stock; faults = e.faults }
+with e book stock = record { book = book; nodes = e.nodes; hubs = e.hubs; resources = e.resources; stock = stock; faults = e.faults }
 
 -- nothing was changed
 pub unchanged : {R : Type 0} (e : Engine R) (step : Command) (answer : Answer) (book : State) (stock : Shelf) → IsSound e → book ≡ e.book → stock.wares ≡ e.stock.wares
     → Executes e.book.limit (stage_of e) step answer (stage_of e) → Carries e step answer (with e book stock)
 unchanged {R} e step answer book stock sound same_book same_stock executes =
     let at_book : Carries e step answer (with e e.book stock) = record {
-      executes = subst (λ wares. Executes e.book.limit (stage_of e) step answer (record { history = e.book.history; nodes = (stage_of e).nodes; resources = (stage_of e).resources; stock = wares })) (sym same_stock) executes;
+      executes = subst (λ wares. Executes e.book.limit (stage_of e) step answer (record { history = e.book.history; nodes = (stage_of e).nodes; hubs = (stage_of e).hubs; resources = (stage_of e).resources; stock = wares })) (sym same_stock) executes;
       sound = record { kept = sound.kept; nodes = sound.nodes; resources = sound.resources; faults = sound.faults };
       limit = refl;
       given = refl;
@@ -93,13 +93,14 @@ accepted_plain e step asked book sound kept own agrees accepts plain =
 
 -- taking and releasing all that waits
 pub drained_to : {R : Type 0} (e new : Engine R) (released : ℕ) → IsSound e → IsPromised new.book → Drains e.book.history new.book.history → Continues e.book new.book
-    → new.nodes ≡ e.nodes → new.resources ≡ e.resources → new.stock ≡ e.stock → taken_count new.book.history ≡ taken_count e.book.history + released → new.faults ≤ e.faults + released
+    → new.nodes ≡ e.nodes → new.hubs ≡ e.hubs → new.resources ≡ e.resources → new.stock ≡ e.stock → taken_count new.book.history ≡ taken_count e.book.history + released → new.faults ≤ e.faults + released
     → Carries e drain Accepted new
-drained_to e new released sound kept drains goes same_nodes same_resources same_stock rose faults =
+drained_to e new released sound kept drains goes same_nodes same_hubs same_resources same_stock rose faults =
     let staged : stage_of new ≡ after (stage_of e) drain new.book.history =
-    ap (λ n. record { history = new.book.history; nodes = map node_binding n; resources = map res_binding new.resources; stock = new.stock.wares }) same_nodes
-    ∙ ap (λ r. record { history = new.book.history; nodes = map node_binding e.nodes; resources = map res_binding r; stock = new.stock.wares }) same_resources
-    ∙ ap (λ s. record { history = new.book.history; nodes = map node_binding e.nodes; resources = map res_binding e.resources; stock = s.wares }) same_stock in
+    ap (λ n. record { history = new.book.history; nodes = map node_binding n; hubs = map number_binding new.hubs; resources = map res_binding new.resources; stock = new.stock.wares }) same_nodes
+    ∙ ap (λ g. record { history = new.book.history; nodes = map node_binding e.nodes; hubs = map number_binding g; resources = map res_binding new.resources; stock = new.stock.wares }) same_hubs
+    ∙ ap (λ r. record { history = new.book.history; nodes = map node_binding e.nodes; hubs = map number_binding e.hubs; resources = map res_binding r; stock = new.stock.wares }) same_resources
+    ∙ ap (λ s. record { history = new.book.history; nodes = map node_binding e.nodes; hubs = map number_binding e.hubs; resources = map res_binding e.resources; stock = s.wares }) same_stock in
     let before = sound.faults in
     record {
       executes = subst (λ s. Executes e.book.limit (stage_of e) drain Accepted s) (sym staged) (drained drains);

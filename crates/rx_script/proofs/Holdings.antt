@@ -24,7 +24,7 @@ use Rattle.rx_script.specs.Stage.{Ware, bound, is_unbound, is_empty, own_cause, 
 use Rattle.rx_script.specs.Course.{book_cause}
 use Rattle.rx_script.specs.Shelf.{Shelf}
 use Rattle.rx_script.specs.Names.{name_of, key_of}
-use Rattle.rx_script.specs.Engine.{node_binding, res_binding, at_of, stage_of, IsNodeKey, IsHeldKey, IsSound, Carries}
+use Rattle.rx_script.specs.Engine.{node_binding, res_binding, number_binding, at_of, stage_of, IsNodeKey, IsHeldKey, IsSound, Carries}
 use Rattle.rx_script.proofs.Keys.{has_key-is_open}
 use Rattle.rx_script.proofs.Naming.{key_of-holds, node_bound, node_unbound}
 use Rattle.rx_book.proofs.Laws.Going.{accepted_continues}
@@ -107,12 +107,13 @@ module _ {R : Type 0} (e : Engine R) (name : Name) (site : Site) (res : Name) (s
         pub using_accepted : (new : Engine R) (x : Named Key) (y : Named ResKey) → IsPromised new.book
             → Accepts e.book (record { call = OpeningUsing (place_of place) w.tag; is_known = is_known_place e.book.keys place; is_fresh = w.is_fresh }) new.book
             → x.key.number ≡ length e.book.history → IsTrue (has_key new.book.keys x.key) → name_of x ≡ name → y.key.number ≡ length e.book.history + 1 → IsTrue (has_res_key new.book.res_keys y.key) → name_of y ≡ res
-            → new.nodes ≡ e.nodes ++ x ∷ [] → new.resources ≡ e.resources ++ y ∷ [] → new.stock.wares ≡ rest → new.faults ≡ e.faults → Carries e (using name site res) Accepted new
-        using_accepted new x y kept accepts number listed same_name res_number res_listed same_res pushed res_pushed same_stock same_faults =
+            → new.nodes ≡ e.nodes ++ x ∷ [] → new.hubs ≡ e.hubs → new.resources ≡ e.resources ++ y ∷ [] → new.stock.wares ≡ rest → new.faults ≡ e.faults → Carries e (using name site res) Accepted new
+        using_accepted new x y kept accepts number listed same_name res_number res_listed same_res pushed same_hubs res_pushed same_stock same_faults =
             let goes = accepted_continues e.book new.book asked accepts in
             accepted_to e new (using name site res) asked sound kept no_own_cause agrees accepts
-            (same_stage new.book.history _ _ _ _ _ _
+            (same_stage new.book.history _ _ _ _ _ _ _ _
             (nodes_bound e.nodes new.nodes x (length e.book.history) pushed number ∙ ap (λ n. with_binding (map node_binding e.nodes) n (length e.book.history)) same_name)
+            (ap (map number_binding) same_hubs)
             (resources_bound e.resources new.resources y (length e.book.history + 1) res_pushed res_number ∙ ap (λ n. with_binding (map res_binding e.resources) n (length e.book.history + 1)) same_res)
             (same_stock ∙ sym (rest_stocked e w rest stocked)))
             (all_pushed (λ n. IsNodeKey new.book n.key) e.nodes new.nodes x pushed (node_keys_kept e.book new.book e.nodes sound.kept kept goes sound.nodes) (new_node_key e.book new.book asked x.key accepts number (omega arith) listed))
@@ -174,11 +175,11 @@ module _ {R : Type 0} (e : Engine R) (node : Name) (res : Name) (sound : IsSound
 
         pub hold_accepted : (new : Engine R) (y : Named ResKey) → IsPromised new.book → Accepts e.book (record { call = Holding k.number w.tag; is_known = has_key e.book.keys k; is_fresh = w.is_fresh }) new.book
             → y.key.number ≡ length e.book.history → IsTrue (has_res_key new.book.res_keys y.key) → name_of y ≡ res
-            → new.nodes ≡ e.nodes → new.resources ≡ e.resources ++ y ∷ [] → new.stock.wares ≡ rest → new.faults ≡ e.faults → Carries e (hold node res) Accepted new
-        hold_accepted new y kept accepts number listed same_res same_nodes pushed same_stock same_faults =
+            → new.nodes ≡ e.nodes → new.hubs ≡ e.hubs → new.resources ≡ e.resources ++ y ∷ [] → new.stock.wares ≡ rest → new.faults ≡ e.faults → Carries e (hold node res) Accepted new
+        hold_accepted new y kept accepts number listed same_res same_nodes same_hubs pushed same_stock same_faults =
             let goes = accepted_continues e.book new.book hold_asked accepts in
             accepted_to e new (hold node res) hold_asked sound kept hold_no_own_cause hold_agrees accepts
-            (same_stage new.book.history _ _ _ _ _ _ (ap (map node_binding) same_nodes)
+            (same_stage new.book.history _ _ _ _ _ _ _ _ (ap (map node_binding) same_nodes) (ap (map number_binding) same_hubs)
             (resources_bound e.resources new.resources y (length e.book.history) pushed number ∙ ap (λ n. with_binding (map res_binding e.resources) n (length e.book.history)) same_res)
             (same_stock ∙ sym (rest_stocked e w rest stocked)))
             (subst (All (λ n. IsNodeKey new.book n.key)) (sym same_nodes) (node_keys_kept e.book new.book e.nodes sound.kept kept goes sound.nodes))

@@ -8,6 +8,8 @@ pub mod Advancing
 pub mod Carrying
 pub mod Commands
 pub mod Openings
+pub mod Nodes
 pub mod Holdings
+pub mod Publishing
 pub mod Gathering
 pub mod Reporting

@@ -1,5 +1,5 @@
 -- What names stand for, by keys and by numbers.
-use Rattle.std.proofs.Common.{◌≡◌, List, [], ◌∷◌, Bool, true, false, map, cond, refl, ap, subst, ◌∙◌, arith}
+use Rattle.std.proofs.Common.{◌≡◌, ℕ, List, [], ◌∷◌, Bool, true, false, map, cond, refl, ap, subst, ◌∙◌, arith}
 use Rattle.std.specs.Prelude.{Option, Some, None, option_map, find}
 use Rattle.std.specs.Str.{bytes_eq}
 use Rattle.std.specs.List.{All}
@@ -10,9 +10,9 @@ use Rattle.rx_script.specs.declared.names.Named.{Named}
 use Rattle.rx_scenario.specs.Scenario.{Name}
 use Rattle.rx_script.specs.Stage.{bound}
 use Rattle.rx_script.specs.Names.{name_of, key_of}
-use Rattle.rx_script.specs.Engine.{node_binding, res_binding}
+use Rattle.rx_script.specs.Engine.{node_binding, res_binding, number_binding}
 
-pub find-map : {A B : Type 0} (p : B → Bool) (f : A → B) (xs : List A) → find p (map f xs) ≡ option_map f (find (λ x. p (f x)) xs)
+find-map : {A B : Type 0} (p : B → Bool) (f : A → B) (xs : List A) → find p (map f xs) ≡ option_map f (find (λ x. p (f x)) xs)
 find-map p f [] = refl
 find-map p f (x ∷ xs) =
     elim (p (f x)) as (λ b. cond b (Some (f x)) (find p (map f xs)) ≡ option_map f (cond b (Some x) (find (λ y. p (f y)) xs))) [ true ↦ refl | false ↦ find-map p f xs ]
@@ -40,6 +40,15 @@ node_number (Some n) = refl
 res_number : (o : Option (Named ResKey)) → option_map (λ b. b.number) (option_map res_binding o) ≡ option_map (λ k. k.number) (option_map (λ n. n.key) o)
 res_number None = refl
 res_number (Some n) = refl
+
+numbers_number : (o : Option (Named ℕ)) → option_map (λ b. b.number) (option_map number_binding o) ≡ option_map (λ n. n.key) o
+numbers_number None = refl
+numbers_number (Some n) = refl
+
+-- of hubs, or of labels
+pub bound-numbers : (names : List (Named ℕ)) (name : Name) → bound (map number_binding names) name ≡ key_of names name
+unfolding bound key_of
+bound-numbers names name = ap (option_map (λ b. b.number)) (find-map (λ b. bytes_eq b.name name) number_binding names) ∙ numbers_number _
 
 pub bound-nodes : (names : List (Named Key)) (name : Name) → bound (map node_binding names) name ≡ option_map (λ k. k.number) (key_of names name)
 unfolding bound key_of

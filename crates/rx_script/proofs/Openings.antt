@@ -1,6 +1,8 @@
--- The commands that bind names, carried out by an engine.
-use Rattle.std.proofs.Common.{◌≡◌, ◌<◌, ◌+◌, ◌++◌, ◌∷◌, [], ℕ, List, true, false, refl, sym, ap, subst, ◌∙◌, map, length, arith}
-use Rattle.std.specs.Prelude.{◌≢◌, Option, Some, None, IsTrue, is_none, is_some, option_map}
+-- Names that commands bind, places where nodes are opened, and what is known of a name that is new.
+use Rattle.std.proofs.Common.{◌≡◌, ◌<◌, ◌+◌, ◌++◌, ◌∷◌, [], ℕ, List, Bool, true, false, cond, String, Global, string_bytes, refl, sym, ap, subst, ◌∙◌, map, length, arith}
+use Rattle.std.specs.Prelude.{◌||◌, Option, Some, None, IsTrue, IfSome, is_none, is_some, option_map}
+use Rattle.std.specs.Str.{bytes_eq}
+use Rattle.std.specs.Option.{option_map_or}
 use Rattle.std.proofs.Math.Bool.{not}
 use Rattle.std.specs.List.{All}
 use Rattle.std.proofs.lemmas.List.{map-append}
@@ -8,34 +10,27 @@ use Rattle.std.proofs.lemmas.List.Elements.{All-push}
 use Rattle.rx_event.specs.declared.event.Event.{Event}
 use Rattle.rx_event.specs.declared.event.Place.{Place}
 use Rattle.rx_event.specs.declared.event.Place.TheVariants.{Source, Inner, Notifier}
-use Rattle.rx_event.specs.declared.event.Kind.{Kind}
-use Rattle.rx_event.specs.declared.refusal.Refusal.{Refusal}
-use Rattle.rx_event.specs.declared.refusal.Refusal.TheVariants.{NoMemory}
-use Rattle.rx_event.specs.Tree.{is_open}
-use Rattle.rx_event.specs.Calls.{Opening, outside_of}
-use Rattle.rx_event.specs.Refusals.{IsRefusal}
+use Rattle.rx_event.specs.Tree.{at, is_open}
+use Rattle.rx_event.proofs.Laws.Places.{at_within}
+use Rattle.rx_event.specs.Calls.{outside_of}
 use Rattle.rx_book.specs.declared.key.Key.{Key}
 use Rattle.rx_book.specs.declared.key.ResKey.{ResKey}
 use Rattle.rx_book.specs.declared.answer.At.{At}
 use Rattle.rx_book.specs.declared.answer.At.TheVariants.{Root as AtRoot, Source as AtSource, Inner as AtInner, Notifier as AtNotifier}
-use Rattle.rx_book.specs.State.{State, IsPromised, has_key, has_res_key}
-use Rattle.rx_register.specs.Causes.{causes, is_gone}
-use Rattle.rx_book.specs.Requests.{Request, place_of, is_known_place, stands, open_request}
-use Rattle.rx_book.specs.Answers.{Accepts}
-use Rattle.rx_script.specs.declared.answer.Answer.TheVariants.{Accepted, Refused}
-use Rattle.rx_script.specs.declared.answer.Cause.TheVariants.{NoName, NameTaken, Book}
+use Rattle.rx_book.specs.State.{State, has_key, has_res_key}
+use Rattle.rx_register.specs.Causes.{is_gone}
+use Rattle.rx_book.specs.Requests.{Request, place_of, is_known_place}
+use Rattle.rx_book.specs.Answers.{Accepts, IsOpened, makes_connection}
 use Rattle.rx_script.specs.declared.names.Named.{Named}
 use Rattle.rx_script.specs.declared.engine.Engine.{Engine}
-use Rattle.rx_scenario.specs.Scenario.{Name, Site, root, source, inner, notifier, open_node}
-use Rattle.rx_script.specs.Stage.{Binding, Ware, Stage, bound, is_bound, is_unbound, is_unbound_site, own_cause, place_at, with_binding}
+use Rattle.rx_scenario.specs.Scenario.{Name, Site, root, source, inner, notifier}
+use Rattle.rx_script.specs.Stage.{Binding, Ware, Stage, bound, is_bound, is_unbound, is_unbound_site, place_at, with_binding, with_connection}
 use Rattle.rx_script.specs.Names.{name_of, key_of}
-use Rattle.rx_script.specs.Engine.{node_binding, res_binding, at_of, stage_of, IsNodeKey, IsHeldKey, IsSound, Carries}
+use Rattle.rx_script.specs.Engine.{node_binding, res_binding, number_binding, at_of, is_taken, is_taken_beside, with_named, stage_of, IsNodeKey, IsHeldKey, IsSound}
+use Rattle.rx_script.proofs.Binding.{key_of-bind, none_there}
 use Rattle.rx_script.proofs.Keys.{has_key-is_open, has_key-contained, has_res_key-contained}
-use Rattle.rx_script.proofs.Naming.{key_of-holds, bound-nodes, bound-resources, node_bound, node_unbound}
-use Rattle.rx_book.proofs.Laws.Going.{step_longer, accepted_continues}
-use Rattle.rx_script.proofs.Going.{node_keys_kept, held_keys_kept}
-use Rattle.rx_script.proofs.Carrying.{Agrees, first_cause-by_key, with, refused_own, refused_there, accepted_to}
-use Rattle.rx_script.proofs.Commands.{cause_of}
+use Rattle.rx_script.proofs.Naming.{key_of-holds, bound-numbers, bound-nodes, bound-resources, node_bound, node_unbound}
+use Rattle.rx_book.proofs.Laws.Going.{step_longer}
 
 -- names that are taken -----------------------------------------------------------------------------
 
@@ -48,6 +43,9 @@ is_bound-nodes names name = ap is_some (bound-nodes names name) ∙ is_some-map 
 
 pub is_bound-resources : (names : List (Named ResKey)) (name : Name) → is_bound (map res_binding names) name ≡ is_some (key_of names name)
 is_bound-resources names name = ap is_some (bound-resources names name) ∙ is_some-map _ (key_of names name)
+
+pub is_bound-hubs : (names : List (Named ℕ)) (name : Name) → is_bound (map number_binding names) name ≡ is_some (key_of names name)
+is_bound-hubs names name = ap is_some (bound-numbers names name)
 
 -- places -------------------------------------------------------------------------------------------
 
@@ -136,59 +134,62 @@ pub resources_bound : (xs ys : List (Named ResKey)) (x : Named ResKey) (number :
 resources_bound xs ys x number pushed same =
     ap (map res_binding) pushed ∙ map-append res_binding xs (x ∷ []) ∙ ap (λ n. with_binding (map res_binding xs) (name_of x) n) same
 
-pub same_stage : (h : List Event) (n m : List Binding) (r s : List Binding) (u v : List Ware) → n ≡ m → r ≡ s → u ≡ v
-    → let stage : List Binding → List Binding → List Ware → Stage = λ x y z. record { history = h; nodes = x; resources = y; stock = z } in stage n r u ≡ stage m s v
-same_stage h n m r s u v p q t =
-    let stage : List Binding → List Binding → List Ware → Stage = λ x y z. record { history = h; nodes = x; resources = y; stock = z } in
-    ap (λ x. stage x r u) p ∙ ap (λ y. stage m y u) q ∙ ap (λ z. stage m s z) t
+pub same_stage : (h : List Event) (n m g i r s : List Binding) (u v : List Ware) → n ≡ m → g ≡ i → r ≡ s → u ≡ v
+    → let stage : List Binding → List Binding → List Binding → List Ware → Stage = λ x y z w. record { history = h; nodes = x; hubs = y; resources = z; stock = w } in stage n g r u ≡ stage m i s v
+same_stage h n m g i r s u v p o q t =
+    let stage : List Binding → List Binding → List Binding → List Ware → Stage = λ x y z w. record { history = h; nodes = x; hubs = y; resources = z; stock = w } in
+    ap (λ x. stage x g r u) p ∙ ap (λ y. stage m y r u) o ∙ ap (λ z. stage m i z u) q ∙ ap (λ w. stage m i s w) t
 
 pub all_pushed : {A : Type 0} (P : A → Type 0) (xs ys : List A) (x : A) → ys ≡ xs ++ x ∷ [] → All P xs → P x → All P ys
 all_pushed P xs ys x pushed all here = subst (All P) (sym pushed) (All-push P xs x all here)
 
--- opening ------------------------------------------------------------------------------------------
+-- names for connections ----------------------------------------------------------------------------
 
-module _ {R : Type 0} (e : Engine R) (name : Name) (site : Site) (kind : Kind) (sound : IsSound e) where
-  pub open_nameless : at_of e.nodes site ≡ None → Carries e (open_node name site kind) (Refused NoName) (with e e.book e.stock)
-  open_nameless none = let nameless = site_nameless e site none in refused_own e (open_node name site kind) NoName e.book e.stock sound refl refl (rw nameless refl)
+pub taken-bound : (names : List (Named Key)) (name : Option Name) → option_map_or (is_bound (map node_binding names)) name false ≡ is_taken names name
+taken-bound names None = refl
+taken-bound names (Some n) = is_bound-nodes names n
 
-  module _ (place : At) (at : at_of e.nodes site ≡ Some place) where
-    facts : IsPlaced e site place
-    facts = site_placed e site place sound at
+pub taken_beside-bound : (names : List (Named Key)) (node : Name) (name : Option Name) → option_map_or (λ c. is_bound (map node_binding names) c || bytes_eq node c) name false ≡ is_taken_beside names node name
+taken_beside-bound names node None = refl
+taken_beside-bound names node (Some n) = ap (λ b. b || bytes_eq node n) (is_bound-nodes names n)
 
-    pub open_taken : is_some (key_of e.nodes name) ≡ true → Carries e (open_node name site kind) (Refused NameTaken) (with e e.book e.stock)
-    open_taken taken =
-        let named = facts.named in
-        let is_taken = is_bound-nodes e.nodes name ∙ taken in
-        refused_own e (open_node name site kind) NameTaken e.book e.stock sound refl refl (rw (named, is_taken) refl)
+-- a name that is free, and is not the node's, is free still once the node has its own
+pub free_behind : (names between : List (Named Key)) (x : Named Key) (name : Option Name) → between ≡ names ++ x ∷ [] → is_some (key_of names (name_of x)) ≡ false
+    → is_taken_beside names (name_of x) name ≡ false → is_taken between name ≡ false
+free_behind names between x None pushed free beside = refl
+free_behind names between x (Some n) pushed free beside =
+    let parts = neither (is_some (key_of names n)) (bytes_eq (name_of x) n) beside in
+    ap (λ l. is_some (key_of l n)) pushed ∙ ap is_some (key_of-bind x names n (none_there (key_of names (name_of x)) free))
+    ∙ ap (λ b. is_some (cond b (Some x.key) (key_of names n))) parts.1 ∙ parts.0 where
+      neither : (a b : Bool) → (a || b) ≡ false → (a ≡ false) × (b ≡ false)
+      neither false b none = (refl, none)
+      neither true b none = absurd (cc)
 
-    module _ (free : is_some (key_of e.nodes name) ≡ false) where
-      no_own_cause : own_cause (stage_of e) (open_node name site kind) ≡ None
-      no_own_cause =
-          let named = facts.named in
-          let is_free = is_bound-nodes e.nodes name ∙ free in
-          rw (named, is_free) refl
+pub named_bound : (names : List (Named Key)) (name : Option (String Global)) (made : Option Key)
+    → map node_binding (with_named names name made) ≡ with_connection (map node_binding names) (option_map string_bytes name) (option_map (λ k. k.number) made)
+named_bound names None None = refl
+named_bound names None (Some k) = refl
+named_bound names (Some n) None = refl
+named_bound names (Some n) (Some k) = map-append node_binding names _
 
-      abbrev asked : Request
-      asked = open_request e.book place kind
+pub all_named : (P : Key → Type 0) (names : List (Named Key)) (name : Option (String Global)) (made : Option Key) → All (λ n. P n.key) names → IfSome made P
+    → All (λ n. P n.key) (with_named names name made)
+all_named P names None None all here = all
+all_named P names None (Some k) all here = all
+all_named P names (Some n) None all here = all
+all_named P names (Some n) (Some k) all here = All-push (λ n. P n.key) names (record { name = n; key = k }) all here
 
-      agrees : Agrees e.book asked (stage_of e) (open_node name site kind)
-      agrees = record {
-        called = ap (option_map (λ p. Opening p kind)) facts.placed;
-        same = first_cause-by_key (is_known_place e.book.keys place) (causes e.book.history e.book.limit true (Opening (place_of place) kind)) facts.gone;
-      }
-
-      pub open_refused : (book : State) (why : Refusal) → book ≡ e.book → IsRefusal (stands e.book (open_request e.book place kind)) why → why ≢ NoMemory
-          → Carries e (open_node name site kind) (Refused (Book why)) (with e book e.stock)
-      open_refused book why same refusal other =
-          refused_there e (open_node name site kind) asked why book e.stock sound same refl no_own_cause agrees (cause_of (stands e.book asked) why refusal other)
-
-      pub open_accepted : (new : Engine R) (x : Named Key) → IsPromised new.book → Accepts e.book (open_request e.book place kind) new.book
-          → x.key.number ≡ length e.book.history → IsTrue (has_key new.book.keys x.key) → name_of x ≡ name → new.nodes ≡ e.nodes ++ x ∷ [] → new.resources ≡ e.resources → new.stock.wares ≡ e.stock.wares → new.faults ≡ e.faults
-          → Carries e (open_node name site kind) Accepted new
-      open_accepted new x kept accepts number listed same_name pushed same_resources same_stock same_faults =
-          let goes = accepted_continues e.book new.book asked accepts in
-          accepted_to e new (open_node name site kind) asked sound kept no_own_cause agrees accepts
-          (same_stage new.book.history _ _ _ _ _ _ (nodes_bound e.nodes new.nodes x (length e.book.history) pushed number ∙ ap (λ n. with_binding (map node_binding e.nodes) n (length e.book.history)) same_name) (ap (map res_binding) same_resources) same_stock)
-          (all_pushed (λ n. IsNodeKey new.book n.key) e.nodes new.nodes x pushed (node_keys_kept e.book new.book e.nodes sound.kept kept goes sound.nodes) (new_node_key e.book new.book asked x.key accepts number (omega arith) listed))
-          (subst (All (λ n. IsHeldKey new.book n.key)) (sym same_resources) (held_keys_kept e.book new.book e.resources sound.kept kept goes sound.resources))
-          same_faults
+-- a connection that was forced is a node of the history
+pub forced_node_key : (old new : State) (made : Option Key) {key : Key} → IsOpened old new (record { key = key; connected = made }) → IfSome made (IsNodeKey new)
+forced_node_key old new None opened = tt
+forced_node_key old new (Some k) opened =
+    let place = length old.history + 1 in
+    let by_test : (b : Bool) → at makes_connection new.history place ≡ b → Some k.number ≡ cond b (Some place) None → k.number < length new.history =
+    λ b. elim b as (λ b. at makes_connection new.history place ≡ b → Some k.number ≡ cond b (Some place) None → k.number < length new.history) [
+      | true ↦ λ is same. let number : k.number ≡ place = cc in let within = at_within makes_connection new.history place is in omega arith
+      | false ↦ λ is same. absurd (cc)
+    ] in
+    record {
+      within = by_test (at makes_connection new.history place) refl opened.connection;
+      found = λ open_now. has_key-contained new.keys k opened.connected;
+    }

@@ -1,7 +1,6 @@
 -- What is to come, seen as the definitions see it.
 use Rattle.std.proofs.Common.{◌≡◌, ◌+◌, ℕ, List, [], ◌∷◌, ◌++◌, true, false, map, option_map, string_bytes, String, Global, refl, ap, subst, ◌∙◌, arith}
 use Rattle.std.specs.Prelude.{Result, Ok, Err, OnOk, IfOk, Option, Some, None, IfSome, is_some, sum_by}
-use Rattle.std.specs.Str.{bytes_eq}
 use Rattle.std.specs.List.Sorted.{IsPermutation}
 use Rattle.std.proofs.lemmas.List.{map-append}
 use Rattle.std.proofs.lemmas.List.Sorted.{sum_by-IsPermutation}
@@ -18,8 +17,8 @@ use Rattle.rx_script.specs.declared.names.Named.{Named}
 use Rattle.rx_script.specs.Names.{key_of}
 use Rattle.rx_script.specs.Stage.{bound}
 use Rattle.rx_script.specs.Agenda.{Agenda, with_label, with_step, with_steps, first_of_turn, next_step, without_ticket, Cancels, taken_off, none_waits}
-use Rattle.rx_script.specs.Engine.{label_binding, agenda_of, size_of}
-use Rattle.rx_script.proofs.Naming.{find-map}
+use Rattle.rx_script.specs.Engine.{number_binding, agenda_of, size_of}
+use Rattle.rx_script.proofs.Naming.{bound-numbers}
 
 pub OnOk-map : {T E A B : Type 0} (r : Result T E) → (A → B) → OnOk r A → OnOk r B
 OnOk-map (Ok x) f here = f here
@@ -31,22 +30,14 @@ IfOk-map (Err e) f here = here
 
 -- labels -------------------------------------------------------------------------------------------
 
-label_ticket : (o : Option (Named ℕ)) → option_map (λ b. b.number) (option_map label_binding o) ≡ option_map (λ n. n.key) o
-label_ticket None = refl
-label_ticket (Some n) = refl
-
-pub bound-labels : (names : List (Named ℕ)) (label : Name) → bound (map label_binding names) label ≡ key_of names label
-unfolding bound key_of
-bound-labels names label = ap (option_map (λ b. b.number)) (find-map (λ b. bytes_eq b.name label) label_binding names) ∙ label_ticket _
-
 pub with_label-bound : (names : List (Named ℕ)) (label : Name) (ticket : ℕ) → is_some (key_of names label) ≡ true
-    → map label_binding names ≡ with_label (Some label) ticket (map label_binding names)
-with_label-bound names label ticket there = rw (bound-labels names label, there) refl
+    → map number_binding names ≡ with_label (Some label) ticket (map number_binding names)
+with_label-bound names label ticket there = rw (bound-numbers names label, there) refl
 
 pub with_label-free : (names new : List (Named ℕ)) (label : String Global) (ticket : ℕ) → is_some (key_of names (string_bytes label)) ≡ false
     → new ≡ names ++ record { name = label; key = ticket } ∷ []
-    → map label_binding new ≡ with_label (Some (string_bytes label)) ticket (map label_binding names)
-with_label-free names new label ticket free pushed = rw (bound-labels names (string_bytes label), free, pushed) (map-append label_binding names _)
+    → map number_binding new ≡ with_label (Some (string_bytes label)) ticket (map number_binding names)
+with_label-free names new label ticket free pushed = rw (bound-numbers names (string_bytes label), free, pushed) (map-append number_binding names _)
 
 -- steps that are to come ---------------------------------------------------------------------------
 
@@ -99,19 +90,19 @@ size_left-taken old new step same =
 
 module _ (a : AgendaInCode) (label : Name) where
   pub cancel-unbound : key_of a.labels label ≡ None → Cancels (agenda_of a) label (Refused NoStep) (agenda_of a)
-  cancel-unbound free = none_waits (rw (bound-labels a.labels label, free) refl)
+  cancel-unbound free = none_waits (rw (bound-numbers a.labels label, free) refl)
 
   pub cancel-gone : (ticket : ℕ) (timeline : Schedule StepInCode) → key_of a.labels label ≡ Some ticket → item_of ticket a.timeline.work ≡ None
       → timeline ≡ a.timeline → Cancels (agenda_of a) label (Refused NoStep) (agenda_of (record { timeline = timeline; turn = a.turn; labels = a.labels }))
   cancel-gone ticket timeline known gone same =
-      rw same (none_waits (rw (bound-labels a.labels label, known, item_of-seen step_of ticket a.timeline.work, gone) refl))
+      rw same (none_waits (rw (bound-numbers a.labels label, known, item_of-seen step_of ticket a.timeline.work, gone) refl))
 
   pub cancel-taken : (ticket : ℕ) (step : StepInCode) (timeline : Schedule StepInCode) → key_of a.labels label ≡ Some ticket
       → item_of ticket a.timeline.work ≡ Some step
       → timeline ≡ record { clock = a.timeline.clock; tickets = a.timeline.tickets; work = without ticket a.timeline.work }
       → Cancels (agenda_of a) label Accepted (agenda_of (record { timeline = timeline; turn = a.turn; labels = a.labels }))
   cancel-taken ticket step timeline known waits taken =
-      let there : bound (map label_binding a.labels) label ≡ Some ticket = bound-labels a.labels label ∙ known in
+      let there : bound (map number_binding a.labels) label ≡ Some ticket = bound-numbers a.labels label ∙ known in
       let found : item_of ticket (map (entry_seen step_of) a.timeline.work) ≡ Some (step_of step) = item_of-seen step_of ticket a.timeline.work
       ∙ ap (option_map step_of) waits in
       let left : without_ticket ticket (agenda_of a) ≡ agenda_of (record { timeline = timeline; turn = a.turn; labels = a.labels }) =

@@ -1,6 +1,11 @@
 -- A scenario at work: what its parts stand for, and what they keep.
-use Rattle.std.specs.Prelude.{◌≡◌, ℕ, ◌+◌, ◌<◌, ◌≤◌, Option, Some, List, length, map, sum_by, IsTrue, option_map}
+use Rattle.std.specs.Prelude.{◌≡◌, ℕ, ◌+◌, ◌<◌, ◌≤◌, Bool, false, ◌||◌, Option, Some, List, [], ◌∷◌, ◌++◌, String, length, map, sum_by, IsTrue, is_some, option_map}
+use Rattle.std.specs.Str.{bytes_eq}
+use Rattle.std.specs.Option.{option_map_or}
+use Rattle.std.specs.declared.alloc.Global.{Global}
 use Rattle.std.specs.List.{All, Contains}
+use Rattle.rx_event.specs.declared.event.Kind.{Kind}
+use Rattle.rx_event.specs.declared.event.Kind.TheVariants.{Leaf, Pass, Flat, Switch, Until, Sub}
 use Rattle.rx_event.specs.Tree.{is_open}
 use Rattle.rx_event.specs.Resources.{is_held}
 use Rattle.rx_event.specs.Totals.{taken_count}
@@ -16,7 +21,7 @@ use Rattle.rx_script.specs.declared.agenda.Agenda.{Agenda as AgendaInCode}
 use Rattle.rx_time.specs.Schedule.{seen_as, items_of}
 use Rattle.rx_scenario.specs.declared.scenario.Action.{Action as ActionInCode}
 use Rattle.rx_scenario.specs.declared.scenario.Step.{Step as StepInCode}
-use Rattle.rx_scenario.specs.Scenario.{Site, root, source, inner, notifier, Command, action_of, list_of, step_of, labels_of}
+use Rattle.rx_scenario.specs.Scenario.{Name, Site, root, source, inner, notifier, Sort, leaf, pass, flat, switch, until, sub, Command, action_of, list_of, step_of, labels_of}
 use Rattle.rx_script.specs.Names.{name_of, key_of}
 use Rattle.rx_script.specs.Stage.{Binding, Stage}
 use Rattle.rx_script.specs.Agenda.{Agenda, followed_by}
@@ -30,6 +35,10 @@ node_binding n = record { name = name_of n; number = n.key.number }
 abbrev pub res_binding : Named ResKey → Binding
 res_binding n = record { name = name_of n; number = n.key.number }
 
+-- a hub, and a label too, stands for a number
+abbrev pub number_binding : Named ℕ → Binding
+number_binding n = record { name = name_of n; number = n.key }
+
 -- where a node is to be opened, by keys
 abbrev pub at_of : List (Named Key) → Site → Option At
 at_of names root = Some AtRoot
@@ -37,11 +46,33 @@ at_of names (source name) = option_map AtSource (key_of names name)
 at_of names (inner name) = option_map AtInner (key_of names name)
 at_of names (notifier name) = option_map AtNotifier (key_of names name)
 
+-- the kind of node that is to be opened, by the numbers of hubs
+abbrev pub kind_of : List (Named ℕ) → Sort → Option Kind
+kind_of names leaf = Some Leaf
+kind_of names pass = Some Pass
+kind_of names flat = Some Flat
+kind_of names switch = Some Switch
+kind_of names until = Some Until
+kind_of names (sub hub connection) = option_map Sub (key_of names hub)
+
+-- a name for a connection, where there is one, is bound
+abbrev pub is_taken : List (Named Key) → Option Name → Bool
+is_taken names name = option_map_or (λ n. is_some (key_of names n)) name false
+
+-- or is this one, which another node is to get before
+abbrev pub is_taken_beside : List (Named Key) → Name → Option Name → Bool
+is_taken_beside names node name = option_map_or (λ n. is_some (key_of names n) || bytes_eq node n) name false
+
+-- a connection that was made gets its name, where there are both
+abbrev pub with_named : List (Named Key) → Option (String Global) → Option Key → List (Named Key)
+with_named names (Some name) (Some key) = names ++ record { name = name; key = key } ∷ []
+with_named names _ _ = names
+
 -- the engine ---------------------------------------------------------------------------------------
 
 -- the stage that an engine is at
 abbrev pub stage_of : {R : Type 0} → Engine R → Stage
-stage_of e = record { history = e.book.history; nodes = map node_binding e.nodes; resources = map res_binding e.resources; stock = e.stock.wares }
+stage_of e = record { history = e.book.history; nodes = map node_binding e.nodes; hubs = map number_binding e.hubs; resources = map res_binding e.resources; stock = e.stock.wares }
 
 -- a key that a book gave: it is the key of its node as long as that is open
 pub record IsNodeKey (s : State) (k : Key) : Type 0 where
@@ -68,12 +99,9 @@ pub record Carries {R : Type 0} (old : Engine R) (step : Command) (answer : Answ
 
 -- the agenda ---------------------------------------------------------------------------------------
 
-abbrev pub label_binding : Named ℕ → Binding
-label_binding n = record { name = name_of n; number = n.key }
-
 -- the agenda that the code's one is
 abbrev pub agenda_of : AgendaInCode → Agenda
-agenda_of a = record { timeline = seen_as step_of a.timeline; turn = map step_of a.turn; labels = map label_binding a.labels }
+agenda_of a = record { timeline = seen_as step_of a.timeline; turn = map step_of a.turn; labels = map number_binding a.labels }
 
 -- how many steps are to come, with those that may follow them
 abbrev pub size_of : StepInCode → ℕ

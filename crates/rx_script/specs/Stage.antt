@@ -4,15 +4,18 @@ use Rattle.std.specs.Str.{bytes_eq}
 use Rattle.std.specs.Option.{option_map_or}
 use Rattle.rx_event.specs.declared.event.Place.{Place}
 use Rattle.rx_event.specs.declared.event.Place.TheVariants.{Root, Source, Inner, Notifier}
+use Rattle.rx_event.specs.declared.event.Kind.{Kind}
+use Rattle.rx_event.specs.declared.event.Kind.TheVariants.{Leaf, Pass, Flat, Switch, Until, Sub}
 use Rattle.rx_event.specs.declared.event.Event.{Event}
-use Rattle.rx_event.specs.Calls.{Call, Opening, OpeningUsing, Holding, Applying, Removing, Emitting, Ending, Aborting, Declining, Failing, Disposing}
+use Rattle.rx_event.specs.Calls.{Call, Opening, OpeningUsing, Holding, Applying, Removing, Emitting, Ending, Aborting, Declining, Failing, Disposing, Publishing, Connecting, Disconnecting}
 use Rattle.rx_resource.specs.declared.Resource.{Ghosts}
 use Rattle.rx_book.specs.Requests.{is_fresh_in}
+use Rattle.rx_book.specs.Answers.{connection_made}
 use Rattle.rx_script.specs.declared.answer.Cause.{Cause}
 use Rattle.rx_script.specs.declared.answer.Cause.TheVariants.{NoName, NameTaken, NoStock}
-use Rattle.rx_scenario.specs.Scenario.{Name, Site, root, source, inner, notifier, Command, using, open_node, hold, apply, remove, next, end, abort, decline, fail, dispose, drain}
+use Rattle.rx_scenario.specs.Scenario.{Name, Site, root, source, inner, notifier, Sort, leaf, pass, flat, switch, until, sub, Command, using, open_node, hold, apply, remove, next, end, abort, decline, fail, dispose, make_hub, connect, disconnect, drain}
 
--- a name, and the number of the node or resource that it stands for
+-- a name, and the number of the node, hub or resource that it stands for
 pub record Binding : Type 0 where
   pub name : Name
   pub number : ℕ
@@ -26,16 +29,17 @@ pub record Ware : Type 0 where
 abbrev pub ware_of : {T : Type 0} → Ghosts T → T → Ware
 ware_of g x = record { tag = g.tag_of x; is_fresh = is_fresh_in g x }
 
--- what has happened, what the names of nodes and of resources stand for, in order of binding, and what is left of the stock
+-- what has happened, what the names of nodes, of hubs and of resources stand for, in order of binding, and what is left of the stock
 pub record Stage : Type 0 where
   pub history : List Event
   pub nodes : List Binding
+  pub hubs : List Binding
   pub resources : List Binding
   pub stock : List Ware
 
 -- before the first step
 abbrev pub start : List Ware → Stage
-start stock = record { history = []; nodes = []; resources = []; stock = stock }
+start stock = record { history = []; nodes = []; hubs = []; resources = []; stock = stock }
 
 -- what a name stands for
 unfoldable pub bound : List Binding → Name → Option ℕ
@@ -55,10 +59,15 @@ is_unbound_site s (source name) = is_unbound s.nodes name
 is_unbound_site s (inner name) = is_unbound s.nodes name
 is_unbound_site s (notifier name) = is_unbound s.nodes name
 
+-- a subscriber is opened by the name of its hub
+abbrev pub is_unbound_hub : Stage → Sort → Bool
+is_unbound_hub s (sub hub connection) = is_unbound s.hubs hub
+is_unbound_hub s _ = false
+
 -- it uses a name that is not bound
 abbrev pub lacks_name : Stage → Command → Bool
 lacks_name s (using name site res) = is_unbound_site s site
-lacks_name s (open_node name site kind) = is_unbound_site s site
+lacks_name s (open_node name site sort) = is_unbound_site s site || is_unbound_hub s sort
 lacks_name s (hold node res) = is_unbound s.nodes node
 lacks_name s (apply res word) = is_unbound s.resources res
 lacks_name s (remove res) = is_unbound s.resources res
@@ -68,12 +77,20 @@ lacks_name s (abort node code) = is_unbound s.nodes node
 lacks_name s (decline node) = is_unbound s.nodes node
 lacks_name s (fail node code) = is_unbound s.nodes node
 lacks_name s (dispose node) = is_unbound s.nodes node
+lacks_name s (make_hub name mode) = false
+lacks_name s (connect hub name) = is_unbound s.hubs hub
+lacks_name s (disconnect hub) = is_unbound s.hubs hub
 lacks_name s drain = false
 
--- it would bind a name that is bound; nodes and resources have a space of names each
+-- the name for the connection that the opening of a subscriber makes, if it is given one
+abbrev pub connection_name : Sort → Option Name
+connection_name (sub hub connection) = connection
+connection_name _ = None
+
+-- it would bind a name that is bound, or one name twice; nodes, hubs and resources have a space of names each
 abbrev pub takes_name : Stage → Command → Bool
 takes_name s (using name site res) = is_bound s.nodes name || is_bound s.resources res
-takes_name s (open_node name site kind) = is_bound s.nodes name
+takes_name s (open_node name site sort) = is_bound s.nodes name || option_map_or (λ c. is_bound s.nodes c || bytes_eq name c) (connection_name sort) false
 takes_name s (hold node res) = is_bound s.resources res
 takes_name s (apply res word) = false
 takes_name s (remove res) = false
@@ -83,6 +100,9 @@ takes_name s (abort node code) = false
 takes_name s (decline node) = false
 takes_name s (fail node code) = false
 takes_name s (dispose node) = false
+takes_name s (make_hub name mode) = is_bound s.hubs name
+takes_name s (connect hub name) = option_map_or (is_bound s.nodes) name false
+takes_name s (disconnect hub) = false
 takes_name s drain = false
 
 abbrev pub is_empty : List Ware → Bool
@@ -92,7 +112,7 @@ is_empty (ware ∷ stock) = false
 -- it takes a resource of the stock, and none is left
 abbrev pub lacks_stock : Stage → Command → Bool
 lacks_stock s (using name site res) = is_empty s.stock
-lacks_stock s (open_node name site kind) = false
+lacks_stock s (open_node name site sort) = false
 lacks_stock s (hold node res) = is_empty s.stock
 lacks_stock s (apply res word) = false
 lacks_stock s (remove res) = false
@@ -102,6 +122,9 @@ lacks_stock s (abort node code) = false
 lacks_stock s (decline node) = false
 lacks_stock s (fail node code) = false
 lacks_stock s (dispose node) = false
+lacks_stock s (make_hub name mode) = false
+lacks_stock s (connect hub name) = false
+lacks_stock s (disconnect hub) = false
 lacks_stock s drain = false
 
 -- the first of these that stands
@@ -120,6 +143,15 @@ place_at s (source name) = option_map Source (bound s.nodes name)
 place_at s (inner name) = option_map Inner (bound s.nodes name)
 place_at s (notifier name) = option_map Notifier (bound s.nodes name)
 
+-- the kind of the node, with a hub's number in place of its name
+abbrev pub kind_at : Stage → Sort → Option Kind
+kind_at s leaf = Some Leaf
+kind_at s pass = Some Pass
+kind_at s flat = Some Flat
+kind_at s switch = Some Switch
+kind_at s until = Some Until
+kind_at s (sub hub connection) = option_map Sub (bound s.hubs hub)
+
 -- the next resource of the stock
 abbrev pub front : Stage → Option Ware
 front s = slice_get s.stock 0
@@ -130,7 +162,7 @@ front_is_fresh s = option_map_or (λ w. w.is_fresh) (front s) true
 -- the call that a step makes, with numbers in place of names
 abbrev pub call_of : Stage → Command → Option Call
 call_of s (using name site res) = option_and_then (λ place. option_map (λ w. OpeningUsing place w.tag) (front s)) (place_at s site)
-call_of s (open_node name site kind) = option_map (λ place. Opening place kind) (place_at s site)
+call_of s (open_node name site sort) = option_and_then (λ place. option_map (Opening place) (kind_at s sort)) (place_at s site)
 call_of s (hold node res) = option_and_then (λ n. option_map (λ w. Holding n w.tag) (front s)) (bound s.nodes node)
 call_of s (apply res word) = option_map Applying (bound s.resources res)
 call_of s (remove res) = option_map Removing (bound s.resources res)
@@ -140,6 +172,9 @@ call_of s (abort node code) = option_map (λ n. Aborting n code) (bound s.nodes 
 call_of s (decline node) = option_map Declining (bound s.nodes node)
 call_of s (fail node code) = option_map (λ n. Failing n code) (bound s.nodes node)
 call_of s (dispose node) = option_map Disposing (bound s.nodes node)
+call_of s (make_hub name mode) = Some (Publishing mode)
+call_of s (connect hub name) = option_map Connecting (bound s.hubs hub)
+call_of s (disconnect hub) = option_map Disconnecting (bound s.hubs hub)
 call_of s drain = None
 
 -- what follows -------------------------------------------------------------------------------------
@@ -147,18 +182,26 @@ call_of s drain = None
 abbrev pub with_binding : List Binding → Name → ℕ → List Binding
 with_binding bindings name number = bindings ++ (record { name = name; number = number }) ∷ []
 
--- after an accepted step that took the history to k: a node is numbered by the place of its opening, and a resource by the
--- place of its acceptance
+-- a connection that was made gets its name, where there are both
+abbrev pub with_connection : List Binding → Option Name → Option ℕ → List Binding
+with_connection bindings (Some name) (Some number) = with_binding bindings name number
+with_connection bindings _ _ = bindings
+
+-- after an accepted step that took the history to k: a node or a hub is numbered by the place of the event that made it, and a
+-- resource by the place of its acceptance. The connection of a subscriber's hub is named where the history has made one
 abbrev pub after : Stage → Command → List Event → Stage
-after s (using name site res) k = record { history = k; nodes = with_binding s.nodes name (length s.history); resources = with_binding s.resources res (length s.history + 1); stock = drop 1 s.stock }
-after s (open_node name site kind) k = record { history = k; nodes = with_binding s.nodes name (length s.history); resources = s.resources; stock = s.stock }
-after s (hold node res) k = record { history = k; nodes = s.nodes; resources = with_binding s.resources res (length s.history); stock = drop 1 s.stock }
-after s (apply res word) k = record { history = k; nodes = s.nodes; resources = s.resources; stock = s.stock }
-after s (remove res) k = record { history = k; nodes = s.nodes; resources = s.resources; stock = s.stock }
-after s (next node value) k = record { history = k; nodes = s.nodes; resources = s.resources; stock = s.stock }
-after s (end node t) k = record { history = k; nodes = s.nodes; resources = s.resources; stock = s.stock }
-after s (abort node code) k = record { history = k; nodes = s.nodes; resources = s.resources; stock = s.stock }
-after s (decline node) k = record { history = k; nodes = s.nodes; resources = s.resources; stock = s.stock }
-after s (fail node code) k = record { history = k; nodes = s.nodes; resources = s.resources; stock = s.stock }
-after s (dispose node) k = record { history = k; nodes = s.nodes; resources = s.resources; stock = s.stock }
-after s drain k = record { history = k; nodes = s.nodes; resources = s.resources; stock = s.stock }
+after s (using name site res) k = record s { history = k; nodes = with_binding s.nodes name (length s.history); resources = with_binding s.resources res (length s.history + 1); stock = drop 1 s.stock }
+after s (open_node name site sort) k = record s { history = k; nodes = with_connection (with_binding s.nodes name (length s.history)) (connection_name sort) (connection_made s.history k) }
+after s (hold node res) k = record s { history = k; resources = with_binding s.resources res (length s.history); stock = drop 1 s.stock }
+after s (apply res word) k = record s { history = k }
+after s (remove res) k = record s { history = k }
+after s (next node value) k = record s { history = k }
+after s (end node t) k = record s { history = k }
+after s (abort node code) k = record s { history = k }
+after s (decline node) k = record s { history = k }
+after s (fail node code) k = record s { history = k }
+after s (dispose node) k = record s { history = k }
+after s (make_hub name mode) k = record s { history = k; hubs = with_binding s.hubs name (length s.history) }
+after s (connect hub name) k = record s { history = k; nodes = with_connection s.nodes name (Some (length s.history)) }
+after s (disconnect hub) k = record s { history = k }
+after s drain k = record s { history = k }

@@ -3,7 +3,7 @@
 ghost use Rattle.std.specs.Prelude.{◌≡◌, ◌+◌, ◌≤◌, Some, None, map, sum_by, option_map, string_bytes, OnOk, IfSome, IfNone};
 ghost use Rattle.rx_scenario.specs.Scenario.{step_of};
 ghost use Rattle.rx_script.specs.Agenda.{empty_agenda, with_label, with_step_after, with_step, with_steps, followed_by, next_step, Cancels};
-ghost use Rattle.rx_script.specs.Engine.{label_binding, agenda_of, size_of, size_left};
+ghost use Rattle.rx_script.specs.Engine.{number_binding, agenda_of, size_of, size_left};
 
 use crate::answer::{Answer, Cause};
 use crate::names::Names;
@@ -39,8 +39,8 @@ fn note_label(
     label: Option<String>,
     ticket: Ticket,
 ) -> Result<(), AllocError>
-    ensures { OnOk result (map label_binding labels.new
-        ≡ with_label (option_map string_bytes label) ticket (map label_binding labels.old)) }
+    ensures { OnOk result (map number_binding labels.new
+        ≡ with_label (option_map string_bytes label) ticket (map number_binding labels.old)) }
 {
     let Some(label) = label else {
         return Ok(());

@@ -8,7 +8,8 @@ ghost use Rattle.rx_script.specs.Engine.{stage_of, progress_of, IsSound, Perform
 
 use crate::agenda::{Agenda, add_all, cancel, empty_agenda, follow, next_step};
 use crate::answer::Answer;
-use crate::engine::{Engine, execute};
+use crate::engine::Engine;
+use crate::execute::execute;
 use rx_resource::Resource;
 use rx_scenario::{Action, Step};
 use std::alloc::{AllocError, Global};

@@ -4,7 +4,7 @@ ghost use Rattle.std.specs.Prelude.{◌≡◌, ◌≢◌, ◌≤◌, map, string
 ghost use Rattle.rx_event.specs.declared.refusal.Refusal.{Refusal};
 ghost use Rattle.rx_script.specs.declared.answer.Answer.{Answer};
 ghost use Rattle.rx_script.specs.declared.answer.Cause.{Cause};
-ghost use Rattle.rx_scenario.specs.Scenario.{site_of, command_of, using, open_node, hold as holding, apply as applying, remove as removing, next as emitting, end as ending, abort as aborting, decline as declining, fail as failing, dispose as disposing, drain as draining};
+ghost use Rattle.rx_scenario.specs.Scenario.{site_of, using, hold as holding, apply as applying, remove as removing, next as emitting, end as ending, abort as aborting, decline as declining, fail as failing, dispose as disposing, drain as draining};
 ghost use Rattle.rx_script.specs.Stage.{start, ware_of};
 ghost use Rattle.rx_script.specs.Engine.{at_of, stage_of, IsSound, Carries};
 
@@ -12,17 +12,18 @@ use crate::answer::{Answer, Cause};
 use crate::names::Names;
 use crate::stock::Stock;
 use rx_book::{At, Book, Key, ResKey};
-use rx_event::{Kind, Refusal, Terminal};
+use rx_event::{Refusal, Terminal};
 use rx_resource::Resource;
-use rx_scenario::{Command, Site};
+use rx_scenario::Site;
 use std::alloc::{AllocError, Global};
 
-/// A book, the names of its nodes and of its resources in order of binding, the stock that is
-/// left, and how many releases have met a fault.
+/// A book, the names of its nodes, of its hubs and of its resources in order of binding, the stock
+/// that is left, and how many releases have met a fault. A hub goes by its number.
 #[derive(Drop)]
 pub struct Engine<R: Resource> {
     pub book: Book<R>,
     pub nodes: Names<Key>,
+    pub hubs: Names<u64>,
     pub resources: Names<ResKey>,
     pub stock: Stock<R>,
     pub faults: u64,
@@ -41,6 +42,7 @@ pub fn begin<R: Resource>(alloc: Global, max_events: u64, stock: Vec<R>) -> Engi
     Engine {
         book,
         nodes: Names::new(alloc),
+        hubs: Names::new(alloc),
         resources: Names::new(alloc),
         stock: Stock::new(stock),
         faults: 0,
@@ -226,32 +228,6 @@ pub fn dispose<R: Resource>(engine: &mut Engine<R>, node: &str) -> Result<Answer
     }
 }
 
-/// A node is opened.
-pub fn open<R: Resource>(
-    engine: &mut Engine<R>,
-    name: String,
-    site: &Site,
-    kind: Kind,
-) -> Result<Answer, AllocError>
-    requires { IsSound engine.old }
-    ensures { IfOk result (λ a. Carries engine.old (open_node (string_bytes name) (site_of site.now) kind) a engine.new) }
-{
-    let Some(place) = place_of(&engine.nodes, site) else {
-        return Ok(Answer::Refused(Cause::NoName));
-    };
-    if engine.nodes.is_bound(name.as_str()) {
-        return Ok(Answer::Refused(Cause::NameTaken));
-    }
-    match engine.book.open(place, kind) {
-        Ok(opened) => {
-            engine.book.promise();
-            engine.nodes.bind(name, opened.key)?;
-            Ok(Answer::Accepted)
-        }
-        Err(why) => refused(why),
-    }
-}
-
 /// A mirroring node is opened with the first resource of the stock.
 pub fn using<R: Resource>(
     engine: &mut Engine<R>,
@@ -327,28 +303,4 @@ pub fn drain<R: Resource>(engine: &mut Engine<R>)
     let closed = engine.book.release_waiting();
     engine.book.promise();
     engine.faults = engine.faults.saturating_add(closed.faults);
-}
-
-/// Carries out one command. Err where memory was refused; then the scenario goes no further.
-pub fn execute<R: Resource>(engine: &mut Engine<R>, command: Command) -> Result<Answer, AllocError>
-    requires { IsSound engine.old }
-    ensures { IfOk result (λ a. Carries engine.old (command_of command) a engine.new) }
-{
-    match command {
-        Command::Using { name, place, res } => using(engine, name, &place, res),
-        Command::Open { name, place, kind } => open(engine, name, &place, kind),
-        Command::Hold { node, res } => hold(engine, node.as_str(), res),
-        Command::Apply { res, word } => apply(engine, res.as_str(), word),
-        Command::Remove { res } => remove(engine, res.as_str()),
-        Command::Next { node, value } => next(engine, node.as_str(), value),
-        Command::End { node, terminal } => end(engine, node.as_str(), terminal),
-        Command::Abort { node, code } => abort(engine, node.as_str(), code),
-        Command::Decline { node } => decline(engine, node.as_str()),
-        Command::Fail { node, code } => fail(engine, node.as_str(), code),
-        Command::Dispose { node } => dispose(engine, node.as_str()),
-        Command::Drain => {
-            drain(engine);
-            Ok(Answer::Accepted)
-        }
-    }
 }

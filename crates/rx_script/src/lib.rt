@@ -7,10 +7,11 @@
 //!
 //! # Vocabulary
 //!
-//! - A step goes by names: it binds names to the nodes that it opens and the resources that it hands in,
-//!   which are taken from the **stock**, first to last. Nodes and resources have a space of names each.
-//!   A step that is **refused** changes nothing and binds nothing, and its resource goes back to the
-//!   front of the stock.
+//! - A step goes by names: it binds names to the nodes that it opens, the hubs that it makes and the
+//!   resources that it hands in, which are taken from the **stock**, first to last. Nodes, hubs and
+//!   resources have a space of names each. A **connection** is a node; it is named where a step gives a
+//!   name for it and makes it. A step that is **refused** changes nothing and binds nothing, and its
+//!   resource goes back to the front of the stock.
 //! - Steps come in virtual time (`rx_time`): each at the time that it waits for, those of one time in the
 //!   order in which they were scheduled. The one that is due begins a **turn**, in which the steps that
 //!   follow it without a delay come behind each other, and the next turn begins when this one is over.
@@ -44,10 +45,14 @@
 mod agenda;
 mod answer;
 mod closing;
+mod connection;
 mod course;
 mod engine;
+mod execute;
+mod hubs;
 mod line;
 mod names;
+mod opening;
 mod report;
 mod running;
 mod stock;

@@ -41,10 +41,10 @@ const NO_SCENARIOS: [&str; 14] = [
     "{\"steps\":[{\"do\":\"drain\",\"label\":\"x\"},{\"do\":\"drain\",\"label\":\"x\"}]}",
     "{\"steps\":[{\"do\":\"drain\",\"label\":\"x\",\"then\":[{\"do\":\"drain\",\"then\":[{\"do\":\"drain\",\"label\":\"x\"}]}]}]}",
     "{\"steps\":[{\"do\":\"drain\",\"then\":[{\"do\":\"drain\",\"label\":\"x\"}]},{\"do\":\"drain\",\"then\":[{\"do\":\"drain\",\"label\":\"x\"}]}]}",
-    "{\"steps\":[{\"do\":\"hub\",\"name\":\"h\",\"mode\":\"auto\"}]}",
-    "{\"steps\":[{\"do\":\"connect\",\"hub\":\"h\"}]}",
-    "{\"steps\":[{\"do\":\"disconnect\",\"hub\":\"h\"}]}",
-    "{\"steps\":[{\"do\":\"open\",\"name\":\"a\",\"place\":\"root\",\"kind\":\"sub\",\"hub\":\"h\"}]}",
+    "{\"steps\":[{\"do\":\"hub\",\"name\":\"h\"}]}",
+    "{\"steps\":[{\"do\":\"connect\",\"hub\":\"h\",\"name\":7}]}",
+    "{\"steps\":[{\"do\":\"disconnect\",\"hub\":\"h\",\"name\":\"c\"}]}",
+    "{\"steps\":[{\"do\":\"open\",\"name\":\"a\",\"place\":\"root\",\"kind\":\"leaf\",\"connection\":\"c\"}]}",
 ];
 
 #[test]

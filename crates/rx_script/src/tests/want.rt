@@ -31,6 +31,12 @@ const SCENARIO: &str = "{\"steps\":[
     {\"do\":\"fail\",\"node\":\"f\",\"error\":4},
     {\"do\":\"open\",\"name\":\"p\",\"place\":\"root\",\"kind\":\"pass\"},
     {\"do\":\"abort\",\"node\":\"p\",\"error\":6},
+    {\"do\":\"hub\",\"name\":\"h\",\"mode\":\"auto\"},
+    {\"do\":\"open\",\"name\":\"o\",\"place\":\"root\",\"kind\":\"sub\",\"hub\":\"h\",\"connection\":\"c\"},
+    {\"do\":\"open\",\"name\":\"e\",\"place\":\"source\",\"of\":\"c\",\"kind\":\"leaf\"},
+    {\"do\":\"next\",\"node\":\"e\",\"value\":7},
+    {\"do\":\"hub\",\"name\":\"m\",\"mode\":\"manual\"},
+    {\"do\":\"connect\",\"hub\":\"m\",\"name\":\"d\"},
     {\"do\":\"using\",\"name\":\"b\",\"place\":\"root\",\"res\":\"t\",\"then\":[
         {\"label\":\"x\",\"after\":5,\"do\":\"dispose\",\"node\":\"b\"},
         {\"do\":\"cancel\",\"step\":\"x\"}]}]}";
@@ -39,11 +45,12 @@ const REPORT: &str = "refused 5 NoName
 node a closed: next=5 completed
 node f closed: project=1 project=2 project=3 error=4
 node p closed: error=6
+node o open: next=7
 node b open:
 res r tag=0 uses=0 waiting
 res s tag=1 uses=1 waiting
 res t tag=2 uses=0 held
-totals nodes=7 open=1 accepted=3 held=1 waiting=2 taken=0
+totals nodes=11 open=5 accepted=3 held=1 waiting=2 taken=0
 closed 3 faults 0
 ";
 

@@ -1,6 +1,5 @@
 use Rattle.std.proofs.Common.{◌∙◌, map, filter, ap}
 use Rattle.std.specs.Prelude.{◌==◌}
-use Rattle.rx_event.specs.Notes.{notes}
 use Rattle.rx_script.proofs.tallies.tally.Goals as goal
 
 pub returns : goal.returns
