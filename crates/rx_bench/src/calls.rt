@@ -3,8 +3,8 @@
 ghost use Rattle.std.specs.Prelude.{◌<◌, ◌^◌};
 
 use crate::done::Halt;
-use rx_book::{At, Book, Key, Refused, ResKey};
-use rx_event::{Kind, Refusal};
+use rx_book::{At, Book, Key, Opened, Refused, ResKey};
+use rx_event::{Kind, Mode, Refusal};
 use rx_note::{Note, Terminal};
 use rx_resource::Sample;
 
@@ -20,6 +20,22 @@ fn refused(why: Refusal) -> Halt {
 pub fn open(book: &mut Book<Sample>, at: At, kind: Kind) -> Result<Key, Halt> {
     match book.open(at, kind) {
         Ok(opened) => Ok(opened.key),
+        Err(why) => Err(refused(why)),
+    }
+}
+
+/// Makes a hub that is connected while it has subscribers.
+pub fn make_hub(book: &mut Book<Sample>) -> Result<u64, Halt> {
+    match book.hub(Mode::Auto) {
+        Ok(hub) => Ok(hub),
+        Err(why) => Err(refused(why)),
+    }
+}
+
+/// Subscribes to a hub at a root.
+pub fn subscribe(book: &mut Book<Sample>, hub: u64) -> Result<Opened, Halt> {
+    match book.open(At::Root, Kind::Sub(hub)) {
+        Ok(opened) => Ok(opened),
         Err(why) => Err(refused(why)),
     }
 }
@@ -87,6 +103,16 @@ pub fn told(book: &mut Book<Sample>, number: u64) -> Result<(), Halt>
     requires { number < 2 ^ 63 }
 {
     take_note(book, Note::Next(number as i64))
+}
+
+/// Takes the next note, which is to tell this root of this item.
+pub fn told_at(book: &mut Book<Sample>, root: Key, number: u64) -> Result<(), Halt>
+    requires { number < 2 ^ 63 }
+{
+    match book.take_mail() {
+        Some(mail) if mail.to == root.number && mail.note == Note::Next(number as i64) => Ok(()),
+        _ => Err(Halt::Refused),
+    }
 }
 
 /// Takes the next note, which is to be this item for a FlatMap to project.

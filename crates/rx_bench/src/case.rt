@@ -22,6 +22,8 @@ pub enum Case {
     Chain,
     /// Nodes of a tree that come and go below one that has others.
     Inner,
+    /// Observers of a book that share one source through a hub.
+    Share,
     /// Resources at one node of a book.
     Hold,
     /// A scenario in JSON, run over memory.
@@ -42,6 +44,7 @@ impl Case {
             Case::Items => "items",
             Case::Chain => "chain",
             Case::Inner => "inner",
+            Case::Share => "share",
             Case::Hold => "hold",
             Case::Scenario => "scenario",
             Case::Storm => "storm",
@@ -54,7 +57,7 @@ impl Case {
     {
         match self {
             Case::Timeline | Case::Trampoline | Case::Cycle | Case::Items => 10_000_000,
-            Case::Sorted | Case::Crowd | Case::Inner | Case::Hold => 1_000_000,
+            Case::Sorted | Case::Crowd | Case::Inner | Case::Share | Case::Hold => 1_000_000,
             Case::Chain => 100_000,
             Case::Scenario => 65_536,
             Case::Storm => 10_000,
@@ -73,6 +76,7 @@ pub fn case_named(word: &str) -> Option<Case> {
         "items" => Some(Case::Items),
         "chain" => Some(Case::Chain),
         "inner" => Some(Case::Inner),
+        "share" => Some(Case::Share),
         "hold" => Some(Case::Hold),
         "scenario" => Some(Case::Scenario),
         "storm" => Some(Case::Storm),

@@ -14,6 +14,7 @@ use crate::hold::run_hold;
 use crate::inner::run_inner;
 use crate::items::run_items;
 use crate::scenario::{Scenario, run_scenario};
+use crate::share::run_share;
 use crate::sorted::SortedList;
 use crate::storm::run_storm;
 use crate::times::{RUNS, Summary, summarize};
@@ -51,6 +52,7 @@ pub fn run<T: Threads + Wait + Sync>(
         Case::Items => run_items(alloc, request.size),
         Case::Chain => run_chain(alloc, request.size),
         Case::Inner => run_inner(alloc, request.size),
+        Case::Share => run_share(alloc, request.size),
         Case::Hold => run_hold(alloc, request.size),
         Case::Scenario => run_scenario(alloc, scenario, request.size),
         Case::Storm => run_storm(rt, alloc, request.size),

@@ -71,7 +71,7 @@ fn call<T: Threads + Wait + Sync>(rt: &T, alloc: Global, words: &[&str]) -> Left
 
 #[test]
 fn a_run_tells_its_work_and_its_times(rt: HostRuntime) {
-    let cases: [(&[&str], &str, &str); 12] = [
+    let cases: [(&[&str], &str, &str); 13] = [
         (
             &["rx_bench", "timeline", "1"],
             "timeline 1: 6 operations, mark 993\n",
@@ -116,6 +116,12 @@ fn a_run_tells_its_work_and_its_times(rt: HostRuntime) {
             &["rx_bench", "inner", "3"],
             "inner 3: 3 operations, mark 1026\n",
             "inner 3: median 800.0 ns, spread 1800.0 ns for each operation, of 5 runs\n",
+        ),
+        // The observers 1, 3 and 4 leave in that order, and of the next three, 11, 13 and 14, the newest first.
+        (
+            &["rx_bench", "share", "3"],
+            "share 3: 6 operations, mark 61116202\n",
+            "share 3: median 400.0 ns, spread 900.0 ns for each operation, of 5 runs\n",
         ),
         // The resources 1 and 3 are removed, and then 0 and 2 are closed with their node. The first that
         // waits is handed out first: 1, 3, 0, 2, whose mark is ((2 * 31 + 4) * 31 + 1) * 31 + 3.
