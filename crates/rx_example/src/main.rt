@@ -1,5 +1,5 @@
 //! A program of its own that keeps its subscriptions in a book: one with a file, from its opening to the
-//! release of the file, and one that it forgets, which the end of the session closes.
+//! release of the file, one that it forgets, which the end of the session closes, and two that share a source.
 #![tactic(auto)]
 
 mod file;
@@ -7,14 +7,14 @@ mod session;
 mod stopped;
 
 use rx_book::Book;
-use session::{Session, watch};
+use session::{Session, run};
 use stopped::Stopped;
 
 fn main(rt: HostRuntime) -> Result<(), Stopped> {
     let mut session = Session {
         book: Book::new(rt.alloc(), 1_000_000),
     };
-    let outcome = watch(&rt, &mut session.book);
+    let outcome = run(&rt, &mut session.book);
     let closed = session.end();
     println!(rt; "the end of the session releases {} more", closed.released)?;
     outcome
