@@ -39,9 +39,15 @@ fn sibling_ring(node: Node) -> Option<Place>
 /// What stands below a node is closed with it (Observable Contract: an end and an unsubscription stop
 /// the observable, and so all that it subscribed to), and what is held at it then waits for its
 /// release, as the resource of Using does.
-#[derive(Drop)]
 pub struct Tree<R: Resource> {
     store: Store<R>,
+}
+
+// Written out, so that where a tree is let go there is one call to prove, and not the drop of each field in turn.
+impl<R: Resource> Drop for Tree<R> {
+    fn drop(self) {
+        let Tree { store: _store } = self;
+    }
 }
 
 impl<R: Resource> Model for Tree<R> {
