@@ -19,7 +19,6 @@ use std::alloc::{AllocError, Global};
 
 /// A book, the names of its nodes, of its hubs and of its resources in order of binding, the stock
 /// that is left, and how many releases have met a fault. A hub goes by its number.
-#[derive(Drop)]
 pub struct Engine<R: Resource> {
     pub book: Book<R>,
     pub nodes: Names<Key>,
@@ -27,6 +26,20 @@ pub struct Engine<R: Resource> {
     pub resources: Names<ResKey>,
     pub stock: Stock<R>,
     pub faults: u64,
+}
+
+// Written out, so that where an engine is let go there is one call to prove, and not the drop of each field in turn.
+impl<R: Resource> Drop for Engine<R> {
+    fn drop(self) {
+        let Engine {
+            book: _book,
+            nodes: _nodes,
+            hubs: _hubs,
+            resources: _resources,
+            stock: _stock,
+            faults: _faults,
+        } = self;
+    }
 }
 
 /// Before the first step: an empty book of so many events at most, and this stock.
