@@ -2,7 +2,8 @@
 //!
 //! `rx_bench CASE SIZE` runs a case five times at a size. What was done goes to standard output:
 //! the operations, and a mark of all that came out, in its order. How long it took goes to standard
-//! error: the median and the spread of the five runs, as nanoseconds for each operation.
+//! error: the median and the spread of the five runs, as nanoseconds for each operation. `rx_bench all` runs
+//! each case once at a small size and writes what was done, and no time: that is what the gate compares.
 //!
 //! # Vocabulary
 //!
@@ -30,10 +31,10 @@
 //! - What was told was done: a run counts an operation with each value that came out, and the line
 //!   tells the count that the case states for its size. An agenda that is drained is empty.
 //! - The time of an operation is the time of the run, divided by that count.
-//! - Tested, and not proved: the words and their refusals, the lines and the statuses, the median and
-//!   the spread, the order in which items come out (by the mark), and that a book is left with the
-//!   events that the case states, with no open node and no resource that is held or waits: a run that
-//!   leaves another is refused.
+//! - Compared by the gate, and not proved: the order in which items come out (by the mark), and that a book
+//!   is left with the events that the case states, with no open node and no resource that is held or waits:
+//!   a run that leaves another is refused.
+//! - Neither proved nor tested: the words and their refusals, the median and the spread.
 //! - No time is promised.
 #![tactic(auto)]
 
@@ -55,8 +56,6 @@ mod scenario;
 mod share;
 mod sorted;
 mod storm;
-#[cfg(test)]
-mod tests;
 mod timeline;
 mod times;
 mod trampoline;

@@ -1,8 +1,10 @@
 //! The program over any streams and clock.
 
+use crate::case::Case;
 use crate::done::{Done, Halt};
-use crate::measure::{Measured, measure};
+use crate::measure::{Measured, measure, run};
 use crate::reading::request;
+use crate::scenario::Scenario;
 use crate::times::RUNS;
 use crate::words::{Fault, Request};
 use std::alloc::Global;
@@ -90,6 +92,52 @@ fn bench<T: Threads + Wait + Sync, C: Clock, O: Write>(
     Ok(measured)
 }
 
+/// Each case at a small size.
+const SMALL: [(Case, u64); 13] = [
+    (Case::Timeline, 1),
+    (Case::Timeline, 2),
+    (Case::Sorted, 2),
+    (Case::Trampoline, 1),
+    (Case::Cycle, 3),
+    (Case::Crowd, 3),
+    (Case::Items, 3),
+    (Case::Chain, 3),
+    (Case::Inner, 3),
+    // The observers 1, 3 and 4 leave in that order, and of the next three, 11, 13 and 14, the newest first.
+    (Case::Share, 3),
+    // The resources 1 and 3 are removed, and then 0 and 2 are closed with their node. The first that waits is
+    // handed out first: 1, 3, 0, 2, whose mark is ((2 * 31 + 4) * 31 + 1) * 31 + 3.
+    (Case::Hold, 4),
+    (Case::Scenario, 12),
+    // The mark of the figures: 64 accepted, taken and released, 128 notes, 448 events.
+    (Case::Storm, 1),
+];
+
+/// Whether the words are the program's name and `all`.
+fn are_all<S: AsStr>(words: &[S]) -> bool {
+    words.len() == 2 && words[1].as_str() == "all"
+}
+
+/// Runs each case once at a small size, and writes what was done.
+fn run_all<T: Threads + Wait + Sync, O: Write>(
+    rt: &T,
+    alloc: Global,
+    output: &mut O,
+) -> Result<(), Halt> {
+    for (case, size) in SMALL {
+        if size == 0 || size > case.most() {
+            return Err(Halt::Refused);
+        }
+        let request = Request { case, size };
+        let scenario = Scenario::of(alloc, request.steps())?;
+        let done = run(rt, alloc, request, scenario)?;
+        if write_done(output, request, done).is_err() {
+            return Err(Halt::Write);
+        }
+    }
+    Ok(())
+}
+
 /// Does what the words ask for, by this clock and over these streams, and answers the exit status.
 /// The first word is the program's name.
 ///
@@ -104,6 +152,15 @@ pub fn serve<T: Threads + Wait + Sync, S: AsStr, C: Clock, O: Write, E: Write>(
     output: &mut O,
     errors: &mut E,
 ) -> u8 {
+    if are_all(words) {
+        return match run_all(rt, alloc, output) {
+            Ok(()) => DONE,
+            Err(halt) => {
+                let _ = write_halt(errors, halt);
+                HALTED
+            }
+        };
+    }
     match request(words) {
         Ok(request) => match bench(rt, alloc, request, clock, output) {
             Ok(measured) => {
