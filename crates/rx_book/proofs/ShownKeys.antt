@@ -26,11 +26,9 @@ use Rattle.rx_book.specs.Requests.{place_of, is_known_place}
 use Rattle.rx_book.specs.Places.{key_above}
 use Rattle.rx_book.specs.Shown.{tree_key_of, tree_res_key_of, key_shown, keys_of, res_keys_of}
 use Rattle.rx_ground.proofs.Laws.Members.{Contains-map, Contains-from_map}
+use Rattle.rx_book.proofs.Laws.Keys.{Contains-has_key}
 
 -- keys here and there -----------------------------------------------------------------------------
-
-pub same_key : (j k : Key) → j.slot ≡ k.slot → j.number ≡ k.number → j ≡ k
-same_key j k slot number = λ i. record { slot = slot i; number = number i }
 
 pub same_res_key : (j k : ResKey) → j.slot ≡ k.slot → j.number ≡ k.number → j ≡ k
 same_res_key j k slot number = λ i. record { slot = slot i; number = number i }
@@ -46,13 +44,6 @@ pub has_key-Contains : (keys : List Key) (k : Key) → Contains keys k → has_k
 has_key-Contains keys k c =
     let itself = and_from _ _ (eq-eqb k.slot k.slot refl) (eq-eqb k.number k.number refl) in
     list_any_at (λ (j : Key). nat_eq j.slot k.slot && nat_eq j.number k.number) keys c.0 k c.1 (rw c.2 itself)
-
-pub Contains-has_key : (keys : List Key) (k : Key) → has_key keys k ≡ true → Contains keys k
-Contains-has_key keys k found =
-    let a = Any-from_list_any (λ (j : Key). nat_eq j.slot k.slot && nat_eq j.number k.number) keys found in
-    let parts = and_parts _ _ a.4 in
-    let same = same_key a.1 k (eqb-true a.1.slot k.slot parts.0) (eqb-true a.1.number k.number parts.1) in
-    subst (λ (j : Key). Contains keys j) same (a.0, a.2, a.3)
 
 pub has_res_key-Contains : (keys : List ResKey) (k : ResKey) → Contains keys k → has_res_key keys k ≡ true
 has_res_key-Contains keys k c =

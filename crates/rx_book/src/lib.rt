@@ -69,8 +69,6 @@ mod hubs;
 mod key;
 mod opening;
 mod place;
-#[cfg(test)]
-mod tests;
 
 pub use answer::{At, Opened, OpenedUsing, Refused};
 pub use book::Book;

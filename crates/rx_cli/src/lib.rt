@@ -55,8 +55,6 @@ mod program;
 mod request;
 mod statuses;
 mod telling;
-#[cfg(test)]
-mod tests;
 mod usage;
 mod word_laws;
 mod words;

@@ -2,5 +2,5 @@ mod Counted
 mod Ties
 mod Pulls
 mod Taken
-mod Agreed
+pub mod Laws
 pub mod Countable

@@ -28,8 +28,6 @@ mod desk;
 mod feeding;
 mod finishing;
 mod floor;
-#[cfg(test)]
-mod tests;
 mod working;
 
 pub use desk::Desk;

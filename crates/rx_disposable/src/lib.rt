@@ -48,10 +48,6 @@ mod group;
 mod members;
 mod serial;
 mod single;
-#[cfg(test)]
-mod tests;
-#[cfg(test)]
-mod uses;
 
 pub use back::{Back, Why};
 pub use counted::{Counted, Denied, MAX_LEASES, NoLease};

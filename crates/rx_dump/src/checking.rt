@@ -84,6 +84,3 @@ pub fn check<R: Read, W: Write>(
     }
     Ok(is_lawful(&verdict))
 }
-
-#[cfg(test)]
-mod tests;

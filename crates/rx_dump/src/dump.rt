@@ -119,6 +119,3 @@ pub fn push_dump(text: &mut String, history: &[Event]) -> Result<(), AllocError>
     push_events(text, history)?;
     text.push_str("]\n")
 }
-
-#[cfg(test)]
-mod tests;

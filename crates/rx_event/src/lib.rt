@@ -18,8 +18,6 @@ mod history;
 mod mail;
 mod marks;
 mod refusal;
-#[cfg(test)]
-mod tests;
 mod theorems;
 
 pub use event::{Event, Kind, Mode, Place};

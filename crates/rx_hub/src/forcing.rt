@@ -13,7 +13,7 @@ use rx_event::Mode;
 use rx_slots::Key;
 
 /// Which of a hub's rules are asked for.
-#[derive(Clone, Copy, Debug)]
+#[derive(Clone, Copy)]
 pub(crate) enum Rule {
     /// That it connects: before anything else.
     Connect,

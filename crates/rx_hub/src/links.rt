@@ -7,7 +7,7 @@ ghost use Rattle.rx_hub.specs.Rings.{link_at, set_link_at, next_of, previous_of,
 
 /// A place on a ring. A ring begins and ends at one of the first kind, and goes through places of the
 /// other between.
-#[derive(Clone, Copy, Debug, PartialEq, Eq)]
+#[derive(Clone, Copy, PartialEq, Eq)]
 pub(crate) enum Place {
     /// Where a ring begins and ends.
     End(usize),
@@ -16,7 +16,7 @@ pub(crate) enum Place {
 }
 
 /// What comes after a place on its ring, and what before.
-#[derive(Clone, Copy, Debug, PartialEq, Eq)]
+#[derive(Clone, Copy, PartialEq, Eq)]
 pub(crate) struct Link {
     pub(crate) next: Place,
     pub(crate) previous: Place,

@@ -21,7 +21,7 @@ use std::marker::Model;
 const MOST_VISITS: u64 = 1_048_576;
 
 /// A subscriber from which an item's way goes on, and its hub.
-#[derive(Clone, Copy, Debug)]
+#[derive(Clone, Copy)]
 pub(crate) struct Frame {
     /// The hub's number.
     pub(crate) hub: u64,

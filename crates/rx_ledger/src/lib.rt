@@ -27,8 +27,6 @@
 mod ledgers;
 mod receipt;
 mod seat;
-#[cfg(test)]
-mod tests;
 
 pub use ledgers::{Ledgers, Sums};
 pub use receipt::Receipt;

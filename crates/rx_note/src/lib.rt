@@ -11,8 +11,6 @@
 mod grammar;
 mod laws;
 mod note;
-#[cfg(test)]
-mod tests;
 
 pub use grammar::{AfterEnd, Grammar};
 pub use laws::accepted_whole;

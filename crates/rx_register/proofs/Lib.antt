@@ -1,3 +1,2 @@
 mod Written
-mod Examples
 pub mod Laws

@@ -20,8 +20,6 @@
 
 mod load;
 mod register;
-#[cfg(test)]
-mod tests;
 mod theorems;
 
 pub use load::Load;

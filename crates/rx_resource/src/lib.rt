@@ -33,8 +33,6 @@ ghost use Rattle.rx_resource.specs.declared.Life.{Life};
 
 mod release;
 mod sample;
-#[cfg(test)]
-mod tests;
 mod tracked;
 
 pub use release::{Handed, Released};

@@ -7,7 +7,7 @@ use std::marker::Model;
 
 /// A scenario: steps that wait for their times, how many events the book may have, and when time
 /// ends. Each step is in turn followed by others.
-#[derive(Debug, Drop)]
+#[derive(Drop)]
 pub struct Scenario {
     pub steps: Vec<Step>,
     pub events: u64,
@@ -15,7 +15,7 @@ pub struct Scenario {
 }
 
 /// A step of a scenario.
-#[derive(Debug, Drop)]
+#[derive(Drop)]
 pub struct Step {
     /// By what it can be cancelled; no other step has this label.
     pub label: Option<String>,
@@ -29,7 +29,7 @@ pub struct Step {
 }
 
 /// A time of a scenario, in ticks of virtual time: 0 to 1,000,000,000,000.
-#[derive(Clone, Copy, Debug)]
+#[derive(Clone, Copy)]
 pub struct Ticks {
     count: u64,
 }
@@ -70,7 +70,7 @@ impl Ticks {
 }
 
 /// What a step does.
-#[derive(Debug, Drop)]
+#[derive(Drop)]
 pub enum Action {
     /// It does something with the book.
     Command(Command),
@@ -79,7 +79,7 @@ pub enum Action {
 }
 
 /// What is done with a book. Nodes, hubs and resources go by the names that earlier steps gave them.
-#[derive(Debug, Drop)]
+#[derive(Drop)]
 pub enum Command {
     /// Opens a mirroring node with the first resource of the stock.
     Using {
@@ -154,7 +154,7 @@ pub enum Command {
 }
 
 /// Where a node is to be opened, by the name of the node above.
-#[derive(Debug, Drop)]
+#[derive(Drop)]
 pub enum Site {
     Root,
     Source(String),
@@ -165,7 +165,7 @@ pub enum Site {
 }
 
 /// What a node does that is to be opened.
-#[derive(Debug, Drop)]
+#[derive(Drop)]
 pub enum Sort {
     /// A source that the scenario drives.
     Leaf,

@@ -57,8 +57,6 @@ mod report;
 mod running;
 mod stock;
 mod tallies;
-#[cfg(test)]
-mod tests;
 mod text;
 
 pub use closing::close;

@@ -26,9 +26,6 @@ ghost use Rattle.std.specs.Prelude.{◌≡◌, ◌↔◌, IsTrue, ℕ, ◌+◌, 
 ghost use Rattle.std.specs.Option.{option_copied_mut};
 ghost use Rattle.std.specs.Borrow.{sem};
 
-#[cfg(test)]
-mod tests;
-
 use slab::Slab;
 use std::alloc::{AllocError, Global};
 use std::marker::Model;

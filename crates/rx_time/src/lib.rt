@@ -29,8 +29,6 @@
 //! of a trampoline takes constant time, but for the moves when its buffer grows.
 #![tactic(auto)]
 
-#[cfg(test)]
-mod tests;
 mod ticket;
 mod timeline;
 mod trampoline;

@@ -40,8 +40,6 @@ mod node;
 mod records;
 mod store;
 mod subtree;
-#[cfg(test)]
-mod tests;
 mod tree;
 
 pub use node::{Closed, Node, ResKey, Stowed};

@@ -4,7 +4,7 @@ ghost use Rattle.std.specs.Prelude.{◌≡◌};
 
 /// A place on one of the tree's rings. A ring begins and ends at one of the first five, and goes
 /// through places of the other three between.
-#[derive(Clone, Copy, Debug, PartialEq, Eq)]
+#[derive(Clone, Copy, PartialEq, Eq)]
 pub(crate) enum Place {
     /// Where the roots begin and end.
     Roots,
@@ -25,7 +25,7 @@ pub(crate) enum Place {
 }
 
 /// What comes after a place on its ring, and what before.
-#[derive(Clone, Copy, Debug, PartialEq, Eq)]
+#[derive(Clone, Copy, PartialEq, Eq)]
 pub(crate) struct Link {
     pub(crate) next: Place,
     pub(crate) previous: Place,

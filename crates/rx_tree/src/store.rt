@@ -13,7 +13,7 @@ use rx_slots::Slots;
 use std::alloc::Global;
 
 /// The record of a node with its links.
-#[derive(Clone, Copy, Debug)]
+#[derive(Clone, Copy)]
 pub(crate) struct Linked {
     pub(crate) node: Node,
     /// Among its siblings.

@@ -1,0 +1,65 @@
+//! A book of boxes with resources of two kinds.
+
+use super::probe::{Back, Given, Probe, Totals, counts, untouched, used};
+use super::same::same;
+use rx_book::At;
+use rx_event::Refusal;
+use rx_resource::{Resource, Sample, Tracker};
+use std::alloc::Global;
+use std::test::Fail;
+
+// What came of three resources, of which the first two go in and the third comes back.
+#[derive(Drop)]
+struct Course {
+    answers: [Result<u64, Refusal>; 5],
+    totals: Totals,
+    given: [Option<Given>; 3],
+    back: Option<Back>,
+}
+
+// Opens a root with a resource and holds another there, uses both, removes the first, unsubscribes and
+// takes both; the third is handed in too late.
+fn course_of<R: Resource>(alloc: Global, first: R, second: R, third: R) -> Result<Course, Back> {
+    let mut book = Probe::new(alloc, 100);
+    let opened = book.open_using(At::Root, first)?;
+    let held = book.hold(opened.key, second)?;
+    let answers = [
+        book.apply(held, 5),
+        book.apply(opened.res, 3),
+        book.apply(held, 3),
+        book.remove(opened.res),
+        book.dispose(opened.key),
+    ];
+    let given = [book.take(), book.take(), book.take()];
+    let back = book.hold(opened.key, third).err();
+    Ok(Course {
+        answers,
+        totals: book.totals(),
+        given,
+        back,
+    })
+}
+
+#[test]
+fn boxes_of_two_kinds_stand_in_one_book(rt: HostRuntime) -> Result<(), Fail> {
+    let tracker = Tracker::new(rt.alloc())?;
+    let first: Box<dyn Resource> = Box::new(rt.alloc(), tracker.resource(5, None)?)?;
+    let second: Box<dyn Resource> = Box::new(rt.alloc(), Sample::faulty(6, 2))?;
+    let third: Box<dyn Resource> = Box::new(rt.alloc(), Sample::new(7))?;
+    let course = course_of(rt.alloc(), first, second, third)?;
+    same(&rt, course.answers, [Ok(5), Ok(3), Ok(6), Ok(6), Ok(7)]);
+    same(&rt, course.totals, counts(10, 0, [2, 0, 0, 2]));
+    let faulty = Given {
+        fault: Some(2),
+        ..used(2, 6, 2)
+    };
+    let (one, other) = (Some(used(1, 5, 1)), Some(faulty));
+    let given = course.given;
+    assert!(rt;
+        given == [one, other, None] || given == [other, one, None],
+        "{given:?}"
+    );
+    same(&rt, course.back, Some(untouched(Refusal::Gone, 7)));
+    same(&rt, (tracker.heard(), tracker.released()), (3, 1));
+    Ok(())
+}

@@ -1,0 +1,182 @@
+//! Just the memory that a call needs where much is open, held or told already: one of its lists is full, and
+//! grows to twice its size.
+
+use super::asking::{Asking, Outcome, ask};
+use super::probe::Probe;
+use rx_book::{At, Key};
+use rx_event::Kind;
+use rx_ground::{Ground, Wanted};
+use rx_resource::Sample;
+use rx_scarce::Scarce;
+use std::alloc::{AllocError, Global};
+use std::test::Fail;
+
+// For how much there is room in the memory that is left.
+#[derive(Clone, Copy)]
+struct Room {
+    events: u32,
+    notes: u32,
+    nodes: usize,
+    resources: usize,
+}
+
+const NONE: Room = Room {
+    events: 0,
+    notes: 0,
+    nodes: 0,
+    resources: 0,
+};
+
+// The memory for that room, until it is dropped.
+struct Memory {
+    ground: Ground<Sample>,
+}
+
+impl Drop for Memory {
+    fn drop(self) {
+        let Memory { ground: _ground } = self;
+    }
+}
+
+fn memory_for(alloc: Global, room: Room) -> Result<Memory, AllocError> {
+    let mut ground = Ground::new(alloc, u64::from(u32::MAX));
+    ground.reserve(Wanted {
+        events: u64::from(room.events),
+        notes: u64::from(room.notes),
+        nodes: room.nodes,
+        resources: room.resources,
+        hubs: 0,
+    })?;
+    Ok(Memory { ground })
+}
+
+// A list that is full, while the others have room for one more.
+#[derive(Clone, Copy)]
+enum Full {
+    Events,
+    Notes,
+    Nodes,
+    NodesUsing,
+    Resources,
+}
+
+// A call for which that list has to grow.
+fn fill(book: &mut Probe<Sample>, full: Full) -> Result<Asking, Fail> {
+    match full {
+        Full::Events => fill_events(book),
+        Full::Notes => fill_notes(book),
+        Full::Nodes => fill_nodes(book, Asking::Open(At::Root)),
+        Full::NodesUsing => fill_nodes(book, Asking::OpenUsing(At::Root)),
+        Full::Resources => fill_resources(book),
+    }
+}
+
+// Room for 5 events, then 10, 20 and so on: 320 are the opening and its resource, 315 uses, and what
+// closing both needs.
+fn fill_events(book: &mut Probe<Sample>) -> Result<Asking, Fail> {
+    let res = book.open_using(At::Root, Sample::new(1))?.res;
+    for _ in 0..315 {
+        book.apply(res, 1)?;
+    }
+    Ok(Asking::Apply(res))
+}
+
+// Room for 4 notes, then 8, 16 and so on: 64 are those of 63 items and of the end.
+fn fill_notes(book: &mut Probe<Sample>) -> Result<Asking, Fail> {
+    let leaf = book.open(At::Root, Kind::Leaf)?.key;
+    emit(book, leaf, 63)?;
+    Ok(Asking::Next(leaf))
+}
+
+fn fill_nodes(book: &mut Probe<Sample>, asking: Asking) -> Result<Asking, Fail> {
+    let leaf = book.open(At::Root, Kind::Leaf)?.key;
+    emit(book, leaf, 200)?;
+    for _ in 1..64 {
+        book.open(At::Root, Kind::Pass)?;
+    }
+    Ok(asking)
+}
+
+fn fill_resources(book: &mut Probe<Sample>) -> Result<Asking, Fail> {
+    let leaf = book.open(At::Root, Kind::Leaf)?.key;
+    emit(book, leaf, 200)?;
+    for tag in 0..64 {
+        book.hold(leaf, Sample::new(tag))?;
+    }
+    Ok(Asking::Hold(leaf))
+}
+
+// Items give events and notes more room than the calls after them need.
+fn emit(book: &mut Probe<Sample>, leaf: Key, count: u32) -> Result<(), Fail> {
+    for _ in 0..count {
+        book.next(leaf, 1)?;
+    }
+    Ok(())
+}
+
+// Whether the call is done where memory for this room is all that is left. What is freed meanwhile lies
+// elsewhere, since that memory is taken first.
+fn is_done_with(alloc: Global, full: Full, room: Room) -> Result<bool, Fail> {
+    let memory = memory_for(alloc, room)?;
+    let mut book = Probe::new(alloc, 1000);
+    let asking = fill(&mut book, full)?;
+    let _scarce = Scarce::new(alloc)?;
+    drop(memory);
+    match ask(&mut book, asking) {
+        Outcome::Done(_) => Ok(true),
+        Outcome::NoMemory => Ok(false),
+        Outcome::Other => Err(Fail::from("it is refused for another cause")),
+    }
+}
+
+#[test]
+fn a_use_or_an_item_takes_just_the_memory_that_it_needs(rt: HostRuntime) -> Result<(), Fail> {
+    let alloc = rt.alloc();
+    let short = Room {
+        events: 639,
+        ..NONE
+    };
+    let just = Room {
+        events: 640,
+        ..NONE
+    };
+    assert!(rt; !is_done_with(alloc, Full::Events, short)?);
+    assert!(rt; is_done_with(alloc, Full::Events, just)?);
+    let short = Room { notes: 127, ..NONE };
+    let just = Room { notes: 128, ..NONE };
+    assert!(rt; !is_done_with(alloc, Full::Notes, short)?);
+    assert!(rt; is_done_with(alloc, Full::Notes, just)?);
+    Ok(())
+}
+
+#[test]
+fn an_opening_or_a_resource_beside_64_others_takes_room_for_64_more(
+    rt: HostRuntime,
+) -> Result<(), Fail> {
+    let alloc = rt.alloc();
+    let short = Room { nodes: 127, ..NONE };
+    let just = Room { nodes: 128, ..NONE };
+    assert!(rt; !is_done_with(alloc, Full::Nodes, short)?);
+    assert!(rt; is_done_with(alloc, Full::Nodes, just)?);
+    let short = Room {
+        resources: 4,
+        ..short
+    };
+    let just = Room {
+        resources: 4,
+        ..just
+    };
+    assert!(rt; !is_done_with(alloc, Full::NodesUsing, short)?);
+    assert!(rt; is_done_with(alloc, Full::NodesUsing, just)?);
+    let short = Room {
+        resources: 127,
+        ..NONE
+    };
+    let just = Room {
+        resources: 128,
+        ..NONE
+    };
+    assert!(rt; !is_done_with(alloc, Full::Resources, short)?);
+    assert!(rt; is_done_with(alloc, Full::Resources, just)?);
+    Ok(())
+}

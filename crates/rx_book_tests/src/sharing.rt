@@ -1,0 +1,121 @@
+//! What subscribers share: items that reach many of them, and connections by hand.
+
+use super::probe::Probe;
+use super::same::same;
+use rx_book::{At, Key};
+use rx_event::{Event, Kind, Mode, Refusal};
+use rx_resource::Sample;
+use std::test::Fail;
+
+// The key of the connection that comes with a subscriber.
+fn connecting(book: &mut Probe<Sample>, at: At, hub: u64) -> Result<Key, Fail> {
+    let opened = book.open(at, Kind::Sub(hub))?;
+    Ok(opened.connected.ok_or(Refusal::NotConnected)?)
+}
+
+// Below a connection two subscribers of the hub before it, as inners of one FlatMap: what comes to that hub
+// goes on from both. The key of its connection.
+fn doubled(book: &mut Probe<Sample>, connection: Key, hub: u64) -> Result<Key, Fail> {
+    let flat = book.open(At::Source(connection), Kind::Flat)?.key;
+    let source = book.open(At::Source(flat), Kind::Leaf)?.key;
+    book.next(source, 1)?;
+    book.next(source, 2)?;
+    let next = connecting(book, At::Inner(flat), hub)?;
+    book.open(At::Inner(flat), Kind::Sub(hub))?;
+    Ok(next)
+}
+
+// So many RefCount hubs, the last with a subscriber at a root, and each before it with two below the next
+// one's connection. A leaf below the first.
+fn chained(book: &mut Probe<Sample>, hubs: u64) -> Result<Key, Fail> {
+    for _ in 0..hubs {
+        book.hub(Mode::Auto)?;
+    }
+    let last = hubs.wrapping_sub(1);
+    let mut connection = connecting(book, At::Root, last)?;
+    for below in 1..hubs {
+        connection = doubled(book, connection, last.wrapping_sub(below))?;
+    }
+    Ok(book.open(At::Source(connection), Kind::Leaf)?.key)
+}
+
+// How many notes are told, all of them now; None where there are more than a million.
+fn told(book: &mut Probe<Sample>) -> Option<u64> {
+    for notes in 0..1_000_000 {
+        if book.take_mail().is_none() {
+            return Some(notes);
+        }
+    }
+    None
+}
+
+#[test]
+fn an_item_reaches_all_that_share_it(rt: HostRuntime) -> Result<(), Fail> {
+    let mut book = Probe::new(rt.alloc(), 1000);
+    let leaf = chained(&mut book, 18)?;
+    assert_eq!(rt; told(&mut book), Some(34), "what was projected on the way");
+    same(&rt, book.next(leaf, 5), Ok(140));
+    same(&rt, told(&mut book), Some(131_072));
+    Ok(())
+}
+
+#[test]
+fn an_item_visits_so_many_nodes_and_no_more(rt: HostRuntime) -> Result<(), Fail> {
+    let mut book = Probe::new(rt.alloc(), 1000);
+    let leaf = chained(&mut book, 18)?;
+    book.open(At::Root, Kind::Sub(17))?;
+    book.open(At::Root, Kind::Sub(2))?;
+    let within = book.next(leaf, 5);
+    book.open(At::Root, Kind::Sub(0))?;
+    same(
+        &rt,
+        [within, book.next(leaf, 5)],
+        [Ok(142), Err(Refusal::TooMany)],
+    );
+    same(&rt, book.totals().len, 144);
+    Ok(())
+}
+
+#[test]
+fn a_hub_that_was_not_made_is_refused(rt: HostRuntime) -> Result<(), Fail> {
+    let mut book: Probe<Sample> = Probe::new(rt.alloc(), 100);
+    let subscribed = book.open(At::Root, Kind::Sub(5));
+    let connected = [book.connect(0), book.connect(5)];
+    same(
+        &rt,
+        (subscribed, connected),
+        (Err(Refusal::NoHub), [Err(Refusal::NoHub); 2]),
+    );
+    same(
+        &rt,
+        (book.disconnect(0), book.totals().len),
+        (Err(Refusal::NoHub), 0),
+    );
+    Ok(())
+}
+
+#[test]
+fn a_hub_is_connected_by_hand_until_it_is_disconnected(rt: HostRuntime) -> Result<(), Fail> {
+    let mut book: Probe<Sample> = Probe::new(rt.alloc(), 100);
+    let (first, second) = (book.hub(Mode::Manual)?, book.hub(Mode::Manual)?);
+    let (later, earlier) = (book.connect(second)?, book.connect(first)?);
+    let open = [book.open_manual(), Some(first)];
+    let disconnected = book.disconnect(first);
+    same(&rt, (open[0], disconnected), (open[1], Ok(4)));
+    let closed = (book.event(4), book.is_open(earlier), book.is_open(later));
+    same(
+        &rt,
+        closed,
+        (Some(Event::Close(earlier.number)), false, true),
+    );
+    same(
+        &rt,
+        (
+            book.open_manual(),
+            book.disconnect(second),
+            book.open_manual(),
+        ),
+        (Some(second), Ok(5), None),
+    );
+    Ok(())
+}

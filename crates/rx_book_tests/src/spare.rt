@@ -1,0 +1,162 @@
+//! Closings, and handing out, where no memory is left.
+
+use super::probe::Probe;
+use super::same::same;
+use rx_book::{At, Key, ResKey};
+use rx_event::{Kind, Mode, Refusal, Terminal};
+use rx_resource::Sample;
+use rx_scarce::Scarce;
+use std::alloc::{AllocError, Global};
+use std::test::Fail;
+
+// A call that takes no memory, on what it is made.
+#[derive(Clone, Copy, Debug)]
+enum Closing {
+    Remove(ResKey),
+    Decline(Key),
+    Fail(Key),
+    End(Key),
+    Abort(Key),
+    Dispose(Key),
+    Disconnect(u64),
+    Take,
+    TakeMail,
+    ReleaseWaiting,
+    Close,
+}
+
+// Whether it is accepted, and does something.
+fn is_done(book: &mut Probe<Sample>, closing: Closing) -> bool {
+    match closing {
+        Closing::Remove(res) => book.remove(res).is_ok(),
+        Closing::Decline(node) => book.decline(node).is_ok(),
+        Closing::Fail(node) => book.fail(node, 1).is_ok(),
+        Closing::End(node) => book.end(node, Terminal::Completed).is_ok(),
+        Closing::Abort(node) => book.abort(node, 1).is_ok(),
+        Closing::Dispose(node) => book.dispose(node).is_ok(),
+        Closing::Disconnect(hub) => book.disconnect(hub).is_ok(),
+        Closing::Take => book.take().is_some(),
+        Closing::TakeMail => book.take_mail().is_some(),
+        Closing::ReleaseWaiting => book.release_waiting().released > 0,
+        Closing::Close => book.close().released > 0,
+    }
+}
+
+// Whether a small block of memory can be had.
+fn has_memory(alloc: Global) -> bool {
+    let block: Result<Vec<u8>, AllocError> = Vec::with_capacity(alloc, 16);
+    block.is_ok()
+}
+
+// Whether the call is done with no memory left before it. What it gives back is taken before the next.
+fn is_done_with_none(alloc: Global, book: &mut Probe<Sample>, closing: Closing) -> bool {
+    let Ok(_scarce) = Scarce::new(alloc) else {
+        return false;
+    };
+    !has_memory(alloc) && is_done(book, closing)
+}
+
+// Emits items until one is refused, and answers why: then the room for closing everything is all that is
+// left, of memory or within the limit.
+fn fill(book: &mut Probe<Sample>, leaf: Key) -> Option<Refusal> {
+    for _ in 0..1000 {
+        if let Err(why) = book.next(leaf, 0) {
+            return Some(why);
+        }
+    }
+    None
+}
+
+// A FlatMap that owes two inner observables.
+fn owing_two(book: &mut Probe<Sample>) -> Result<Key, Fail> {
+    let flat = book.open(At::Root, Kind::Flat)?.key;
+    let source = book.open(At::Source(flat), Kind::Leaf)?.key;
+    book.next(source, 1)?;
+    book.next(source, 2)?;
+    Ok(flat)
+}
+
+// A root with a resource, and another below it.
+fn using_two(book: &mut Probe<Sample>) -> Result<(Key, Key, ResKey), Fail> {
+    let above = book.open_using(At::Root, Sample::new(1))?;
+    let below = book.open_using(At::Source(above.key), Sample::new(2))?;
+    Ok((above.key, below.key, above.res))
+}
+
+// A hub that is connected by hand, and has a subscriber.
+fn connected_by_hand(book: &mut Probe<Sample>) -> Result<u64, Fail> {
+    let hub = book.hub(Mode::Manual)?;
+    book.open(At::Root, Kind::Sub(hub))?;
+    book.connect(hub)?;
+    Ok(hub)
+}
+
+// Some of each kind of node, and what is to be called, in turn.
+fn new_closings(book: &mut Probe<Sample>) -> Result<(Key, [Closing; 11]), Fail> {
+    let flat = owing_two(book)?;
+    let hub = connected_by_hand(book)?;
+    let _ = connected_by_hand(book)?;
+    let (_, lowest, removed) = using_two(book)?;
+    let (disposed, _, _) = using_two(book)?;
+    let _ = using_two(book)?;
+    let leaf = book.open(At::Root, Kind::Leaf)?.key;
+    let closings = [
+        Closing::Remove(removed),
+        Closing::Decline(flat),
+        Closing::Fail(flat),
+        Closing::Abort(lowest),
+        Closing::Dispose(disposed),
+        Closing::Disconnect(hub),
+        Closing::Take,
+        Closing::End(leaf),
+        Closing::TakeMail,
+        Closing::ReleaseWaiting,
+        Closing::Close,
+    ];
+    Ok((leaf, closings))
+}
+
+// How many of them are done, each with no memory left.
+fn done_of(alloc: Global, book: &mut Probe<Sample>, closings: [Closing; 11]) -> u32 {
+    let mut done = 0u32;
+    for closing in closings {
+        if is_done_with_none(alloc, book, closing) {
+            done = done.wrapping_add(1);
+        }
+    }
+    done
+}
+
+#[test]
+fn closings_and_handing_out_take_no_memory(rt: HostRuntime) -> Result<(), Fail> {
+    let mut book = Probe::new(rt.alloc(), 1000);
+    let (leaf, closings) = new_closings(&mut book)?;
+    let why = {
+        let _scarce = Scarce::new(rt.alloc())?;
+        fill(&mut book, leaf)
+    };
+    same(&rt, why, Some(Refusal::NoMemory));
+    same(&rt, done_of(rt.alloc(), &mut book, closings), 11);
+    let totals = book.totals();
+    same(
+        &rt,
+        (book.open_count(), totals.accepted, totals.taken),
+        (0, 6, 6),
+    );
+    Ok(())
+}
+
+#[test]
+fn a_full_book_closes_and_hands_out_with_no_memory_left(rt: HostRuntime) -> Result<(), Fail> {
+    let mut book = Probe::new(rt.alloc(), 64);
+    let (leaf, closings) = new_closings(&mut book)?;
+    same(&rt, fill(&mut book, leaf), Some(Refusal::Full));
+    same(&rt, done_of(rt.alloc(), &mut book, closings), 11);
+    let totals = book.totals();
+    same(
+        &rt,
+        (book.open_count(), totals.accepted, totals.taken),
+        (0, 6, 6),
+    );
+    Ok(())
+}

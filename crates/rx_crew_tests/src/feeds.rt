@@ -1,0 +1,82 @@
+//! A feed by itself: why it stops, and which receipts it gives.
+
+ghost use Rattle.std.specs.Prelude.{[], ◌∷◌, ◌==◌, if◌then◌else◌, pos};
+ghost use Rattle.rx_note.specs.declared.note.Terminal.{Terminal};
+ghost use Rattle.rx_ledger.specs.Shares.{Opens};
+ghost use Rattle.rx_crew.specs.declared.feeding.Pull.{Pull};
+
+use super::parts::blanks;
+use rx_book::{At, Book};
+use rx_crew::{Desk, Pull, Source, Stop, feed};
+use rx_event::{Event, Kind, Refusal, Terminal};
+use rx_resource::Sample;
+use std::alloc::Global;
+use std::marker::Brand;
+use std::sync::Wait;
+use std::sync::ledger::{Blank, Ledger};
+use std::test::Fail;
+
+// Gives 5 and completes.
+#[derive(Drop)]
+struct Single {
+    left: u8,
+}
+
+impl Source for Single {
+    ghost pulls = { λ s. if s.left == 2 then Pull.Item (pos 5) ∷ Pull.Done Terminal.Completed ∷ [] else if s.left == 1 then Pull.Done Terminal.Completed ∷ [] else [] };
+
+    fn pull(&mut self) -> Pull {
+        if self.left == 2 {
+            self.left = 1;
+            Pull::Item(5)
+        } else {
+            self.left = 0;
+            Pull::Done(Terminal::Completed)
+        }
+    }
+}
+
+// Why four feeds of one leaf stop, of no turn, one turn and many, and of many once the leaf has ended;
+// and which events they have receipts of, with their places.
+fn fed<I: Ledger, A: Ledger, K: Ledger>(
+    rt: &impl Wait,
+    alloc: Global,
+    blanks: (Blank, Blank, Blank),
+) -> Result<([Stop; 4], Vec<(u64, Event)>), Fail>
+    requires items { Opens I.name I.parts blanks.0.name blanks.0.parts }
+    requires accepted { Opens A.name A.parts blanks.1.name blanks.1.parts }
+    requires taken { Opens K.name K.parts blanks.2.name blanks.2.parts }
+{
+    let book = Book::new(alloc, 1000);
+    let (desk, seat) = Desk::<Sample, I, A, K>::new(book, blanks.0, blanks.1, blanks.2);
+    let leaf = desk.floor.lock(rt).open(At::Root, Kind::Leaf)?.key;
+    let mut source = Single { left: 2 };
+    let none = feed(rt, alloc, &desk, seat, leaf, &mut source, 0);
+    let mut source = Single { left: 2 };
+    let one = feed(rt, alloc, &desk, none.seat, leaf, &mut source, 1);
+    let mut source = Single { left: 2 };
+    let all = feed(rt, alloc, &desk, one.seat, leaf, &mut source, 9);
+    let mut source = Single { left: 2 };
+    let late = feed(rt, alloc, &desk, all.seat, leaf, &mut source, 9);
+    let mut events = Vec::new(alloc);
+    for receipts in [none.receipts, one.receipts, all.receipts, late.receipts] {
+        for receipt in receipts {
+            events.push((receipt.place, receipt.event))?;
+        }
+    }
+    Ok(([none.stop, one.stop, all.stop, late.stop], events))
+}
+
+#[test]
+fn a_feed_stops_at_its_turns_at_the_end_and_when_refused(rt: HostRuntime) -> Result<(), Fail> {
+    let (stops, events) = fed::<Brand, Brand, Brand>(&rt, rt.alloc(), blanks())?;
+    let gone = Stop::Refused(Refusal::Gone);
+    assert_eq!(rt; stops, [Stop::Turns, Stop::Turns, Stop::Done, gone]);
+    let end = Event::End(0, Terminal::Completed);
+    let (first, second) = (Event::Item(0, 5), Event::Item(0, 5));
+    assert_eq!(rt;
+        events.as_slice(),
+        [(1, first), (2, second), (3, end)].as_slice()
+    );
+    Ok(())
+}

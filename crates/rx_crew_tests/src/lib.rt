@@ -1,0 +1,19 @@
+//! What no clause says: the worked examples on a desk, that each call can succeed, and threads.
+#![tactic(auto)]
+
+#[cfg(test)]
+mod caller;
+#[cfg(test)]
+mod calls;
+#[cfg(test)]
+mod day;
+#[cfg(test)]
+mod feeds;
+#[cfg(test)]
+mod hubs;
+#[cfg(test)]
+mod meetings;
+#[cfg(test)]
+mod parts;
+#[cfg(test)]
+mod workers;

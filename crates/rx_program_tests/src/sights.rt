@@ -1,0 +1,84 @@
+//! Resources of the tests, streams that fail, and how a scenario is run over memory.
+
+use rx_resource::{Sample, Tracked, Tracker};
+use rx_script::{Form, ScriptError, Watched, run};
+use std::alloc::{AllocError, Global};
+use std::io::{Error, ErrorKind, Read, Write};
+use std::process::Abort;
+
+/// Resources of these tags, in order, which are tracked. Each tag that is 3 modulo 8 is that of one
+/// whose release meets the fault 2.
+pub fn stock_of(
+    alloc: Global,
+    tracker: &Tracker,
+    tags: &[u64],
+) -> Result<Vec<Tracked>, AllocError> {
+    let mut stock = Vec::new(alloc);
+    for tag in tags {
+        let fault = if tag % 8 == 3 { Some(2) } else { None };
+        stock.push(tracker.resource(*tag, fault)?)?;
+    }
+    Ok(stock)
+}
+
+/// The error of a run over memory of no resources, which has to write nothing.
+pub fn error_of(rt: &impl Abort, alloc: Global, scenario: &[u8]) -> Option<ScriptError> {
+    let stock: Vec<Sample> = Vec::new(alloc);
+    let mut input = scenario;
+    let mut output: Vec<u8> = Vec::new(alloc);
+    let outcome = run(
+        alloc,
+        &mut Watched::new(&mut input),
+        &mut Watched::new(&mut output),
+        stock,
+        Form::Report,
+    );
+    assert!(rt; output.is_empty() || outcome.is_ok());
+    outcome.err()
+}
+
+/// Gives its bytes in pieces of seven, and fails at the read of this number, counted from 0.
+#[derive(Drop)]
+pub struct Failing<'a> {
+    pub bytes: &'a [u8],
+    pub reads: u64,
+    pub fails_at: u64,
+}
+
+impl Read for Failing<'_> {
+    fn read(&mut self, buf: &mut [u8]) -> std::io::Result<usize> {
+        if self.reads == self.fails_at {
+            return Err(Error::from(ErrorKind::Other));
+        }
+        self.reads = self.reads.saturating_add(1);
+        let end = self.bytes.len().min(buf.len()).min(7);
+        let (piece, rest) = self.bytes.split_at(end);
+        buf[..end].copy_from_slice(piece);
+        self.bytes = rest;
+        Ok(end)
+    }
+}
+
+/// Takes so many bytes, three at a time, and fails then, or takes no more.
+#[derive(Drop)]
+pub struct Narrow {
+    pub taken: Vec<u8>,
+    pub room: usize,
+    pub fails: bool,
+}
+
+impl Write for Narrow {
+    fn write(&mut self, buf: &[u8]) -> std::io::Result<usize> {
+        let end = buf.len().min(self.room).min(3);
+        if end == 0 && self.fails {
+            return Err(Error::from(ErrorKind::Other));
+        }
+        self.taken.extend_from_slice(&buf[..end])?;
+        self.room -= end;
+        Ok(end)
+    }
+
+    fn flush(&mut self) -> std::io::Result<()> {
+        Ok(())
+    }
+}

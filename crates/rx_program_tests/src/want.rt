@@ -1,0 +1,150 @@
+//! Memory refused, at many of the places where a run asks for some, and a closing that takes none.
+
+use super::same::same;
+use super::sights::stock_of;
+use rx_book::{At, Book};
+use rx_event::Kind;
+use rx_resource::{Resource, Tracked, Tracker};
+use rx_scarce::{MOST_BLOCKS, Scarce};
+use rx_script::{Closed, Form, ScriptError, Watched, close, run};
+use std::alloc::Global;
+use std::test::Fail;
+
+// More runs than are refused.
+const RUNS: u32 = 2000;
+
+const SCENARIO: &str = "{\"steps\":[
+    {\"do\":\"using\",\"name\":\"a\",\"place\":\"root\",\"res\":\"r\"},
+    {\"do\":\"open\",\"name\":\"l\",\"place\":\"source\",\"of\":\"a\",\"kind\":\"leaf\"},
+    {\"do\":\"hold\",\"node\":\"l\",\"res\":\"s\"},
+    {\"do\":\"apply\",\"res\":\"s\",\"word\":9},
+    {\"do\":\"next\",\"node\":\"l\",\"value\":5},
+    {\"do\":\"next\",\"node\":\"x\",\"value\":5},
+    {\"do\":\"remove\",\"res\":\"s\"},
+    {\"do\":\"end\",\"node\":\"l\"},
+    {\"do\":\"open\",\"name\":\"f\",\"place\":\"root\",\"kind\":\"flat\"},
+    {\"do\":\"open\",\"name\":\"g\",\"place\":\"source\",\"of\":\"f\",\"kind\":\"leaf\"},
+    {\"do\":\"next\",\"node\":\"g\",\"value\":1},
+    {\"do\":\"open\",\"name\":\"i\",\"place\":\"inner\",\"of\":\"f\",\"kind\":\"leaf\"},
+    {\"do\":\"next\",\"node\":\"g\",\"value\":2},
+    {\"do\":\"decline\",\"node\":\"f\"},
+    {\"do\":\"next\",\"node\":\"g\",\"value\":3},
+    {\"do\":\"fail\",\"node\":\"f\",\"error\":4},
+    {\"do\":\"open\",\"name\":\"p\",\"place\":\"root\",\"kind\":\"pass\"},
+    {\"do\":\"abort\",\"node\":\"p\",\"error\":6},
+    {\"do\":\"hub\",\"name\":\"h\",\"mode\":\"auto\"},
+    {\"do\":\"open\",\"name\":\"o\",\"place\":\"root\",\"kind\":\"sub\",\"hub\":\"h\",\"connection\":\"c\"},
+    {\"do\":\"open\",\"name\":\"e\",\"place\":\"source\",\"of\":\"c\",\"kind\":\"leaf\"},
+    {\"do\":\"next\",\"node\":\"e\",\"value\":7},
+    {\"do\":\"hub\",\"name\":\"m\",\"mode\":\"manual\"},
+    {\"do\":\"connect\",\"hub\":\"m\",\"name\":\"d\"},
+    {\"do\":\"using\",\"name\":\"b\",\"place\":\"root\",\"res\":\"t\",\"then\":[
+        {\"label\":\"x\",\"after\":5,\"do\":\"dispose\",\"node\":\"b\"},
+        {\"do\":\"cancel\",\"step\":\"x\"}]}]}";
+
+const REPORT: &str = "refused 5 NoName
+node a closed: next=5 completed
+node f closed: project=1 project=2 project=3 error=4
+node p closed: error=6
+node o open: next=7
+node b open:
+res r tag=0 uses=0 waiting
+res s tag=1 uses=1 waiting
+res t tag=2 uses=0 held
+totals nodes=11 open=5 accepted=3 held=1 waiting=2 taken=0
+closed 3 faults 0
+";
+
+#[test]
+fn a_run_without_memory_writes_nothing_and_keeps_nothing(rt: HostRuntime) -> Result<(), Fail> {
+    let mut output: Vec<u8> = Vec::with_capacity(rt.alloc(), 4096)?;
+    let mut stocks: Vec<Vec<Tracked>> = Vec::new(rt.alloc());
+    let tracker = Tracker::new(rt.alloc())?;
+    for _ in 0..RUNS {
+        stocks.push(stock_of(rt.alloc(), &tracker, &[0, 1, 2])?)?;
+    }
+    let mut refused = 0u32;
+    let mut scarce = Scarce::new(rt.alloc())?;
+    for _ in 0..RUNS {
+        let Some(stock) = stocks.pop() else { break };
+        let before = tracker.released();
+        let mut input = SCENARIO.as_bytes();
+        let outcome = run(
+            rt.alloc(),
+            &mut Watched::new(&mut input),
+            &mut Watched::new(&mut output),
+            stock,
+            Form::Report,
+        );
+        if outcome.is_ok() {
+            break;
+        }
+        assert!(rt; matches!(outcome, Err(ScriptError::Memory)), "{outcome:?}");
+        assert!(rt; output.is_empty());
+        assert!(rt; tracker.released().wrapping_sub(before) <= 3);
+        refused = refused.wrapping_add(1);
+        assert!(rt; scarce.give_back_one());
+    }
+    same(&rt, output.as_slice(), REPORT.as_bytes());
+    assert!(rt; refused > 3, "refused {refused}");
+    assert!(rt; scarce.block_count() < MOST_BLOCKS);
+    Ok(())
+}
+
+// A book with two roots, one of which holds a resource and one of which is closed and held one.
+fn open_book(alloc: Global, tracker: &Tracker) -> Result<Book<Tracked>, Fail> {
+    let mut book = Book::new(alloc, 1000);
+    for (tag, fault) in [(1, None), (3, Some(2))] {
+        if book
+            .open_using(At::Root, tracker.resource(tag, fault)?)
+            .is_err()
+        {
+            return Err(Fail::from("a using node is refused"));
+        }
+    }
+    let below = book.open(At::Root, Kind::Leaf)?.key;
+    if book.hold(below, tracker.resource(4, None)?).is_err() {
+        return Err(Fail::from("a resource is refused"));
+    }
+    let _place = book.dispose(below)?;
+    Ok(book)
+}
+
+// Closes a book, and closes it again.
+fn close_twice<R: Resource>(book: &mut Book<R>) -> (Closed, Closed) {
+    let first = close(book);
+    (first, close(book))
+}
+
+#[test]
+fn a_closing_takes_no_memory(rt: HostRuntime) -> Result<(), Fail> {
+    let tracker = Tracker::new(rt.alloc())?;
+    let mut book = open_book(rt.alloc(), &tracker)?;
+    same(
+        &rt,
+        (book.held(), book.waiting(), book.open_count()),
+        (2, 1, 2),
+    );
+    let (first, second) = {
+        let _scarce = Scarce::new(rt.alloc())?;
+        close_twice(&mut book)
+    };
+    let three = Closed {
+        released: 3,
+        faults: 1,
+    };
+    let none = Closed {
+        released: 0,
+        faults: 0,
+    };
+    same(&rt, first, three);
+    same(&rt, second, none);
+    same(
+        &rt,
+        (book.held(), book.waiting(), book.taken(), book.open_count()),
+        (0, 0, 3, 0),
+    );
+    assert!(rt; book.open_root().is_none());
+    same(&rt, tracker.released(), 3);
+    Ok(())
+}
