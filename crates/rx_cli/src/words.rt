@@ -58,7 +58,14 @@ The exit status is 0 where what the threads counted is what the book says and 5 
 the output failed or no thread was to be had, 4 in want of memory. docs/FORMATS.md tells of the figures.";
 
 // The option `--NAME` of a number from `least` to `most`, which is `usual` where it is left out.
-fn number_option<'a>(alloc: Global, name: &'a str, usual: &'a str, least: u64, most: u64) -> Arg<'a>
+fn number_option<'a>(
+    alloc: Global,
+    name: &'a str,
+    help: &'a str,
+    usual: &'a str,
+    least: u64,
+    most: u64,
+) -> Arg<'a>
     ensures rule { rule_of result ≡ number_rule name.entry.now usual.entry.now least most }
     ensures local { result.global ≡ false }
 {
@@ -67,27 +74,22 @@ fn number_option<'a>(alloc: Global, name: &'a str, usual: &'a str, least: u64, m
         .value_name("N")
         .default_value(usual)
         .value_parser(ValueParser::unsigned(least, most))
+        .help(help)
 }
 
 // The command `storm`.
 fn storm_command<'a>(alloc: Global) -> Result<Command<'a>, AllocError>
     ensures { IfOk result (λ c. app_of c ≡ storm_app) }
 {
-    let sources = number_option(alloc, "sources", "4", 1, 64).help(
-        "How many threads subscribe and emit, 1 to 64",
-    );
-    let workers = number_option(alloc, "workers", "3", 1, 16).help(
-        "How many threads release, 1 to 16",
-    );
-    let items = number_option(alloc, "items", "100", 0, 10_000).help(
-        "How many items each source emits, up to 10000",
-    );
-    Command::new(alloc, "storm")
+    let bare = Command::new(alloc, "storm")
         .about("Run many threads at one book, and compare what they counted with it")
-        .after_help(STORM_NOTES)
-        .arg(sources)?
-        .arg(workers)?
-        .arg(items)
+        .after_help(STORM_NOTES);
+    let help = "How many threads subscribe and emit, 1 to 64";
+    let first = bare.arg(number_option(alloc, "sources", help, "4", 1, 64))?;
+    let help = "How many threads release, 1 to 16";
+    let second = first.arg(number_option(alloc, "workers", help, "3", 1, 16))?;
+    let help = "How many items each source emits, up to 10000";
+    second.arg(number_option(alloc, "items", help, "100", 0, 10_000))
 }
 
 // The command `run`.
@@ -131,11 +133,10 @@ fn program<'a>(alloc: Global) -> Result<Command<'a>, AllocError>
     ensures { IfOk result (λ c. app_of c ≡ rxbook) }
 {
     let run = run_command(alloc)?;
+    let command = top_command(alloc).subcommand(run)?;
+    let command = command.subcommand(audit_command(alloc))?;
     let storm = storm_command(alloc)?;
-    top_command(alloc)
-        .subcommand(run)?
-        .subcommand(audit_command(alloc))?
-        .subcommand(storm)
+    command.subcommand(storm)
 }
 
 // The form that the value of the flag says.

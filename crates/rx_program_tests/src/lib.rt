@@ -1,6 +1,7 @@
 //! What neither a clause nor a stored report says of scenarios, dumps and the program: what is no scenario and
 //! no dump, streams that fail, memory that is refused, which word a resource hears, that everything accepted is
-//! released once, and the words, lines and statuses of `rxbook`.
+//! released once, and the words, lines and statuses of `rxbook`;
+//! and storms whose releases run side by side, without memory or threads, and judged by the audit.
 #![tactic(auto)]
 
 #[cfg(test)]
@@ -19,6 +20,8 @@ mod same;
 mod shapes;
 #[cfg(test)]
 mod sights;
+#[cfg(test)]
+mod storms;
 #[cfg(test)]
 mod uses;
 #[cfg(test)]

@@ -4,9 +4,16 @@
 //! Of `NAME.json` the report is `NAME.report` and, where it is there, the dump `NAME.dump`; of `NAME.dump`
 //! the verdict is `NAME.verdict`. The folders are the current one, with the examples, and below it `cases`
 //! and `histories`. What is stored and is not written, or differs, is a line with `DIFFERS`.
+//!
+//! Then the JSON Schemas of scenarios and dumps are compared with what the program takes.
 #![tactic(auto)]
 
+mod judging;
+mod schemas;
+mod words;
+
 use rx_cli::{Watched, serve, stock};
+use schemas::compare_schemas;
 use std::alloc::{AllocError, Global};
 use std::rt::Files;
 use std::sync::Wait;
@@ -94,5 +101,5 @@ fn main(rt: HostRuntime) -> io::Result<()> {
             replay(&rt, path.as_str(), paths.as_slice())?;
         }
     }
-    Ok(())
+    compare_schemas(&rt)
 }

@@ -6,7 +6,7 @@ ghost use Rattle.rx_storm.specs.Storms.{first_lines, last_lines, figures_text};
 use std::alloc::{AllocError, Global};
 
 /// What a storm came to.
-#[derive(Clone, Copy, Debug, PartialEq, Eq)]
+#[derive(Clone, Copy)]
 pub struct Figures {
     /// Resources accepted.
     pub accepted: u64,

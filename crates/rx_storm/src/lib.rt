@@ -8,6 +8,8 @@
 //! - The **figures** are what it came to, one a line: `accepted`, `taken`, `released`, `faults`, `held`,
 //!   `waiting`, `notes` (mail taken at the end) and `events`. `specs/Storms.antt` defines their text.
 //! - A [`StormFault`] says what kept a storm from being told.
+//! - [`run_threads`] is a storm at a desk of the caller's, who finishes it and has its history; what the
+//!   threads gave back is [`Gathered`], with the [`Lack`] that kept the storm from its end.
 //!
 //! # Promised, and not
 //!
@@ -32,12 +34,13 @@ ghost use Rattle.rx_storm.specs.Storms.{IsOfHistory, Tells, TellsFront};
 mod figures;
 mod numbers;
 mod outcome;
-#[cfg(test)]
-mod tests;
 mod threads;
 
+pub use outcome::Lack;
+pub use threads::{Gathered, run_threads};
+
 use figures::Figures;
-use outcome::{Lack, outcome_of};
+use outcome::outcome_of;
 use rx_book::Book;
 use rx_crew::{Desk, Gate, finish};
 use rx_device::{Watched, write_text};
@@ -50,7 +53,6 @@ use std::marker::Brand;
 use std::sync::Wait;
 use std::sync::ledger::{Blank, Ledger};
 use std::thread::Threads;
-use threads::run_threads;
 
 /// How many events the book of a storm may have.
 const MOST_EVENTS: u64 = 16_777_216;

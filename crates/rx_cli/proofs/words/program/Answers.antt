@@ -18,11 +18,10 @@ plain_is e = ap (λ (a : App). a.top.is_plain) e
 
 pub returns : goal.returns
 returns c =
-    let top = c.top_command.ensures in
     let run_is = c.in_ok-run.ensures in
     let audit_is = c.audit_command.ensures in
     let storm_is = c.in_ok-storm.ensures in
-    let one = c.in_ok-subcommand.ensures.shape (no_globals _ _ _ _ (plain_is run_is)) ∙ ap₂ with_subcommand top (top_is run_is) in
-    let two = c.in_ok-subcommand-2.ensures.shape (no_globals _ _ _ _ (plain_is audit_is)) ∙ ap₂ with_subcommand one (top_is audit_is) in
+    let one = c.in_ok-command.ensures.shape (no_globals _ _ _ _ (plain_is run_is)) ∙ ap₂ with_subcommand c.top_command.ensures (top_is run_is) in
+    let two = c.in_ok-command-2.ensures.shape (no_globals _ _ _ _ (plain_is audit_is)) ∙ ap₂ with_subcommand one (top_is audit_is) in
     IfOk-weaker c.subcommand-3.result _ _
     (λ r h. h.shape (no_globals _ _ _ _ (plain_is storm_is)) ∙ ap₂ with_subcommand two (top_is storm_is)) c.subcommand-3.ensures

@@ -1,4 +1,4 @@
-use Rattle.std.proofs.Common.{◌≡◌, ◌++◌, ◌∷◌, [], Some, None, true, false, refl, string_bytes, rules}
+use Rattle.std.proofs.Common.{◌≡◌, ◌++◌, ◌∷◌, [], Some, None, true, false, refl, string_bytes}
 use Rattle.std.specs.Prelude.{is_some}
 use Rattle.rx_script.specs.Names.{key_of}
 use Rattle.rx_script.specs.Stage.{Ware, ware_of}
@@ -27,7 +27,7 @@ pub returns-in_ok-bind-in-Ok : goal.returns-in_ok-bind-in-Ok
 returns-in_ok-bind-in-Ok g c =
     let at : key_of c.args.engine.now.nodes c.args.node.now ≡ Some c.in-Some.key = cc in
     let free : is_some (key_of c.args.engine.now.resources (string_bytes c.args.res)) ≡ false = cc in
-    let pushed : c.bind.new.self ≡ c.args.engine.now.resources ++ record { name = c.args.res; key = c.in-Ok.held } ∷ [] = search rules in
+    let pushed : c.bind.new.self ≡ c.args.engine.now.resources ++ record { name = c.args.res; key = c.in-Ok.held } ∷ [] = c.in_ok-bind-in-Ok.ensures in
     hold_accepted c.args.engine.now c.args.node.now (string_bytes c.args.res) c.requires c.in-Some.key at free _ c.take.new.self.wares c.in-Some-take.ensures.some
     _ (record { name = c.args.res; key = c.in-Ok.held }) c.promise.ensures c.in-Ok.ensures.accepted c.in-Ok.ensures.ok.number c.in-Ok.ensures.ok.listed refl refl refl pushed refl refl
 

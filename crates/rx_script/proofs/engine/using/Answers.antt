@@ -1,4 +1,4 @@
-use Rattle.std.proofs.Common.{◌≡◌, ◌++◌, ◌∷◌, [], Some, None, true, false, refl, string_bytes, rules}
+use Rattle.std.proofs.Common.{◌≡◌, ◌++◌, ◌∷◌, [], Some, None, true, false, refl, string_bytes}
 use Rattle.std.specs.Prelude.{is_some}
 use Rattle.std.proofs.lemmas.Bool.{or_left, or_right, or_from}
 use Rattle.rx_scenario.specs.Scenario.{site_of}
@@ -39,8 +39,8 @@ returns-in_ok-bind-in-Ok-2 g c =
     let at : at_of c.args.engine.now.nodes (site_of c.args.site.now) ≡ Some c.in-Some.place = cc in
     let node_free : is_some (key_of c.args.engine.now.nodes (string_bytes c.args.name)) ≡ false = cc in
     let res_free : is_some (key_of c.args.engine.now.resources (string_bytes c.args.res)) ≡ false = cc in
-    let pushed : c.bind.new.self ≡ c.args.engine.now.nodes ++ record { name = c.args.name; key = c.in-Ok.opened.key } ∷ [] = search rules in
-    let res_pushed : c.bind-in-Ok.new.self ≡ c.args.engine.now.resources ++ record { name = c.args.res; key = c.in-Ok.opened.res } ∷ [] = search rules in
+    let pushed : c.bind.new.self ≡ c.args.engine.now.nodes ++ record { name = c.args.name; key = c.in-Ok.opened.key } ∷ [] = c.in_ok-bind-in-Ok.ensures in
+    let res_pushed : c.bind-in-Ok.new.self ≡ c.args.engine.now.resources ++ record { name = c.args.res; key = c.in-Ok.opened.res } ∷ [] = c.in_ok-bind-in-Ok-2.ensures in
     using_accepted c.args.engine.now (string_bytes c.args.name) (site_of c.args.site.now) (string_bytes c.args.res) c.requires c.in-Some.place at (or_from _ _ node_free res_free) _ c.take.new.self.wares c.in-Some-take.ensures.some
     _ (record { name = c.args.name; key = c.in-Ok.opened.key }) (record { name = c.args.res; key = c.in-Ok.opened.res }) c.promise.ensures c.in-Ok.ensures.accepted
     c.in-Ok.ensures.ok.key.number c.in-Ok.ensures.ok.key.listed refl c.in-Ok.ensures.ok.res.number c.in-Ok.ensures.ok.res.listed refl pushed refl res_pushed refl refl

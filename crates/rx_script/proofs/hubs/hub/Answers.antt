@@ -1,4 +1,4 @@
-use Rattle.std.proofs.Common.{◌≡◌, ◌++◌, ◌∷◌, [], true, false, refl, string_bytes, rules}
+use Rattle.std.proofs.Common.{◌≡◌, ◌++◌, ◌∷◌, [], true, false, refl, string_bytes}
 use Rattle.std.specs.Prelude.{is_some}
 use Rattle.rx_script.specs.Names.{key_of}
 use Rattle.rx_script.proofs.Commands.{answered}
@@ -13,7 +13,7 @@ returns-then-is_bound g c =
 pub returns-in_ok-bind-in-Ok : goal.returns-in_ok-bind-in-Ok
 returns-in_ok-bind-in-Ok g c =
     let free : is_some (key_of c.args.engine.now.hubs (string_bytes c.args.name)) ≡ false = cc in
-    let pushed : c.bind.new.self ≡ c.args.engine.now.hubs ++ record { name = c.args.name; key = c.in-Ok.number } ∷ [] = search rules in
+    let pushed : c.bind.new.self ≡ c.args.engine.now.hubs ++ record { name = c.args.name; key = c.in-Ok.number } ∷ [] = c.in_ok-bind-in-Ok.ensures in
     hub_accepted c.args.engine.now (string_bytes c.args.name) c.args.mode c.requires free
     _ (record { name = c.args.name; key = c.in-Ok.number }) c.promise.ensures c.in-Ok.ensures.accepted c.in-Ok.ensures.ok refl refl pushed refl refl refl
 

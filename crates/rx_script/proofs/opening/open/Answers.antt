@@ -1,4 +1,4 @@
-use Rattle.std.proofs.Common.{◌≡◌, ◌++◌, ◌∷◌, [], Some, None, true, false, refl, string_bytes, rules}
+use Rattle.std.proofs.Common.{◌≡◌, ◌++◌, ◌∷◌, [], Some, None, true, false, refl, string_bytes}
 use Rattle.std.specs.Prelude.{is_some, option_map}
 use Rattle.rx_scenario.specs.Scenario.{site_of, sort_of}
 use Rattle.rx_script.specs.Names.{key_of}
@@ -39,7 +39,7 @@ pub bind_connection-requires : goal.bind_connection-requires
 bind_connection-requires g c =
     let free : is_some (key_of c.args.engine.now.nodes (string_bytes c.args.name)) ≡ false = cc in
     let beside : is_taken_beside c.args.engine.now.nodes (string_bytes c.args.name) (option_map string_bytes c.connection_name-connection.result) ≡ false = cc in
-    let pushed : c.bind.new.self ≡ c.args.engine.now.nodes ++ record { name = c.args.name; key = c.in-Ok.opened.key } ∷ [] = search rules in
+    let pushed : c.bind.new.self ≡ c.args.engine.now.nodes ++ record { name = c.args.name; key = c.in-Ok.opened.key } ∷ [] = c.in_ok-bind-in-Ok.ensures in
     free_behind c.args.engine.now.nodes c.bind.new.self (record { name = c.args.name; key = c.in-Ok.opened.key }) (option_map string_bytes c.connection_name-connection.result) pushed free beside
 
 pub returns-in_ok-bind_connection-in-Ok : goal.returns-in_ok-bind_connection-in-Ok
@@ -48,8 +48,8 @@ returns-in_ok-bind_connection-in-Ok g c =
     let is : kind_of c.args.engine.now.hubs (sort_of c.args.sort) ≡ Some c.in-Some-kind_of.kind = cc in
     let free : is_some (key_of c.args.engine.now.nodes (string_bytes c.args.name)) ≡ false = cc in
     let beside : is_taken_beside c.args.engine.now.nodes (string_bytes c.args.name) (connection_name (sort_of c.args.sort)) ≡ false = cc in
-    let pushed : c.bind.new.self ≡ c.args.engine.now.nodes ++ record { name = c.args.name; key = c.in-Ok.opened.key } ∷ [] = search rules in
-    let named_on : c.bind_connection.new.nodes ≡ with_named c.bind.new.self c.connection_name-connection.result c.in-Ok.opened.connected = search rules in
+    let pushed : c.bind.new.self ≡ c.args.engine.now.nodes ++ record { name = c.args.name; key = c.in-Ok.opened.key } ∷ [] = c.in_ok-bind-in-Ok.ensures in
+    let named_on : c.bind_connection.new.nodes ≡ with_named c.bind.new.self c.connection_name-connection.result c.in-Ok.opened.connected = c.in_ok-bind_connection-in-Ok.ensures in
     open_accepted c.args.engine.now (string_bytes c.args.name) (site_of c.args.site.now) (sort_of c.args.sort) c.requires c.in-Some.place at c.in-Some-kind_of.kind is free beside
     _ (record { name = c.args.name; key = c.in-Ok.opened.key }) c.bind.new.self c.connection_name-connection.result c.in-Ok.opened.connected
     pushed named_on refl c.connection_name-connection.ensures c.in-Ok.ensures.ok

@@ -1,14 +1,10 @@
-//! Compares the two JSON Schemas of its folder with what the program `rxbook` takes, text by text.
+//! Compares the two JSON Schemas of the folder `schemas` with what the program `rxbook` takes, text by text.
 //!
 //! `scenario.schema.json` is compared on each line of `scenarios.txt`, and `dump.schema.json` on each of
 //! `dumps.txt`. A line that the schema takes and the program refuses, or the other way round, is told
 //! with `DIFFERS`, and where the schema has a word that is not known here that is told.
-#![tactic(auto)]
 
-mod judging;
-mod words;
-
-use judging::takes;
+use crate::judging::takes;
 use rx_device::{ScriptError, ShapeError, Watched};
 use rx_dump::check;
 use rx_scenario::scenario_of;
@@ -107,7 +103,18 @@ fn compare_all<R: Files + AllocGlobal + Print>(
     println!(rt; "{texts}: {tried} texts, of which {taken} are taken")
 }
 
-fn main(rt: HostRuntime) -> io::Result<()> {
-    compare_all(&rt, Form::Scenario, "scenario.schema.json", "scenarios.txt")?;
-    compare_all(&rt, Form::Dump, "dump.schema.json", "dumps.txt")
+/// Compares both schemas.
+pub fn compare_schemas<R: Files + AllocGlobal + Print>(rt: &R) -> io::Result<()> {
+    compare_all(
+        rt,
+        Form::Scenario,
+        "schemas/scenario.schema.json",
+        "schemas/scenarios.txt",
+    )?;
+    compare_all(
+        rt,
+        Form::Dump,
+        "schemas/dump.schema.json",
+        "schemas/dumps.txt",
+    )
 }

@@ -1,5 +1,5 @@
 use Rattle.std.proofs.Common.{◌+◌, ◌*◌}
-use Rattle.rx_schema.proofs.judging.+judging.Given as goal
+use Rattle.rx_replay.proofs.judging.+judging.Given as goal
 
 abbrev pub decreases-takes_within : goal.decreases-takes_within
 decreases-takes_within l = 4 * l.depth + 2

@@ -5,8 +5,7 @@ ghost use Rattle.std.specs.List.{All};
 ghost use Rattle.rx_resource.specs.declared.Life.{Life};
 ghost use Rattle.rx_ledger.specs.Shares.{Opens};
 
-use crate::threads::run_threads;
-use crate::{StormFault, storm};
+use super::same::same;
 use rx_audit::{Verdict, audit};
 use rx_book::Book;
 use rx_crew::{Desk, Gate, finish};
@@ -15,6 +14,7 @@ use rx_event::Event;
 use rx_ledger::PARTS;
 use rx_resource::Sample;
 use rx_scarce::Scarce;
+use rx_storm::{StormFault, run_threads, storm};
 use std::alloc::{AllocError, Global};
 use std::io::Write;
 use std::marker::Brand;
@@ -67,8 +67,8 @@ impl Gate for Open {
 #[test]
 fn a_storm_tells_its_figures(rt: HostRuntime) -> Result<(), Fail> {
     let mut output = Vec::new(rt.alloc());
-    assert_eq!(rt; usual(&rt, rt.alloc(), &Open, &mut output), Ok(true));
-    assert_eq!(rt; output.as_slice(), FIGURES.as_bytes());
+    same(&rt, usual(&rt, rt.alloc(), &Open, &mut output), Ok(true));
+    same(&rt, output.as_slice(), FIGURES.as_bytes());
     Ok(())
 }
 
@@ -99,8 +99,8 @@ fn a_writer_that_fails_is_a_write_fault(rt: HostRuntime) -> Result<(), Fail> {
         taken: Vec::new(rt.alloc()),
     };
     let told = usual(&rt, rt.alloc(), &Open, &mut narrow);
-    assert_eq!(rt; told, Err(StormFault::Write));
-    assert_eq!(rt; narrow.taken.as_slice(), &FIGURES.as_bytes()[..10]);
+    same(&rt, told, Err(StormFault::Write));
+    same(&rt, narrow.taken.as_slice(), &FIGURES.as_bytes()[..10]);
     Ok(())
 }
 
@@ -165,8 +165,8 @@ fn two_releases_of_a_storm_run_at_the_same_time(rt: HostRuntime) -> Result<(), F
         has_met: AtomicU64::new(0),
     };
     let mut output = Vec::new(rt.alloc());
-    assert_eq!(rt; usual(&rt, rt.alloc(), &gate, &mut output), Ok(true));
-    assert_eq!(rt; gate.has_met.load(Ordering::SeqCst), 1);
+    same(&rt, usual(&rt, rt.alloc(), &gate, &mut output), Ok(true));
+    same(&rt, gate.has_met.load(Ordering::SeqCst), 1);
     Ok(())
 }
 
@@ -197,7 +197,7 @@ fn history_of<
 fn the_audit_of_a_storm_is_lawful(rt: HostRuntime) -> Result<(), Fail> {
     let blanks = (Blank::new(PARTS), Blank::new(PARTS), Blank::new(PARTS));
     let events = history_of::<Brand, Brand, Brand, _>(&rt, rt.alloc(), blanks)?;
-    assert_eq!(rt; events.len(), 104);
+    same(&rt, events.len(), 104);
     match audit(rt.alloc(), &events) {
         Ok(
             Verdict::Lawful {
