@@ -12,47 +12,48 @@ mod judging;
 mod schemas;
 mod words;
 
-use rx_cli::{Watched, serve, stock};
+use rx_cli::{Form, Watched, check, run, stock};
 use schemas::compare_schemas;
 use std::alloc::{AllocError, Global};
 use std::rt::Files;
-use std::sync::Wait;
-use std::thread::Threads;
 use std::{fs, io};
 
-// What the program writes for these words and this input.
-fn written<R: Threads + Wait + Sync>(
-    rt: &R,
-    alloc: Global,
-    words: &[&str],
-    input: &[u8],
-) -> Result<Vec<u8>, AllocError> {
-    let stock = stock(alloc)?;
-    let mut reader = input;
+// What is compared.
+#[derive(Clone, Copy)]
+enum Output {
+    // What a scenario gives in this form.
+    Of(Form),
+    // The verdict on a dump.
+    Verdict,
+}
+
+// What the program writes for this input.
+fn written(alloc: Global, asked: Output, input: &[u8]) -> Result<Vec<u8>, AllocError> {
+    let mut left = input;
+    let mut reader = Watched::new(&mut left);
     let mut output = Vec::new(alloc);
-    let mut errors: Vec<u8> = Vec::new(alloc);
-    let _status = serve(
-        rt,
-        alloc,
-        words,
-        stock,
-        &mut Watched::new(&mut reader),
-        &mut Watched::new(&mut output),
-        &mut Watched::new(&mut errors),
-    );
+    let mut writer = Watched::new(&mut output);
+    match asked {
+        Output::Of(form) => {
+            let _outcome = run(alloc, &mut reader, &mut writer, stock(alloc)?, form);
+        }
+        Output::Verdict => {
+            let _outcome = check(alloc, &mut reader, &mut writer);
+        }
+    }
     Ok(output)
 }
 
 // Tells whether that is stored in the other file.
-fn compare<R: Files + Threads + Wait + Sync + AllocGlobal + Print>(
+fn compare<R: Files + AllocGlobal + Print>(
     rt: &R,
-    words: &[&str],
+    asked: Output,
     from: &str,
     to: &str,
 ) -> io::Result<()> {
     let input = fs::read(rt, from)?;
     let stored = fs::read(rt, to)?;
-    let output = written(rt, rt.alloc(), words, input.as_slice())?;
+    let output = written(rt.alloc(), asked, input.as_slice())?;
     let outcome = if output.as_slice() == stored.as_slice() {
         "as stored"
     } else {
@@ -74,22 +75,18 @@ fn paths<R: Files + AllocGlobal + Clone + Drop>(rt: &R, folder: &str) -> io::Res
 }
 
 // Compares all that is stored of this file.
-fn replay<R: Files + Threads + Wait + Sync + AllocGlobal + Print>(
-    rt: &R,
-    path: &str,
-    paths: &[String],
-) -> io::Result<()> {
+fn replay<R: Files + AllocGlobal + Print>(rt: &R, path: &str, paths: &[String]) -> io::Result<()> {
     if let Some(stem) = path.strip_suffix(".json") {
         let report = format!(in rt.alloc(); "{stem}.report")?;
-        compare(rt, &["rxbook"], path, report.as_str())?;
+        compare(rt, Output::Of(Form::Report), path, report.as_str())?;
         let dump = format!(in rt.alloc(); "{stem}.dump")?;
         if paths.contains(&dump) {
-            compare(rt, &["rxbook", "run", "--dump"], path, dump.as_str())?;
+            compare(rt, Output::Of(Form::Dump), path, dump.as_str())?;
         }
     }
     if let Some(stem) = path.strip_suffix(".dump") {
         let verdict = format!(in rt.alloc(); "{stem}.verdict")?;
-        compare(rt, &["rxbook", "audit"], path, verdict.as_str())?;
+        compare(rt, Output::Verdict, path, verdict.as_str())?;
     }
     Ok(())
 }

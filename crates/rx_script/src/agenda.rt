@@ -1,6 +1,7 @@
 //! The steps that are to come.
 
-ghost use Rattle.std.specs.Prelude.{◌≡◌, ◌+◌, ◌≤◌, Some, None, map, sum_by, option_map, string_bytes, OnOk, IfSome, IfNone};
+ghost use Rattle.std.specs.Prelude.{◌≡◌, ◌+◌, ◌≤◌, Some, None, map, sum_by, option_map, string_bytes, IfOk, OnOk, IfSome, IfNone};
+ghost use Rattle.rx_time.specs.Schedule.{with_work};
 ghost use Rattle.rx_scenario.specs.Scenario.{step_of};
 ghost use Rattle.rx_script.specs.Agenda.{empty_agenda, with_label, with_step_after, with_step, with_steps, followed_by, next_step, Cancels};
 ghost use Rattle.rx_script.specs.Engine.{number_binding, agenda_of, size_of, size_left};
@@ -51,6 +52,35 @@ fn note_label(
     labels.bind(label, ticket)
 }
 
+// A copy of the step's label.
+fn label_of(step: &Step) -> Result<Option<String>, AllocError>
+    ensures { IfOk result (λ l. option_map string_bytes l ≡ (step_of step.now).label) }
+{
+    match &step.label {
+        Some(label) => Ok(Some(label.clone()?)),
+        None => Ok(None),
+    }
+}
+
+// When a step is due that waits so long from now.
+fn due_after(timeline: &Timeline<Step>, delay: Ticks) -> u64
+    requires { timeline.now.clock ≤ 1000000000000000 }
+    ensures { result ≡ timeline.now.clock + delay }
+{
+    timeline.now() + delay.count()
+}
+
+// Puts the step on the timeline. There are more tickets than steps.
+fn put_on(timeline: &mut Timeline<Step>, due: u64, step: Step) -> Result<Ticket, AllocError>
+    ensures ticket { IfOk result (λ ticket. ticket ≡ timeline.old.tickets) }
+    ensures added { OnOk result (timeline.new ≡ with_work due step timeline.old) }
+{
+    match timeline.schedule(due, step) {
+        Ok(ticket) => Ok(ticket),
+        Err(Back { why: _, value: _ }) => Err(AllocError),
+    }
+}
+
 // A step waits so long from now.
 fn wait(agenda: &mut Agenda, delay: Ticks, step: Step) -> Result<(), AllocError>
     requires { agenda.old.timeline.clock ≤ 1000000000000000 }
@@ -59,16 +89,10 @@ fn wait(agenda: &mut Agenda, delay: Ticks, step: Step) -> Result<(), AllocError>
     ensures size { OnOk result (size_left agenda.new ≡ size_left agenda.old + size_of step) }
     ensures clock { OnOk result (agenda.new.timeline.clock ≡ agenda.old.timeline.clock) }
 {
-    let label = match &step.label {
-        Some(label) => Some(label.clone()?),
-        None => None,
-    };
-    let due = agenda.timeline.now() + delay.count();
-    match agenda.timeline.schedule(due, step) {
-        Ok(ticket) => note_label(&mut agenda.labels, label, ticket),
-        // There are more tickets than steps.
-        Err(Back { why: _, value: _ }) => Err(AllocError),
-    }
+    let label = label_of(&step)?;
+    let due = due_after(&agenda.timeline, delay);
+    let ticket = put_on(&mut agenda.timeline, due, step)?;
+    note_label(&mut agenda.labels, label, ticket)
 }
 
 /// A step is to come: after its delay, or where it has none, last in this turn.

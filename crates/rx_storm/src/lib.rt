@@ -36,10 +36,8 @@ mod numbers;
 mod outcome;
 mod threads;
 
-pub use outcome::Lack;
-pub use threads::{Gathered, run_threads};
-
 use figures::Figures;
+pub use outcome::Lack;
 use outcome::outcome_of;
 use rx_book::Book;
 use rx_crew::{Desk, Gate, finish};
@@ -53,6 +51,7 @@ use std::marker::Brand;
 use std::sync::Wait;
 use std::sync::ledger::{Blank, Ledger};
 use std::thread::Threads;
+pub use threads::{Gathered, run_threads};
 
 /// How many events the book of a storm may have.
 const MOST_EVENTS: u64 = 16_777_216;
