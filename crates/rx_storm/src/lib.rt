@@ -44,7 +44,6 @@ use rx_crew::{Desk, Gate, finish};
 use rx_device::{Watched, write_text};
 use rx_ledger::PARTS;
 use rx_resource::Resource;
-use rx_script::close;
 use std::alloc::Global;
 use std::io::Write;
 use std::marker::Brand;
@@ -119,7 +118,7 @@ fn storm_named<
         notes,
         events: book.len(),
     };
-    let _closed = close(&mut book);
+    let _closed = book.close();
     outcome_of(gathered.fault, figures, finished.verdict)
 }
 
