@@ -1,5 +1,5 @@
 -- A key that is known stands in the list of keys.
-use Rattle.std.proofs.Common.{◌≡◌, true, List, subst, eq-eqb, nat_eq}
+use Rattle.std.proofs.Common.{◌≡◌, true, List, subst, nat_eq}
 use Rattle.std.proofs.Math.Bool.{◌&&◌}
 use Rattle.std.specs.List.{Contains}
 use Rattle.std.proofs.lemmas.Bool.{and_parts, eqb-true}
