@@ -29,6 +29,28 @@ fn work<I: Ledger, A: Ledger, K: Ledger>(
     Ok(())
 }
 
+// The seats of such a day that are named.
+fn seats_of<I: Ledger, A: Ledger, K: Ledger>(
+    rt: &impl Wait,
+    alloc: Global,
+    desk: &Desk<Sample, I, A, K>,
+    first: Seat<I, A, K>,
+    named: (bool, bool),
+) -> Result<Vec<Seat<I, A, K>>, Fail> {
+    let mut a = first;
+    let mut b = a.split().ok_or("no second seat")?;
+    work(&mut desk.floor.lock(rt), &mut a, &mut b)?;
+    let mut seats: Vec<Seat<I, A, K>> = Vec::new(alloc);
+    seats.reserve(2)?;
+    if named.0 {
+        seats.push_reserved(a);
+    }
+    if named.1 {
+        seats.push_reserved(b);
+    }
+    Ok(seats)
+}
+
 // Such a day, finished with the seats that are named.
 fn day<I: Ledger, A: Ledger, K: Ledger>(
     rt: &impl Wait,
@@ -42,20 +64,8 @@ fn day<I: Ledger, A: Ledger, K: Ledger>(
     requires taken { Opens K.name K.parts blanks.2.name blanks.2.parts }
 {
     let book = Book::new(alloc, 1000);
-    let (desk, mut a) = Desk::<Sample, I, A, K>::new(book, blanks.0, blanks.1, blanks.2);
-    let mut b = a.split().ok_or("no second seat")?;
-    {
-        let mut floor = desk.floor.lock(rt);
-        work(&mut floor, &mut a, &mut b)?;
-    }
-    let mut seats: Vec<Seat<I, A, K>> = Vec::new(alloc);
-    seats.reserve(2)?;
-    if named.0 {
-        seats.push_reserved(a);
-    }
-    if named.1 {
-        seats.push_reserved(b);
-    }
+    let (desk, first) = Desk::<Sample, I, A, K>::new(book, blanks.0, blanks.1, blanks.2);
+    let seats = seats_of(rt, alloc, &desk, first, named)?;
     Ok(finish(desk, seats, receipts))
 }
 

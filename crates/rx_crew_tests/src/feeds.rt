@@ -9,6 +9,7 @@ use super::parts::blanks;
 use rx_book::{At, Book};
 use rx_crew::{Desk, Pull, Source, Stop, feed};
 use rx_event::{Event, Kind, Refusal, Terminal};
+use rx_ledger::Seat;
 use rx_resource::Sample;
 use std::alloc::Global;
 use std::marker::Brand;
@@ -36,28 +37,25 @@ impl Source for Single {
     }
 }
 
-// Why four feeds of one leaf stop, of no turn, one turn and many, and of many once the leaf has ended;
-// and which events they have receipts of, with their places.
+// Why feeds stop, and which events they have receipts of, with their places.
+type Told = ([Stop; 4], Vec<(u64, Event)>);
+
+// What four feeds of one leaf tell, of no turn, one turn and many, and of many once the leaf has ended.
 fn fed<I: Ledger, A: Ledger, K: Ledger>(
     rt: &impl Wait,
     alloc: Global,
-    blanks: (Blank, Blank, Blank),
-) -> Result<([Stop; 4], Vec<(u64, Event)>), Fail>
-    requires items { Opens I.name I.parts blanks.0.name blanks.0.parts }
-    requires accepted { Opens A.name A.parts blanks.1.name blanks.1.parts }
-    requires taken { Opens K.name K.parts blanks.2.name blanks.2.parts }
-{
-    let book = Book::new(alloc, 1000);
-    let (desk, seat) = Desk::<Sample, I, A, K>::new(book, blanks.0, blanks.1, blanks.2);
+    desk: &Desk<Sample, I, A, K>,
+    seat: Seat<I, A, K>,
+) -> Result<Told, Fail> {
     let leaf = desk.floor.lock(rt).open(At::Root, Kind::Leaf)?.key;
     let mut source = Single { left: 2 };
-    let none = feed(rt, alloc, &desk, seat, leaf, &mut source, 0);
+    let none = feed(rt, alloc, desk, seat, leaf, &mut source, 0);
     let mut source = Single { left: 2 };
-    let one = feed(rt, alloc, &desk, none.seat, leaf, &mut source, 1);
+    let one = feed(rt, alloc, desk, none.seat, leaf, &mut source, 1);
     let mut source = Single { left: 2 };
-    let all = feed(rt, alloc, &desk, one.seat, leaf, &mut source, 9);
+    let all = feed(rt, alloc, desk, one.seat, leaf, &mut source, 9);
     let mut source = Single { left: 2 };
-    let late = feed(rt, alloc, &desk, all.seat, leaf, &mut source, 9);
+    let late = feed(rt, alloc, desk, all.seat, leaf, &mut source, 9);
     let mut events = Vec::new(alloc);
     for receipts in [none.receipts, one.receipts, all.receipts, late.receipts] {
         for receipt in receipts {
@@ -67,9 +65,24 @@ fn fed<I: Ledger, A: Ledger, K: Ledger>(
     Ok(([none.stop, one.stop, all.stop, late.stop], events))
 }
 
+// Makes the desk for it.
+fn at_desk<I: Ledger, A: Ledger, K: Ledger>(
+    rt: &impl Wait,
+    alloc: Global,
+    blanks: (Blank, Blank, Blank),
+) -> Result<Told, Fail>
+    requires items { Opens I.name I.parts blanks.0.name blanks.0.parts }
+    requires accepted { Opens A.name A.parts blanks.1.name blanks.1.parts }
+    requires taken { Opens K.name K.parts blanks.2.name blanks.2.parts }
+{
+    let book = Book::new(alloc, 1000);
+    let (desk, seat) = Desk::<Sample, I, A, K>::new(book, blanks.0, blanks.1, blanks.2);
+    fed(rt, alloc, &desk, seat)
+}
+
 #[test]
 fn a_feed_stops_at_its_turns_at_the_end_and_when_refused(rt: HostRuntime) -> Result<(), Fail> {
-    let (stops, events) = fed::<Brand, Brand, Brand>(&rt, rt.alloc(), blanks())?;
+    let (stops, events) = at_desk::<Brand, Brand, Brand>(&rt, rt.alloc(), blanks())?;
     let gone = Stop::Refused(Refusal::Gone);
     assert_eq!(rt; stops, [Stop::Turns, Stop::Turns, Stop::Done, gone]);
     let end = Event::End(0, Terminal::Completed);
