@@ -1,17 +1,22 @@
 -- One more step of a course.
 use Rattle.std.proofs.Common.{◌≡◌, ◌≤◌, ◌+◌, ◌++◌, ◌∷◌, [], ℕ, List, length, map, string_bytes, String, Global, refl, sym, ap, subst, ◌∙◌, arith}
-use Rattle.std.specs.Prelude.{Some, sum_by}
+use Rattle.std.specs.Prelude.{Result, Ok, Err, IfOk, Some, sum_by}
 use Rattle.rx_scenario.specs.declared.scenario.Action.TheVariants.{Command as CommandThere, Cancel}
 use Rattle.rx_scenario.specs.declared.scenario.Command.{Command as CommandInCode}
 use Rattle.rx_scenario.specs.declared.scenario.Step.{Step as StepInCode, out-Step}
 use Rattle.rx_scenario.specs.Scenario.{command_of, step_of, list_of, labels_in}
 use Rattle.rx_scenario.proofs.Laws.{step_of-parts, list_of-steps_of, length-labels_in}
-use Rattle.rx_script.specs.declared.agenda.Agenda.{Agenda as AgendaInCode}
-use Rattle.rx_script.specs.declared.answer.Answer.{Answer}
+use Rattle.rx_agenda.specs.declared.agenda.Agenda.{Agenda as AgendaInCode}
+use Rattle.rx_agenda.specs.declared.answer.Answer.{Answer}
 use Rattle.rx_script.specs.declared.engine.Engine.{Engine}
-use Rattle.rx_script.specs.Agenda.{Cancels, followed_by, next_step}
+use Rattle.rx_agenda.specs.Agenda.{Cancels, followed_by, next_step}
 use Rattle.rx_script.specs.Course.{Progress, Performs, executes, cancels, Advances, Leads, advanced}
-use Rattle.rx_script.specs.Engine.{IsSound, Carries, Performed, Followed, agenda_of, size_of, size_left, progress_of}
+use Rattle.rx_script.specs.Engine.{IsSound, Carries, Performed, Followed, progress_of}
+use Rattle.rx_agenda.specs.Shown.{agenda_of, size_of, size_left}
+
+pub IfOk-map : {T E : Type 0} {A B : T → Type 0} (r : Result T E) → ((x : T) → A x → B x) → IfOk r A → IfOk r B
+IfOk-map (Ok x) f here = f x here
+IfOk-map (Err e) f here = here
 
 -- what a step has to follow it
 pub followers-listed : (s : StepInCode) → list_of (step_of s).followers ≡ map step_of (out-Step s).then.items

@@ -11,17 +11,19 @@ use Rattle.rx_book.specs.State.{State, IsPromised, Continues}
 use Rattle.rx_register.specs.Causes.{by_key}
 use Rattle.rx_book.specs.Requests.{Request, stands}
 use Rattle.rx_book.specs.Answers.{Accepts}
-use Rattle.rx_script.specs.declared.answer.Answer.{Answer}
-use Rattle.rx_script.specs.declared.answer.Answer.TheVariants.{Accepted, Refused}
-use Rattle.rx_script.specs.declared.answer.Cause.{Cause}
-use Rattle.rx_script.specs.declared.answer.Cause.TheVariants.{Book}
+use Rattle.rx_agenda.specs.declared.answer.Answer.{Answer}
+use Rattle.rx_agenda.specs.declared.answer.Answer.TheVariants.{Accepted, Refused}
+use Rattle.rx_agenda.specs.declared.answer.Cause.{Cause}
+use Rattle.rx_agenda.specs.declared.answer.Cause.TheVariants.{Book}
 use Rattle.rx_script.specs.declared.engine.Engine.{Engine}
 use Rattle.rx_scenario.specs.Scenario.{Command, drain}
 use Rattle.rx_script.specs.Stage.{Stage, own_cause, call_of, after}
 use Rattle.rx_book.specs.Drains.{Drains}
 use Rattle.rx_script.specs.Course.{Executes, refused, refused_by_book, accepted, drained, book_cause}
 use Rattle.rx_script.specs.Shelf.{Shelf}
-use Rattle.rx_script.specs.Engine.{node_binding, res_binding, number_binding, stage_of, IsNodeKey, IsHeldKey, IsSound, Carries}
+use Rattle.rx_report.specs.Keys.{node_binding, res_binding, IsNodeKey, IsHeldKey}
+use Rattle.rx_agenda.specs.Shown.{number_binding}
+use Rattle.rx_script.specs.Engine.{stage_of, IsSound, Carries}
 use Rattle.rx_book.proofs.Laws.Going.{step_taken, accepted_continues}
 use Rattle.rx_script.proofs.Going.{node_keys_kept, held_keys_kept}
 

@@ -17,16 +17,19 @@ use Rattle.rx_book.specs.State.{State, IsPromised, has_key, has_res_key}
 use Rattle.rx_register.specs.Causes.{causes, by_key, by_res_key, by_key_of}
 use Rattle.rx_book.specs.Requests.{Request, stands, node_request, res_request}
 use Rattle.rx_book.specs.Answers.{Accepts}
-use Rattle.rx_script.specs.declared.answer.Answer.{Answer}
-use Rattle.rx_script.specs.declared.answer.Answer.TheVariants.{Accepted, Refused}
-use Rattle.rx_script.specs.declared.answer.Cause.TheVariants.{NoName, Book}
+use Rattle.rx_agenda.specs.declared.answer.Answer.{Answer}
+use Rattle.rx_agenda.specs.declared.answer.Answer.TheVariants.{Accepted, Refused}
+use Rattle.rx_agenda.specs.declared.answer.Cause.TheVariants.{NoName, Book}
 use Rattle.rx_script.specs.declared.engine.Engine.{Engine}
 use Rattle.rx_scenario.specs.Scenario.{Name, Command, apply, remove, next, end, abort, decline, fail, dispose}
-use Rattle.rx_script.specs.Stage.{Stage, bound, is_unbound, own_cause, call_of, front_is_fresh, after}
-use Rattle.rx_script.specs.Names.{key_of}
-use Rattle.rx_script.specs.Engine.{stage_of, IsNodeKey, IsHeldKey, IsSound, Carries}
-use Rattle.rx_script.proofs.Keys.{has_key-is_open, has_res_key-is_held}
-use Rattle.rx_script.proofs.Naming.{key_of-holds, node_bound, node_unbound, res_bound, res_unbound}
+use Rattle.rx_script.specs.Stage.{Stage, own_cause, call_of, front_is_fresh, after}
+use Rattle.rx_agenda.specs.Bindings.{bound, is_unbound}
+use Rattle.rx_agenda.specs.Names.{key_of}
+use Rattle.rx_script.specs.Engine.{stage_of, IsSound, Carries}
+use Rattle.rx_report.specs.Keys.{IsNodeKey, IsHeldKey}
+use Rattle.rx_report.proofs.Laws.{has_key-is_open, has_res_key-is_held}
+use Rattle.rx_agenda.proofs.Laws.{key_of-holds}
+use Rattle.rx_script.proofs.Naming.{node_bound, node_unbound, res_bound, res_unbound}
 use Rattle.rx_script.proofs.Carrying.{Agrees, first_cause-by_key, with, refused_own, refused_there, accepted_plain}
 
 -- refusals by the book -----------------------------------------------------------------------------

@@ -6,9 +6,9 @@ use Rattle.rx_event.specs.Resources.{is_held}
 use Rattle.rx_book.specs.declared.key.Key.{Key}
 use Rattle.rx_book.specs.declared.key.ResKey.{ResKey}
 use Rattle.rx_book.specs.State.{State, IsPromised, Continues}
-use Rattle.rx_script.specs.declared.names.Named.{Named}
-use Rattle.rx_script.specs.Engine.{IsNodeKey, IsHeldKey}
-use Rattle.rx_script.proofs.Keys.{key_kept}
+use Rattle.rx_agenda.specs.declared.names.Named.{Named}
+use Rattle.rx_report.specs.Keys.{IsNodeKey, IsHeldKey}
+use Rattle.rx_report.proofs.Laws.{key_kept}
 
 -- a key that a book gave stays so
 node_key_kept : (old new : State) (k : Key) → IsPromised old → IsPromised new → Continues old new → IsNodeKey old k → IsNodeKey new k

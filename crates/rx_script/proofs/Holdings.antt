@@ -15,18 +15,22 @@ use Rattle.rx_book.specs.State.{State, IsPromised, has_key, has_res_key}
 use Rattle.rx_register.specs.Causes.{causes, by_key}
 use Rattle.rx_book.specs.Requests.{Request, place_of, is_known_place, stands}
 use Rattle.rx_book.specs.Answers.{Accepts}
-use Rattle.rx_script.specs.declared.answer.Answer.TheVariants.{Accepted, Refused}
-use Rattle.rx_script.specs.declared.answer.Cause.TheVariants.{NoName, NameTaken, NoStock, Book}
-use Rattle.rx_script.specs.declared.names.Named.{Named}
+use Rattle.rx_agenda.specs.declared.answer.Answer.TheVariants.{Accepted, Refused}
+use Rattle.rx_agenda.specs.declared.answer.Cause.TheVariants.{NoName, NameTaken, NoStock, Book}
+use Rattle.rx_agenda.specs.declared.names.Named.{Named}
 use Rattle.rx_script.specs.declared.engine.Engine.{Engine}
 use Rattle.rx_scenario.specs.Scenario.{Name, Site, using, hold}
-use Rattle.rx_script.specs.Stage.{Ware, bound, is_unbound, is_empty, own_cause, front, front_is_fresh, with_binding}
+use Rattle.rx_script.specs.Stage.{Ware, is_empty, own_cause, front, front_is_fresh}
+use Rattle.rx_agenda.specs.Bindings.{bound, is_unbound, with_binding}
 use Rattle.rx_script.specs.Course.{book_cause}
 use Rattle.rx_script.specs.Shelf.{Shelf}
-use Rattle.rx_script.specs.Names.{name_of, key_of}
-use Rattle.rx_script.specs.Engine.{node_binding, res_binding, number_binding, at_of, stage_of, IsNodeKey, IsHeldKey, IsSound, Carries}
-use Rattle.rx_script.proofs.Keys.{has_key-is_open}
-use Rattle.rx_script.proofs.Naming.{key_of-holds, node_bound, node_unbound}
+use Rattle.rx_agenda.specs.Names.{name_of, key_of}
+use Rattle.rx_report.specs.Keys.{node_binding, res_binding, IsNodeKey, IsHeldKey}
+use Rattle.rx_agenda.specs.Shown.{number_binding}
+use Rattle.rx_script.specs.Engine.{at_of, stage_of, IsSound, Carries}
+use Rattle.rx_report.proofs.Laws.{has_key-is_open}
+use Rattle.rx_agenda.proofs.Laws.{key_of-holds}
+use Rattle.rx_script.proofs.Naming.{node_bound, node_unbound}
 use Rattle.rx_book.proofs.Laws.Going.{accepted_continues}
 use Rattle.rx_script.proofs.Going.{node_keys_kept, held_keys_kept}
 use Rattle.rx_script.proofs.Carrying.{Agrees, first_cause-by_key, with, refused_own, refused_there, accepted_to}

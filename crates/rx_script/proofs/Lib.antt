@@ -1,9 +1,5 @@
-pub mod Binding
-pub mod Texts
-pub mod Keys
 pub mod Naming
 pub mod Going
-pub mod Planning
 pub mod Advancing
 pub mod Carrying
 pub mod Commands
@@ -11,5 +7,4 @@ pub mod Openings
 pub mod Nodes
 pub mod Holdings
 pub mod Publishing
-pub mod Gathering
 pub mod Reporting

@@ -14,15 +14,18 @@ use Rattle.rx_book.specs.State.{State, IsPromised}
 use Rattle.rx_register.specs.Causes.{causes}
 use Rattle.rx_book.specs.Requests.{Request, place_of, is_known_place, stands, open_request}
 use Rattle.rx_book.specs.Answers.{Accepts, IsOpened, connection_made}
-use Rattle.rx_script.specs.declared.answer.Answer.TheVariants.{Accepted, Refused}
-use Rattle.rx_script.specs.declared.answer.Cause.TheVariants.{NoName, NameTaken, Book}
-use Rattle.rx_script.specs.declared.names.Named.{Named}
+use Rattle.rx_agenda.specs.declared.answer.Answer.TheVariants.{Accepted, Refused}
+use Rattle.rx_agenda.specs.declared.answer.Cause.TheVariants.{NoName, NameTaken, Book}
+use Rattle.rx_agenda.specs.declared.names.Named.{Named}
 use Rattle.rx_script.specs.declared.engine.Engine.{Engine}
 use Rattle.rx_scenario.specs.Scenario.{Name, Site, Sort, leaf, pass, flat, switch, until, sub, open_node}
-use Rattle.rx_script.specs.Stage.{Binding, is_unbound_hub, connection_name, own_cause, kind_at, with_binding, with_connection}
-use Rattle.rx_script.specs.Names.{name_of, key_of}
-use Rattle.rx_script.specs.Engine.{node_binding, res_binding, number_binding, at_of, kind_of, is_taken_beside, with_named, stage_of, IsNodeKey, IsHeldKey, IsSound, Carries}
-use Rattle.rx_script.proofs.Naming.{bound-numbers}
+use Rattle.rx_agenda.specs.Bindings.{Binding, with_binding}
+use Rattle.rx_script.specs.Stage.{is_unbound_hub, connection_name, own_cause, kind_at, with_connection}
+use Rattle.rx_agenda.specs.Names.{name_of, key_of}
+use Rattle.rx_report.specs.Keys.{node_binding, res_binding, IsNodeKey, IsHeldKey}
+use Rattle.rx_agenda.specs.Shown.{number_binding}
+use Rattle.rx_script.specs.Engine.{at_of, kind_of, is_taken_beside, with_named, stage_of, IsSound, Carries}
+use Rattle.rx_agenda.proofs.Laws.{bound-numbers}
 use Rattle.rx_book.proofs.Laws.Going.{accepted_continues}
 use Rattle.rx_script.proofs.Going.{node_keys_kept, held_keys_kept}
 use Rattle.rx_script.proofs.Carrying.{Agrees, first_cause-by_key, with, refused_own, refused_there, accepted_to}

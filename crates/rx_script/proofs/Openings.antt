@@ -21,15 +21,19 @@ use Rattle.rx_book.specs.State.{State, has_key, has_res_key}
 use Rattle.rx_register.specs.Causes.{is_gone}
 use Rattle.rx_book.specs.Requests.{Request, place_of, is_known_place}
 use Rattle.rx_book.specs.Answers.{Accepts, IsOpened, makes_connection}
-use Rattle.rx_script.specs.declared.names.Named.{Named}
+use Rattle.rx_agenda.specs.declared.names.Named.{Named}
 use Rattle.rx_script.specs.declared.engine.Engine.{Engine}
 use Rattle.rx_scenario.specs.Scenario.{Name, Site, root, source, inner, notifier}
-use Rattle.rx_script.specs.Stage.{Binding, Ware, Stage, bound, is_bound, is_unbound, is_unbound_site, place_at, with_binding, with_connection}
-use Rattle.rx_script.specs.Names.{name_of, key_of}
-use Rattle.rx_script.specs.Engine.{node_binding, res_binding, number_binding, at_of, is_taken, is_taken_beside, with_named, stage_of, IsNodeKey, IsHeldKey, IsSound}
-use Rattle.rx_script.proofs.Binding.{key_of-bind, none_there}
-use Rattle.rx_script.proofs.Keys.{has_key-is_open, has_key-contained, has_res_key-contained}
-use Rattle.rx_script.proofs.Naming.{key_of-holds, bound-numbers, bound-nodes, bound-resources, node_bound, node_unbound}
+use Rattle.rx_agenda.specs.Bindings.{Binding, bound, is_bound, is_unbound, with_binding}
+use Rattle.rx_script.specs.Stage.{Ware, Stage, is_unbound_site, place_at, with_connection}
+use Rattle.rx_agenda.specs.Names.{name_of, key_of}
+use Rattle.rx_report.specs.Keys.{node_binding, res_binding, IsNodeKey, IsHeldKey}
+use Rattle.rx_agenda.specs.Shown.{number_binding}
+use Rattle.rx_script.specs.Engine.{at_of, is_taken, is_taken_beside, with_named, stage_of, IsSound}
+use Rattle.rx_agenda.proofs.Laws.{key_of-bind, none_there}
+use Rattle.rx_report.proofs.Laws.{has_key-is_open, has_key-contained, has_res_key-contained}
+use Rattle.rx_agenda.proofs.Laws.{key_of-holds, bound-numbers}
+use Rattle.rx_script.proofs.Naming.{bound-nodes, bound-resources, node_bound, node_unbound}
 use Rattle.rx_book.proofs.Laws.Going.{step_longer}
 
 -- names that are taken -----------------------------------------------------------------------------

@@ -11,15 +11,18 @@ use Rattle.rx_book.specs.declared.key.Key.{Key}
 use Rattle.rx_book.specs.State.{State, IsPromised}
 use Rattle.rx_book.specs.Requests.{stands, hub_request, connect_request, disconnect_request}
 use Rattle.rx_book.specs.Answers.{Accepts, IsNewKey}
-use Rattle.rx_script.specs.declared.answer.Answer.TheVariants.{Accepted, Refused}
-use Rattle.rx_script.specs.declared.answer.Cause.TheVariants.{NoName, NameTaken, Book}
-use Rattle.rx_script.specs.declared.names.Named.{Named}
+use Rattle.rx_agenda.specs.declared.answer.Answer.TheVariants.{Accepted, Refused}
+use Rattle.rx_agenda.specs.declared.answer.Cause.TheVariants.{NoName, NameTaken, Book}
+use Rattle.rx_agenda.specs.declared.names.Named.{Named}
 use Rattle.rx_script.specs.declared.engine.Engine.{Engine}
 use Rattle.rx_scenario.specs.Scenario.{Name, make_hub, connect, disconnect}
-use Rattle.rx_script.specs.Stage.{bound, is_unbound, own_cause, with_binding, with_connection}
-use Rattle.rx_script.specs.Names.{name_of, key_of}
-use Rattle.rx_script.specs.Engine.{node_binding, res_binding, number_binding, is_taken, with_named, stage_of, IsNodeKey, IsHeldKey, IsSound, Carries}
-use Rattle.rx_script.proofs.Naming.{bound-numbers}
+use Rattle.rx_agenda.specs.Bindings.{bound, is_unbound, with_binding}
+use Rattle.rx_script.specs.Stage.{own_cause, with_connection}
+use Rattle.rx_agenda.specs.Names.{name_of, key_of}
+use Rattle.rx_report.specs.Keys.{node_binding, res_binding, IsNodeKey, IsHeldKey}
+use Rattle.rx_agenda.specs.Shown.{number_binding}
+use Rattle.rx_script.specs.Engine.{is_taken, with_named, stage_of, IsSound, Carries}
+use Rattle.rx_agenda.proofs.Laws.{bound-numbers}
 use Rattle.rx_book.proofs.Laws.Going.{accepted_continues}
 use Rattle.rx_script.proofs.Going.{node_keys_kept, held_keys_kept}
 use Rattle.rx_script.proofs.Carrying.{Agrees, with, refused_own, refused_there, accepted_to, accepted_plain}

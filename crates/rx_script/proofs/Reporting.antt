@@ -4,10 +4,10 @@ use Rattle.rx_event.specs.declared.event.Event.{Event}
 use Rattle.rx_event.specs.Lawful.{IsLawful}
 use Rattle.rx_event.specs.Totals.{accepted_count, taken_count, held_count, waiting_count}
 use Rattle.rx_event.proofs.Laws.Totals.{accepted_count-parts}
-use Rattle.rx_script.specs.declared.answer.Answer.{Answer}
+use Rattle.rx_agenda.specs.declared.answer.Answer.{Answer}
 use Rattle.rx_scenario.specs.Scenario.{Script}
 use Rattle.rx_script.specs.Stage.{Ware, Stage, start}
-use Rattle.rx_script.specs.Agenda.{with_steps, empty_agenda}
+use Rattle.rx_agenda.specs.Agenda.{with_steps, empty_agenda}
 use Rattle.rx_script.specs.Course.{Progress, begin, Ends, Course, IsCourseOf}
 use Rattle.rx_dump.specs.Dump.{dump}
 use Rattle.rx_script.specs.declared.Form.{Form}

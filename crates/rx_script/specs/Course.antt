@@ -7,13 +7,13 @@ use Rattle.rx_event.specs.Calls.{Call, IsStepOf}
 use Rattle.rx_event.specs.Refusals.{first_cause}
 use Rattle.rx_register.specs.Causes.{causes}
 use Rattle.rx_book.specs.Drains.{Drains}
-use Rattle.rx_script.specs.declared.answer.Answer.{Answer}
-use Rattle.rx_script.specs.declared.answer.Answer.TheVariants.{Accepted, Refused}
-use Rattle.rx_script.specs.declared.answer.Cause.{Cause}
-use Rattle.rx_script.specs.declared.answer.Cause.TheVariants.{Book}
+use Rattle.rx_agenda.specs.declared.answer.Answer.{Answer}
+use Rattle.rx_agenda.specs.declared.answer.Answer.TheVariants.{Accepted, Refused}
+use Rattle.rx_agenda.specs.declared.answer.Cause.{Cause}
+use Rattle.rx_agenda.specs.declared.answer.Cause.TheVariants.{Book}
 use Rattle.rx_scenario.specs.Scenario.{Name, Command, drain, Action, command, cancel, Step, list_of, Script}
 use Rattle.rx_script.specs.Stage.{Ware, Stage, start, own_cause, call_of, front_is_fresh, after}
-use Rattle.rx_script.specs.Agenda.{Agenda, empty_agenda, with_steps, followed_by, next_step, Cancels}
+use Rattle.rx_agenda.specs.Agenda.{Agenda, empty_agenda, with_steps, followed_by, next_step, Cancels}
 
 -- the first cause that stands against a step's call of the book
 abbrev pub book_cause : ℕ → Stage → Call → Option Refusal

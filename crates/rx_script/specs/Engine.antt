@@ -1,43 +1,31 @@
 -- A scenario at work: what its parts stand for, and what they keep.
-use Rattle.std.specs.Prelude.{◌≡◌, ℕ, ◌+◌, ◌<◌, ◌≤◌, Bool, false, ◌||◌, Option, Some, List, [], ◌∷◌, ◌++◌, String, length, map, sum_by, IsTrue, is_some, option_map}
+use Rattle.std.specs.Prelude.{◌≡◌, ℕ, ◌+◌, ◌<◌, ◌≤◌, Bool, false, ◌||◌, Option, Some, List, [], ◌∷◌, ◌++◌, String, map, is_some, option_map}
 use Rattle.std.specs.Str.{bytes_eq}
 use Rattle.std.specs.Option.{option_map_or}
 use Rattle.std.specs.declared.alloc.Global.{Global}
-use Rattle.std.specs.List.{All, Contains}
+use Rattle.std.specs.List.{All}
 use Rattle.rx_event.specs.declared.event.Kind.{Kind}
 use Rattle.rx_event.specs.declared.event.Kind.TheVariants.{Leaf, Pass, Flat, Switch, Until, Sub}
-use Rattle.rx_event.specs.Tree.{is_open}
-use Rattle.rx_event.specs.Resources.{is_held}
 use Rattle.rx_event.specs.Totals.{taken_count}
 use Rattle.rx_book.specs.declared.key.Key.{Key}
-use Rattle.rx_book.specs.declared.key.ResKey.{ResKey}
 use Rattle.rx_book.specs.declared.answer.At.{At}
 use Rattle.rx_book.specs.declared.answer.At.TheVariants.{Root as AtRoot, Source as AtSource, Inner as AtInner, Notifier as AtNotifier}
-use Rattle.rx_book.specs.State.{State, IsPromised}
-use Rattle.rx_script.specs.declared.answer.Answer.{Answer}
-use Rattle.rx_script.specs.declared.names.Named.{Named}
+use Rattle.rx_book.specs.State.{IsPromised}
+use Rattle.rx_agenda.specs.declared.answer.Answer.{Answer}
+use Rattle.rx_agenda.specs.declared.names.Named.{Named}
 use Rattle.rx_script.specs.declared.engine.Engine.{Engine}
-use Rattle.rx_script.specs.declared.agenda.Agenda.{Agenda as AgendaInCode}
-use Rattle.rx_time.specs.Schedule.{seen_as, items_of}
+use Rattle.rx_agenda.specs.declared.agenda.Agenda.{Agenda as AgendaInCode}
 use Rattle.rx_scenario.specs.declared.scenario.Action.{Action as ActionInCode}
 use Rattle.rx_scenario.specs.declared.scenario.Step.{Step as StepInCode}
-use Rattle.rx_scenario.specs.Scenario.{Name, Site, root, source, inner, notifier, Sort, leaf, pass, flat, switch, until, sub, Command, action_of, list_of, step_of, labels_of}
-use Rattle.rx_script.specs.Names.{name_of, key_of}
-use Rattle.rx_script.specs.Stage.{Binding, Stage}
-use Rattle.rx_script.specs.Agenda.{Agenda, followed_by}
+use Rattle.rx_scenario.specs.Scenario.{Name, Site, root, source, inner, notifier, Sort, leaf, pass, flat, switch, until, sub, Command, action_of, list_of, step_of}
+use Rattle.rx_agenda.specs.Names.{key_of}
+use Rattle.rx_agenda.specs.Shown.{number_binding, agenda_of, size_of, size_left}
+use Rattle.rx_report.specs.Keys.{node_binding, res_binding, IsNodeKey, IsHeldKey}
+use Rattle.rx_script.specs.Stage.{Stage}
+use Rattle.rx_agenda.specs.Agenda.{followed_by}
 use Rattle.rx_script.specs.Course.{Executes, Progress, Performs}
 
 -- names --------------------------------------------------------------------------------------------
-
-abbrev pub node_binding : Named Key → Binding
-node_binding n = record { name = name_of n; number = n.key.number }
-
-abbrev pub res_binding : Named ResKey → Binding
-res_binding n = record { name = name_of n; number = n.key.number }
-
--- a hub, and a label too, stands for a number
-abbrev pub number_binding : Named ℕ → Binding
-number_binding n = record { name = name_of n; number = n.key }
 
 -- where a node is to be opened, by keys
 abbrev pub at_of : List (Named Key) → Site → Option At
@@ -74,15 +62,6 @@ with_named names _ _ = names
 abbrev pub stage_of : {R : Type 0} → Engine R → Stage
 stage_of e = record { history = e.book.history; nodes = map node_binding e.nodes; hubs = map number_binding e.hubs; resources = map res_binding e.resources; stock = e.stock.wares }
 
--- a key that a book gave: it is the key of its node as long as that is open
-pub record IsNodeKey (s : State) (k : Key) : Type 0 where
-  pub within : k.number < length s.history
-  pub found : IsTrue (is_open s.history k.number) → Contains s.keys k
-
-pub record IsHeldKey (s : State) (k : ResKey) : Type 0 where
-  pub within : k.number < length s.history
-  pub found : IsTrue (is_held s.history k.number) → Contains s.res_keys k
-
 -- what an engine keeps
 pub record IsSound {R : Type 0} (e : Engine R) : Type 0 where
   pub kept : IsPromised e.book
@@ -98,17 +77,6 @@ pub record Carries {R : Type 0} (old : Engine R) (step : Command) (answer : Answ
   pub given : new.book.given ≡ old.book.given
 
 -- the agenda ---------------------------------------------------------------------------------------
-
--- the agenda that the code's one is
-abbrev pub agenda_of : AgendaInCode → Agenda
-agenda_of a = record { timeline = seen_as step_of a.timeline; turn = map step_of a.turn; labels = map number_binding a.labels }
-
--- how many steps are to come, with those that may follow them
-abbrev pub size_of : StepInCode → ℕ
-size_of s = length (labels_of (step_of s))
-
-abbrev pub size_left : AgendaInCode → ℕ
-size_left a = sum_by size_of (items_of a.timeline.work) + sum_by size_of a.turn
 
 abbrev pub progress_of : {R : Type 0} → Engine R → AgendaInCode → Progress
 progress_of e a = record { stage = stage_of e; agenda = agenda_of a }

@@ -1,10 +1,5 @@
-pub mod Names
-pub mod Ties
-pub mod Tallies
 pub mod Stage
-pub mod Agenda
 pub mod Course
-pub mod Text
 pub mod Report
 pub mod Outputs
 pub mod Shelf

@@ -3,9 +3,9 @@ use Rattle.std.specs.Prelude.{ℕ, List, []}
 use Rattle.rx_dump.specs.Dump.{dump}
 use Rattle.rx_script.specs.declared.Form.{Form}
 use Rattle.rx_script.specs.declared.Form.TheVariants.{Report, Dump}
-use Rattle.rx_script.specs.declared.answer.Answer.{Answer}
+use Rattle.rx_agenda.specs.declared.answer.Answer.{Answer}
 use Rattle.rx_script.specs.Stage.{Stage}
-use Rattle.rx_script.specs.Text.{closed_line}
+use Rattle.rx_report.specs.Text.{closed_line}
 use Rattle.rx_script.specs.Report.{unclosed_report}
 
 -- before the book is closed

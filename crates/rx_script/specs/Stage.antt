@@ -1,5 +1,5 @@
 -- Where a scenario is while it runs.
-use Rattle.std.specs.Prelude.{ℕ, ◌+◌, Bool, true, false, ◌||◌, is_some, is_none, Option, Some, None, List, [], ◌∷◌, ◌++◌, length, drop, slice_get, find, option_map, option_and_then, if◌then◌else◌}
+use Rattle.std.specs.Prelude.{ℕ, ◌+◌, Bool, true, false, ◌||◌, Option, Some, None, List, [], ◌∷◌, length, drop, slice_get, option_map, option_and_then, if◌then◌else◌}
 use Rattle.std.specs.Str.{bytes_eq}
 use Rattle.std.specs.Option.{option_map_or}
 use Rattle.rx_event.specs.declared.event.Place.{Place}
@@ -11,14 +11,10 @@ use Rattle.rx_event.specs.Calls.{Call, Opening, OpeningUsing, Holding, Applying,
 use Rattle.rx_resource.specs.declared.Resource.{Ghosts}
 use Rattle.rx_book.specs.Requests.{is_fresh_in}
 use Rattle.rx_book.specs.Answers.{connection_made}
-use Rattle.rx_script.specs.declared.answer.Cause.{Cause}
-use Rattle.rx_script.specs.declared.answer.Cause.TheVariants.{NoName, NameTaken, NoStock}
+use Rattle.rx_agenda.specs.declared.answer.Cause.{Cause}
+use Rattle.rx_agenda.specs.declared.answer.Cause.TheVariants.{NoName, NameTaken, NoStock}
+use Rattle.rx_agenda.specs.Bindings.{Binding, bound, is_unbound, is_bound, with_binding}
 use Rattle.rx_scenario.specs.Scenario.{Name, Site, root, source, inner, notifier, Sort, leaf, pass, flat, switch, until, sub, Command, using, open_node, hold, apply, remove, next, end, abort, decline, fail, dispose, make_hub, connect, disconnect, drain}
-
--- a name, and the number of the node, hub or resource that it stands for
-pub record Binding : Type 0 where
-  pub name : Name
-  pub number : ℕ
 
 -- a resource of the stock: its tag, and whether a book would take it
 pub record Ware : Type 0 where
@@ -41,17 +37,7 @@ pub record Stage : Type 0 where
 abbrev pub start : List Ware → Stage
 start stock = record { history = []; nodes = []; hubs = []; resources = []; stock = stock }
 
--- what a name stands for
-unfoldable pub bound : List Binding → Name → Option ℕ
-bound bindings name = option_map (λ b. b.number) (find (λ b. bytes_eq b.name name) bindings)
-
 -- the causes of the scenario's own -----------------------------------------------------------------
-
-abbrev pub is_unbound : List Binding → Name → Bool
-is_unbound bindings name = is_none (bound bindings name)
-
-abbrev pub is_bound : List Binding → Name → Bool
-is_bound bindings name = is_some (bound bindings name)
 
 abbrev pub is_unbound_site : Stage → Site → Bool
 is_unbound_site s root = false
@@ -178,9 +164,6 @@ call_of s (disconnect hub) = option_map Disconnecting (bound s.hubs hub)
 call_of s drain = None
 
 -- what follows -------------------------------------------------------------------------------------
-
-abbrev pub with_binding : List Binding → Name → ℕ → List Binding
-with_binding bindings name number = bindings ++ (record { name = name; number = number }) ∷ []
 
 -- a connection that was made gets its name, where there are both
 abbrev pub with_connection : List Binding → Option Name → Option ℕ → List Binding

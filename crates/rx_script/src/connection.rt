@@ -3,7 +3,7 @@
 ghost use Rattle.std.specs.Prelude.{◌≡◌, false, option_map, string_bytes, OnOk};
 ghost use Rattle.rx_script.specs.Engine.{is_taken, is_taken_beside, with_named};
 
-use crate::names::Names;
+use rx_agenda::Names;
 use rx_book::Key;
 use std::alloc::AllocError;
 

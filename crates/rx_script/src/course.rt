@@ -3,13 +3,12 @@
 ghost use Rattle.std.specs.Prelude.{◌≡◌, ◌≤◌, map, IfOk, OnOk};
 ghost use Rattle.rx_scenario.specs.Scenario.{step_of};
 ghost use Rattle.rx_script.specs.Course.{Ends};
-ghost use Rattle.rx_script.specs.Agenda.{with_steps, empty_agenda};
+ghost use Rattle.rx_agenda.specs.Agenda.{with_steps, empty_agenda};
 ghost use Rattle.rx_script.specs.Engine.{stage_of, progress_of, IsSound, Performed, Followed};
 
-use crate::agenda::{Agenda, add_all, cancel, empty_agenda, follow, next_step};
-use crate::answer::Answer;
 use crate::engine::Engine;
 use crate::execute::execute;
+use rx_agenda::{Agenda, Answer, add_all, cancel, empty_agenda, follow, next_step};
 use rx_resource::Resource;
 use rx_scenario::{Action, Step};
 use std::alloc::{AllocError, Global};

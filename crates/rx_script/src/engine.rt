@@ -2,15 +2,14 @@
 
 ghost use Rattle.std.specs.Prelude.{◌≡◌, ◌≢◌, ◌≤◌, map, string_bytes, IfOk, OnErr};
 ghost use Rattle.rx_event.specs.declared.refusal.Refusal.{Refusal};
-ghost use Rattle.rx_script.specs.declared.answer.Answer.{Answer};
-ghost use Rattle.rx_script.specs.declared.answer.Cause.{Cause};
+ghost use Rattle.rx_agenda.specs.declared.answer.Answer.{Answer};
+ghost use Rattle.rx_agenda.specs.declared.answer.Cause.{Cause};
 ghost use Rattle.rx_scenario.specs.Scenario.{site_of, using, hold as holding, apply as applying, remove as removing, next as emitting, end as ending, abort as aborting, decline as declining, fail as failing, dispose as disposing, drain as draining};
 ghost use Rattle.rx_script.specs.Stage.{start, ware_of};
 ghost use Rattle.rx_script.specs.Engine.{at_of, stage_of, IsSound, Carries};
 
-use crate::answer::{Answer, Cause};
-use crate::names::Names;
 use crate::stock::Stock;
+use rx_agenda::{Answer, Cause, Names};
 use rx_book::{At, Book, Key, ResKey};
 use rx_event::{Refusal, Terminal};
 use rx_resource::Resource;

@@ -4,12 +4,12 @@ ghost use Rattle.std.specs.Prelude.{IfOk};
 ghost use Rattle.rx_scenario.specs.Scenario.{command_of};
 ghost use Rattle.rx_script.specs.Engine.{IsSound, Carries};
 
-use crate::answer::Answer;
 use crate::engine::{
     Engine, abort, apply, decline, dispose, drain, end, fail, hold, next, remove, using,
 };
 use crate::hubs::{connect, disconnect, hub};
 use crate::opening::open;
+use rx_agenda::Answer;
 use rx_resource::Resource;
 use rx_scenario::Command;
 use std::alloc::AllocError;

@@ -4,9 +4,9 @@ ghost use Rattle.std.specs.Prelude.{option_map, string_bytes, IfOk};
 ghost use Rattle.rx_scenario.specs.Scenario.{make_hub, connect as connecting, disconnect as disconnecting};
 ghost use Rattle.rx_script.specs.Engine.{IsSound, Carries};
 
-use crate::answer::{Answer, Cause};
 use crate::connection::{bind_connection, is_taken};
 use crate::engine::{Engine, refused};
+use rx_agenda::{Answer, Cause};
 use rx_event::Mode;
 use rx_resource::Resource;
 use std::alloc::AllocError;

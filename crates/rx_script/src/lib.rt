@@ -42,22 +42,15 @@
 //!   the events and one over the notes.
 #![tactic(auto)]
 
-mod agenda;
-mod answer;
 mod closing;
 mod connection;
 mod course;
 mod engine;
 mod execute;
 mod hubs;
-mod line;
-mod names;
 mod opening;
-mod report;
 mod running;
 mod stock;
-mod tallies;
-mod text;
 
 pub use closing::close;
 pub use running::run;

@@ -5,10 +5,9 @@ ghost use Rattle.rx_scenario.specs.Scenario.{site_of, sort_of, open_node};
 ghost use Rattle.rx_script.specs.Stage.{connection_name};
 ghost use Rattle.rx_script.specs.Engine.{kind_of, IsSound, Carries};
 
-use crate::answer::{Answer, Cause};
 use crate::connection::{bind_connection, is_taken_beside};
 use crate::engine::{Engine, place_of, refused};
-use crate::names::Names;
+use rx_agenda::{Answer, Cause, Names};
 use rx_event::Kind;
 use rx_resource::Resource;
 use rx_scenario::{Site, Sort};

@@ -8,10 +8,10 @@ ghost use Rattle.rx_device.specs.Device.{device_of, KeepsDevice, has_failed, has
 ghost use Rattle.rx_device.specs.Input.{GivesTooMuch, GivesNoJson};
 ghost use Rattle.rx_scenario.specs.Scenario.{step_of, script_of};
 ghost use Rattle.rx_scenario.specs.Reading.{scenario_of};
-ghost use Rattle.rx_script.specs.declared.answer.Answer.{Answer};
+ghost use Rattle.rx_agenda.specs.declared.answer.Answer.{Answer};
 ghost use Rattle.rx_script.specs.Stage.{Stage, ware_of};
 ghost use Rattle.rx_script.specs.Course.{Ends, Course, IsCourseOf};
-ghost use Rattle.rx_script.specs.Agenda.{with_steps, empty_agenda};
+ghost use Rattle.rx_agenda.specs.Agenda.{with_steps, empty_agenda};
 ghost use Rattle.rx_script.specs.Report.{unclosed_report, output};
 ghost use Rattle.rx_dump.specs.Dump.{dump};
 ghost use Rattle.rx_script.specs.Engine.{stage_of, IsSound};
@@ -19,16 +19,17 @@ ghost use Rattle.rx_script.specs.Outputs.{unclosed_output, closing};
 ghost use Rattle.rx_script.specs.Running.{IsOutputOf, Runs, GivesNoScenario};
 
 use crate::Form;
-use crate::answer::Answer;
 use crate::closing::close;
 use crate::course::run_course;
 use crate::engine::{Engine, begin};
-use crate::report::{all_mail, events_of, push_nodes, push_resources, totals_of};
-use crate::tallies::tally;
-use crate::text::{push_all_refused, push_closed, push_totals};
+use rx_agenda::Answer;
 use rx_book::Book;
 use rx_device::{ScriptError, ShapeError, Watched, read_value, write_text};
 use rx_dump::push_dump;
+use rx_report::{
+    all_mail, events_of, push_all_refused, push_closed, push_nodes, push_resources, push_totals,
+    tally, totals_of,
+};
 use rx_resource::Resource;
 use rx_scenario::{Scenario, Step, scenario_of};
 use serde_json::Value;

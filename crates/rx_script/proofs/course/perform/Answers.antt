@@ -1,7 +1,6 @@
-use Rattle.rx_script.proofs.Planning.{IfOk-map}
-use Rattle.rx_script.proofs.Advancing.{performed_command, performed_cancel}
-use Rattle.rx_script.specs.Engine.{agenda_of}
-use Rattle.rx_script.specs.Agenda.{Cancels}
+use Rattle.rx_script.proofs.Advancing.{IfOk-map, performed_command, performed_cancel}
+use Rattle.rx_agenda.specs.Shown.{agenda_of}
+use Rattle.rx_agenda.specs.Agenda.{Cancels}
 use Rattle.std.proofs.Common.{string_bytes, subst}
 use Rattle.rx_script.proofs.course.perform.Goals as goal
 

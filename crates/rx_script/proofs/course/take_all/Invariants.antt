@@ -1,7 +1,8 @@
 -- The steps so far lead here.
 use Rattle.std.proofs.Common.{◌≡◌, ◌≤◌}
 use Rattle.rx_script.specs.Course.{Leads}
-use Rattle.rx_script.specs.Engine.{progress_of, size_left, IsSound}
+use Rattle.rx_script.specs.Engine.{progress_of, IsSound}
+use Rattle.rx_agenda.specs.Shown.{size_left}
 use Rattle.rx_script.proofs.course.take_all.Given as goal
 
 abbrev pub invariant-loop-step : goal.invariant-loop-step

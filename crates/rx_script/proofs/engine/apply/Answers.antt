@@ -1,5 +1,5 @@
 use Rattle.std.proofs.Common.{◌≡◌, Some, None}
-use Rattle.rx_script.specs.Names.{key_of}
+use Rattle.rx_agenda.specs.Names.{key_of}
 use Rattle.rx_script.proofs.Commands.{answered, apply_step, res_nameless, res_refused, res_accepted}
 use Rattle.rx_script.proofs.engine.apply.Goals as goal
 

@@ -1,5 +1,5 @@
 use Rattle.std.proofs.Common.{◌≡◌, Some, None, inl}
-use Rattle.rx_script.specs.Names.{key_of}
+use Rattle.rx_agenda.specs.Names.{key_of}
 use Rattle.rx_script.proofs.Commands.{answered, decline_step, node_nameless, node_refused, node_accepted}
 use Rattle.rx_script.proofs.engine.decline.Goals as goal
 

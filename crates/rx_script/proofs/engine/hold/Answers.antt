@@ -1,6 +1,6 @@
 use Rattle.std.proofs.Common.{◌≡◌, ◌++◌, ◌∷◌, [], Some, None, true, false, refl, string_bytes}
 use Rattle.std.specs.Prelude.{is_some}
-use Rattle.rx_script.specs.Names.{key_of}
+use Rattle.rx_agenda.specs.Names.{key_of}
 use Rattle.rx_script.specs.Stage.{Ware, ware_of}
 use Rattle.rx_script.proofs.Commands.{answered}
 use Rattle.rx_script.proofs.Holdings.{hold_nameless, hold_taken, hold_stockless, hold_refused, hold_accepted, put_back}

@@ -1,6 +1,6 @@
 use Rattle.std.proofs.Common.{◌≡◌, Some, None, w64}
 use Rattle.std.proofs.lemmas.Int.{to_z-of_z}
-use Rattle.rx_script.specs.Names.{key_of}
+use Rattle.rx_agenda.specs.Names.{key_of}
 use Rattle.rx_script.proofs.Commands.{answered, next_step, node_nameless, node_refused, node_accepted}
 use Rattle.rx_script.proofs.engine.next.Goals as goal
 

@@ -2,7 +2,7 @@ use Rattle.std.proofs.Common.{◌≡◌, ◌++◌, ◌∷◌, [], Some, None, tr
 use Rattle.std.specs.Prelude.{is_some}
 use Rattle.std.proofs.lemmas.Bool.{or_left, or_right, or_from}
 use Rattle.rx_scenario.specs.Scenario.{site_of}
-use Rattle.rx_script.specs.Names.{key_of}
+use Rattle.rx_agenda.specs.Names.{key_of}
 use Rattle.rx_script.specs.Engine.{at_of}
 use Rattle.rx_script.specs.Stage.{Ware, ware_of}
 use Rattle.rx_script.proofs.Commands.{answered}

@@ -1,6 +1,6 @@
 use Rattle.std.proofs.Common.{◌≡◌, Some, None, true, false, refl, string_bytes}
 use Rattle.std.specs.Prelude.{option_map}
-use Rattle.rx_script.specs.Names.{key_of}
+use Rattle.rx_agenda.specs.Names.{key_of}
 use Rattle.rx_script.specs.Engine.{is_taken, with_named}
 use Rattle.rx_script.proofs.Commands.{answered}
 use Rattle.rx_script.proofs.Publishing.{connect_nameless, connect_taken, connect_refused, connect_accepted}

@@ -1,7 +1,7 @@
 use Rattle.std.proofs.Common.{◌≡◌, ◌++◌, ◌∷◌, [], Some, None, true, false, refl, string_bytes}
 use Rattle.std.specs.Prelude.{is_some, option_map}
 use Rattle.rx_scenario.specs.Scenario.{site_of, sort_of}
-use Rattle.rx_script.specs.Names.{key_of}
+use Rattle.rx_agenda.specs.Names.{key_of}
 use Rattle.rx_script.specs.Stage.{connection_name}
 use Rattle.rx_script.specs.Engine.{at_of, kind_of, is_taken_beside, with_named}
 use Rattle.rx_script.proofs.Commands.{answered}

@@ -1,0 +1,89 @@
+-- What names stand for, by keys and by numbers.
+use Rattle.std.proofs.Common.{◌≡◌, ℕ, List, [], ◌∷◌, ◌++◌, Bool, true, false, map, cond, refl, ap, subst, ◌∙◌, arith}
+use Rattle.std.specs.Prelude.{Option, Some, None, is_some, option_map, find}
+use Rattle.std.specs.Str.{bytes_eq}
+use Rattle.std.specs.List.{All}
+use Rattle.std.proofs.lemmas.List.Elements.{All-tail}
+use Rattle.std.proofs.lemmas.Slice.Eq.{bytes_eq-Decides}
+use Rattle.rx_scenario.specs.Scenario.{Name}
+use Rattle.rx_agenda.specs.declared.names.Named.{Named}
+use Rattle.rx_agenda.specs.Names.{name_of, key_of}
+use Rattle.rx_agenda.specs.Bindings.{Binding, bound}
+use Rattle.rx_agenda.specs.Shown.{number_binding}
+
+find-map : {A B : Type 0} (p : B → Bool) (f : A → B) (xs : List A) → find p (map f xs) ≡ option_map f (find (λ x. p (f x)) xs)
+find-map p f [] = refl
+find-map p f (x ∷ xs) =
+    elim (p (f x)) as (λ b. cond b (Some (f x)) (find p (map f xs)) ≡ option_map f (cond b (Some x) (find (λ y. p (f y)) xs))) [ true ↦ refl | false ↦ find-map p f xs ]
+
+found_passes : {A : Type 0} (P : A → Type 0) (p : A → Bool) (xs : List A) (x : A) → All P xs → find p xs ≡ Some x → P x
+found_passes P p [] x all e = absurd (cc)
+found_passes P p (y ∷ ys) x all e =
+    let here : P y = all 0 y (omega arith) in
+    let branch : (b : Bool) → cond b (Some y) (find p ys) ≡ Some x → P x = λ b. elim b as (λ b. cond b (Some y) (find p ys) ≡ Some x → P x) [ true ↦ λ e. let same : y ≡ x = cc in subst P same here | false ↦ λ e. found_passes P p ys x (All-tail P y ys all) e ] in
+    branch (p y) e
+
+option_key : {K : Type 0} (P : K → Type 0) (o : Option (Named K)) (k : K) → ((n : Named K) → o ≡ Some n → P n.key) → option_map (λ n. n.key) o ≡ Some k → P k
+option_key P None k each e = absurd (cc)
+option_key P (Some n) k each e = let same : n.key ≡ k = cc in subst P same (each n refl)
+
+-- what holds of all keys holds of the one that a name stands for
+pub key_of-holds : {K : Type 0} (P : K → Type 0) (names : List (Named K)) (name : Name) (k : K) → All (λ n. P n.key) names → key_of names name ≡ Some k → P k
+unfolding key_of
+key_of-holds P names name k all e = option_key P _ k (λ n. found_passes (λ n. P n.key) (λ n. bytes_eq (name_of n) name) names n all) e
+
+-- names that stand for keys, each of which has a number
+module _ {K : Type 0} (number_of : K → ℕ) where
+  abbrev pub binding_of : Named K → Binding
+  binding_of n = record { name = name_of n; number = number_of n.key }
+
+  keyed_number : (o : Option (Named K)) → option_map (λ (b : Binding). b.number) (option_map binding_of o) ≡ option_map number_of (option_map (λ n. n.key) o)
+  keyed_number None = refl
+  keyed_number (Some n) = refl
+
+  pub bound-keys : (names : List (Named K)) (name : Name) → bound (map binding_of names) name ≡ option_map number_of (key_of names name)
+  unfolding bound key_of
+  bound-keys names name = ap (option_map (λ b. b.number)) (find-map (λ b. bytes_eq b.name name) binding_of names) ∙ keyed_number _
+
+numbers_number : (o : Option (Named ℕ)) → option_map (λ b. b.number) (option_map number_binding o) ≡ option_map (λ n. n.key) o
+numbers_number None = refl
+numbers_number (Some n) = refl
+
+-- of hubs, or of labels
+pub bound-numbers : (names : List (Named ℕ)) (name : Name) → bound (map number_binding names) name ≡ key_of names name
+unfolding bound key_of
+bound-numbers names name = ap (option_map (λ b. b.number)) (find-map (λ b. bytes_eq b.name name) number_binding names) ∙ numbers_number _
+
+-- one more name is bound ---------------------------------------------------------------------------
+
+-- the last where none was found before
+abbrev pub or_last : {A : Type 0} → (A → Bool) → A → Option A → Option A
+or_last p x (Some y) = Some y
+or_last p x None = cond (p x) (Some x) None
+
+find-push : {A : Type 0} (p : A → Bool) (xs : List A) (x : A) → find p (xs ++ x ∷ []) ≡ or_last p x (find p xs)
+find-push p [] x = refl
+find-push p (y ∷ ys) x = elim (p y) as (λ b. cond b (Some y) (find p (ys ++ x ∷ [])) ≡ or_last p x (cond b (Some y) (find p ys))) [ true ↦ refl | false ↦ find-push p ys x ]
+
+module _ {K : Type 0} (n : Named K) where
+  -- where the name stood for nothing, it stands for the new key, and every other name for what it stood for
+  answered : (b : Bool) (o : Option (Named K)) → (b ≡ true → option_map (λ m. m.key) o ≡ None) → option_map (λ m. m.key) (or_last (λ m. b) n o) ≡ cond b (Some n.key) (option_map (λ m. m.key) o)
+  answered true None free = refl
+  answered true (Some m) free = let clash : Some m.key ≡ None = free refl in absurd (cc)
+  answered false None free = refl
+  answered false (Some m) free = refl
+
+  same_last : (p : Named K → Bool) (o : Option (Named K)) → or_last p n o ≡ or_last (λ m. p n) n o
+  same_last p None = refl
+  same_last p (Some m) = refl
+
+  pub key_of-bind : (names : List (Named K)) (q : Name) → key_of names (name_of n) ≡ None → key_of (names ++ n ∷ []) q ≡ cond (bytes_eq (name_of n) q) (Some n.key) (key_of names q)
+  unfolding key_of
+  key_of-bind names q free =
+      let p : Named K → Bool = λ m. bytes_eq (name_of m) q in
+      let taken : bytes_eq (name_of n) q ≡ true → key_of names q ≡ None = λ is. let same : name_of n ≡ q = (bytes_eq-Decides (name_of n) q).0 is in subst (λ name. key_of names name ≡ None) same free in
+      ap (option_map (λ m. m.key)) (find-push p names n ∙ same_last p (find p names)) ∙ answered (bytes_eq (name_of n) q) (find p names) taken
+
+pub none_there : {K : Type 0} (o : Option K) → is_some o ≡ false → o ≡ None
+none_there None free = refl
+none_there (Some k) free = absurd (cc)

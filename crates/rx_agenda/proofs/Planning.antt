@@ -1,0 +1,106 @@
+-- What is to come, seen as the definitions see it.
+use Rattle.std.proofs.Common.{◌≡◌, ◌+◌, ℕ, List, [], ◌∷◌, ◌++◌, true, false, map, option_map, string_bytes, String, Global, refl, ap, subst, ◌∙◌, arith}
+use Rattle.std.specs.Prelude.{Result, Ok, Err, OnOk, Option, Some, None, IfSome, is_some, sum_by}
+use Rattle.std.specs.List.Sorted.{IsPermutation}
+use Rattle.std.proofs.lemmas.List.{map-append}
+use Rattle.std.proofs.lemmas.List.Sorted.{sum_by-IsPermutation}
+use Rattle.std.proofs.lemmas.List.Sums.{sum_by-cons}
+use Rattle.rx_time.specs.declared.work.Work.{Work}
+use Rattle.rx_time.specs.Schedule.{Schedule, next_due, item_of, items_of, without, entry_seen}
+use Rattle.rx_time.proofs.Laws.{next_due-seen, without-seen, item_of-seen}
+use Rattle.rx_scenario.specs.declared.scenario.Step.{Step as StepInCode}
+use Rattle.rx_scenario.specs.Scenario.{Name, Step, step_of}
+use Rattle.rx_agenda.specs.declared.agenda.Agenda.{Agenda as AgendaInCode}
+use Rattle.rx_agenda.specs.declared.answer.Answer.TheVariants.{Accepted, Refused}
+use Rattle.rx_agenda.specs.declared.answer.Cause.TheVariants.{NoStep}
+use Rattle.rx_agenda.specs.declared.names.Named.{Named}
+use Rattle.rx_agenda.specs.Names.{key_of}
+use Rattle.rx_agenda.specs.Bindings.{bound}
+use Rattle.rx_agenda.specs.Agenda.{Agenda, with_label, with_step, with_steps, first_of_turn, next_step, without_ticket, Cancels, taken_off, none_waits}
+use Rattle.rx_agenda.specs.Shown.{number_binding, agenda_of, size_of}
+use Rattle.rx_agenda.proofs.Laws.{bound-numbers}
+
+pub OnOk-map : {T E A B : Type 0} (r : Result T E) → (A → B) → OnOk r A → OnOk r B
+OnOk-map (Ok x) f here = f here
+OnOk-map (Err e) f here = here
+
+-- labels -------------------------------------------------------------------------------------------
+
+pub with_label-bound : (names : List (Named ℕ)) (label : Name) (ticket : ℕ) → is_some (key_of names label) ≡ true
+    → map number_binding names ≡ with_label (Some label) ticket (map number_binding names)
+with_label-bound names label ticket there = rw (bound-numbers names label, there) refl
+
+pub with_label-free : (names new : List (Named ℕ)) (label : String Global) (ticket : ℕ) → is_some (key_of names (string_bytes label)) ≡ false
+    → new ≡ names ++ record { name = label; key = ticket } ∷ []
+    → map number_binding new ≡ with_label (Some (string_bytes label)) ticket (map number_binding names)
+with_label-free names new label ticket free pushed = rw (bound-numbers names (string_bytes label), free, pushed) (map-append number_binding names _)
+
+-- steps that are to come ---------------------------------------------------------------------------
+
+pub with_steps-push : (ss : List Step) (s : Step) (a : Agenda) → with_steps (ss ++ s ∷ []) a ≡ with_step s (with_steps ss a)
+with_steps-push [] s a = refl
+with_steps-push (x ∷ xs) s a = with_steps-push xs s (with_step x a)
+
+-- the step that comes next -------------------------------------------------------------------------
+
+-- what a timeline gives of an entry
+abbrev pub given_of : ℕ × Work StepInCode → ℕ × StepInCode
+given_of e = (e.1.due, e.1.item)
+
+module _ (a : AgendaInCode) (until : ℕ) (turn : List StepInCode) (timeline : Schedule StepInCode) (over : a.turn ≡ []) (still : turn ≡ []) where
+  -- the timeline where an entry was taken out
+  abbrev TakesOut : ℕ × Work StepInCode → Type 0
+  TakesOut e = timeline ≡ record { clock = e.1.due; tickets = a.timeline.tickets; work = without e.0 a.timeline.work }
+
+  next_step-over : next_step until (agenda_of a) ≡ option_map (first_of_turn (agenda_of a)) (option_map (entry_seen step_of) (next_due until a.timeline.work))
+  next_step-over = rw (over, next_due-seen step_of until a.timeline.work) refl
+
+  pub next_step-some : (due : ℕ) (step : StepInCode) → option_map given_of (next_due until a.timeline.work) ≡ Some (due, step)
+      → IfSome (next_due until a.timeline.work) TakesOut
+      → next_step until (agenda_of a) ≡ Some (step_of step, agenda_of (record { timeline = timeline; turn = turn; labels = a.labels }))
+  next_step-some due step came taken = next_step-over ∙ go (next_due until a.timeline.work) came taken where
+    go : (o : Option (ℕ × Work StepInCode)) → option_map given_of o ≡ Some (due, step) → IfSome o TakesOut
+        → option_map (first_of_turn (agenda_of a)) (option_map (entry_seen step_of) o) ≡ Some
+        (step_of step, agenda_of (record { timeline = timeline; turn = turn; labels = a.labels }))
+    go None came taken = absurd (cc)
+    go (Some e) came taken =
+        let pair : given_of e ≡ (due, step) = cc in
+        let item : e.1.item ≡ step = ap (λ (p : ℕ × StepInCode). p.1) pair in
+        rw (still, taken, item, without-seen step_of e.0 a.timeline.work) refl
+
+  pub next_step-none : option_map given_of (next_due until a.timeline.work) ≡ None → next_step until (agenda_of a) ≡ None
+  next_step-none came = next_step-over ∙ go (next_due until a.timeline.work) came where
+    go : (o : Option (ℕ × Work StepInCode)) → option_map given_of o ≡ None → option_map (first_of_turn (agenda_of a)) (option_map (entry_seen step_of) o) ≡ None
+    go None came = refl
+    go (Some e) came = absurd (cc)
+
+pub size_left-taken : (old new : Schedule StepInCode) (step : StepInCode) → IsPermutation (items_of old.work) (step ∷ items_of new.work)
+    → sum_by size_of (items_of new.work) + size_of step ≡ sum_by size_of (items_of old.work)
+size_left-taken old new step same =
+    let sums : sum_by size_of (step ∷ items_of new.work) ≡ sum_by size_of (items_of old.work) =
+    sum_by-IsPermutation size_of (items_of old.work) (step ∷ items_of new.work) same in
+    let parts : sum_by size_of (step ∷ items_of new.work) ≡ size_of step + sum_by size_of (items_of new.work) = sum_by-cons size_of step (items_of new.work) in
+    omega arith
+
+-- a step that is cancelled -------------------------------------------------------------------------
+
+module _ (a : AgendaInCode) (label : Name) where
+  pub cancel-unbound : key_of a.labels label ≡ None → Cancels (agenda_of a) label (Refused NoStep) (agenda_of a)
+  cancel-unbound free = none_waits (rw (bound-numbers a.labels label, free) refl)
+
+  pub cancel-gone : (ticket : ℕ) (timeline : Schedule StepInCode) → key_of a.labels label ≡ Some ticket → item_of ticket a.timeline.work ≡ None
+      → timeline ≡ a.timeline → Cancels (agenda_of a) label (Refused NoStep) (agenda_of (record { timeline = timeline; turn = a.turn; labels = a.labels }))
+  cancel-gone ticket timeline known gone same =
+      rw same (none_waits (rw (bound-numbers a.labels label, known, item_of-seen step_of ticket a.timeline.work, gone) refl))
+
+  pub cancel-taken : (ticket : ℕ) (step : StepInCode) (timeline : Schedule StepInCode) → key_of a.labels label ≡ Some ticket
+      → item_of ticket a.timeline.work ≡ Some step
+      → timeline ≡ record { clock = a.timeline.clock; tickets = a.timeline.tickets; work = without ticket a.timeline.work }
+      → Cancels (agenda_of a) label Accepted (agenda_of (record { timeline = timeline; turn = a.turn; labels = a.labels }))
+  cancel-taken ticket step timeline known waits taken =
+      let there : bound (map number_binding a.labels) label ≡ Some ticket = bound-numbers a.labels label ∙ known in
+      let found : item_of ticket (map (entry_seen step_of) a.timeline.work) ≡ Some (step_of step) = item_of-seen step_of ticket a.timeline.work
+      ∙ ap (option_map step_of) waits in
+      let left : without_ticket ticket (agenda_of a) ≡ agenda_of (record { timeline = timeline; turn = a.turn; labels = a.labels }) =
+      rw (taken, without-seen step_of ticket a.timeline.work) refl in
+      subst (Cancels (agenda_of a) label Accepted) left (taken_off there found)

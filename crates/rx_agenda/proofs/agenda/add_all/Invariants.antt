@@ -1,0 +1,14 @@
+-- The steps so far are to come.
+use Rattle.std.proofs.Common.{◌≡◌, ◌+◌, map}
+use Rattle.std.specs.Prelude.{sum_by}
+use Rattle.rx_scenario.specs.Scenario.{step_of}
+use Rattle.rx_agenda.specs.Agenda.{with_steps}
+use Rattle.rx_agenda.specs.Shown.{agenda_of, size_of, size_left}
+use Rattle.rx_agenda.proofs.agenda.add_all.Given as goal
+
+abbrev pub invariant-loop-step : goal.invariant-loop-step
+invariant-loop-step l = record {
+  added : agenda_of l.agenda ≡ with_steps (map step_of l.yielded) (agenda_of l.initial.agenda);
+  size : size_left l.agenda ≡ size_left l.initial.agenda + sum_by size_of l.yielded;
+  clock : l.agenda.timeline.clock ≡ l.initial.agenda.timeline.clock;
+}

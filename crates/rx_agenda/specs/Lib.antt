@@ -1,0 +1,5 @@
+pub mod Names
+pub mod Ties
+pub mod Bindings
+pub mod Agenda
+pub mod Shown

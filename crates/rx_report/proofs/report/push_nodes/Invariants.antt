@@ -1,0 +1,8 @@
+-- The lines of the nodes so far.
+use Rattle.std.proofs.Common.{◌≡◌, ◌++◌, take, map, string_bytes}
+use Rattle.rx_report.specs.Lines.{node_lines}
+use Rattle.rx_report.specs.Keys.{node_binding}
+use Rattle.rx_report.proofs.report.push_nodes.Given as goal
+
+abbrev pub invariant-loop-named : goal.invariant-loop-named
+invariant-loop-named g l = string_bytes l.text ≡ string_bytes l.initial.text ++ node_lines l.book.history (map node_binding (take l.named-index l.nodes))

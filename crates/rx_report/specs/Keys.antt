@@ -1,0 +1,26 @@
+-- What a report knows of the keys that names stand for.
+use Rattle.std.specs.Prelude.{◌<◌, length, IsTrue}
+use Rattle.std.specs.List.{Contains}
+use Rattle.rx_event.specs.Tree.{is_open}
+use Rattle.rx_event.specs.Resources.{is_held}
+use Rattle.rx_book.specs.declared.key.Key.{Key}
+use Rattle.rx_book.specs.declared.key.ResKey.{ResKey}
+use Rattle.rx_book.specs.State.{State}
+use Rattle.rx_agenda.specs.declared.names.Named.{Named}
+use Rattle.rx_agenda.specs.Names.{name_of}
+use Rattle.rx_agenda.specs.Bindings.{Binding}
+
+abbrev pub node_binding : Named Key → Binding
+node_binding n = record { name = name_of n; number = n.key.number }
+
+abbrev pub res_binding : Named ResKey → Binding
+res_binding n = record { name = name_of n; number = n.key.number }
+
+-- a key that a book gave: it is the key of its node as long as that is open
+pub record IsNodeKey (s : State) (k : Key) : Type 0 where
+  pub within : k.number < length s.history
+  pub found : IsTrue (is_open s.history k.number) → Contains s.keys k
+
+pub record IsHeldKey (s : State) (k : ResKey) : Type 0 where
+  pub within : k.number < length s.history
+  pub found : IsTrue (is_held s.history k.number) → Contains s.res_keys k

@@ -1,0 +1,4 @@
+pub mod Text
+pub mod Keys
+pub mod Lines
+pub mod Tallies

@@ -1,0 +1,27 @@
+//! The report of a scenario: what a book's history and its keys show, line by line.
+//!
+//! # Vocabulary
+//!
+//! - A report has a line for each step that was refused, for each node of the scenario that is told
+//!   something, and for each resource that it handed in, one for the [`Totals`] and one for the closing
+//!   of the book. `specs/Text` defines the bytes of each line, and `specs/Lines` which lines there are.
+//! - [`Tallies`] are what each resource and each node met, by their numbers: one pass over the events and
+//!   one over the notes, so that a line is made without another.
+//!
+//! # Promised, and not
+//!
+//! - Each `push_` call writes just its lines behind the text. It answers Err only where memory was
+//!   refused, which is no clause; the text may have part of the lines then.
+//! - A call that reads a key wants to be shown that the book gave it (`IsNodeKey` and `IsHeldKey` of
+//!   `specs/Keys`).
+#![tactic(auto)]
+
+mod line;
+mod report;
+mod tallies;
+mod text;
+
+pub use line::{Account, Totals, Whereabouts};
+pub use report::{all_mail, events_of, push_nodes, push_resources, totals_of};
+pub use tallies::{Tallies, tally};
+pub use text::{push_all_refused, push_closed, push_totals};

@@ -1,8 +1,0 @@
--- The lines of the nodes so far.
-use Rattle.std.proofs.Common.{◌≡◌, ◌++◌, take, map, string_bytes}
-use Rattle.rx_script.specs.Report.{node_lines}
-use Rattle.rx_script.specs.Engine.{node_binding}
-use Rattle.rx_script.proofs.report.push_nodes.Given as goal
-
-abbrev pub invariant-loop-named : goal.invariant-loop-named
-invariant-loop-named g l = string_bytes l.text ≡ string_bytes l.initial.text ++ node_lines l.book.history (map node_binding (take l.named-index l.nodes))
