@@ -1,6 +1,8 @@
 //! What a scenario says.
 
-ghost use Rattle.std.specs.Prelude.{◌≡◌, ◌≤◌, ◌<◌, IfSome, IfNone};
+ghost use Rattle.std.specs.Prelude.{◌≡◌, ◌≤◌, ◌<◌, map, IfSome, IfNone};
+ghost use Rattle.rx_scenario.specs.declared.scenario.Step.{out-Step};
+ghost use Rattle.rx_scenario.specs.Scenario.{step_of, steps_of};
 
 use rx_event::{Mode, Terminal};
 use std::marker::Model;
@@ -15,7 +17,6 @@ pub struct Scenario {
 }
 
 /// A step of a scenario.
-#[derive(Drop)]
 pub struct Step {
     /// By what it can be cancelled; no other step has this label.
     pub label: Option<String>,
@@ -26,6 +27,51 @@ pub struct Step {
     pub action: Action,
     /// The steps that follow it where it is accepted.
     pub then: Vec<Step>,
+}
+
+// Written out, so that where a step is let go there is one call to prove, and not the drop of each field in turn.
+impl Drop for Step {
+    fn drop(self) {
+        let Step {
+            label: _label,
+            delay: _,
+            action: _action,
+            then: _then,
+        } = self;
+    }
+}
+
+impl Step {
+    /// The step with these to follow it, in place of those that followed it.
+    pub fn followed_by(self, then: Vec<Step>) -> Step
+        ensures { step_of result ≡ record (step_of self) { followers = steps_of (map step_of then.items) } }
+    {
+        let Step {
+            label,
+            delay,
+            action,
+            then: _before,
+        } = self;
+        Step {
+            label,
+            delay,
+            action,
+            then,
+        }
+    }
+
+    /// What it does, and the steps that follow it.
+    pub fn into_parts(self) -> (Action, Vec<Step>)
+        ensures { result ≡ ((out-Step self).action, (out-Step self).then) }
+    {
+        let Step {
+            label: _label,
+            delay: _,
+            action,
+            then,
+        } = self;
+        (action, then)
+    }
 }
 
 /// A time of a scenario, in ticks of virtual time: 0 to 1,000,000,000,000.

@@ -38,7 +38,7 @@ fn take_step<R: Resource>(
     requires clock { agenda.old.timeline.clock ≤ 1000000000000000 }
     ensures { IfOk result (λ a. Followed engine.old agenda.old step a engine.new agenda.new) }
 {
-    let Step { action, then, .. } = step;
+    let (action, then) = step.into_parts();
     let answer = perform(engine, agenda, action)?;
     follow(agenda, answer, then)?;
     Ok(answer)

@@ -66,7 +66,7 @@ fn step_in(
     let head = head_in(alloc, object, follows)?;
     note_label(labels, &head.label)?;
     let then = then_in(alloc, object, depth, labels)?;
-    Ok(Step { then, ..head })
+    Ok(head.followed_by(then))
 }
 
 // The steps that follow a step.

@@ -1,4 +1,4 @@
-use Rattle.rx_program_tests.proofs.storms.the_audit_of_a_storm_is_lawful.Given as goal
+use Rattle.rxbook.proofs.tests.storms.the_audit_of_a_storm_is_lawful.Given as goal
 
 abbrev pub ghosts-history_of-I-Ledger : goal.ghosts-history_of-I-Ledger
 ghosts-history_of-I-Ledger g a = record { name = a.blanks.0.name; parts = a.blanks.0.parts }

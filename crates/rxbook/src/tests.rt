@@ -1,10 +1,6 @@
 //! What no clause says of the program and of storms: the words, lines and statuses of `rxbook`; storms whose
 //! releases run side by side, without memory or threads, and judged by the audit.
-#![tactic(auto)]
 
-#[cfg(test)]
 mod calls;
-#[cfg(test)]
 mod same;
-#[cfg(test)]
 mod storms;
