@@ -1,8 +1,12 @@
 //! Worked examples, and calls in want of memory.
 use super::same::same;
 use super::uses::{moved_out, there_and_back};
-use rx_disposable::{Back, Counted, Denied, Group, INLINE_LEN, NoLease, Serial, Single, Why};
+use rx_disposable::{
+    Back, Counted, Denied, Group, INLINE_LEN, Members, NoLease, Serial, Single, Why,
+};
 use rx_scarce::{MOST_BLOCKS, Scarce};
+use std::alloc::{AllocError, Global};
+use std::process::Abort;
 use std::test::Fail;
 
 // The answer, with a refusal as a pair that can be compared.
@@ -35,6 +39,11 @@ fn a_serial_gives_the_previous_value(rt: HostRuntime) {
     same(&rt, serial.into_inner(), None);
 }
 
+// What comes out first, and then.
+fn two_of(mut members: Members<char>) -> [Option<(u64, char)>; 2] {
+    [members.next(), members.next()]
+}
+
 #[test]
 fn a_group_gives_its_values_by_ticket_and_together(rt: HostRuntime) {
     let mut group = Group::new(rt.alloc());
@@ -42,13 +51,9 @@ fn a_group_gives_its_values_by_ticket_and_together(rt: HostRuntime) {
     same(&rt, told(group.add('y')), Ok(1));
     same(&rt, group.remove(0), Some('x'));
     same(&rt, group.remove(0), None);
-    let mut cleared = group.clear();
-    same(&rt, cleared.next(), Some((1, 'y')));
-    same(&rt, cleared.next(), None);
+    same(&rt, two_of(group.clear()), [Some((1, 'y')), None]);
     same(&rt, told(group.add('z')), Ok(2));
-    let mut disposed = group.dispose();
-    same(&rt, disposed.next(), Some((2, 'z')));
-    same(&rt, disposed.next(), None);
+    same(&rt, two_of(group.dispose()), [Some((2, 'z')), None]);
     same(&rt, told(group.add('w')), Err((Why::Disposed, 'w')));
     same(&rt, group.dispose().len(), 0);
 }
@@ -65,45 +70,119 @@ fn a_counted_value_comes_out_at_the_last_lease(rt: HostRuntime) {
     same(&rt, counted.into_inner().ok(), Some(None));
 }
 
-#[test]
-fn a_group_serves_generic_callers(rt: HostRuntime) -> Result<(), Fail> {
-    let mut group = Group::new(rt.alloc());
-    let mut list = Vec::new(rt.alloc());
-    same(&rt, told(there_and_back(&mut group, 'x')), Ok('x'));
-    same(&rt, told(group.add('y')), Ok(1));
-    same(&rt, told(group.add('z')), Ok(2));
-    moved_out(&mut group, &mut list)?;
-    same(&rt, list.as_slice(), [(1, 'y'), (2, 'z')].as_slice());
-    Ok(())
+// Adds three values, of which the first is taken out again, and moves the others to a list.
+fn call_them(
+    rt: &impl Abort,
+    group: &mut Group<char>,
+    list: &mut Vec<(u64, char)>,
+) -> Result<(), AllocError> {
+    same(rt, told(there_and_back(group, 'x')), Ok('x'));
+    same(rt, told(group.add('y')), Ok(1));
+    same(rt, told(group.add('z')), Ok(2));
+    moved_out(group, list)
 }
 
 #[test]
-fn an_add_in_want_of_memory_hands_the_value_back(rt: HostRuntime) -> Result<(), Fail> {
-    let mut group = Group::new(rt.alloc());
-    let mut scarce = Scarce::new(rt.alloc())?;
+fn a_group_serves_generic_callers(rt: HostRuntime) {
+    let mut list = Vec::new(rt.alloc());
+    let called = call_them(&rt, &mut Group::new(rt.alloc()), &mut list);
+    same(&rt, called, Ok(()));
+    same(&rt, list.as_slice(), [(1, 'y'), (2, 'z')].as_slice());
+}
+
+// The value under a ticket, where one is inside.
+fn value_of(group: &mut Group<u64>, ticket: u64) -> Option<u64> {
+    match group.get_mut(ticket) {
+        Some(value) => Some(*value),
+        None => None,
+    }
+}
+
+// Whether the number is added. Where memory is refused, it comes back and nothing changes.
+fn is_added(rt: &impl Abort, group: &mut Group<u64>, number: u64) -> bool {
+    let answer = told(group.add(number));
+    if answer == Ok(number) {
+        return true;
+    }
+    same(rt, answer, Err((Why::NoMemory, number)));
+    assert!(rt; group.len() >= INLINE_LEN);
+    for ticket in 0..number {
+        same(rt, value_of(group, ticket), Some(ticket));
+    }
+    same(rt, value_of(group, number), None);
+    false
+}
+
+// Adds the numbers up to 40, and gives a block back at each refusal. How often memory was refused.
+fn add_in_the_end(rt: &impl Abort, group: &mut Group<u64>, scarce: &mut Scarce) -> u32 {
     let mut refusals = 0u32;
     for number in 0..40 {
         for _ in 0..MOST_BLOCKS {
-            let answer = told(group.add(number));
-            if answer == Ok(number) {
+            if is_added(rt, group, number) {
                 break;
             }
-            same(&rt, answer, Err((Why::NoMemory, number)));
-            assert!(rt; group.len() >= INLINE_LEN);
-            for ticket in 0..number {
-                same(&rt, group.get_mut(ticket).map(|value| *value), Some(ticket));
-            }
-            assert!(rt; group.get_mut(number).is_none());
             refusals = refusals.wrapping_add(1);
             assert!(rt; scarce.give_back_one());
         }
     }
-    assert!(rt; refusals > 0);
+    refusals
+}
+
+// Disposes of a group that has the numbers up to 40.
+fn dispose_of_all(rt: &impl Abort, group: &mut Group<u64>) {
     let mut disposed = group.dispose();
     for number in 0..40 {
-        same(&rt, disposed.next(), Some((number, number)));
+        same(rt, disposed.next(), Some((number, number)));
     }
-    same(&rt, disposed.next(), None);
+    same(rt, disposed.next(), None);
+}
+
+#[test]
+fn an_add_in_want_of_memory_hands_the_value_back(rt: HostRuntime) -> Result<(), Fail> {
+    let mut scarce = Scarce::new(rt.alloc())?;
+    let mut group = Group::new(rt.alloc());
+    assert!(rt; add_in_the_end(&rt, &mut group, &mut scarce) > 0);
+    dispose_of_all(&rt, &mut group);
+    Ok(())
+}
+
+// Uses a group that has the numbers up to 10.
+fn use_ten(rt: &impl Abort, group: &mut Group<u64>) {
+    same(rt, value_of(group, 7), Some(7));
+    same(rt, group.remove(7), Some(7));
+    same(rt, group.clear().len(), 9);
+    same(rt, told(group.add(10)), Ok(10));
+    same(rt, group.dispose().next(), Some((10, 10)));
+}
+
+// Adds a value to a new group.
+fn add_first(group: &mut Group<u64>) -> Result<u64, (Why, u64)> {
+    told(group.add(1))
+}
+
+// Uses a value of each other kind.
+fn use_others(rt: &impl Abort) {
+    let mut single = Single::new();
+    same(rt, told(single.set(1)), Ok(()));
+    same(rt, single.dispose(), Some(1));
+    let mut serial = Serial::new();
+    same(rt, serial.replace(1), Ok(None));
+    same(rt, serial.dispose(), Some(1));
+    let mut counted = Counted::new(1);
+    same(rt, counted.lease(), Ok(()));
+    same(rt, counted.give_back(), Ok(None));
+    same(rt, counted.dispose(), Some(1));
+}
+
+// Uses all where no memory can be had.
+fn use_all(rt: &impl Abort, alloc: Global, group: &mut Group<u64>) -> Result<(), Fail> {
+    let mut scarce = Scarce::new(alloc)?;
+    let block: Result<Vec<u8>, _> = Vec::with_capacity(alloc, 16);
+    assert!(rt; block.is_err());
+    use_ten(rt, group);
+    same(rt, add_first(&mut Group::new(alloc)), Ok(0));
+    use_others(rt);
+    assert!(rt; scarce.give_back_one());
     Ok(())
 }
 
@@ -113,26 +192,5 @@ fn all_else_needs_no_memory(rt: HostRuntime) -> Result<(), Fail> {
     for number in 0..10 {
         same(&rt, told(group.add(number)), Ok(number));
     }
-    let mut scarce = Scarce::new(rt.alloc())?;
-    let block: Result<Vec<u8>, _> = Vec::with_capacity(rt.alloc(), 16);
-    assert!(rt; block.is_err());
-    same(&rt, group.get_mut(7).map(|value| *value), Some(7));
-    same(&rt, group.remove(7), Some(7));
-    same(&rt, group.clear().len(), 9);
-    same(&rt, told(group.add(10)), Ok(10));
-    same(&rt, group.dispose().next(), Some((10, 10)));
-    let mut other = Group::new(rt.alloc());
-    same(&rt, told(other.add('x')), Ok(0));
-    let mut single = Single::new();
-    same(&rt, told(single.set(1)), Ok(()));
-    same(&rt, single.dispose(), Some(1));
-    let mut serial = Serial::new();
-    same(&rt, serial.replace(1), Ok(None));
-    same(&rt, serial.dispose(), Some(1));
-    let mut counted = Counted::new(1);
-    same(&rt, counted.lease(), Ok(()));
-    same(&rt, counted.give_back(), Ok(None));
-    same(&rt, counted.dispose(), Some(1));
-    assert!(rt; scarce.give_back_one());
-    Ok(())
+    use_all(&rt, rt.alloc(), &mut group)
 }

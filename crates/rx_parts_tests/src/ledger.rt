@@ -42,6 +42,41 @@ fn the_first_seat_splits_until_it_has_one_part(rt: HostRuntime) {
     assert_eq!(rt; splits_of::<Brand, Brand, Brand>(blanks()), 1_048_575);
 }
 
+// Splits one more seat off the first.
+fn split_off<I: Ledger, A: Ledger, K: Ledger>(seats: &mut Vec<Seat<I, A, K>>) -> Option<()> {
+    let seat = seats.get_mut(0)?.split()?;
+    seats.push(seat).ok()
+}
+
+// The first seat counts an item, and the second a resource handed in and one taken out.
+fn count<I: Ledger, A: Ledger, K: Ledger>(
+    ledgers: &mut Ledgers<I, A, K>,
+    seats: &mut Vec<Seat<I, A, K>>,
+) -> Option<()> {
+    ledgers.add_item(seats.get_mut(0)?);
+    let second = seats.get_mut(1)?;
+    ledgers.add_accepted(second);
+    ledgers.add_taken(second);
+    Some(())
+}
+
+// Makes three seats of one, and lets two of them count.
+fn count_with_three<I: Ledger, A: Ledger, K: Ledger>(
+    ledgers: &mut Ledgers<I, A, K>,
+    seats: &mut Vec<Seat<I, A, K>>,
+    first: Seat<I, A, K>,
+) -> Option<()> {
+    seats.push(first).ok()?;
+    split_off(seats)?;
+    split_off(seats)?;
+    count(ledgers, seats)
+}
+
+// The parts of a seat, and what it has counted.
+fn sums_of<I: Ledger, A: Ledger, K: Ledger>(seat: &Seat<I, A, K>) -> (u64, u64, u64, u64) {
+    (seat.parts(), seat.items(), seat.accepted(), seat.taken())
+}
+
 // Two seats count an item, a resource handed in and one taken out, and a third one nothing.
 fn gathered<I: Ledger, A: Ledger, K: Ledger>(
     alloc: Global,
@@ -57,18 +92,13 @@ fn gathered<I: Ledger, A: Ledger, K: Ledger>(
         taken: 20,
     };
     let opened = Ledgers::<I, A, K>::open(before, blanks.0, blanks.1, blanks.2);
-    let (mut ledgers, mut first) = opened;
-    let mut second = first.split().ok_or("no second seat")?;
-    let third = first.split().ok_or("no third seat")?;
-    ledgers.add_item(&mut first);
-    ledgers.add_accepted(&mut second);
-    ledgers.add_taken(&mut second);
+    let (mut ledgers, first) = opened;
     let mut seats = Vec::new(alloc);
-    seats.push(first)?;
-    seats.push(second)?;
-    seats.push(third)?;
-    let all = Seat::gather(seats).ok_or("no seats")?;
-    Ok((all.parts(), all.items(), all.accepted(), all.taken()))
+    let counted = count_with_three(&mut ledgers, &mut seats, first);
+    match (Seat::gather(seats), counted) {
+        (Some(all), Some(())) => Ok(sums_of(&all)),
+        _ => Err(Fail::from("no three seats")),
+    }
 }
 
 #[test]

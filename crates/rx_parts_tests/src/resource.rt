@@ -6,6 +6,8 @@ ghost use Rattle.rx_resource.specs.declared.Life.{Life};
 use super::same::same;
 use rx_resource::{Handed, Life, Released, Resource, Sample, Tracker};
 use rx_scarce::Scarce;
+use std::alloc::AllocError;
+use std::process::Abort;
 use std::test::Fail;
 use std::thread;
 use std::thread::Threads;
@@ -57,30 +59,33 @@ fn a_fault_is_what_the_resource_answered(rt: HostRuntime) {
     same(&rt, released.spent.life, Life::Released);
 }
 
+// What a tracker has heard, and how many were released and dropped.
+fn counts(tracker: &Tracker) -> (u64, u32, u32) {
+    (tracker.heard(), tracker.released(), tracker.dropped())
+}
+
+// Uses a resource, releases and drops it.
+fn use_up(rt: &impl Abort, tracker: &Tracker) -> Result<(), AllocError> {
+    let mut first = tracker.resource(3, Some(2))?;
+    same(rt, counts(tracker), (0, 0, 0));
+    same(rt, first.apply(9), 9);
+    same(rt, first.apply(u64::MAX), u64::MAX);
+    let handed = Handed::new(1, first);
+    same(rt, counts(tracker), (u64::MAX, 0, 0));
+    let released = handed.release();
+    same(rt, (released.tag, released.fault), (3, Some(2)));
+    same(rt, (tracker.released(), tracker.dropped()), (1, 0));
+    Ok(())
+}
+
 #[test]
 fn a_tracker_tells_each_word_release_and_drop(rt: HostRuntime) -> Result<(), Fail> {
     let tracker = Tracker::new(rt.alloc())?;
-    let mut first = tracker.resource(3, Some(2))?;
     let second = tracker.resource(4, None)?;
-    same(
-        &rt,
-        (tracker.heard(), tracker.released(), tracker.dropped()),
-        (0, 0, 0),
-    );
-    same(&rt, first.apply(9), 9);
-    same(&rt, first.apply(u64::MAX), u64::MAX);
-    let handed = Handed::new(1, first);
-    same(
-        &rt,
-        (tracker.heard(), tracker.released(), tracker.dropped()),
-        (u64::MAX, 0, 0),
-    );
-    let released = handed.release();
-    same(&rt, (released.tag, released.fault), (3, Some(2)));
-    same(&rt, (tracker.released(), tracker.dropped()), (1, 0));
-    drop(released);
+    let used = use_up(&rt, &tracker);
     drop(second);
     same(&rt, (tracker.released(), tracker.dropped()), (1, 2));
+    used?;
     Ok(())
 }
 
@@ -98,25 +103,37 @@ fn no_fault_is_none_and_the_words_are_kept(rt: HostRuntime) {
     same(&rt, released.spent.sum, 6);
 }
 
+// A course as what can be compared: the answer, the tag and the uses, the number and the tag of what was
+// released, and the tag, the uses and the life that are left of it, and its fault.
+fn told<R: Resource>(course: &Course<R>) -> ([u64; 7], Option<u32>, Life) {
+    let released = &course.released;
+    let numbers = [
+        course.answered,
+        course.tag,
+        course.uses,
+        released.number,
+        released.tag,
+        released.spent.tag(),
+        released.spent.uses(),
+    ];
+    (numbers, released.fault, released.spent.life())
+}
+
 #[test]
 fn boxes_of_two_kinds_are_resources(rt: HostRuntime) -> Result<(), Fail> {
     let tracked = Tracker::new(rt.alloc())?.resource(3, Some(2))?;
     let first: Box<dyn Resource> = Box::new(rt.alloc(), tracked)?;
+    same(
+        &rt,
+        told(&use_and_release(7, first, 12)),
+        ([12, 3, 1, 7, 3, 3, 1], Some(2), Life::Released),
+    );
     let second: Box<dyn Resource> = Box::new(rt.alloc(), Sample::new(5))?;
-    let course = use_and_release(7, first, 12);
-    same(&rt, course.answered, 12);
-    same(&rt, (course.tag, course.uses), (3, 1));
-    same(&rt, (course.released.number, course.released.tag), (7, 3));
-    same(&rt, course.released.fault, Some(2));
-    same(&rt, course.released.spent.tag(), 3);
-    same(&rt, course.released.spent.life(), Life::Released);
-    let course = use_and_release(8, second, 12);
-    same(&rt, course.answered, 12);
-    same(&rt, (course.tag, course.uses), (5, 1));
-    same(&rt, (course.released.number, course.released.tag), (8, 5));
-    same(&rt, course.released.fault, None);
-    same(&rt, course.released.spent.uses(), 1);
-    same(&rt, course.released.spent.life(), Life::Released);
+    same(
+        &rt,
+        told(&use_and_release(8, second, 12)),
+        ([12, 5, 1, 8, 5, 5, 1], None, Life::Released),
+    );
     Ok(())
 }
 
@@ -128,15 +145,20 @@ fn release_there<R: Resource>(shelf: Option<Handed<R>>) -> Option<Released<R>> {
     }
 }
 
-// What two threads released, and then what neither did.
-#[derive(Drop)]
-struct Apart<R> {
-    released: [Option<Released<R>>; 2],
-    left: [Option<Released<R>>; 2],
+// The number, the tag and the fault of what was released, if it was.
+fn seen<R>(released: &Option<Released<R>>) -> Option<(u64, u64, Option<u32>)> {
+    match released {
+        Some(there) => Some((there.number, there.tag, there.fault)),
+        None => None,
+    }
 }
 
-// Lets two threads release a resource each.
-fn release_apart<R: Resource, T: Threads>(rt: &T, first: R, second: R) -> Apart<R>
+// Lets two threads release a resource each, and answers what they released and then what neither did.
+fn release_apart<R: Resource, T: Threads>(
+    rt: &T,
+    first: R,
+    second: R,
+) -> [Option<(u64, u64, Option<u32>)>; 4]
     requires first { R.life_of first ≡ Life.Live }
     requires second { R.life_of second ≡ Life.Live }
 {
@@ -147,23 +169,23 @@ fn release_apart<R: Resource, T: Threads>(rt: &T, first: R, second: R) -> Apart<
         || release_there(first.take()),
         || release_there(second.take()),
     );
-    Apart {
-        released: [there, here],
-        left: [release_there(first), release_there(second)],
-    }
+    [
+        seen(&there),
+        seen(&here),
+        seen(&release_there(first)),
+        seen(&release_there(second)),
+    ]
 }
 
 #[test]
 fn another_thread_releases_it(rt: HostRuntime) -> Result<(), Fail> {
     let first: Box<dyn Resource> = Box::new(rt.alloc(), Sample::faulty(3, 2))?;
     let second: Box<dyn Resource> = Box::new(rt.alloc(), Sample::new(5))?;
-    let Apart { released, left } = release_apart(&rt, first, second);
-    assert!(rt; left[0].is_none() && left[1].is_none());
-    let [there, here] = released;
-    let there = there.ok_or("the first is not released")?;
-    same(&rt, (there.number, there.tag, there.fault), (1, 3, Some(2)));
-    let here = here.ok_or("the second is not released")?;
-    same(&rt, (here.number, here.tag, here.fault), (2, 5, None));
+    same(
+        &rt,
+        release_apart(&rt, first, second),
+        [Some((1, 3, Some(2))), Some((2, 5, None)), None, None],
+    );
     Ok(())
 }
 
@@ -172,12 +194,10 @@ fn a_release_takes_no_memory(rt: HostRuntime) -> Result<(), Fail> {
     let boxed: Box<dyn Resource> = Box::new(rt.alloc(), Sample::faulty(3, 2))?;
     let _scarce = Scarce::new(rt.alloc())?;
     assert!(rt; Box::new(rt.alloc(), Sample::faulty(4, 2)).is_err());
-    let course = use_and_release(7, boxed, 12);
-    same(&rt, (course.answered, course.tag, course.uses), (12, 3, 1));
     same(
         &rt,
-        (course.released.number, course.released.fault),
-        (7, Some(2)),
+        told(&use_and_release(7, boxed, 12)),
+        ([12, 3, 1, 7, 3, 3, 1], Some(2), Life::Released),
     );
     Ok(())
 }

@@ -7,6 +7,7 @@ use super::same::same;
 use rx_scarce::{MOST_BLOCKS, Scarce};
 use rx_slots::{Key, Slots};
 use std::alloc::Global;
+use std::process::Abort;
 use std::test::Fail;
 
 // Puts a value in where there is memory.
@@ -53,157 +54,211 @@ fn write(slots: &mut Slots<u64>, key: Key, value: u64) -> bool
     }
 }
 
+// Two values in turn, of which the first key finds its own alone.
+fn find_own(rt: &impl Abort, slots: &mut Slots<char>) -> Result<(), Fail> {
+    same(rt, slots.reserve(2), Ok(()));
+    let first = put(slots, 4, 'x')?;
+    same(rt, slots.take(first), Some('x'));
+    let second = put(slots, 9, 'y')?;
+    same(rt, slots.get(first), None);
+    same(rt, slots.get(second), Some(&'y'));
+    Ok(())
+}
+
 #[test]
 fn a_key_finds_its_own_number_alone(rt: HostRuntime) -> Result<(), Fail> {
     let mut slots = Slots::new(rt.alloc());
-    same(&rt, slots.reserve(2), Ok(()));
-    let first = put(&mut slots, 4, 'x')?;
-    same(&rt, slots.take(first), Some('x'));
-    let second = put(&mut slots, 9, 'y')?;
-    same(&rt, slots.get(first), None);
-    same(&rt, slots.get(second), Some(&'y'));
+    find_own(&rt, &mut slots)
+}
+
+// Takes a value out and puts another in its place: the old key and the new one.
+fn use_again(rt: &impl Abort, slots: &mut Slots<char>) -> Result<(Key, Key), Fail> {
+    let old = put(slots, 2, 'b')?;
+    same(rt, slots.take(old), Some('b'));
+    let new = put(slots, 3, 'c')?;
+    same(rt, new, Key { number: 3, ..old });
+    Ok((old, new))
+}
+
+// An old key finds nothing, whatever is asked.
+fn find_nothing(rt: &impl Abort, slots: &mut Slots<char>, old: Key) {
+    assert!(rt; !slots.contains(old));
+    same(rt, slots.get(old), None);
+    assert!(rt; slots.get_mut(old).is_none());
+    same(rt, slots.take(old), None);
+}
+
+// Changes the value of the new key, and takes all out.
+fn change_and_take(rt: &impl Abort, slots: &mut Slots<char>, new: Key, other: Key) {
+    if let Some(value) = slots.get_mut(new) {
+        *value = 'd';
+    }
+    same(rt, slots.take(new), Some('d'));
+    same(rt, slots.take(other), Some('a'));
+    assert!(rt; slots.is_empty());
+}
+
+// A slot is used again while another value is there.
+fn use_beside(rt: &impl Abort, slots: &mut Slots<char>) -> Result<(), Fail> {
+    let other = put(slots, 1, 'a')?;
+    let (old, new) = use_again(rt, slots)?;
+    find_nothing(rt, slots, old);
+    change_and_take(rt, slots, new, other);
     Ok(())
 }
 
 #[test]
 fn a_key_whose_slot_was_used_again_finds_nothing(rt: HostRuntime) -> Result<(), Fail> {
     let mut slots = Slots::new(rt.alloc());
-    let other = put(&mut slots, 1, 'a')?;
-    let old = put(&mut slots, 2, 'b')?;
-    same(&rt, slots.take(old), Some('b'));
-    let new = put(&mut slots, 3, 'c')?;
-    same(&rt, (new.slot, new.number), (old.slot, 3));
-    assert!(rt; !slots.contains(old));
-    same(&rt, slots.get(old), None);
-    assert!(rt; slots.get_mut(old).is_none());
-    same(&rt, slots.take(old), None);
-    if let Some(value) = slots.get_mut(new) {
-        *value = 'd';
+    use_beside(&rt, &mut slots)
+}
+
+// How many values there are, how many slots, and the next slot.
+fn counts(slots: &Slots<u64>) -> (usize, usize, usize) {
+    (slots.len(), slots.slot_count(), slots.next_slot())
+}
+
+// Walks over four values of which the second is taken out.
+fn walk(rt: &impl Abort, slots: &mut Slots<u64>) {
+    same(rt, slots.take(Key { slot: 1, number: 6 }), Some(60));
+    same(rt, counts(slots), (3, 4, 1));
+    same(rt, values_met(slots), 3);
+    same(rt, slots.next_key(0), Some(Key { slot: 0, number: 5 }));
+    same(rt, slots.next_key(1), Some(Key { slot: 2, number: 7 }));
+    same(rt, slots.next_key(3), Some(Key { slot: 3, number: 8 }));
+    same(rt, slots.next_key(4), None);
+}
+
+// Changes the last two of them.
+fn change_two(rt: &impl Abort, slots: &mut Slots<u64>) {
+    assert!(rt; !write(slots, Key { slot: 3, number: 9 }, 99));
+    assert!(rt; write(slots, Key { slot: 3, number: 8 }, 88));
+    if let Some(value) = slots.value_at_mut(2) {
+        *value = 77;
     }
-    same(&rt, slots.take(new), Some('d'));
-    same(&rt, slots.take(other), Some('a'));
-    assert!(rt; slots.is_empty());
-    Ok(())
+    assert!(rt; slots.value_at_mut(1).is_none());
+}
+
+// A slot's number and value, as each call tells them.
+fn told_at(slots: &Slots<u64>, slot: usize) -> [(Option<u64>, Option<u64>); 2] {
+    let number = match slots.key_at(slot) {
+        Some(key) => Some(key.number),
+        None => None,
+    };
+    let value = match slots.entry_at(slot) {
+        Some(entry) => Some(entry.value),
+        None => None,
+    };
+    [
+        (slots.number_at(slot), slots.value_at(slot).copied()),
+        (number, value),
+    ]
 }
 
 #[test]
 fn a_walk_meets_each_value_once(rt: HostRuntime) -> Result<(), Fail> {
     let mut slots = numbered(rt.alloc(), &[5, 6, 7, 8])?;
-    same(&rt, slots.take(Key { slot: 1, number: 6 }), Some(60));
-    same(
-        &rt,
-        (slots.len(), slots.slot_count(), slots.next_slot()),
-        (3, 4, 1),
-    );
-    same(&rt, values_met(&slots), 3);
-    same(&rt, slots.next_key(0), Some(Key { slot: 0, number: 5 }));
-    same(&rt, slots.next_key(1), Some(Key { slot: 2, number: 7 }));
-    same(&rt, slots.next_key(3), Some(Key { slot: 3, number: 8 }));
-    same(&rt, slots.next_key(4), None);
-    assert!(rt; !write(&mut slots, Key { slot: 3, number: 9 }, 99));
-    assert!(rt; write(&mut slots, Key { slot: 3, number: 8 }, 88));
-    if let Some(value) = slots.value_at_mut(2) {
-        *value = 77;
-    }
-    assert!(rt; slots.value_at_mut(1).is_none());
+    walk(&rt, &mut slots);
+    change_two(&rt, &mut slots);
     let found = [
         (Some(5), Some(50)),
         (None, None),
         (Some(7), Some(77)),
         (Some(8), Some(88)),
     ];
-    for (slot, (number, value)) in found.into_iter().enumerate() {
-        let key = slots.key_at(slot).map(|key| key.number);
-        let entry = slots.entry_at(slot).map(|entry| entry.value);
-        let seen = (slots.number_at(slot), slots.value_at(slot).copied());
-        same(
-            &rt,
-            (slot, seen, key, entry),
-            (slot, (number, value), number, value),
-        );
+    for (slot, pair) in found.into_iter().enumerate() {
+        same(&rt, (slot, told_at(&slots, slot)), (slot, [pair, pair]));
     }
     Ok(())
+}
+
+// Whether the next number is inserted, with its tenfold. Where memory is refused, the value comes back and
+// nothing changes.
+fn is_inserted(rt: &impl Abort, slots: &mut Slots<u64>) -> bool {
+    let before = counts(slots);
+    let number = slots.len() as u64;
+    match slots.insert(number, number.wrapping_mul(10)) {
+        Ok(key) => {
+            same(rt, (key.slot, key.number), (before.2, number));
+            true
+        }
+        Err(back) => {
+            same(rt, back, number.wrapping_mul(10));
+            same(rt, counts(slots), before);
+            false
+        }
+    }
+}
+
+// Each slot has its own number, and the tenfold of it.
+fn all_there(rt: &impl Abort, slots: &Slots<u64>) {
+    for slot in 0..slots.slot_count() {
+        let number = slot as u64;
+        same(rt, slots.key_at(slot), Some(Key { slot, number }));
+        same(rt, slots.value_at(slot), Some(&number.wrapping_mul(10)));
+    }
+}
+
+// Inserts in want of memory until a refused insert is met. How often it was refused.
+fn insert_in_the_end(rt: &impl Abort, alloc: Global, slots: &mut Slots<u64>) -> Result<u32, Fail> {
+    let mut scarce = Scarce::new(alloc)?;
+    let mut refused = 0u32;
+    for _ in 0..MOST_BLOCKS {
+        let inserted = is_inserted(rt, slots);
+        all_there(rt, slots);
+        if !inserted {
+            refused = refused.wrapping_add(1);
+            assert!(rt; scarce.give_back_one());
+        } else if refused > 0 {
+            break;
+        }
+    }
+    Ok(refused)
 }
 
 #[test]
 fn a_refused_insert_gives_the_value_back(rt: HostRuntime) -> Result<(), Fail> {
     let mut slots = numbered(rt.alloc(), &[0, 1, 2, 3, 4])?;
-    let mut scarce = Scarce::new(rt.alloc())?;
-    let mut refused = 0u32;
-    for _ in 0..MOST_BLOCKS {
-        let number = slots.len() as u64;
-        let next = slots.next_slot();
-        let slot_count = slots.slot_count();
-        match slots.insert(number, number.wrapping_mul(10)) {
-            Ok(key) => {
-                same(&rt, key, Key { slot: next, number });
-                if refused > 0 {
-                    break;
-                }
-            }
-            Err(back) => {
-                refused = refused.wrapping_add(1);
-                same(&rt, back, number.wrapping_mul(10));
-                same(&rt, slots.len() as u64, number);
-                same(
-                    &rt,
-                    (slots.next_slot(), slots.slot_count()),
-                    (next, slot_count),
-                );
-                assert!(rt; scarce.give_back_one());
-            }
-        }
-        for slot in 0..slots.slot_count() {
-            same(
-                &rt,
-                slots.key_at(slot),
-                Some(Key {
-                    slot,
-                    number: slot as u64,
-                }),
-            );
-            same(
-                &rt,
-                slots.value_at(slot),
-                Some(&(slot as u64).wrapping_mul(10)),
-            );
-        }
-    }
-    assert!(rt; refused > 1, "refused {refused}");
+    let refused = insert_in_the_end(&rt, rt.alloc(), &mut slots);
     same(&rt, slots.len(), slots.slot_count());
+    drop(slots);
+    assert!(rt; refused? > 1);
     Ok(())
 }
 
-#[test]
-fn a_refused_reserve_changes_no_entry(rt: HostRuntime) -> Result<(), Fail> {
-    let mut slots = numbered(rt.alloc(), &[3, 4])?;
-    let mut scarce = Scarce::new(rt.alloc())?;
+// Reserves in want of memory until there is room. How often it was refused.
+fn reserve_in_the_end(rt: &impl Abort, alloc: Global, slots: &mut Slots<u64>) -> Result<u32, Fail> {
+    let mut scarce = Scarce::new(alloc)?;
     let mut refused = 0u32;
     for _ in 0..MOST_BLOCKS {
         if slots.reserve(1000).is_ok() {
             break;
         }
         refused = refused.wrapping_add(1);
-        same(
-            &rt,
-            (slots.len(), slots.slot_count(), slots.next_slot()),
-            (2, 2, 2),
-        );
-        same(&rt, slots.get(Key { slot: 0, number: 3 }), Some(&30));
-        same(&rt, slots.get(Key { slot: 1, number: 4 }), Some(&40));
+        same(rt, counts(slots), (2, 2, 2));
+        same(rt, slots.get(Key { slot: 0, number: 3 }), Some(&30));
+        same(rt, slots.get(Key { slot: 1, number: 4 }), Some(&40));
         assert!(rt; scarce.give_back_one());
     }
-    assert!(rt; refused > 1, "refused {refused}");
-    same(&rt, slots.reserve(1000), Ok(()));
+    same(rt, slots.reserve(1000), Ok(()));
+    Ok(refused)
+}
+
+#[test]
+fn a_refused_reserve_changes_no_entry(rt: HostRuntime) -> Result<(), Fail> {
+    let mut slots = numbered(rt.alloc(), &[3, 4])?;
+    let refused = reserve_in_the_end(&rt, rt.alloc(), &mut slots);
+    drop(slots);
+    assert!(rt; refused? > 1);
     Ok(())
 }
 
 // A value of one word takes three: its number, itself, and whether it is there.
 #[test]
 fn a_reserve_is_met_by_just_the_memory_that_it_needs(rt: HostRuntime) -> Result<(), Fail> {
-    let mut slots: Slots<u64> = Slots::new(rt.alloc());
     let block: Vec<[u64; 3]> = Vec::with_capacity(rt.alloc(), 1000)?;
     let _scarce = Scarce::new(rt.alloc())?;
+    let mut slots: Slots<u64> = Slots::new(rt.alloc());
     assert!(rt; slots.reserve(1000).is_err());
     drop(block);
     assert!(rt; slots.reserve(1001).is_err());
@@ -211,24 +266,41 @@ fn a_reserve_is_met_by_just_the_memory_that_it_needs(rt: HostRuntime) -> Result<
     Ok(())
 }
 
-#[test]
-fn inserts_after_a_reserve_take_no_memory(rt: HostRuntime) -> Result<(), Fail> {
-    let mut slots = Slots::new(rt.alloc());
-    slots.reserve(1000)?;
-    let _scarce = Scarce::new(rt.alloc())?;
+// Puts in a thousand numbers.
+fn put_thousand(rt: &impl Abort, slots: &mut Slots<u64>) -> Result<(), Fail> {
     for number in 0..1000u64 {
-        let key = put(&mut slots, number, number.wrapping_mul(10))?;
-        same(&rt, key.number, number);
+        let key = put(slots, number, number.wrapping_mul(10))?;
+        same(rt, key.number, number);
     }
+    Ok(())
+}
+
+// Takes them out in their order.
+fn take_thousand(rt: &impl Abort, slots: &mut Slots<u64>) -> Result<(), Fail> {
     let mut from = 0;
     for number in 0..1000u64 {
         let key = slots.next_key(from).ok_or("a value is lost")?;
-        same(&rt, key.number, number);
-        same(&rt, slots.take(key), Some(number.wrapping_mul(10)));
+        same(rt, key.number, number);
+        same(rt, slots.take(key), Some(number.wrapping_mul(10)));
         from = key.slot.wrapping_add(1);
     }
-    assert!(rt; slots.is_empty());
     Ok(())
+}
+
+// Puts them in and takes them out with no memory left.
+fn use_thousand(rt: &impl Abort, alloc: Global, slots: &mut Slots<u64>) -> Result<(), Fail> {
+    slots.reserve(1000)?;
+    let _scarce = Scarce::new(alloc)?;
+    put_thousand(rt, slots)?;
+    take_thousand(rt, slots)
+}
+
+#[test]
+fn inserts_after_a_reserve_take_no_memory(rt: HostRuntime) -> Result<(), Fail> {
+    let mut slots = Slots::new(rt.alloc());
+    let used = use_thousand(&rt, rt.alloc(), &mut slots);
+    assert!(rt; slots.is_empty());
+    used
 }
 
 // A value that has to be used up, since it is not `Drop`.

@@ -10,6 +10,7 @@ use rx_scarce::Scarce;
 use rx_tree::{Closed, Key, ResKey, Tree};
 use std::alloc::{AllocError, Global};
 use std::marker::Model;
+use std::process::Abort;
 use std::test::Fail;
 
 // A tree with the number of its next node or resource. Its drop is written out, so that whoever owns one has
@@ -154,20 +155,31 @@ fn is_closed(grown: &Grown<Sample>, record: &Closed, number: u64) -> bool {
     record.key.number == number && record.node.marks == fired() && !grown.tree.contains(record.key)
 }
 
-#[test]
-fn a_hundred_thousand_nodes_are_closed_with_no_memory_left(rt: HostRuntime) -> Result<(), Fail> {
-    let mut grown = Grown::new(rt.alloc());
-    let top = chain(&mut grown, 100_000)?;
+// Closes a chain of a hundred thousand nodes beside another root, with no memory left.
+fn close_chain(
+    rt: &impl Abort,
+    alloc: Global,
+    grown: &mut Grown<Sample>,
+    closed: &mut Vec<Closed>,
+) -> Result<(), Fail> {
+    let top = chain(grown, 100_000)?;
     let other = grown.open_root().ok_or("no memory")?;
     grown.set_marks(other, fired());
-    let mut closed = Vec::with_capacity(rt.alloc(), 100_001)?;
     {
-        let _scarce = Scarce::new(rt.alloc())?;
-        grown.close(top, &mut closed);
+        let _scarce = Scarce::new(alloc)?;
+        grown.close(top, closed);
     }
-    same(&rt, (grown.tree.len(), closed.len()), (1, 100_000));
+    same(rt, (grown.tree.len(), closed.len()), (1, 100_000));
     let left = (grown.tree.pending(), grown.tree.first_root());
-    same(&rt, left, (Some(other), Some(other)));
+    same(rt, left, (Some(other), Some(other)));
+    Ok(())
+}
+
+#[test]
+fn a_hundred_thousand_nodes_are_closed_with_no_memory_left(rt: HostRuntime) -> Result<(), Fail> {
+    let mut closed = Vec::with_capacity(rt.alloc(), 100_001)?;
+    let mut grown = Grown::new(rt.alloc());
+    let done = close_chain(&rt, rt.alloc(), &mut grown, &mut closed);
     // The youngest comes out first, and each has the one before above it.
     let mut number = 100_000u64;
     for record in closed.iter() {
@@ -175,7 +187,7 @@ fn a_hundred_thousand_nodes_are_closed_with_no_memory_left(rt: HostRuntime) -> R
         assert!(rt; is_closed(&grown, record, number));
     }
     same(&rt, number, 0);
-    Ok(())
+    done
 }
 
 // Lets a node hold so many resources, with the tags from 0.
@@ -220,24 +232,53 @@ fn take_new(grown: &mut Grown<Sample>, taken: &mut [bool]) -> Result<(), Fail> {
     Ok(())
 }
 
-#[test]
-fn ten_thousand_resources_are_taken_once_each(rt: HostRuntime) -> Result<(), Fail> {
-    let mut grown = Grown::new(rt.alloc());
-    let node = grown.open_root().ok_or("no memory")?;
-    let keys = hold_all(&mut grown, rt.alloc(), node, 10_000).ok_or("no memory")?;
-    let mut closed = Vec::with_capacity(rt.alloc(), 1)?;
-    let mut taken = vec![in rt.alloc(); false; 10_000]?;
-    let _scarce = Scarce::new(rt.alloc())?;
-    remove_every_second(&mut grown, keys.as_slice());
-    same(&rt, grown.tree.waiting(), 5000);
-    grown.close(node, &mut closed);
-    same(&rt, (closed.len(), grown.tree.waiting()), (1, 10_000));
+// Closes a node whose every second resource is removed, and takes them all.
+fn close_and_take_all(
+    rt: &impl Abort,
+    grown: &mut Grown<Sample>,
+    node: Key,
+    keys: &[ResKey],
+    closed: &mut Vec<Closed>,
+    taken: &mut [bool],
+) -> Result<(), Fail> {
+    remove_every_second(grown, keys);
+    same(rt, grown.tree.waiting(), 5000);
+    grown.close(node, closed);
+    same(rt, (closed.len(), grown.tree.waiting()), (1, 10_000));
     for left in (0..10_000u64).rev() {
-        take_new(&mut grown, taken.as_mut_slice())?;
-        same(&rt, grown.tree.waiting(), left);
+        take_new(grown, taken)?;
+        same(rt, grown.tree.waiting(), left);
     }
     assert!(rt; grown.take().is_none());
     Ok(())
+}
+
+// Lets a root hold them, and takes them with no memory left.
+fn hold_and_take_all(
+    rt: &impl Abort,
+    alloc: Global,
+    grown: &mut Grown<Sample>,
+    closed: &mut Vec<Closed>,
+    taken: &mut [bool],
+) -> Result<(), Fail> {
+    let node = grown.open_root().ok_or("no memory")?;
+    let keys = hold_all(grown, alloc, node, 10_000).ok_or("no memory")?;
+    let _scarce = Scarce::new(alloc)?;
+    close_and_take_all(rt, grown, node, keys.as_slice(), closed, taken)
+}
+
+#[test]
+fn ten_thousand_resources_are_taken_once_each(rt: HostRuntime) -> Result<(), Fail> {
+    let mut closed = Vec::with_capacity(rt.alloc(), 1)?;
+    let mut taken = vec![in rt.alloc(); false; 10_000]?;
+    let mut grown = Grown::new(rt.alloc());
+    hold_and_take_all(
+        &rt,
+        rt.alloc(),
+        &mut grown,
+        &mut closed,
+        taken.as_mut_slice(),
+    )
 }
 
 const SLOTS: usize = 4;
@@ -307,8 +348,8 @@ fn is_emptied(
 
 #[test]
 fn slots_are_used_again_in_every_order(rt: HostRuntime) -> Result<(), Fail> {
-    let mut grown = Grown::new(rt.alloc());
     let mut closed = Vec::with_capacity(rt.alloc(), SLOTS)?;
+    let mut grown = Grown::new(rt.alloc());
     let mut orders = 0u32;
     for order in 0..256 {
         if let Some(places) = places(order) {
@@ -334,37 +375,65 @@ fn with_resources(alloc: Global, count: usize) -> Result<Tree<Sample>, AllocErro
     Ok(tree)
 }
 
-// What another tree had for as many serves, and for one more it does not.
+// What another tree had for as many nodes serves, and for one more it does not.
+fn have_for_nodes(rt: &impl Abort, tree: &mut Tree<Sample>, other: Tree<Sample>) {
+    assert!(rt; tree.reserve(100).is_err());
+    drop(other);
+    assert!(rt; tree.reserve(101).is_err());
+    assert!(rt; tree.reserve(100).is_ok());
+}
+
+// So too for resources.
+fn have_for_resources(rt: &impl Abort, tree: &mut Tree<Sample>, other: Tree<Sample>) {
+    assert!(rt; tree.reserve_resources(100).is_err());
+    drop(other);
+    assert!(rt; tree.reserve_resources(101).is_err());
+    assert!(rt; tree.reserve_resources(100).is_ok());
+}
+
 #[test]
 fn a_reserve_is_met_by_just_the_memory_that_it_needs(rt: HostRuntime) -> Result<(), Fail> {
-    let mut tree: Tree<Sample> = Tree::new(rt.alloc());
     let nodes = with_nodes(rt.alloc(), 100)?;
     let resources = with_resources(rt.alloc(), 100)?;
     let _scarce = Scarce::new(rt.alloc())?;
-    assert!(rt; tree.reserve(100).is_err());
-    drop(nodes);
-    assert!(rt; tree.reserve(101).is_err());
-    assert!(rt; tree.reserve(100).is_ok());
-    assert!(rt; tree.reserve_resources(100).is_err());
-    drop(resources);
-    assert!(rt; tree.reserve_resources(101).is_err());
-    assert!(rt; tree.reserve_resources(100).is_ok());
+    let mut tree = Tree::new(rt.alloc());
+    have_for_nodes(&rt, &mut tree, nodes);
+    have_for_resources(&rt, &mut tree, resources);
     Ok(())
+}
+
+// Whether a node that was opened can hold a resource.
+fn hold_seven(grown: &mut Grown<Sample>, opened: Option<Key>) -> bool {
+    match opened {
+        Some(node) => grown.hold(node, Sample::new(7)).is_ok(),
+        None => false,
+    }
+}
+
+// Opens a root once another tree's room for four nodes is free, and lets it hold a resource once another's
+// room for four is.
+fn open_and_hold(
+    rt: &impl Abort,
+    grown: &mut Grown<Sample>,
+    nodes: Tree<Sample>,
+    resources: Tree<Sample>,
+) {
+    same(rt, grown.open_root(), None);
+    drop(nodes);
+    let opened = grown.open_root();
+    let refused = hold_seven(grown, opened);
+    drop(resources);
+    same(rt, (refused, hold_seven(grown, opened)), (false, true));
 }
 
 // A store with no room gets room for four.
 #[test]
 fn an_opening_is_met_by_just_the_memory_that_it_needs(rt: HostRuntime) -> Result<(), Fail> {
-    let mut grown = Grown::new(rt.alloc());
     let nodes = with_nodes(rt.alloc(), 4)?;
     let resources = with_resources(rt.alloc(), 4)?;
     let _scarce = Scarce::new(rt.alloc())?;
-    same(&rt, grown.open_root(), None);
-    drop(nodes);
-    let node = grown.open_root().ok_or("no memory")?;
-    assert!(rt; grown.hold(node, Sample::new(7)).is_err());
-    drop(resources);
-    assert!(rt; grown.hold(node, Sample::new(7)).is_ok());
+    let mut grown = Grown::new(rt.alloc());
+    open_and_hold(&rt, &mut grown, nodes, resources);
     Ok(())
 }
 
