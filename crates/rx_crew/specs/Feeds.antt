@@ -1,8 +1,9 @@
 -- What a source gives, and how a feed of it ends. Observable Contract: items, and then one end.
-use Rattle.std.specs.Prelude.{◌≡◌, ℕ, ◌+◌, ◌<◌, ◌≤◌, Bool, true, false, List, [], ◌∷◌, length, map, take, drop, count_by}
+use Rattle.std.specs.Prelude.{◌≡◌, ℕ, ◌+◌, ◌<◌, ◌≤◌, Bool, true, false, List, [], ◌∷◌, ◌++◌, length, map, take, drop, count_by, Option, Some, None}
 use Rattle.rx_event.specs.declared.event.Event.{Event}
 use Rattle.rx_event.specs.declared.event.Event.TheVariants.{Item, End}
 use Rattle.rx_event.specs.Events.{is_item}
+use Rattle.rx_ledger.specs.Shares.{Shares}
 use Rattle.rx_ledger.specs.declared.receipt.Receipt.{Receipt}
 use Rattle.rx_crew.specs.declared.feeding.Pull.{Pull}
 use Rattle.rx_crew.specs.declared.feeding.Pull.TheVariants.{Item as PullItem, Done as PullDone}
@@ -43,3 +44,24 @@ IsFed Done receipts turns before after = (receipts ≤ turns) × (receipts ≡ l
 IsFed Turns receipts turns before after = (receipts ≡ turns) × (receipts < length before) × (after ≡ drop receipts before)
 IsFed (Refused why) receipts turns before after =
     (receipts < turns) × (receipts < length before) × (after ≡ drop (receipts + 1) before)
+
+-- a pull's event was written: there is one receipt more, of that event, and the seat counts it if it is an item
+pub record IsEmitted (leaf : ℕ) (pull : Pull) (seat seat' : Shares) (receipts receipts' : List Receipt) : Type 0 where
+  pub receipt : Receipt
+  pub event : receipt.event ≡ event_of leaf pull
+  pub added : receipts' ≡ receipts ++ receipt ∷ []
+  pub counted : seat' ≡ record seat { items = seat.items + items_of pull }
+
+-- what becomes of a turn's pull, by why the feed stops with it: it goes on after an item; or it stops after the end; or it
+-- stops where the pull was refused, which leaves the seat and the receipts
+abbrev pub Becomes : Option Stop → (leaf : ℕ) (pull : Pull) (seat seat' : Shares) (receipts receipts' : List Receipt) → Type 0
+Becomes None leaf pull seat seat' receipts receipts' = (is_end pull ≡ false) × IsEmitted leaf pull seat seat' receipts receipts'
+Becomes (Some Done) leaf pull seat seat' receipts receipts' = (is_end pull ≡ true) × IsEmitted leaf pull seat seat' receipts receipts'
+Becomes (Some Turns) leaf pull seat seat' receipts receipts' = ⊥
+Becomes (Some (Refused why)) leaf pull seat seat' receipts receipts' = (seat' ≡ seat) × (receipts' ≡ receipts)
+
+-- one turn: just one pull is taken, and this becomes of it
+pub record IsTurn (leaf : ℕ) (stop : Option Stop) (before after : List Pull) (seat seat' : Shares) (receipts receipts' : List Receipt) : Type 0 where
+  pub pull : Pull
+  pub pulled : before ≡ pull ∷ after
+  pub becomes : Becomes stop leaf pull seat seat' receipts receipts'

@@ -3,7 +3,7 @@
 ghost use Rattle.std.specs.Prelude.{◌≡◌, ◌+◌, ◌∷◌, List, vec_len, IsTrue, OnOk, OnErr};
 ghost use Rattle.rx_crew.specs.declared.working.Stop.{Stop};
 ghost use Rattle.rx_crew.specs.declared.feeding.Pull.{Pull};
-ghost use Rattle.rx_crew.specs.Feeds.{ends_once, event_of, is_end, items_of, items_in, AreOfPulls, IsFed};
+ghost use Rattle.rx_crew.specs.Feeds.{ends_once, event_of, is_end, items_of, items_in, AreOfPulls, IsFed, IsTurn};
 
 use crate::desk::Desk;
 use crate::working::Stop;
@@ -92,6 +92,38 @@ fn emit<R: Resource, I: Ledger, A: Ledger, K: Ledger>(
     Ok(place)
 }
 
+/// One turn of a feed: asks for memory for one more receipt after the pull and before the call.
+/// Answers why the feed stops with it, and None where it goes on.
+fn turn<R: Resource, I: Ledger, A: Ledger, K: Ledger, S: Source>(
+    rt: &impl Wait,
+    desk: &Desk<R, I, A, K>,
+    seat: &mut Seat<I, A, K>,
+    receipts: &mut Vec<Receipt>,
+    leaf: Key,
+    source: &mut S,
+) -> Option<Stop>
+    requires { IsTrue (ends_once (S.pulls source.old)) }
+    ensures { IsTurn leaf.number result (S.pulls source.old) (S.pulls source.new)
+        seat.old seat.new receipts.old.items receipts.new.items }
+{
+    let pull = source.pull();
+    if receipts.reserve(1).is_err() {
+        return Some(Stop::Refused(Refusal::NoMemory));
+    }
+    match emit(rt, desk, seat, leaf, pull) {
+        Ok(place) => receipts.push_reserved(Receipt {
+            place,
+            event: event_at(leaf, pull),
+        }),
+        Err(why) => return Some(Stop::Refused(why)),
+    }
+    if is_done(pull) {
+        Some(Stop::Done)
+    } else {
+        None
+    }
+}
+
 /// Emits what a source gives at a leaf: one pull a turn, an item by `next`, the end by `end`.
 ///
 /// It stops `Done` after the source's end, `Turns` after so many turns before that, and `Refused`
@@ -114,22 +146,11 @@ pub fn feed<R: Resource, I: Ledger, A: Ledger, K: Ledger, S: Source>(
     let mut seat = seat;
     let mut receipts = Vec::new(alloc);
     for _turn in 0..turns {
-        let pull = source.pull();
-        if receipts.reserve(1).is_err() {
-            return refused(seat, receipts, Refusal::NoMemory);
-        }
-        match emit(rt, desk, &mut seat, leaf, pull) {
-            Ok(place) => receipts.push_reserved(Receipt {
-                place,
-                event: event_at(leaf, pull),
-            }),
-            Err(why) => return refused(seat, receipts, why),
-        }
-        if is_done(pull) {
+        if let Some(stop) = turn(rt, desk, &mut seat, &mut receipts, leaf, source) {
             return Fed {
                 seat,
                 receipts,
-                stop: Stop::Done,
+                stop,
             };
         }
     }
@@ -137,20 +158,5 @@ pub fn feed<R: Resource, I: Ledger, A: Ledger, K: Ledger, S: Source>(
         seat,
         receipts,
         stop: Stop::Turns,
-    }
-}
-
-/// What a feed did that was refused.
-fn refused<I: Ledger, A: Ledger, K: Ledger>(
-    seat: Seat<I, A, K>,
-    receipts: Vec<Receipt>,
-    why: Refusal,
-) -> Fed<I, A, K>
-    ensures { result ≡ record { seat = seat; receipts = receipts; stop = Stop.Refused why } }
-{
-    Fed {
-        seat,
-        receipts,
-        stop: Stop::Refused(why),
     }
 }

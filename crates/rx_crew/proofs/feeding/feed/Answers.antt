@@ -1,62 +1,23 @@
-use Rattle.std.proofs.Common.{◌≡◌, ◌+◌, [], ◌∷◌, ◌++◌, List, vec_len, ℕ, sym, ap, ◌∙◌, arith, count_by}
-use Rattle.rx_event.specs.Events.{is_item}
-use Rattle.rx_ledger.specs.Shares.{Shares}
-use Rattle.rx_ledger.specs.declared.receipt.Receipt.{Receipt}
-use Rattle.rx_crew.specs.declared.feeding.Pull.{Pull}
-use Rattle.rx_crew.specs.Feeds.{items_of}
-use Rattle.rx_crew.proofs.Pulls.{one_more, is_within, is_last, ends_here, goes_on, items-push}
+use Rattle.std.proofs.Common.{◌<◌, ◌+◌, ℕ, ◌∙◌, ap, arith, length}
+use Rattle.rx_crew.proofs.Pulls.{Stops, last_turn, turn_more}
+use Rattle.rx_crew.proofs.feeding.feed.Given as given
 use Rattle.rx_crew.proofs.feeding.feed.Goals as goal
 
-pub returns-then-is_err-clause-stop : goal.returns-then-is_err-clause-stop
-returns-then-is_err-clause-stop g c =
-    let n : vec_len c.reserve.new.self ≡ c.loop-turn._turn = c.reserve.ensures.len ∙ c.loop-turn.invariant.counted in
-    let w = is_within _ _ _ _ _ _ _ c.loop-turn.invariant.far c.pull-pull.ensures in
-    rw (c.refused.ensures, n) (c.loop-turn-test.true, w.0, w.1)
-
-pub returns-in-Err-clause-stop : goal.returns-in-Err-clause-stop
-returns-in-Err-clause-stop g c =
-    let n : vec_len c.reserve.new.self ≡ c.loop-turn._turn = c.reserve.ensures.len ∙ c.loop-turn.invariant.counted in
-    let w = is_within _ _ _ _ _ _ _ c.loop-turn.invariant.far c.pull-pull.ensures in
-    rw (c.refused-in-Err.ensures, n) (c.loop-turn-test.true, w.0, w.1)
-
-pub returns-then-is_done-clause-receipts : goal.returns-then-is_done-clause-receipts
-returns-then-is_done-clause-receipts g c =
-    let r : Receipt = record { place = c.in-Ok.place; event = c.event_at.result } in
-    let items : c.push_reserved.new.self.items ≡ c.loop-turn.receipts.items ++ r ∷ [] =
-    c.push_reserved.ensures.items ∙ ap (λ (l : List Receipt). l ++ r ∷ []) c.reserve.ensures.items in
+stops : (g : given.Over) (c : goal.In-Some g)
+    → Stops c.args.leaf.number c.in-Some.stop c.args.turns (g.S.Source.pulls c.args.source.now) (g.S.Source.pulls c.turn.new.source) c.args.seat c.turn.new.seat c.turn.new.receipts.items
+stops g c =
     let counted = c.loop-turn.invariant.counted in
-    let n : vec_len c.push_reserved.new.self ≡ c.loop-turn._turn + 1 = omega (arith, c.push_reserved.ensures.len, c.reserve.ensures.len, counted) in
-    let far = one_more _ _ _ _ _ _ r _ c.loop-turn.invariant.far c.pull-pull.ensures c.event_at.ensures in
-    rw (items, n) far.given
+    let test = c.loop-turn-test.true in
+    let within : length c.loop-turn.receipts.items < c.args.turns = omega (arith, counted, test) in
+    last_turn _ _ _ _ _ _ _ _ _ _ _ c.loop-turn.invariant.far c.loop-turn.invariant.course within c.in-Some.ensures
 
-pub returns-then-is_done-clause-stop : goal.returns-then-is_done-clause-stop
-returns-then-is_done-clause-stop g c =
-    let counted = c.loop-turn.invariant.counted in
-    let n : vec_len c.push_reserved.new.self ≡ c.loop-turn._turn + 1 = omega (arith, c.push_reserved.ensures.len, c.reserve.ensures.len, counted) in
-    let course = rw c.pull-pull.ensures at c.loop-turn.invariant.course in
-    let none = ends_here _ _ (sym c.is_done.ensures ∙ c.if-is_done.true) course in
-    let test = c.loop-turn-test.true in (
-      omega (arith, n, test),
-      n ∙ is_last _ _ _ _ _ _ c.loop-turn.invariant.far (c.pull-pull.ensures ∙ ap (λ (l : List Pull). c.pull-pull.result ∷ l) none),
-      none,
-    )
+pub returns-in-Some-clause-receipts : goal.returns-in-Some-clause-receipts
+returns-in-Some-clause-receipts g c = rw c.turn.new.receipts.ok.0 (stops g c).receipts
+
+pub returns-in-Some-clause-stop : goal.returns-in-Some-clause-stop
+returns-in-Some-clause-stop g c = rw c.turn.new.receipts.ok.0 (stops g c).stop
 
 pub loop-turn-preserved : goal.loop-turn-preserved
 loop-turn-preserved g c =
-    let r : Receipt = record { place = c.in-Ok.place; event = c.event_at.result } in
-    let p = c.pull-pull.result in
-    let items : c.push_reserved.new.self.items ≡ c.loop-turn.receipts.items ++ r ∷ [] =
-    c.push_reserved.ensures.items ∙ ap (λ (l : List Receipt). l ++ r ∷ []) c.reserve.ensures.items in
-    let counted = c.loop-turn.invariant.counted in
-    let course = rw c.pull-pull.ensures at c.loop-turn.invariant.course in
-    let more = items-push _ p c.loop-turn.receipts.items r c.event_at.ensures in
-    let sum : (c.args.seat.items + count_by (λ (r : Receipt). is_item r.event) c.loop-turn.receipts.items) + items_of p
-    ≡ c.args.seat.items + count_by (λ (r : Receipt). is_item r.event) c.push_reserved.new.self.items = rw items (omega (arith, more)) in
-    record {
-      counted = omega (arith, c.push_reserved.ensures.len, c.reserve.ensures.len, counted);
-      far = rw items (one_more _ _ _ _ _ _ r _ c.loop-turn.invariant.far c.pull-pull.ensures c.event_at.ensures);
-      course = goes_on _ _ (sym c.is_done.ensures ∙ c.if-is_done.false) course;
-      shares = c.in-Ok.ensures.counted
-          ∙ ap (λ (s : Shares). record s { items = s.items + items_of p }) c.loop-turn.invariant.shares
-          ∙ ap (λ (n : ℕ). record c.args.seat { items = n }) sum;
-    }
+    let more = turn_more _ _ _ _ _ _ _ _ _ c.loop-turn.invariant.far c.loop-turn.invariant.course c.in_default.ensures in
+    record { counted = more.counted ∙ ap (λ (n : ℕ). n + 1) c.loop-turn.invariant.counted; far = more.far; course = more.course }
