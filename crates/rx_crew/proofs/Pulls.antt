@@ -136,3 +136,9 @@ last_turn leaf turns (Refused why) before now after first seat seat' receipts re
       stop = rw same (within, next.within, sym next.left);
       shares = rw same (turn.becomes.0 ∙ far.shares);
     }
+
+-- where an end is still to come, there are more pulls than receipts
+pub not_over : (leaf : ℕ) (before now : List Pull) (first seat : Shares) (receipts : List Receipt)
+    → SoFar leaf before now first seat receipts → IsTrue (ends_once now) → length receipts < length before
+not_over leaf before [] first seat receipts far course = absurd (false≢true course)
+not_over leaf before (p ∷ rest) first seat receipts far course = (next_pull (length receipts) before p rest (sym far.left)).within

@@ -1,5 +1,5 @@
-use Rattle.std.proofs.Common.{◌<◌, ◌+◌, ℕ, ◌∙◌, ap, arith, length}
-use Rattle.rx_crew.proofs.Pulls.{Stops, last_turn, turn_more}
+use Rattle.std.proofs.Common.{◌≡◌, ◌<◌, ◌+◌, ℕ, ◌∙◌, ap, arith, length}
+use Rattle.rx_crew.proofs.Pulls.{Stops, last_turn, turn_more, not_over}
 use Rattle.rx_crew.proofs.feeding.feed.Given as given
 use Rattle.rx_crew.proofs.feeding.feed.Goals as goal
 
@@ -21,3 +21,11 @@ pub loop-turn-preserved : goal.loop-turn-preserved
 loop-turn-preserved g c =
     let more = turn_more _ _ _ _ _ _ _ _ _ c.loop-turn.invariant.far c.loop-turn.invariant.course c.in_default.ensures in
     record { counted = more.counted ∙ ap (λ (n : ℕ). n + 1) c.loop-turn.invariant.counted; far = more.far; course = more.course }
+
+pub returns-clause-stop : goal.returns-clause-stop
+returns-clause-stop g c =
+    let counted = c.loop-turn.invariant.counted in
+    let test = c.loop-turn-test.false in
+    let most = c.loop-turn.auto._turn-end in
+    let all : length c.loop-turn.receipts.items ≡ c.args.turns = omega (arith, counted, test, most) in
+    rw c.loop-turn.receipts.ok.0 (all, not_over _ _ _ _ _ _ c.loop-turn.invariant.far c.loop-turn.invariant.course, c.loop-turn.invariant.far.left)
