@@ -11,6 +11,51 @@ pub fn takes(schema: &Value, value: &Value) -> Option<bool> {
     takes_within(schema, schema, value, MOST_LEVELS)
 }
 
+// How many schemas a word asks; None where the word asks none.
+fn count_asked(word: &str, operand: &Value, value: &Value) -> Option<usize> {
+    match word {
+        "$ref" | "if" => Some(1),
+        "allOf" | "oneOf" | "prefixItems" => Some(operand.as_array()?.len()),
+        "properties" => Some(operand.as_object()?.len()),
+        "items" => match value.as_array() {
+            Some(items) => Some(items.len()),
+            None => Some(0),
+        },
+        _ => None,
+    }
+}
+
+// The schema in this one that a `$ref` names.
+fn defined_in<'a>(top: &'a Value, name: &Value) -> Option<&'a Value> {
+    let name = name.as_str()?.strip_prefix("#/$defs/")?;
+    top.get("$defs")?.get(name)
+}
+
+// The schema that a word of another one asks at this place; None where it is not there.
+fn schema_at<'a>(top: &'a Value, schema: &'a Value, word: &str, place: usize) -> Option<&'a Value> {
+    let operand = schema.get(word)?;
+    match word {
+        "$ref" => defined_in(top, operand),
+        "if" => schema.get("then"),
+        "items" => Some(operand),
+        "properties" => operand.as_object()?.values().nth(place),
+        _ => operand.get(place),
+    }
+}
+
+// The part of the value that the schema at this place has to take; None where it has no such part.
+fn part_at<'a>(schema: &Value, word: &str, value: &'a Value, place: usize) -> Option<&'a Value> {
+    match word {
+        "properties" => {
+            let name = schema.get(word)?.as_object()?.keys().nth(place)?;
+            value.get(name.as_str())
+        }
+        "items" if place < count_of(schema, "prefixItems") => None,
+        "items" | "prefixItems" => value.get(place),
+        _ => Some(value),
+    }
+}
+
 // The same of a schema inside of the first one, followed so deep.
 #[cycle(judging)]
 fn takes_within(top: &Value, schema: &Value, value: &Value, depth: u32) -> Option<bool> {
@@ -34,80 +79,36 @@ fn word_takes(top: &Value, schema: &Value, word: &str, value: &Value, depth: u32
     if depth == 0 {
         return None;
     }
-    match word {
-        "$ref" => {
-            let name = operand.as_str()?.strip_prefix("#/$defs/")?;
-            takes_within(top, top.get("$defs")?.get(name)?, value, depth - 1)
-        }
-        "allOf" => Some(count_takers(top, operand, value, depth - 1)? == operand.as_array()?.len()),
-        "oneOf" => Some(count_takers(top, operand, value, depth - 1)? == 1),
-        "if" => {
-            if takes_within(top, operand, value, depth - 1)? {
-                takes_within(top, schema.get("then")?, value, depth - 1)
-            } else {
-                Some(true)
-            }
-        }
-        "properties" => takes_members(top, operand, value, depth - 1),
-        "prefixItems" => takes_first(top, operand, value, depth - 1),
-        "items" => takes_rest(
-            top,
-            operand,
-            value,
-            count_of(schema, "prefixItems"),
-            depth - 1,
-        ),
-        _ => is_taken_by(schema, word, operand, value),
+    let Some(asked) = count_asked(word, operand, value) else {
+        return is_taken_by(schema, word, operand, value);
+    };
+    if word == "if" && !takes_within(top, operand, value, depth - 1)? {
+        return Some(true);
     }
+    let takers = count_takers(top, schema, word, value, asked, depth - 1)?;
+    Some(takers == if word == "oneOf" { 1 } else { asked })
 }
 
-// How many of these schemas take the value.
+// How many of the schemas that a word asks take what they are asked of.
 #[cycle(judging)]
-fn count_takers(top: &Value, schemas: &Value, value: &Value, depth: u32) -> Option<usize> {
+fn count_takers(
+    top: &Value,
+    schema: &Value,
+    word: &str,
+    value: &Value,
+    asked: usize,
+    depth: u32,
+) -> Option<usize> {
     let mut takers = 0usize;
-    for schema in schemas.as_array()? {
-        if takes_within(top, schema, value, depth)? {
+    for place in 0..asked {
+        let judge = schema_at(top, schema, word, place)?;
+        let taken = match part_at(schema, word, value, place) {
+            Some(part) => takes_within(top, judge, part, depth)?,
+            None => true,
+        };
+        if taken {
             takers = takers.wrapping_add(1);
         }
     }
     Some(takers)
-}
-
-// Whether each member of the value is taken by the schema of its name, if there is one.
-#[cycle(judging)]
-fn takes_members(top: &Value, schemas: &Value, value: &Value, depth: u32) -> Option<bool> {
-    let mut taken = true;
-    for (name, schema) in schemas.as_object()?.iter() {
-        if let Some(member) = value.get(name.as_str()) {
-            taken = takes_within(top, schema, member, depth)? && taken;
-        }
-    }
-    Some(taken)
-}
-
-// Whether each item of the value is taken by the schema at its place, if there is one.
-#[cycle(judging)]
-fn takes_first(top: &Value, schemas: &Value, value: &Value, depth: u32) -> Option<bool> {
-    let mut taken = true;
-    for (place, schema) in schemas.as_array()?.iter().enumerate() {
-        if let Some(item) = value.get(place) {
-            taken = takes_within(top, schema, item, depth)? && taken;
-        }
-    }
-    Some(taken)
-}
-
-// Whether the schema takes each item of the value from this place on.
-#[cycle(judging)]
-fn takes_rest(top: &Value, schema: &Value, value: &Value, from: usize, depth: u32) -> Option<bool> {
-    let Some(items) = value.as_array() else {
-        return Some(true);
-    };
-    let mut taken = true;
-    for (place, item) in items.iter().enumerate() {
-        if from <= place {
-            taken = takes_within(top, schema, item, depth)? && taken;
-        }
-    }
-    Some(taken)
 }

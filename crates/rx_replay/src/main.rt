@@ -9,52 +9,43 @@
 #![tactic(auto)]
 
 mod judging;
+mod program;
 mod schemas;
 mod words;
 
-use rx_cli::{Form, Watched, check, run, stock};
+use program::{Asked, answer};
+use rx_cli::Form;
 use schemas::compare_schemas;
-use std::alloc::{AllocError, Global};
+use std::fs::DirEntry;
 use std::rt::Files;
 use std::{fs, io};
 
-// What is compared.
-#[derive(Clone, Copy)]
-enum Output {
-    // What a scenario gives in this form.
-    Of(Form),
-    // The verdict on a dump.
-    Verdict,
-}
-
-// What the program writes for this input.
-fn written(alloc: Global, asked: Output, input: &[u8]) -> Result<Vec<u8>, AllocError> {
-    let mut left = input;
-    let mut reader = Watched::new(&mut left);
-    let mut output = Vec::new(alloc);
-    let mut writer = Watched::new(&mut output);
-    match asked {
-        Output::Of(form) => {
-            let _outcome = run(alloc, &mut reader, &mut writer, stock(alloc)?, form);
-        }
-        Output::Verdict => {
-            let _outcome = check(alloc, &mut reader, &mut writer);
-        }
-    }
-    Ok(output)
-}
-
-// Tells whether that is stored in the other file.
-fn compare<R: Files + AllocGlobal + Print>(
+// Whether what the program writes for the one file is stored in the other.
+fn is_stored<R: Files + AllocGlobal>(
     rt: &R,
-    asked: Output,
+    asked: Asked,
     from: &str,
     to: &str,
-) -> io::Result<()> {
+) -> io::Result<bool> {
     let input = fs::read(rt, from)?;
     let stored = fs::read(rt, to)?;
-    let output = written(rt.alloc(), asked, input.as_slice())?;
-    let outcome = if output.as_slice() == stored.as_slice() {
+    let mut output = Vec::new(rt.alloc());
+    let _is_taken = answer(rt.alloc(), asked, input.as_slice(), &mut output)?;
+    Ok(output.as_slice() == stored.as_slice())
+}
+
+// Tells whether that is stored; a dump need not be there.
+fn compare<R: Files + AllocGlobal + Print>(
+    rt: &R,
+    asked: Asked,
+    from: &str,
+    to: &String,
+    paths: &[String],
+) -> io::Result<()> {
+    if matches!(asked, Asked::Of(Form::Dump)) && !paths.contains(to) {
+        return Ok(());
+    }
+    let outcome = if is_stored(rt, asked, from, to.as_str())? {
         "as stored"
     } else {
         "DIFFERS"
@@ -62,41 +53,68 @@ fn compare<R: Files + AllocGlobal + Print>(
     println!(rt; "{to} {outcome}")
 }
 
-// The paths of the files of a folder, in order.
-fn paths<R: Files + AllocGlobal + Clone + Drop>(rt: &R, folder: &str) -> io::Result<Vec<String>> {
-    let mut paths = Vec::new(rt.alloc());
-    for entry in fs::read_dir(rt, folder)? {
-        let entry = entry?;
-        let name = entry.file_name();
-        paths.push(format!(in rt.alloc(); "{folder}/{name}")?)?;
-    }
-    paths.sort()?;
-    Ok(paths)
+// Compares what is stored of this file, if it has the one ending, in that of the other.
+fn replay<R: Files + AllocGlobal + Print>(
+    rt: &R,
+    asked: Asked,
+    path: &str,
+    (from, to): (&str, &str),
+    paths: &[String],
+) -> io::Result<()> {
+    let Some(stem) = path.strip_suffix(from) else {
+        return Ok(());
+    };
+    let stored = format!(in rt.alloc(); "{stem}{to}")?;
+    compare(rt, asked, path, &stored, paths)
 }
 
-// Compares all that is stored of this file.
-fn replay<R: Files + AllocGlobal + Print>(rt: &R, path: &str, paths: &[String]) -> io::Result<()> {
-    if let Some(stem) = path.strip_suffix(".json") {
-        let report = format!(in rt.alloc(); "{stem}.report")?;
-        compare(rt, Output::Of(Form::Report), path, report.as_str())?;
-        let dump = format!(in rt.alloc(); "{stem}.dump")?;
-        if paths.contains(&dump) {
-            compare(rt, Output::Of(Form::Dump), path, dump.as_str())?;
-        }
+// Compares all that is stored of these files.
+fn replay_all<R: Files + AllocGlobal + Print>(rt: &R, paths: &[String]) -> io::Result<()> {
+    for path in paths {
+        let path = path.as_str();
+        replay(
+            rt,
+            Asked::Of(Form::Report),
+            path,
+            (".json", ".report"),
+            paths,
+        )?;
+        replay(rt, Asked::Of(Form::Dump), path, (".json", ".dump"), paths)?;
+        replay(rt, Asked::Verdict, path, (".dump", ".verdict"), paths)?;
     }
-    if let Some(stem) = path.strip_suffix(".dump") {
-        let verdict = format!(in rt.alloc(); "{stem}.verdict")?;
-        compare(rt, Output::Verdict, path, verdict.as_str())?;
+    Ok(())
+}
+
+// Adds the path of a file of the folder.
+fn add<R: Files + AllocGlobal + Drop>(
+    rt: &R,
+    folder: &str,
+    entry: &DirEntry<R>,
+    paths: &mut Vec<String>,
+) -> io::Result<()> {
+    let name = entry.file_name();
+    paths.push(format!(in rt.alloc(); "{folder}/{name}")?)?;
+    Ok(())
+}
+
+// Adds the paths of the files of a folder.
+fn list<R: Files + AllocGlobal + Clone + Drop>(
+    rt: &R,
+    folder: &str,
+    paths: &mut Vec<String>,
+) -> io::Result<()> {
+    for entry in fs::read_dir(rt, folder)? {
+        add(rt, folder, &entry?, paths)?;
     }
     Ok(())
 }
 
 fn main(rt: HostRuntime) -> io::Result<()> {
+    let mut paths = Vec::new(rt.alloc());
     for folder in [".", "cases", "histories"] {
-        let paths = paths(&rt, folder)?;
-        for path in &paths {
-            replay(&rt, path.as_str(), paths.as_slice())?;
-        }
+        list(&rt, folder, &mut paths)?;
     }
+    paths.sort()?;
+    replay_all(&rt, paths.as_slice())?;
     compare_schemas(&rt)
 }

@@ -5,115 +5,106 @@
 //! with `DIFFERS`, and where the schema has a word that is not known here that is told.
 
 use crate::judging::takes;
-use rx_device::{ScriptError, ShapeError, Watched};
-use rx_dump::check;
-use rx_scenario::scenario_of;
+use crate::program::{Asked, answer};
+use rx_cli::Form;
 use serde_json::Value;
 use std::alloc::{AllocError, Global};
 use std::rt::Files;
 use std::{fs, io};
 
-// What a text has to be.
-#[derive(Clone, Copy)]
-enum Form {
-    Scenario,
-    Dump,
+// Whether the program takes the text.
+fn is_read(alloc: Global, asked: Asked, text: &str) -> Result<bool, AllocError> {
+    let mut output = Vec::new(alloc);
+    answer(alloc, asked, text.as_bytes(), &mut output)
 }
 
-// The JSON value of a text, or none.
-fn value_of(alloc: Global, text: &str) -> Result<Option<Value>, AllocError> {
+// What there is to tell where the schema takes a text, or does not, that the program takes, or does not.
+fn difference(taken: Option<bool>, is_read: bool) -> Option<&'static str> {
+    match taken {
+        Some(taken) if taken == is_read => None,
+        Some(_) => Some("DIFFERS"),
+        None => Some("a word of the schema is not known"),
+    }
+}
+
+// What there is to tell of the text.
+fn remark(
+    alloc: Global,
+    schema: &Value,
+    text: &str,
+    is_read: bool,
+) -> Result<Option<&'static str>, AllocError> {
     match Value::from_str(alloc, text) {
-        Ok(value) => Ok(Some(value)),
+        Ok(value) => Ok(difference(takes(schema, &value), is_read)),
         Err(error) if error.is_memory() => Err(AllocError),
-        Err(_) => Ok(None),
-    }
-}
-
-// Whether the value is a scenario.
-fn is_scenario(alloc: Global, value: &Value) -> Result<bool, AllocError> {
-    match scenario_of(alloc, value) {
-        Ok(_) => Ok(true),
-        Err(ShapeError::Shape) => Ok(false),
-        Err(ShapeError::Memory) => Err(AllocError),
-    }
-}
-
-// Whether the text is a dump.
-fn is_dump(alloc: Global, text: &str) -> Result<bool, AllocError> {
-    let mut left = text.as_bytes();
-    let mut verdict: Vec<u8> = Vec::new(alloc);
-    match check(
-        alloc,
-        &mut Watched::new(&mut left),
-        &mut Watched::new(&mut verdict),
-    ) {
-        Ok(_) => Ok(true),
-        Err(ScriptError::Memory) => Err(AllocError),
-        Err(_) => Ok(false),
-    }
-}
-
-// Whether the program takes the text, which is that of the value.
-fn is_read(alloc: Global, form: Form, text: &str, value: &Value) -> Result<bool, AllocError> {
-    match form {
-        Form::Scenario => is_scenario(alloc, value),
-        Form::Dump => is_dump(alloc, text),
+        Err(_) => Ok(Some("no JSON")),
     }
 }
 
 // Whether the program takes the text; tells where the schema says otherwise.
 fn compare<R: AllocGlobal + Print>(
     rt: &R,
-    form: Form,
+    asked: Asked,
     schema: &Value,
     text: &str,
 ) -> io::Result<bool> {
-    let Some(value) = value_of(rt.alloc(), text)? else {
-        println!(rt; "no JSON: {text}")?;
-        return Ok(false);
-    };
-    let is_read = is_read(rt.alloc(), form, text, &value)?;
-    match takes(schema, &value) {
-        Some(taken) if taken == is_read => {}
-        Some(_) => println!(rt; "DIFFERS: {text}")?,
-        None => println!(rt; "a word of the schema is not known: {text}")?,
+    let is_read = is_read(rt.alloc(), asked, text)?;
+    if let Some(remark) = remark(rt.alloc(), schema, text, is_read)? {
+        println!(rt; "{remark}: {text}")?;
     }
     Ok(is_read)
 }
 
-// Compares a schema on each line of a file, and tells how many lines there are and how many are taken.
-fn compare_all<R: Files + AllocGlobal + Print>(
+// Compares the schema on each of these lines, and tells how many there are and how many are taken.
+fn compare_lines<R: AllocGlobal + Print>(
     rt: &R,
-    form: Form,
-    schema: &str,
+    asked: Asked,
+    schema: &Value,
     texts: &str,
+    lines: &str,
 ) -> io::Result<()> {
-    let text = fs::read_to_string(rt, schema)?;
-    let lines = fs::read_to_string(rt, texts)?;
-    let Some(schema) = value_of(rt.alloc(), text.as_str())? else {
-        return println!(rt; "{schema} is no JSON");
-    };
     let (mut tried, mut taken) = (0u64, 0u64);
-    for line in lines.as_str().lines() {
+    for line in lines.lines() {
         tried = tried.wrapping_add(1);
-        if compare(rt, form, &schema, line)? {
+        if compare(rt, asked, schema, line)? {
             taken = taken.wrapping_add(1);
         }
     }
     println!(rt; "{texts}: {tried} texts, of which {taken} are taken")
 }
 
+// The schema in a file.
+fn schema_in<R: Files + AllocGlobal>(rt: &R, path: &str) -> io::Result<Value> {
+    let text = fs::read_to_string(rt, path)?;
+    match Value::from_str(rt.alloc(), text.as_str()) {
+        Ok(schema) => Ok(schema),
+        Err(_) => Err(io::ErrorKind::InvalidData.into()),
+    }
+}
+
+// Compares a schema on each line of a file.
+fn compare_all<R: Files + AllocGlobal + Print>(
+    rt: &R,
+    asked: Asked,
+    schema: &str,
+    texts: &str,
+) -> io::Result<()> {
+    let lines = fs::read_to_string(rt, texts)?;
+    let schema = schema_in(rt, schema)?;
+    compare_lines(rt, asked, &schema, texts, lines.as_str())
+}
+
 /// Compares both schemas.
 pub fn compare_schemas<R: Files + AllocGlobal + Print>(rt: &R) -> io::Result<()> {
     compare_all(
         rt,
-        Form::Scenario,
+        Asked::Of(Form::Report),
         "schemas/scenario.schema.json",
         "schemas/scenarios.txt",
     )?;
     compare_all(
         rt,
-        Form::Dump,
+        Asked::Verdict,
         "schemas/dump.schema.json",
         "schemas/dumps.txt",
     )

@@ -82,28 +82,27 @@ fn has_only(schema: &Value, operand: &Value, value: &Value) -> Option<bool> {
         return None;
     }
     let named = schema.get("properties")?.as_object()?;
-    match value.as_object() {
-        Some(members) => Some(members.keys().all(|name| named.contains_key(name.as_str()))),
-        None => Some(true),
+    let Some(members) = value.as_object() else {
+        return Some(true);
+    };
+    let mut has = true;
+    for name in members.keys() {
+        has = named.contains_key(name.as_str()) && has;
     }
+    Some(has)
 }
 
-// Whether a number is not less than the bound, or, from above, not greater; what is no whole number is.
-fn is_within(bound: &Value, value: &Value, from_above: bool) -> Option<bool> {
+// How many items an array has.
+fn length_of(value: &Value) -> Option<i128> {
+    Some(value.as_array()?.len() as i128)
+}
+
+// Whether a number is not less than the bound, or, from above, not greater; where there is none, it is.
+fn is_within(bound: &Value, number: Option<i128>, from_above: bool) -> Option<bool> {
     let bound = integer_of(bound)?;
-    match integer_of(value) {
+    match number {
         Some(number) if from_above => Some(number <= bound),
         Some(number) => Some(bound <= number),
-        None => Some(true),
-    }
-}
-
-// Whether an array has not fewer items than these, or, from above, not more; what is no array has.
-fn is_counted(bound: &Value, value: &Value, from_above: bool) -> Option<bool> {
-    let bound = bound.as_u64()?;
-    match value.as_array() {
-        Some(items) if from_above => Some(items.len() as u64 <= bound),
-        Some(items) => Some(bound <= items.len() as u64),
         None => Some(true),
     }
 }
@@ -118,10 +117,10 @@ pub fn is_taken_by(schema: &Value, word: &str, operand: &Value, value: &Value) -
         "pattern" => fits(operand, value),
         "required" => has_all(operand, value),
         "additionalProperties" => has_only(schema, operand, value),
-        "minimum" => is_within(operand, value, false),
-        "maximum" => is_within(operand, value, true),
-        "minItems" => is_counted(operand, value, false),
-        "maxItems" => is_counted(operand, value, true),
+        "minimum" => is_within(operand, integer_of(value), false),
+        "maximum" => is_within(operand, integer_of(value), true),
+        "minItems" => is_within(operand, length_of(value), false),
+        "maxItems" => is_within(operand, length_of(value), true),
         _ => None,
     }
 }

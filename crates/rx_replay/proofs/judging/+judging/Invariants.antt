@@ -9,12 +9,3 @@ decreases-word_takes l = 4 * l.depth + 1
 
 abbrev pub decreases-count_takers : goal.decreases-count_takers
 decreases-count_takers l = 4 * l.depth + 3
-
-abbrev pub decreases-takes_members : goal.decreases-takes_members
-decreases-takes_members l = 4 * l.depth + 3
-
-abbrev pub decreases-takes_first : goal.decreases-takes_first
-decreases-takes_first l = 4 * l.depth + 3
-
-abbrev pub decreases-takes_rest : goal.decreases-takes_rest
-decreases-takes_rest l = 4 * l.depth + 3
