@@ -65,21 +65,28 @@ impl Case {
     }
 }
 
+/// All of them.
+static CASES: [Case; 12] = [
+    Case::Timeline,
+    Case::Trampoline,
+    Case::Sorted,
+    Case::Cycle,
+    Case::Crowd,
+    Case::Items,
+    Case::Chain,
+    Case::Inner,
+    Case::Share,
+    Case::Hold,
+    Case::Scenario,
+    Case::Storm,
+];
+
 /// The case of this name, or `None` where no case has it.
 pub fn case_named(word: &str) -> Option<Case> {
-    match word {
-        "timeline" => Some(Case::Timeline),
-        "trampoline" => Some(Case::Trampoline),
-        "sorted" => Some(Case::Sorted),
-        "cycle" => Some(Case::Cycle),
-        "crowd" => Some(Case::Crowd),
-        "items" => Some(Case::Items),
-        "chain" => Some(Case::Chain),
-        "inner" => Some(Case::Inner),
-        "share" => Some(Case::Share),
-        "hold" => Some(Case::Hold),
-        "scenario" => Some(Case::Scenario),
-        "storm" => Some(Case::Storm),
-        _ => None,
+    for &case in &CASES {
+        if case.name() == word {
+            return Some(case);
+        }
     }
+    None
 }

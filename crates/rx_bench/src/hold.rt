@@ -2,21 +2,21 @@
 
 ghost use Rattle.std.specs.Prelude.{◌≡◌, ◌≤◌, IfOk};
 
-use crate::calls::{check_done, check_waiting, dispose, hold, open, release, remove};
+use crate::calls::{check_done, dispose, hold, open, release, remove};
 use crate::done::{Done, Halt};
-use rx_book::{At, Book, Key};
+use crate::turns::{Work, take_turns};
+use rx_book::{At, Book, Key, ResKey};
 use rx_event::Kind;
 use rx_resource::Sample;
 use std::alloc::Global;
 
-/// Holds so many resources at a node, with the tags from 0 on, and takes those with odd tags away
-/// again, which then wait.
-fn hold_and_remove(
+/// Holds so many resources at a node, with the tags from 0 on, and answers those with odd tags.
+fn hold_all(
     alloc: Global,
     book: &mut Book<Sample>,
     node: Key,
     count: u64,
-) -> Result<(), Halt> {
+) -> Result<Vec<ResKey>, Halt> {
     let mut odd = Vec::new(alloc);
     for tag in 0..count {
         let res = hold(book, node, tag)?;
@@ -24,26 +24,42 @@ fn hold_and_remove(
             odd.push(res)?;
         }
     }
-    for res in odd.as_slice() {
+    Ok(odd)
+}
+
+/// Takes resources away from their node, which then wait.
+fn remove_all(book: &mut Book<Sample>, resources: Vec<ResKey>) -> Result<(), Halt> {
+    for res in resources.as_slice() {
         remove(book, *res)?;
     }
-    check_waiting(book, count / 2)
+    Ok(())
+}
+
+/// Resources that wait.
+#[derive(Drop)]
+struct Waiting;
+
+impl Work for Waiting {
+    /// Takes the next resource and releases it, and answers its tag.
+    fn turn(&mut self, book: &mut Book<Sample>, _number: u64) -> Result<u64, Halt> {
+        release(book)
+    }
 }
 
 /// So many resources that are held at a root, of which every second one is removed; the root is
 /// disposed of, and each resource taken and released: an operation each.
-pub fn run_hold(alloc: Global, count: u64) -> Result<Done, Halt>
+pub fn run_hold(alloc: Global, book: &mut Book<Sample>, count: u64) -> Result<Done, Halt>
     requires { count ≤ 10000000 }
     ensures { IfOk result (λ done. done.operations ≡ count) }
 {
-    let mut book: Book<Sample> = Book::new(alloc, 3 * count + 8);
-    let root = open(&mut book, At::Root, Kind::Pass)?;
-    hold_and_remove(alloc, &mut book, root, count)?;
-    dispose(&mut book, root)?;
-    let mut done = Done::NOTHING;
-    for _released in 0..count {
-        done = done.and(release(&mut book)?);
+    let root = open(book, At::Root, Kind::Pass)?.key;
+    let odd = hold_all(alloc, book, root, count)?;
+    remove_all(book, odd)?;
+    if book.waiting() != count / 2 {
+        return Err(Halt::Refused);
     }
-    check_done(&book, 2 + 2 * count + count / 2)?;
+    dispose(book, root)?;
+    let done = take_turns(&mut Waiting, book, count, Done::NOTHING)?;
+    check_done(book, 2 + 2 * count + count / 2)?;
     Ok(done)
 }

@@ -52,6 +52,7 @@ mod measure;
 mod order;
 mod program;
 mod reading;
+mod samples;
 mod scenario;
 mod share;
 mod sorted;
@@ -59,6 +60,7 @@ mod storm;
 mod timeline;
 mod times;
 mod trampoline;
+mod turns;
 mod words;
 
 use program::{REFUSED, serve};

@@ -8,7 +8,7 @@ use crate::agenda::run_orders;
 use crate::case::Case;
 use crate::chain::run_chain;
 use crate::crowd::run_crowd;
-use crate::cycle::{HISTORY, run_cycles};
+use crate::cycle::run_cycles;
 use crate::done::{Done, Halt};
 use crate::hold::run_hold;
 use crate::inner::run_inner;
@@ -19,19 +19,31 @@ use crate::sorted::SortedList;
 use crate::storm::run_storm;
 use crate::times::{RUNS, Summary, summarize};
 use crate::words::Request;
+use rx_book::Book;
+use rx_resource::Sample;
 use rx_time::{Timeline, Trampoline};
 use std::alloc::Global;
-use std::io;
 use std::sync::Wait;
 use std::thread::Threads;
 use std::time::{Clock, Duration, Instant};
 
-/// What the runs of a case did, each the same, and the tenths of a nanosecond that an operation
-/// took in them.
-#[derive(Clone, Copy)]
-pub struct Measured {
-    pub done: Done,
-    pub times: Summary,
+/// Runs a case once that is run on a book.
+fn run_on_book(alloc: Global, request: Request) -> Result<Done, Halt>
+    ensures { IfOk result (λ done. done.operations ≡ operations_of request.case request.size) }
+{
+    let size = request.size;
+    // Room for each case: none asks for more than six events for each of its size, and a few beside.
+    let mut book: Book<Sample> = Book::new(alloc, 6 * size + 16);
+    match request.case {
+        Case::Cycle => run_cycles(alloc, &mut book, size),
+        Case::Crowd => run_crowd(alloc, &mut book, size),
+        Case::Items => run_items(&mut book, size),
+        Case::Chain => run_chain(&mut book, size),
+        Case::Inner => run_inner(&mut book, size),
+        Case::Share => run_share(alloc, &mut book, size),
+        Case::Hold => run_hold(alloc, &mut book, size),
+        _ => Err(Halt::Refused),
+    }
 }
 
 /// Runs a case once, of which the scenario is made before.
@@ -47,21 +59,10 @@ pub fn run<T: Threads + Wait + Sync>(
         Case::Timeline => run_orders::<Timeline<u64>>(alloc, request.size),
         Case::Trampoline => run_orders::<Trampoline<u64>>(alloc, request.size),
         Case::Sorted => run_orders::<SortedList>(alloc, request.size),
-        Case::Cycle => run_cycles(alloc, request.size, HISTORY),
-        Case::Crowd => run_crowd(alloc, request.size),
-        Case::Items => run_items(alloc, request.size),
-        Case::Chain => run_chain(alloc, request.size),
-        Case::Inner => run_inner(alloc, request.size),
-        Case::Share => run_share(alloc, request.size),
-        Case::Hold => run_hold(alloc, request.size),
         Case::Scenario => run_scenario(alloc, scenario, request.size),
         Case::Storm => run_storm(rt, alloc, request.size),
+        _ => run_on_book(alloc, request),
     }
-}
-
-/// The clock's error, which tells no more than that it could not be read.
-fn unread(_error: io::Error) -> Halt {
-    Halt::Clock
 }
 
 /// The tenths of a nanosecond for each of so many operations, rounded down, and at most 2^64 - 1.
@@ -83,21 +84,26 @@ fn time_run<T: Threads + Wait + Sync, C: Clock>(
 ) -> Result<(Done, u64), Halt>
     ensures { IfOk result (λ r. r.0.operations ≡ operations_of request.case request.size) }
 {
-    let scenario = Scenario::of(alloc, request.steps())?;
-    let start = Instant::now(clock).map_err(unread)?;
+    let scenario = Scenario::of(alloc, request)?;
+    let Ok(start) = Instant::now(clock) else {
+        return Err(Halt::Clock);
+    };
     let done = run(rt, alloc, request, scenario)?;
-    let took = start.elapsed(clock).map_err(unread)?;
-    Ok((done, tenths_each(took, done.operations)))
+    match start.elapsed(clock) {
+        Ok(took) => Ok((done, tenths_each(took, done.operations))),
+        Err(_) => Err(Halt::Clock),
+    }
 }
 
-/// Runs a case [`RUNS`] times by this clock.
+/// Runs a case [`RUNS`] times by this clock, and answers what each run did, which is the same, and the
+/// tenths of a nanosecond that an operation took in them.
 pub fn measure<T: Threads + Wait + Sync, C: Clock>(
     rt: &T,
     clock: &C,
     alloc: Global,
     request: Request,
-) -> Result<Measured, Halt>
-    ensures { IfOk result (λ m. m.done.operations ≡ operations_of request.case request.size) }
+) -> Result<(Done, Summary), Halt>
+    ensures { IfOk result (λ m. m.0.operations ≡ operations_of request.case request.size) }
 {
     let (done, first) = time_run(rt, clock, alloc, request)?;
     let mut times = [first; RUNS];
@@ -108,8 +114,5 @@ pub fn measure<T: Threads + Wait + Sync, C: Clock>(
         }
         times[i] = time;
     }
-    Ok(Measured {
-        done,
-        times: summarize(&mut times),
-    })
+    Ok((done, summarize(&mut times)))
 }

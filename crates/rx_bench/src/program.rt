@@ -2,10 +2,10 @@
 
 use crate::case::Case;
 use crate::done::{Done, Halt};
-use crate::measure::{Measured, measure, run};
+use crate::measure::{measure, run};
 use crate::reading::request;
 use crate::scenario::Scenario;
-use crate::times::RUNS;
+use crate::times::{RUNS, Summary};
 use crate::words::{Fault, Request};
 use std::alloc::Global;
 use std::convert::AsStr;
@@ -25,23 +25,27 @@ const HALTED: u8 = 1;
 pub const REFUSED: u8 = 2;
 
 /// Writes what a run did.
-fn write_done<O: Write>(output: &mut O, request: Request, done: Done) -> io::Result<()> {
+fn write_done<O: Write>(output: &mut O, request: Request, done: Done) -> Result<(), Halt> {
     let name = request.case.name();
     let size = request.size;
     let operations = done.operations;
     let mark = done.mark;
-    writeln!(
+    let written = writeln!(
         output,
         "{name} {size}: {operations} operations, mark {mark}"
-    )
+    );
+    match written {
+        Ok(()) => Ok(()),
+        Err(_) => Err(Halt::Write),
+    }
 }
 
 /// Writes how long the operations took.
-fn write_times<E: Write>(errors: &mut E, request: Request, measured: Measured) -> io::Result<()> {
+fn write_times<E: Write>(errors: &mut E, request: Request, times: Summary) -> io::Result<()> {
     let name = request.case.name();
     let size = request.size;
-    let median = measured.times.median;
-    let spread = measured.times.spread;
+    let median = times.median;
+    let spread = times.spread;
     writeln!(
         errors,
         "{name} {size}: median {}.{} ns, spread {}.{} ns for each operation, of {RUNS} runs",
@@ -52,48 +56,36 @@ fn write_times<E: Write>(errors: &mut E, request: Request, measured: Measured) -
     )
 }
 
-/// Writes why the words are refused; the second one is the name of the case.
+/// Writes why the words are refused, of which the second one is the name of the case.
 fn write_fault<E: Write>(errors: &mut E, fault: Fault, name: &str) -> io::Result<()> {
-    match fault {
-        Fault::NoCase => writeln!(errors, "rx_bench: no case is named"),
-        Fault::UnknownCase => writeln!(errors, "rx_bench: there is no case '{name}'"),
-        Fault::NoSize => writeln!(errors, "rx_bench: the case '{name}' has no size"),
-        Fault::TooMany => writeln!(errors, "rx_bench: there are too many words"),
-        Fault::NoNumber => writeln!(errors, "rx_bench: the size is no number below 2^64"),
-        Fault::OutOfRange => {
-            writeln!(errors, "rx_bench: the size is out of the range of '{name}'")
-        }
-    }
+    let (front, name, rear) = match fault {
+        Fault::NoCase => ("no case is named", "", ""),
+        Fault::UnknownCase => ("there is no case '", name, "'"),
+        Fault::NoSize => ("the case '", name, "' has no size"),
+        Fault::TooMany => ("there are too many words", "", ""),
+        Fault::NoNumber => ("the size is no number below 2^64", "", ""),
+        Fault::OutOfRange => ("the size is out of the range of '", name, "'"),
+    };
+    writeln!(errors, "rx_bench: {front}{name}{rear}")
 }
 
-/// Writes why a run was broken off.
-fn write_halt<E: Write>(errors: &mut E, halt: Halt) -> io::Result<()> {
-    match halt {
-        Halt::Memory => writeln!(errors, "rx_bench: out of memory"),
-        Halt::Refused => writeln!(errors, "rx_bench: a call refused"),
-        Halt::Differs => writeln!(errors, "rx_bench: two runs differ"),
-        Halt::Clock => writeln!(errors, "rx_bench: the clock could not be read"),
-        Halt::Write => writeln!(errors, "rx_bench: write fault"),
-    }
-}
-
-/// Measures what is asked for, and writes what was done.
-fn bench<T: Threads + Wait + Sync, C: Clock, O: Write>(
+/// Measures what is asked for, and writes what was done and how long it took.
+fn bench<T: Threads + Wait + Sync, C: Clock, O: Write, E: Write>(
     rt: &T,
     alloc: Global,
     request: Request,
     clock: &C,
     output: &mut O,
-) -> Result<Measured, Halt> {
-    let measured = measure(rt, clock, alloc, request)?;
-    if write_done(output, request, measured.done).is_err() {
-        return Err(Halt::Write);
-    }
-    Ok(measured)
+    errors: &mut E,
+) -> Result<(), Halt> {
+    let (done, times) = measure(rt, clock, alloc, request)?;
+    write_done(output, request, done)?;
+    let _ = write_times(errors, request, times);
+    Ok(())
 }
 
 /// Each case at a small size.
-const SMALL: [(Case, u64); 13] = [
+static SMALL: [(Case, u64); 13] = [
     (Case::Timeline, 1),
     (Case::Timeline, 2),
     (Case::Sorted, 2),
@@ -124,16 +116,13 @@ fn run_all<T: Threads + Wait + Sync, O: Write>(
     alloc: Global,
     output: &mut O,
 ) -> Result<(), Halt> {
-    for (case, size) in SMALL {
-        if size == 0 || size > case.most() {
+    for &(case, size) in &SMALL {
+        let Some(request) = Request::of(case, size) else {
             return Err(Halt::Refused);
-        }
-        let request = Request { case, size };
-        let scenario = Scenario::of(alloc, request.steps())?;
+        };
+        let scenario = Scenario::of(alloc, request)?;
         let done = run(rt, alloc, request, scenario)?;
-        if write_done(output, request, done).is_err() {
-            return Err(Halt::Write);
-        }
+        write_done(output, request, done)?;
     }
     Ok(())
 }
@@ -152,34 +141,27 @@ pub fn serve<T: Threads + Wait + Sync, S: AsStr, C: Clock, O: Write, E: Write>(
     output: &mut O,
     errors: &mut E,
 ) -> u8 {
-    if are_all(words) {
-        return match run_all(rt, alloc, output) {
-            Ok(()) => DONE,
-            Err(halt) => {
-                let _ = write_halt(errors, halt);
-                HALTED
+    let outcome = if are_all(words) {
+        run_all(rt, alloc, output)
+    } else {
+        match request(words) {
+            Ok(request) => bench(rt, alloc, request, clock, output, errors),
+            Err(fault) => {
+                let name = if words.len() > 1 {
+                    words[1].as_str()
+                } else {
+                    ""
+                };
+                let _ = write_fault(errors, fault, name);
+                return REFUSED;
             }
-        };
-    }
-    match request(words) {
-        Ok(request) => match bench(rt, alloc, request, clock, output) {
-            Ok(measured) => {
-                let _ = write_times(errors, request, measured);
-                DONE
-            }
-            Err(halt) => {
-                let _ = write_halt(errors, halt);
-                HALTED
-            }
-        },
-        Err(fault) => {
-            let name = if words.len() > 1 {
-                words[1].as_str()
-            } else {
-                ""
-            };
-            let _ = write_fault(errors, fault, name);
-            REFUSED
+        }
+    };
+    match outcome {
+        Ok(()) => DONE,
+        Err(halt) => {
+            let _ = writeln!(errors, "rx_bench: {}", halt.reason());
+            HALTED
         }
     }
 }

@@ -1,21 +1,8 @@
 //! The reading of the words of a command line.
 
-ghost use Rattle.std.specs.Prelude.{◌<◌, ◌≤◌, IfOk};
-
 use crate::case::case_named;
 use crate::words::{Fault, Request};
 use std::convert::AsStr;
-
-/// The size that the word is, from 1 to `most`.
-fn size_of(word: &str, most: u64) -> Result<u64, Fault>
-    ensures { IfOk result (λ size. (0 < size) × (size ≤ most)) }
-{
-    match word.parse::<u64>() {
-        Ok(size) if 0 < size && size <= most => Ok(size),
-        Ok(_) => Err(Fault::OutOfRange),
-        Err(_) => Err(Fault::NoNumber),
-    }
-}
 
 /// What the words ask for, of which the first is the program's name.
 pub fn request<S: AsStr>(words: &[S]) -> Result<Request, Fault> {
@@ -31,6 +18,8 @@ pub fn request<S: AsStr>(words: &[S]) -> Result<Request, Fault> {
     if words.len() > 3 {
         return Err(Fault::TooMany);
     }
-    let size = size_of(words[2].as_str(), case.most())?;
-    Ok(Request { case, size })
+    let Ok(size) = words[2].as_str().parse::<u64>() else {
+        return Err(Fault::NoNumber);
+    };
+    Request::of(case, size).ok_or(Fault::OutOfRange)
 }

@@ -1,6 +1,6 @@
 //! The case `sorted`: what a timeline would cost as a sorted list.
 
-ghost use Rattle.std.specs.Prelude.{vec_len};
+ghost use Rattle.std.specs.Prelude.{◌≤◌, length, vec_len};
 
 use crate::agenda::Agenda;
 use crate::done::Halt;
@@ -20,6 +20,18 @@ pub struct SortedList {
     entries: Vec<Entry>,
 }
 
+/// The place before the first entry that is due later, which it looks for from the front.
+fn place_of(entries: &[Entry], due: u64) -> usize
+    ensures { result ≤ length entries.now }
+{
+    for (place, entry) in entries.iter().enumerate() {
+        if due < entry.due {
+            return place;
+        }
+    }
+    entries.len()
+}
+
 impl Agenda for SortedList {
     ghost left = { λ s. vec_len s.entries };
 
@@ -29,10 +41,8 @@ impl Agenda for SortedList {
         }
     }
 
-    /// Puts the entry before the first one that is due later, which it looks for from the front.
     fn put(&mut self, due: u64, number: u64) -> Result<(), Halt> {
-        let place = self.entries.iter().position(|entry| due < entry.due);
-        let place = place.unwrap_or(self.entries.len());
+        let place = place_of(self.entries.as_slice(), due);
         self.entries.insert(place, Entry { due, number })?;
         Ok(())
     }

@@ -15,20 +15,17 @@ pub struct Request {
 }
 
 impl Request {
-    /// How many steps the scenario has that is made before a run's time begins: none but for a run
-    /// of a scenario.
-    pub fn steps(self) -> u64
-        ensures { result ≤ 10000000 }
-    {
-        match self.case {
-            Case::Scenario => self.size,
-            _ => 0,
+    /// What asks for this case at this size, or `None` where the case is not run at it.
+    pub fn of(case: Case, size: u64) -> Option<Request> {
+        if size == 0 || size > case.most() {
+            return None;
         }
+        Some(Request { case, size })
     }
 }
 
 /// Why the words are refused. The first of these in this order is given.
-#[derive(Clone, Copy)]
+#[derive(Drop)]
 pub enum Fault {
     /// There is no word beside the program's name.
     NoCase,

@@ -3,7 +3,7 @@ use Rattle.std.proofs.Common.{◌≡◌}
 use Rattle.std.specs.Prelude.{vec_len}
 use Rattle.std.specs.List.{All}
 use Rattle.rx_resource.specs.declared.Life.TheVariants.{Live}
-use Rattle.rx_bench.proofs.storm.samples.Given as goal
+use Rattle.rx_bench.proofs.samples.samples.Given as goal
 
 abbrev pub invariant-loop-tag : goal.invariant-loop-tag
 invariant-loop-tag l =
