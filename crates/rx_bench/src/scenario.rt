@@ -1,6 +1,6 @@
 //! The case `scenario`: a scenario in JSON, run over memory.
 
-ghost use Rattle.std.specs.Prelude.{◌≡◌, ◌≤◌, IfOk};
+ghost use Rattle.std.specs.Prelude.{◌≡◌, IfOk};
 
 use crate::case::Case;
 use crate::done::{Done, Halt, mark_of};
