@@ -18,9 +18,9 @@
 //!   What is to come is the **agenda**. What would follow a refused step is dropped, and a step that
 //!   waits can be cancelled by its label.
 //! - A **course** of a scenario is the list of the answers of its steps, and where it is at its end: the
-//!   history, what the names stand for, and the stock that is left. `specs/` defines which step comes
-//!   next (`Agenda`), a course as a relation (`Course`), and the bytes of the report of a course
-//!   (`Report`); what a run makes of its input is said in `Running`.
+//!   history, what the names stand for, and the stock that is left. `rx_agenda` defines which step comes
+//!   next, `specs/` a course as a relation (`Course`), and the report of one (`Report`), in the lines
+//!   that `rx_report` defines; what a run makes of its input is said in `Running`.
 //! - A [`Watched`] reader or writer notes whether the device behind it failed, so that the contract of
 //!   [`run`] can say whose fault a fault is (`rx_device`).
 //! - To **close** a book is to dispose of all that is open, and to take and release all that waits then.
