@@ -1,4 +1,4 @@
--- What each resource and each node met, by their numbers. No public clause of another crate cites this module.
+-- What each resource and each node met, by their numbers: what the lines are written from.
 use Rattle.std.specs.Prelude.{◌≡◌, ℕ, [], List, nat_eq, unwrap_or}
 use Rattle.std.specs.List.{list_any}
 use Rattle.std.specs.Option.{option_map_or}
