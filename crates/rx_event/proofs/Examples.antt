@@ -4,3 +4,5 @@ pub mod Switch
 pub mod TakeUntil
 pub mod Hubs
 pub mod Marking
+pub mod Orders
+pub mod Bases

@@ -1,6 +1,5 @@
 -- What callers may do. A number that names nothing of the needed sort is never allowed.
 use Rattle.std.specs.Prelude.{◌≡◌, ℕ, ℤ, ◌+◌, ◌<◌, ◌≤◌, Bool, true, false, Some, List, [], ◌∷◌, ◌++◌, length, slice_get, IsTrue}
-use Rattle.std.specs.List.{list_any}
 use Rattle.rx_note.specs.declared.note.Terminal.{Terminal}
 use Rattle.rx_note.specs.declared.note.Terminal.TheVariants.{Error}
 use Rattle.rx_event.specs.declared.event.Place.{Place}
@@ -10,7 +9,9 @@ use Rattle.rx_event.specs.declared.event.Kind.TheVariants.{Leaf, Pass, Flat, Swi
 use Rattle.rx_event.specs.declared.event.Mode.{Mode}
 use Rattle.rx_event.specs.declared.event.Event.{Event}
 use Rattle.rx_event.specs.declared.event.Event.TheVariants.{Open, Hub, Connect, Accept, Use, Remove, Item, Decline, End, Close, Take}
-use Rattle.rx_event.specs.Events.{makes_hub, has_source, is_leaf, is_merging, is_until, is_root, is_manual_hub, is_source_of, is_notifier_of}
+use Rattle.rx_event.specs.Events.{makes_hub, has_source, is_leaf, is_merging, is_until, is_root, is_manual_hub}
+use Rattle.rx_event.specs.Kept.{Kept}
+use Rattle.rx_event.specs.Opened.{source_opened, notifier_opened}
 use Rattle.rx_event.specs.Tree.{at, hubs, is_open, is_within, open_nodes, open_connections, parent}
 use Rattle.rx_event.specs.Resources.{is_held, is_waiting}
 use Rattle.rx_event.specs.Climb.{visits, most_visits}
@@ -25,11 +26,11 @@ unfoldable pub most_hubs : ℕ
 most_hubs = 1024
 
 -- a node may be opened at the place
-abbrev pub IsFree : List Event → Place → Type 0
-IsFree h Root = Unit {0}
-IsFree h (Source p) = IsTrue (is_open h p) × IsTrue (at has_source h p) × (list_any (is_source_of p) h ≡ false)
-IsFree h (Inner p) = IsTrue (is_open h p) × IsTrue (at is_merging h p) × (0 < owed h p)
-IsFree h (Notifier p) = IsTrue (is_open h p) × IsTrue (at is_until h p) × (list_any (is_notifier_of p) h ≡ false)
+abbrev pub IsFree : Kept → List Event → Place → Type 0
+IsFree b h Root = Unit {0}
+IsFree b h (Source p) = IsTrue (is_open h p) × IsTrue (at has_source h p) × (source_opened b h p ≡ false)
+IsFree b h (Inner p) = IsTrue (is_open h p) × IsTrue (at is_merging h p) × (0 < owed b h p)
+IsFree b h (Notifier p) = IsTrue (is_open h p) × IsTrue (at is_until h p) × (notifier_opened b h p ≡ false)
 
 -- every connection at or above node p is of a later hub than g, so that no item goes round in a circle
 abbrev pub IsInOrderAt : List Event → ℕ → ℕ → Type 0
@@ -60,18 +61,18 @@ may_abort (Connect hub) = true
 may_abort _ = false
 
 -- a caller's event may come next
-pub data IsAllowed (h : List Event) : Event → Type 0 where
-  opened : {place : Place} {kind : Kind} → IsFree h place → IsHubbed h place kind → length (open_nodes h) + 1 ≤ most_nodes → ((g : ℕ) → IsConnectDue (h ++ Open place kind ∷ []) g → length (open_nodes h) + 2 ≤ most_nodes) → IsAllowed h (Open place kind)
-  published : {mode : Mode} → length (hubs h) < most_hubs → IsAllowed h (Hub mode)
-  connected : {g : ℕ} → IsTrue (at is_manual_hub h g) → open_connections h g ≡ [] → length (open_nodes h) < most_nodes → IsAllowed h (Connect g)
-  accepted : {n tag : ℕ} → IsTrue (is_open h n) → IsAllowed h (Accept n tag)
-  used : {r : ℕ} → IsTrue (is_held h r) → IsAllowed h (Use r)
-  removed : {r : ℕ} → IsTrue (is_held h r) → IsAllowed h (Remove r)
-  emitted : {l : ℕ} {value : ℤ} → IsTrue (is_open h l) → IsTrue (at is_leaf h l) → visits h l ≤ most_visits → IsAllowed h (Item l value)
-  declined : {f : ℕ} → IsTrue (is_open h f) → IsTrue (at is_merging h f) → 0 < owed h f → IsAllowed h (Decline f)
-  leaf_ended : {l : ℕ} {t : Terminal} → IsTrue (is_open h l) → IsTrue (at is_leaf h l) → IsAllowed h (End l t)
-  aborted : {n c : ℕ} → IsTrue (is_open h n) → IsTrue (at may_abort h n) → ((d : ℕ) → parent h d ≡ Some n → is_open h d ≡ false) → IsAllowed h (End n (Error c))
-  projection_failed : {f c : ℕ} → IsTrue (is_open h f) → IsTrue (at is_merging h f) → 0 < owed h f → IsAllowed h (End f (Error c))
-  root_closed : {n : ℕ} → IsTrue (is_open h n) → IsTrue (at is_root h n) → IsAllowed h (Close n)
-  disconnected : {c g : ℕ} → IsTrue (is_open h c) → slice_get h c ≡ Some (Connect g) → IsTrue (at is_manual_hub h g) → IsAllowed h (Close c)
-  taken : {r : ℕ} → IsTrue (is_waiting h r) → IsAllowed h (Take r)
+pub data IsAllowed (b : Kept) (h : List Event) : Event → Type 0 where
+  opened : {place : Place} {kind : Kind} → IsFree b h place → IsHubbed h place kind → length (open_nodes h) + 1 ≤ most_nodes → ((g : ℕ) → IsConnectDue (h ++ Open place kind ∷ []) g → length (open_nodes h) + 2 ≤ most_nodes) → IsAllowed b h (Open place kind)
+  published : {mode : Mode} → length (hubs h) < most_hubs → IsAllowed b h (Hub mode)
+  connected : {g : ℕ} → IsTrue (at is_manual_hub h g) → open_connections h g ≡ [] → length (open_nodes h) < most_nodes → IsAllowed b h (Connect g)
+  accepted : {n tag : ℕ} → IsTrue (is_open h n) → IsAllowed b h (Accept n tag)
+  used : {r : ℕ} → IsTrue (is_held h r) → IsAllowed b h (Use r)
+  removed : {r : ℕ} → IsTrue (is_held h r) → IsAllowed b h (Remove r)
+  emitted : {l : ℕ} {value : ℤ} → IsTrue (is_open h l) → IsTrue (at is_leaf h l) → visits h l ≤ most_visits → IsAllowed b h (Item l value)
+  declined : {f : ℕ} → IsTrue (is_open h f) → IsTrue (at is_merging h f) → 0 < owed b h f → IsAllowed b h (Decline f)
+  leaf_ended : {l : ℕ} {t : Terminal} → IsTrue (is_open h l) → IsTrue (at is_leaf h l) → IsAllowed b h (End l t)
+  aborted : {n c : ℕ} → IsTrue (is_open h n) → IsTrue (at may_abort h n) → ((d : ℕ) → parent h d ≡ Some n → is_open h d ≡ false) → IsAllowed b h (End n (Error c))
+  projection_failed : {f c : ℕ} → IsTrue (is_open h f) → IsTrue (at is_merging h f) → 0 < owed b h f → IsAllowed b h (End f (Error c))
+  root_closed : {n : ℕ} → IsTrue (is_open h n) → IsTrue (at is_root h n) → IsAllowed b h (Close n)
+  disconnected : {c g : ℕ} → IsTrue (is_open h c) → slice_get h c ≡ Some (Connect g) → IsTrue (at is_manual_hub h g) → IsAllowed b h (Close c)
+  taken : {r : ℕ} → IsTrue (is_waiting h r) → IsAllowed b h (Take r)

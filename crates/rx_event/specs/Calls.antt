@@ -8,6 +8,7 @@ use Rattle.rx_event.specs.declared.event.Kind.TheVariants.{Pass}
 use Rattle.rx_event.specs.declared.event.Mode.{Mode}
 use Rattle.rx_event.specs.declared.event.Event.{Event}
 use Rattle.rx_event.specs.declared.event.Event.TheVariants.{Open, Hub, Connect, Accept, Use, Remove, Item, Decline, End, Close, Take}
+use Rattle.rx_event.specs.Kept.{Kept}
 use Rattle.rx_event.specs.Tree.{open_connections}
 use Rattle.rx_event.specs.Lawful.{IsStep}
 
@@ -48,5 +49,5 @@ outside_of h (Disconnecting g) = map (λ c. Close c) (open_connections h g)
 outside_of h (Taking r) = Take r ∷ []
 
 -- the call took h to k
-abbrev pub IsStepOf : List Event → Call → List Event → Type 0
-IsStepOf h call k = IsStep h (outside_of h call) k
+abbrev pub IsStepOf : Kept → List Event → Call → List Event → Type 0
+IsStepOf b h call k = IsStep b h (outside_of h call) k

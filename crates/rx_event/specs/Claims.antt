@@ -9,3 +9,7 @@ pub mod Forced
 pub mod Marks
 pub mod Stays
 pub mod Closing
+pub mod Determined
+pub mod Numbers
+pub mod Seen
+pub mod Checkpoints

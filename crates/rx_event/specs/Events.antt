@@ -6,7 +6,7 @@ use Rattle.rx_event.specs.declared.event.Place.TheVariants.{Root, Source, Inner,
 use Rattle.rx_event.specs.declared.event.Kind.TheVariants.{Leaf, Pass, Flat, Switch, Until, Sub}
 use Rattle.rx_event.specs.declared.event.Mode.TheVariants.{Auto, Manual}
 use Rattle.rx_event.specs.declared.event.Event.{Event}
-use Rattle.rx_event.specs.declared.event.Event.TheVariants.{Open, Hub, Connect, Accept, Use, Remove, Item, Decline, End, Take}
+use Rattle.rx_event.specs.declared.event.Event.TheVariants.{Open, Hub, Connect, Accept, Use, Remove, Item, Decline, End, Close, Take}
 
 -- what an event makes -----------------------------------------------------------------------------
 
@@ -205,3 +205,12 @@ failed_of _ = None
 abbrev pub is_connect : Event → Bool
 is_connect (Connect g) = true
 is_connect _ = false
+
+-- an event that makes or shows something: nothing else happens in what a base shows
+abbrev pub is_making : Event → Bool
+is_making (Open place kind) = true
+is_making (Connect g) = true
+is_making (Hub mode) = true
+is_making (Accept n tag) = true
+is_making (Close n) = true
+is_making _ = false

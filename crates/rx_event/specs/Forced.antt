@@ -1,11 +1,13 @@
 -- What operators must do before a caller may go on. While a hub waits for its connection nothing else is forced; among the
 -- rest the order is free.
 use Rattle.std.specs.Prelude.{◌≡◌, ℕ, ◌<◌, Some, List, [], slice_get, IsTrue, false}
+use Rattle.rx_event.specs.Kept.{Kept}
+use Rattle.rx_event.specs.Marks.{source_completed}
 use Rattle.rx_note.specs.declared.note.Terminal.{Terminal}
 use Rattle.rx_note.specs.declared.note.Terminal.TheVariants.{Completed, Error}
 use Rattle.rx_event.specs.declared.event.Event.{Event}
 use Rattle.rx_event.specs.declared.event.Event.TheVariants.{Connect, End, Close}
-use Rattle.rx_event.specs.Events.{is_mirroring, is_until, is_merging, is_auto_hub, is_source_of, is_subscriber_of}
+use Rattle.rx_event.specs.Events.{is_mirroring, is_until, is_merging, is_auto_hub, is_subscriber_of}
 use Rattle.rx_event.specs.Tree.{at, parent, is_open, open_subscribers, open_connections}
 use Rattle.rx_event.specs.Moments.{owed, is_fired}
 
@@ -31,19 +33,19 @@ pub record SourceEnded (h : List Event) (s : ℕ) (t : Terminal) : Type 0 where
   pub ended : slice_get h place ≡ Some (End connection t)
 
 -- what an operator has to do: the end or the closing of an open node
-pub data IsDue (h : List Event) : Event → Type 0 where
+pub data IsDue (b : Kept) (h : List Event) : Event → Type 0 where
   -- Observable Contract, TakeUntil: a mirroring node passes on how its child ended
-  mirrored : {p : ℕ} {t : Terminal} → IsTrue (is_open h p) → IsTrue (at is_mirroring h p) → ChildEnded h p t → IsDue h (End p t)
+  mirrored : {p : ℕ} {t : Terminal} → IsTrue (is_open h p) → IsTrue (at is_mirroring h p) → ChildEnded h p t → IsDue b h (End p t)
   -- TakeUntil: the notifier emitted an item
-  fired : {u : ℕ} → IsTrue (is_open h u) → IsTrue (at is_until h u) → IsTrue (is_fired h u) → IsDue h (End u Completed)
+  fired : {u : ℕ} → IsTrue (is_open h u) → IsTrue (at is_until h u) → IsTrue (is_fired h u) → IsDue b h (End u Completed)
   -- FlatMap, Switch: the source or an inner failed
-  failed : {f c : ℕ} → IsTrue (is_open h f) → IsTrue (at is_merging h f) → ChildEnded h f (Error c) → IsDue h (End f (Error c))
+  failed : {f c : ℕ} → IsTrue (is_open h f) → IsTrue (at is_merging h f) → ChildEnded h f (Error c) → IsDue b h (End f (Error c))
   -- FlatMap, Switch: nothing failed, the source has completed, no child is open, and nothing is owed
-  completed : {f s : ℕ} → IsTrue (is_open h f) → IsTrue (at is_merging h f) → ((c : ℕ) → ¬ ChildEnded h f (Error c)) → IsTrue (at (is_source_of f) h s) → Has h (End s Completed) → ((c : ℕ) → parent h c ≡ Some f → is_open h c ≡ false) → owed h f ≡ 0 → IsDue h (End f Completed)
+  completed : {f : ℕ} → IsTrue (is_open h f) → IsTrue (at is_merging h f) → ((c : ℕ) → ¬ ChildEnded h f (Error c)) → IsTrue (source_completed b h f) → ((c : ℕ) → parent h c ≡ Some f → is_open h c ≡ false) → owed b h f ≡ 0 → IsDue b h (End f Completed)
   -- Publish: the connection that a subscriber had ended
-  cut : {s : ℕ} {t : Terminal} → IsTrue (is_open h s) → SourceEnded h s t → IsDue h (End s t)
+  cut : {s : ℕ} {t : Terminal} → IsTrue (is_open h s) → SourceEnded h s t → IsDue b h (End s t)
   -- RefCount: the last subscriber has gone
-  left : {c g : ℕ} → IsTrue (is_open h c) → slice_get h c ≡ Some (Connect g) → IsTrue (at is_auto_hub h g) → open_subscribers h g ≡ [] → IsDue h (Close c)
+  left : {c g : ℕ} → IsTrue (is_open h c) → slice_get h c ≡ Some (Connect g) → IsTrue (at is_auto_hub h g) → open_subscribers h g ≡ [] → IsDue b h (Close c)
 
 -- RefCount: a hub has a subscriber that waits for a connection, and none is open
 pub record IsConnectDue (h : List Event) (g : ℕ) : Type 0 where
@@ -64,10 +66,10 @@ pub data MayWait (h : List Event) : ℕ → Type 0 where
   one_waits : {g : ℕ} → ((k : ℕ) → IsConnectDue h k → k ≡ g) → MayWait h 1
 
 -- the event must come before a caller may go on
-pub data IsForced (h : List Event) : Event → Type 0 where
-  connecting : {g : ℕ} → IsConnectDue h g → IsForced h (Connect g)
-  due : {e : Event} → IsConnected h → IsDue h e → IsForced h e
+pub data IsForced (b : Kept) (h : List Event) : Event → Type 0 where
+  connecting : {g : ℕ} → IsConnectDue h g → IsForced b h (Connect g)
+  due : {e : Event} → IsConnected h → IsDue b h e → IsForced b h e
 
 -- no operator's rule is left undone
-pub record IsSettled (h : List Event) : Type 0 where
-  pub none : (e : Event) → ¬ IsForced h e
+pub record IsSettled (b : Kept) (h : List Event) : Type 0 where
+  pub none : (e : Event) → ¬ IsForced b h e

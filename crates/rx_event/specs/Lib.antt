@@ -1,4 +1,6 @@
 pub mod Events
+pub mod Kept
+pub mod Opened
 pub mod Sames
 pub mod Tree
 pub mod Resources
@@ -13,4 +15,7 @@ pub mod Lawful
 pub mod Calls
 pub mod Refusals
 pub mod Stored
+pub mod Renumbered
+pub mod Canonical
+pub mod Bases
 pub mod Claims

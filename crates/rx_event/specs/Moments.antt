@@ -1,6 +1,8 @@
 -- What each event did in the history before it.
-use Rattle.std.specs.Prelude.{ℕ, ◌-◌, Bool, true, false, ◌==◌, List, [], ◌∷◌, ◌++◌, count_by, sum_by}
+use Rattle.std.specs.Prelude.{ℕ, ◌+◌, ◌-◌, Bool, true, false, ◌==◌, List, [], ◌∷◌, ◌++◌, count_by, sum_by}
 use Rattle.std.specs.List.{list_any}
+use Rattle.std.specs.Option.{option_map_or}
+use Rattle.rx_event.specs.Kept.{Kept, node_kept, shown}
 use Rattle.rx_event.specs.declared.event.Event.{Event}
 use Rattle.rx_event.specs.declared.event.Event.TheVariants.{Item}
 use Rattle.rx_event.specs.Events.{pays}
@@ -48,5 +50,8 @@ unfoldable pub is_fired : List Event → ℕ → Bool
 is_fired h u = list_any (λ m. list_any (is_firing_of u) (stops_of m.before m.event)) (moments h)
 
 -- the projected items of f whose inner observable was neither opened nor declined (this project's own: a caller projects by hand)
-unfoldable pub owed : List Event → ℕ → ℕ
-owed h f = projections h f - count_by (pays f) h
+abbrev pub projected_by : Kept → List Event → ℕ → ℕ
+projected_by b h f = option_map_or (λ k. k.owed + count_by (pays f) (shown b) + projections h f) (node_kept b f) (projections h f)
+
+unfoldable pub owed : Kept → List Event → ℕ → ℕ
+owed b h f = projected_by b h f - count_by (pays f) h

@@ -1,9 +1,11 @@
 -- Where each resource is (Using: it is disposed of when the observer unsubscribes or the observable terminates; Finally).
-use Rattle.std.specs.Prelude.{ℕ, Bool, false, ◌&&◌, List, slice_get, filter, count_by}
+use Rattle.std.specs.Prelude.{ℕ, ◌+◌, Bool, false, ◌&&◌, Option, Some, List, slice_get, filter, count_by}
 use Rattle.std.proofs.Math.Bool.{not}
 use Rattle.std.specs.List.{list_any}
 use Rattle.std.specs.Option.{option_and_then, option_map_or}
 use Rattle.rx_event.specs.declared.event.Event.{Event}
+use Rattle.rx_event.specs.declared.event.Event.TheVariants.{Accept}
+use Rattle.rx_event.specs.Kept.{Kept, resource_kept}
 use Rattle.rx_event.specs.Events.{makes_resource, node_of_accept, is_remove_of, is_take_of, is_use_of}
 use Rattle.rx_event.specs.Tree.{at, is_open, places}
 
@@ -27,5 +29,9 @@ abbrev pub waiting_resources : List Event → List ℕ
 waiting_resources h = filter (is_waiting h) (places h)
 
 -- how often it was used
-unfoldable pub uses : List Event → ℕ → ℕ
-uses h r = count_by (is_use_of r) h
+unfoldable pub uses : Kept → List Event → ℕ → ℕ
+uses b h r = option_map_or (λ k. k.uses + count_by (is_use_of r) h) (resource_kept b r) (count_by (is_use_of r) h)
+
+-- the event that accepted it
+abbrev pub accepted_by : Kept → List Event → ℕ → Option Event
+accepted_by b h r = option_map_or (λ k. Some (Accept k.node k.tag)) (resource_kept b r) (slice_get h r)

@@ -1,9 +1,12 @@
 -- What a stored history is.
 use Rattle.std.specs.Prelude.{ℕ, List}
 use Rattle.rx_event.specs.declared.event.Event.{Event}
+use Rattle.rx_event.specs.Kept.{Kept}
 
--- the events so far, how many there may be, and how many more can be added without new memory
+-- what it begins with; all events as one list, which begins with what that shows; how many there may be since; and how many more
+-- can be added without new memory
 pub record Stored : Type 0 where
+  pub base : Kept
   pub events : List Event
   pub limit : ℕ
   pub room : ℕ

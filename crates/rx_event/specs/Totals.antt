@@ -1,19 +1,20 @@
 -- Counts over a history.
-use Rattle.std.specs.Prelude.{ℕ, ◌+◌, ◌&&◌, List, count_by, sum_by, if◌then◌else◌}
+use Rattle.std.specs.Prelude.{ℕ, ◌+◌, ◌-◌, ◌&&◌, List, count_by, sum_by, if◌then◌else◌}
 use Rattle.rx_event.specs.declared.event.Event.{Event}
+use Rattle.rx_event.specs.Kept.{Kept, shown}
 use Rattle.rx_event.specs.Events.{is_item, is_take, is_connect, makes_resource, is_merging}
 use Rattle.rx_event.specs.Tree.{at, places, is_open}
 use Rattle.rx_event.specs.Resources.{is_held, is_waiting}
 use Rattle.rx_event.specs.Moments.{owed}
 
-abbrev pub item_count : List Event → ℕ
-item_count h = count_by is_item h
+abbrev pub item_count : Kept → List Event → ℕ
+item_count b h = b.items + count_by is_item h
 
-abbrev pub accepted_count : List Event → ℕ
-accepted_count h = count_by makes_resource h
+abbrev pub accepted_count : Kept → List Event → ℕ
+accepted_count b h = (b.accepted - count_by makes_resource (shown b)) + count_by makes_resource h
 
-abbrev pub taken_count : List Event → ℕ
-taken_count h = count_by is_take h
+abbrev pub taken_count : Kept → List Event → ℕ
+taken_count b h = b.taken + count_by is_take h
 
 -- how often a hub was connected
 abbrev pub connect_count : List Event → ℕ
@@ -29,18 +30,18 @@ abbrev pub open_count : List Event → ℕ
 open_count h = count_by (is_open h) (places h)
 
 -- what n owes, where it is an open FlatMap or Switch
-abbrev pub owed_open : List Event → ℕ → ℕ
-owed_open h n = if is_open h n && at is_merging h n then owed h n else 0
+abbrev pub owed_open : Kept → List Event → ℕ → ℕ
+owed_open b h n = if is_open h n && at is_merging h n then owed b h n else 0
 
 -- what all open FlatMaps and Switches owe together
-abbrev pub owed_count : List Event → ℕ
-owed_count h = sum_by (owed_open h) (places h)
+abbrev pub owed_count : Kept → List Event → ℕ
+owed_count b h = sum_by (owed_open b h) (places h)
 
 -- the events that the closing of what n made may still need: one for an open node, two for a held resource (its removal and
 -- its taking), one for a waiting one, and one for each projected item that a FlatMap or Switch still owes
-abbrev pub debt_of : List Event → ℕ → ℕ
-debt_of h n = (if is_open h n then 1 else 0) + (if is_held h n then 2 else 0) + (if is_waiting h n then 1 else 0) + (if is_open h n && at is_merging h n then owed h n else 0)
+abbrev pub debt_of : Kept → List Event → ℕ → ℕ
+debt_of b h n = (if is_open h n then 1 else 0) + (if is_held h n then 2 else 0) + (if is_waiting h n then 1 else 0) + (if is_open h n && at is_merging h n then owed b h n else 0)
 
 -- the events that the closing of everything may still need
-unfoldable pub debt : List Event → ℕ
-debt h = sum_by (debt_of h) (places h)
+unfoldable pub debt : Kept → List Event → ℕ
+debt b h = sum_by (debt_of b h) (places h)

@@ -1,69 +1,108 @@
-//! A list of events that only grows, up to a limit.
+//! A base and the events since, which only grow, up to a limit.
 
 ghost use Rattle.std.specs.Prelude.{◌≡◌, ◌+◌, ◌<◌, ◌≤◌, ◌↔◌, ◌⊎◌, [], ◌∷◌, ◌++◌, length, slice_get, OnOk, OnErr, IsErrOf, IfErr};
+ghost use Rattle.rx_event.specs.Kept.{nothing_kept, shown, event_since};
 
+use crate::base::Base;
 use crate::event::Event;
 use crate::refusal::Refusal;
 use std::alloc::Global;
 use std::marker::Model;
 
-/// The events so far, in their order. Places are counted from 0.
+/// The events so far, in their order. Places are counted from 0. Of the events before a checkpoint
+/// a base is kept, which they are read from as one list with the events since.
 #[derive(Drop)]
 pub struct History {
+    base: Base,
     events: Vec<Event>,
     limit: u64,
 }
 
 impl Model for History {
     ghost use Rattle.std.specs.Prelude.{◌-◌, ◌≤◌, min, vec_len, vec_capacity, length};
+    ghost use Rattle.rx_event.specs.Kept.{stored};
     ghost use Rattle.rx_event.specs.Stored.{Stored};
 
     ghost Value = { Stored };
 
-    ghost view = { λ h. record { events = h.events.items; limit = h.limit; room = min (vec_capacity h.events) h.limit - vec_len h.events } };
+    ghost view = { λ h. record { base = h.base; events = stored h.base h.events.items; limit = h.limit; room = min (vec_capacity h.events) h.limit - vec_len h.events } };
 
-    ghost invariant = { λ h. (h.limit ≤ 4294967295) × (length h.events.items ≤ h.limit) };
+    ghost invariant = { λ h. (h.limit ≤ 4294967295) × (length h.events.items ≤ h.limit) × (h.base.at_length ≤ 9223372036854775807) };
 }
 
 impl History {
     /// A history with no events, of at most `limit` events, which is at most 4,294,967,295. It takes
     /// no memory.
+    #[tactic(auto, using(crate::proofs::Laws::Begin::shown_nothing))]
     pub fn new(alloc: Global, limit: u64) -> Self
         requires { limit ≤ 4294967295 }
+        ensures base { result.base ≡ nothing_kept }
         ensures events { result.events ≡ [] }
         ensures limit { result.limit ≡ limit }
         ensures room { result.room ≡ 0 }
     {
         History {
+            base: Base::empty(alloc),
             events: Vec::new(alloc),
             limit,
         }
     }
 
-    /// How many events there are.
+    /// How many events there ever were.
+    #[tactic(auto, using(crate::proofs::Laws::StoredAt::length_stored))]
     pub fn len(&self) -> u64
         ensures value { result ≡ length self.now.events }
-        ensures limited { length self.now.events ≤ self.now.limit }
-        ensures within { length self.now.events + self.now.room ≤ self.now.limit }
+        ensures begun { self.now.base.at_length ≤ length self.now.events }
+        ensures placed { self.now.base.at_length ≤ 9223372036854775807 }
+        ensures limited { length self.now.events ≤ self.now.base.at_length + self.now.limit }
+        ensures within { length self.now.events + self.now.room ≤ self.now.base.at_length + self.now.limit }
     {
         let count = self.events.len();
-        count as u64
+        self.base.at() + count as u64
     }
 
-    /// The event at a place, if there is one.
+    /// The event at a place, if it is one since the base.
+    #[tactic(auto, using(crate::proofs::Laws::StoredAt::length_stored, crate::proofs::Laws::StoredAt::get_stored))]
     pub fn get(&self, place: u64) -> Option<Event>
-        ensures { result ≡ slice_get self.now.events place }
+        ensures { result ≡ event_since self.now.base self.now.events place }
     {
-        self.events.get(place as usize).copied()
+        if place < self.base.at() {
+            return None;
+        }
+        nth(&self.events, place - self.base.at())
     }
 
-    /// Gets room for `n` more events. `Full` exactly where that would pass the limit; `NoMemory`
-    /// where memory was asked for and refused. Neither changes anything.
+    /// What the history begins with.
+    pub fn base(&self) -> &Base
+        ensures { result.now ≡ self.now.base }
+    {
+        &self.base
+    }
+
+    /// Puts a base of as many events in place of the base and the events. The number of events is at
+    /// most 9,223,372,036,854,775,807.
+    pub fn rebase(&mut self, base: Base)
+        requires length { base.at_length ≡ length self.old.events }
+        requires placed { base.at_length ≤ 9223372036854775807 }
+        ensures base { self.new.base ≡ base }
+        ensures events { self.new.events ≡ shown base }
+        ensures limit { self.new.limit ≡ self.old.limit }
+        ensures room { self.old.room ≤ self.new.room }
+    {
+        self.base = base;
+        self.events.clear();
+    }
+
+    /// Gets room for `n` more events. `Full` exactly where with them there were more since the base than
+    /// the limit; `NoMemory` where memory was asked for and refused. Neither changes anything.
+    #[tactic(auto, using(crate::proofs::Laws::StoredAt::length_stored))]
     pub fn reserve(&mut self, n: u64) -> Result<(), Refusal>
+        ensures base { self.new.base ≡ self.old.base }
         ensures events { self.new.events ≡ self.old.events }
         ensures limit { self.new.limit ≡ self.old.limit }
         ensures ok { OnOk result (n ≤ self.new.room) }
-        ensures refused_full { IsErrOf result Refusal.Full ↔ (self.old.limit < length self.old.events + n) }
+        ensures refused_full { IsErrOf result Refusal.Full ↔
+            (self.old.base.at_length + self.old.limit < length self.old.events + n) }
         ensures refused_no_memory { IfErr result (λ why. (why ≡ Refusal.Full) ⊎ ((why ≡ Refusal.NoMemory) × (self.old.room < n))) }
         ensures more { self.old.room ≤ self.new.room }
         ensures kept { OnErr result (self.new ≡ self.old) }
@@ -78,12 +117,21 @@ impl History {
     }
 
     /// Adds an event last. It takes no memory, since room was reserved.
+    #[tactic(auto, using(crate::proofs::Laws::StoredAt::length_stored))]
     pub fn push_reserved(&mut self, event: Event)
         requires { 0 < self.old.room }
+        ensures base { self.new.base ≡ self.old.base }
         ensures events { self.new.events ≡ self.old.events ++ event ∷ [] }
         ensures limit { self.new.limit ≡ self.old.limit }
         ensures room { self.new.room + 1 ≡ self.old.room }
     {
         self.events.push_reserved(event);
     }
+}
+
+/// The element at an index, if there is one.
+fn nth(events: &[Event], index: u64) -> Option<Event>
+    ensures { result ≡ slice_get events.now index }
+{
+    events.get(index as usize).copied()
 }

@@ -1,6 +1,7 @@
 //! Events of subscriptions, the histories that they make, and what a history means.
 //!
-//! Vocabulary: an `Event` is one accepted change, a `History` a list of them with a limit. The
+//! Vocabulary: an `Event` is one accepted change, a `History` a list of them with a limit, and a
+//! `Base` what a checkpoint keeps of the events before it. The
 //! definitions in `specs/` say which nodes a history leaves open and which resources it leaves
 //! held or waiting, what observers were told, what operators still have to do, and which
 //! histories are lawful. `Marks` are what a node remembers of what happened below it, so that its
@@ -13,6 +14,7 @@
 //! without a body. Not promised: that a history is lawful; that is for whoever keeps one.
 #![tactic(auto)]
 
+mod base;
 mod event;
 mod history;
 mod mail;
@@ -20,6 +22,7 @@ mod marks;
 mod refusal;
 mod theorems;
 
+pub use base::{Base, BaseHub, BaseNode, BaseResource};
 pub use event::{Event, Kind, Mode, Place};
 pub use history::History;
 pub use mail::Mail;
@@ -28,8 +31,10 @@ pub use refusal::Refusal;
 pub use rx_note::Terminal;
 pub use theorems::{
     a_closed_history_holds_nothing, a_hub_connects_once, a_step_connects_one_hub,
-    a_switch_has_one_open_inner, calm_events_force_little, climbs_go_on_in_order,
-    closed_stays_closed, closing_opens_nothing_anew, each_resource_is_in_one_place,
-    marks_say_what_is_due, nodes_stand_below_nodes, notes_obey_the_grammar,
-    nothing_stays_open_by_itself, what_is_opened_stays_open, what_one_event_changes,
+    a_switch_has_one_open_inner, callers_see_no_numbers, calm_events_force_little,
+    checkpoints_change_nothing, climbs_go_on_in_order, closed_stays_closed,
+    closing_opens_nothing_anew, each_resource_is_in_one_place, marks_say_what_is_due,
+    nodes_stand_below_nodes, notes_obey_the_grammar, nothing_stays_open_by_itself,
+    numbers_do_not_matter, one_order_comes_to_an_end, steps_are_determined,
+    what_is_opened_stays_open, what_one_event_changes,
 };

@@ -6,6 +6,7 @@ use Rattle.rx_event.specs.declared.event.Kind.TheVariants.{Leaf, Sub}
 use Rattle.rx_event.specs.declared.event.Mode.TheVariants.{Auto, Manual}
 use Rattle.rx_event.specs.declared.event.Event.{Event}
 use Rattle.rx_event.specs.declared.event.Event.TheVariants.{Open, Hub, Connect, End, Close}
+use Rattle.rx_event.specs.Kept.{nothing_kept, shown}
 use Rattle.rx_event.specs.Tree.{parent, ancestors, is_shut, is_open, open_nodes}
 use Rattle.rx_event.specs.Resources.{is_held, is_taken, is_waiting}
 use Rattle.rx_event.specs.Climb.{Delivery, most_visits, climb, stops}
@@ -18,19 +19,19 @@ abbrev nested : List Event
 nested = Hub Auto ∷ Hub Auto ∷ Open Root (Sub 1) ∷ Connect 1 ∷ Open (Source 3) (Sub 0) ∷ Connect 0 ∷ []
 
 nested_open : open_nodes nested ≡ 2 ∷ 3 ∷ 4 ∷ 5 ∷ []
-unfolding is_open is_shut ancestors parent
+unfolding is_open is_shut ancestors parent shown
 nested_open = refl
 
-outer_left : IsDue (nested ++ Close 2 ∷ []) (Close 3)
-unfolding is_open is_shut ancestors parent
+outer_left : IsDue nothing_kept (nested ++ Close 2 ∷ []) (Close 3)
+unfolding is_open is_shut ancestors parent shown
 outer_left = left {g = 1} refl refl refl refl
 
-inner_left : IsDue (nested ++ Close 2 ∷ Close 3 ∷ []) (Close 5)
-unfolding is_open is_shut ancestors parent
+inner_left : IsDue nothing_kept (nested ++ Close 2 ∷ Close 3 ∷ []) (Close 5)
+unfolding is_open is_shut ancestors parent shown
 inner_left = left {g = 0} refl refl refl refl
 
 nested_closed : open_nodes (nested ++ Close 2 ∷ Close 3 ∷ Close 5 ∷ []) ≡ []
-unfolding is_open is_shut ancestors parent
+unfolding is_open is_shut ancestors parent shown
 nested_closed = refl
 
 -- a hub stays connected while it has a subscriber, ends with its source, and is connected anew
@@ -38,19 +39,19 @@ abbrev counted : List Event
 counted = Hub Auto ∷ Open Root (Sub 0) ∷ Connect 0 ∷ Open Root (Sub 0) ∷ Open (Source 2) Leaf ∷ Close 1 ∷ []
 
 counted_open : open_nodes counted ≡ 2 ∷ 3 ∷ 4 ∷ []
-unfolding is_open is_shut ancestors parent
+unfolding is_open is_shut ancestors parent shown
 counted_open = refl
 
-connection_ends : IsDue (counted ++ End 4 (Error 3) ∷ []) (End 2 (Error 3))
-unfolding is_open is_shut ancestors parent
+connection_ends : IsDue nothing_kept (counted ++ End 4 (Error 3) ∷ []) (End 2 (Error 3))
+unfolding is_open is_shut ancestors parent shown
 connection_ends = mirrored refl refl (record { child = 4; below = refl; ended = record { place = 6; found = refl } })
 
-subscriber_ends : IsDue (counted ++ End 4 (Error 3) ∷ End 2 (Error 3) ∷ []) (End 3 (Error 3))
-unfolding is_open is_shut ancestors parent
+subscriber_ends : IsDue nothing_kept (counted ++ End 4 (Error 3) ∷ End 2 (Error 3) ∷ []) (End 3 (Error 3))
+unfolding is_open is_shut ancestors parent shown
 subscriber_ends = cut refl (record { hub = 0; connection = 2; place = 7; subscribes = refl; connects = refl; later = omega arith; ended = refl })
 
 connected_anew : open_nodes (counted ++ End 4 (Error 3) ∷ End 2 (Error 3) ∷ End 3 (Error 3) ∷ Open Root (Sub 0) ∷ Connect 0 ∷ []) ≡ 9 ∷ 10 ∷ []
-unfolding is_open is_shut ancestors parent
+unfolding is_open is_shut ancestors parent shown
 connected_anew = refl
 
 -- a subscriber that comes after its hub's connection ended stays, and receives once the hub is connected again
@@ -60,25 +61,25 @@ late =
     ∷ Open (Source 8) Leaf ∷ []
 
 late_open : open_nodes late ≡ 7 ∷ 8 ∷ 9 ∷ []
-unfolding is_open is_shut ancestors parent
+unfolding is_open is_shut ancestors parent shown
 late_open = refl
 
 late_stops : stops late 9 ≡ Delivery 7 ∷ []
-unfolding stops climb most_visits is_open is_shut ancestors parent
+unfolding stops climb most_visits is_open is_shut ancestors parent shown
 late_stops = refl
 
 -- an opening that forces a connection: two events, and room for two closings, which is five in all. The disposal uses it up
 abbrev connected_by_opening : List Event
 connected_by_opening = Hub Auto ∷ Open Root (Sub 0) ∷ Connect 0 ∷ []
 
-opening_debt : debt connected_by_opening ≡ 2
-unfolding debt owed projections moments stops climb most_visits is_held is_taken is_waiting is_open is_shut ancestors parent
+opening_debt : debt nothing_kept connected_by_opening ≡ 2
+unfolding debt owed projections moments stops climb most_visits is_held is_taken is_waiting is_open is_shut ancestors parent shown
 opening_debt = refl
 
-disposal_debt : debt (connected_by_opening ++ Close 1 ∷ Close 2 ∷ []) ≡ 0
-unfolding debt owed projections moments stops climb most_visits is_held is_taken is_waiting is_open is_shut ancestors parent
+disposal_debt : debt nothing_kept (connected_by_opening ++ Close 1 ∷ Close 2 ∷ []) ≡ 0
+unfolding debt owed projections moments stops climb most_visits is_held is_taken is_waiting is_open is_shut ancestors parent shown
 disposal_debt = refl
 
-connection_left : IsDue (connected_by_opening ++ Close 1 ∷ []) (Close 2)
-unfolding is_open is_shut ancestors parent
+connection_left : IsDue nothing_kept (connected_by_opening ++ Close 1 ∷ []) (Close 2)
+unfolding is_open is_shut ancestors parent shown
 connection_left = left {g = 0} refl refl refl refl

@@ -5,6 +5,7 @@ use Rattle.rx_event.specs.declared.event.Kind.TheVariants.{Leaf, Pass, Switch, S
 use Rattle.rx_event.specs.declared.event.Mode.TheVariants.{Auto}
 use Rattle.rx_event.specs.declared.event.Event.{Event}
 use Rattle.rx_event.specs.declared.event.Event.TheVariants.{Open, Hub, Connect, Accept, Item, Close}
+use Rattle.rx_event.specs.Kept.{nothing_kept, shown}
 use Rattle.rx_event.specs.Tree.{parent, ancestors, is_shut, is_open, open_nodes, open_connections, open_subscribers}
 use Rattle.rx_event.specs.Resources.{is_held, is_taken, is_waiting, held_resources, waiting_resources}
 use Rattle.rx_event.specs.Lawful.{opened_with, MayFollow}
@@ -15,15 +16,15 @@ exchanged =
     Open Root Switch ∷ Open (Source 0) Leaf ∷ Item 1 (pos 1) ∷ Open (Inner 0) Pass ∷ Accept 3 31 ∷ Item 1 (pos 2) ∷ Open (Inner 0) Pass ∷ Accept 6 32 ∷ []
 
 exchanged_open : open_nodes exchanged ≡ 0 ∷ 1 ∷ 6 ∷ []
-unfolding is_open is_shut ancestors parent
+unfolding is_open is_shut ancestors parent shown
 exchanged_open = refl
 
 exchanged_waiting : waiting_resources exchanged ≡ 4 ∷ []
-unfolding is_waiting is_taken is_held is_open is_shut ancestors parent
+unfolding is_waiting is_taken is_held is_open is_shut ancestors parent shown
 exchanged_waiting = refl
 
 exchanged_held : held_resources exchanged ≡ 7 ∷ []
-unfolding is_held is_open is_shut ancestors parent
+unfolding is_held is_open is_shut ancestors parent shown
 exchanged_held = refl
 
 -- both inners subscribe to one hub: the exchange leaves its connection up
@@ -32,15 +33,15 @@ shared =
     Hub Auto ∷ Open Root Switch ∷ Open (Source 1) Leaf ∷ Item 2 (pos 1) ∷ Open (Inner 1) (Sub 0) ∷ Connect 0 ∷ Item 2 (pos 2) ∷ Open (Inner 1) (Sub 0) ∷ []
 
 shared_open : open_nodes shared ≡ 1 ∷ 2 ∷ 5 ∷ 7 ∷ []
-unfolding is_open is_shut ancestors parent
+unfolding is_open is_shut ancestors parent shown
 shared_open = refl
 
 shared_subscribers : open_subscribers shared 0 ≡ 7 ∷ []
-unfolding is_open is_shut ancestors parent
+unfolding is_open is_shut ancestors parent shown
 shared_subscribers = refl
 
 shared_connection : open_connections shared 0 ≡ 5 ∷ []
-unfolding is_open is_shut ancestors parent
+unfolding is_open is_shut ancestors parent shown
 shared_connection = refl
 
 -- an inner with a resource takes the place of the hub's last subscriber: the acceptance may come before the connection closes
@@ -48,14 +49,14 @@ abbrev left_alone : List Event
 left_alone =
     Hub Auto ∷ Open Root Switch ∷ Open (Source 1) Leaf ∷ Item 2 (pos 1) ∷ Open (Inner 1) (Sub 0) ∷ Connect 0 ∷ Item 2 (pos 2) ∷ Open (Inner 1) Pass ∷ []
 
-accepted_first : MayFollow left_alone (Accept 7 0)
-unfolding is_open is_shut ancestors parent
+accepted_first : MayFollow nothing_kept left_alone (Accept 7 0)
+unfolding is_open is_shut ancestors parent shown
 accepted_first = opened_with refl refl refl
 
 left_alone_open : open_nodes (left_alone ++ Accept 7 0 ∷ Close 5 ∷ []) ≡ 1 ∷ 2 ∷ 7 ∷ []
-unfolding is_open is_shut ancestors parent
+unfolding is_open is_shut ancestors parent shown
 left_alone_open = refl
 
 left_alone_held : held_resources (left_alone ++ Accept 7 0 ∷ Close 5 ∷ []) ≡ 8 ∷ []
-unfolding is_held is_open is_shut ancestors parent
+unfolding is_held is_open is_shut ancestors parent shown
 left_alone_held = refl

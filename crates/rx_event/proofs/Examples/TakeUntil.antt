@@ -7,6 +7,7 @@ use Rattle.rx_event.specs.declared.event.Kind.TheVariants.{Leaf, Until, Sub}
 use Rattle.rx_event.specs.declared.event.Mode.TheVariants.{Auto}
 use Rattle.rx_event.specs.declared.event.Event.{Event}
 use Rattle.rx_event.specs.declared.event.Event.TheVariants.{Open, Hub, Connect, Item, End, Close}
+use Rattle.rx_event.specs.Kept.{nothing_kept, shown}
 use Rattle.rx_event.specs.Tree.{parent, ancestors, is_shut, is_open, open_nodes}
 use Rattle.rx_event.specs.Climb.{Delivery, Firing, most_visits, climb, stops, visits}
 use Rattle.rx_event.specs.Moments.{moments, is_fired}
@@ -17,16 +18,16 @@ use Rattle.rx_event.specs.Forced.{fired, left, IsDue}
 abbrev until : List Event
 until = Open Root Until ∷ Open (Source 0) Leaf ∷ Open (Notifier 0) Leaf ∷ Item 1 (pos 4) ∷ Item 2 (pos 7) ∷ []
 
-until_due : IsDue until (End 0 Completed)
-unfolding is_fired moments stops climb most_visits is_open is_shut ancestors parent
+until_due : IsDue nothing_kept until (End 0 Completed)
+unfolding is_fired moments stops climb most_visits is_open is_shut ancestors parent shown
 until_due = fired refl refl refl
 
 until_notes : notes (until ++ End 0 Completed ∷ []) ≡ (record { place = 3; to = 0; note = Next (pos 4) }) ∷ (record { place = 5; to = 0; note = Ended Completed }) ∷ []
-unfolding notes moments stops climb most_visits is_open is_shut ancestors parent
+unfolding notes moments stops climb most_visits is_open is_shut ancestors parent shown
 until_notes = refl
 
 until_open : open_nodes (until ++ End 0 Completed ∷ []) ≡ []
-unfolding is_open is_shut ancestors parent
+unfolding is_open is_shut ancestors parent shown
 until_open = refl
 
 -- source and notifier subscribe to one hub: the item that fires is first delivered
@@ -34,26 +35,26 @@ abbrev both : List Event
 both = Hub Auto ∷ Open Root Until ∷ Open (Source 1) (Sub 0) ∷ Connect 0 ∷ Open (Notifier 1) (Sub 0) ∷ Open (Source 3) Leaf ∷ []
 
 both_stops : stops both 5 ≡ Delivery 1 ∷ Firing 1 ∷ []
-unfolding stops climb most_visits is_open is_shut ancestors parent
+unfolding stops climb most_visits is_open is_shut ancestors parent shown
 both_stops = refl
 
 both_visits : visits both 5 ≡ 5
-unfolding visits climb most_visits is_open is_shut ancestors parent
+unfolding visits climb most_visits is_open is_shut ancestors parent shown
 both_visits = refl
 
-both_due : IsDue (both ++ Item 5 (pos 9) ∷ []) (End 1 Completed)
-unfolding is_fired moments stops climb most_visits is_open is_shut ancestors parent
+both_due : IsDue nothing_kept (both ++ Item 5 (pos 9) ∷ []) (End 1 Completed)
+unfolding is_fired moments stops climb most_visits is_open is_shut ancestors parent shown
 both_due = fired refl refl refl
 
 -- then the hub has no subscriber, and its connection closes
-both_left : IsDue (both ++ Item 5 (pos 9) ∷ End 1 Completed ∷ []) (Close 3)
-unfolding is_open is_shut ancestors parent
+both_left : IsDue nothing_kept (both ++ Item 5 (pos 9) ∷ End 1 Completed ∷ []) (Close 3)
+unfolding is_open is_shut ancestors parent shown
 both_left = left {g = 0} refl refl refl refl
 
 both_open : open_nodes (both ++ Item 5 (pos 9) ∷ End 1 Completed ∷ Close 3 ∷ []) ≡ []
-unfolding is_open is_shut ancestors parent
+unfolding is_open is_shut ancestors parent shown
 both_open = refl
 
 both_notes : notes (both ++ Item 5 (pos 9) ∷ End 1 Completed ∷ Close 3 ∷ []) ≡ (record { place = 6; to = 1; note = Next (pos 9) }) ∷ (record { place = 7; to = 1; note = Ended Completed }) ∷ []
-unfolding notes moments stops climb most_visits is_open is_shut ancestors parent
+unfolding notes moments stops climb most_visits is_open is_shut ancestors parent shown
 both_notes = refl

@@ -6,6 +6,7 @@ use Rattle.rx_event.specs.declared.event.Place.TheVariants.{Root, Source}
 use Rattle.rx_event.specs.declared.event.Kind.TheVariants.{Leaf, Pass}
 use Rattle.rx_event.specs.declared.event.Event.{Event}
 use Rattle.rx_event.specs.declared.event.Event.TheVariants.{Open, Accept, Item, End, Close, Take}
+use Rattle.rx_event.specs.Kept.{nothing_kept, shown}
 use Rattle.rx_event.specs.Tree.{parent, ancestors, is_shut, is_open}
 use Rattle.rx_event.specs.Resources.{is_held, is_taken, is_waiting, held_resources, waiting_resources}
 use Rattle.rx_event.specs.Climb.{most_visits, climb, stops}
@@ -19,37 +20,37 @@ abbrev using : List Event
 using = Open Root Pass ∷ Accept 0 7 ∷ []
 
 using_held : held_resources using ≡ 1 ∷ []
-unfolding is_held is_open is_shut ancestors parent
+unfolding is_held is_open is_shut ancestors parent shown
 using_held = refl
 
-using_debt : debt using ≡ 3
-unfolding debt owed projections moments stops climb most_visits is_held is_taken is_waiting is_open is_shut ancestors parent
+using_debt : debt nothing_kept using ≡ 3
+unfolding debt owed projections moments stops climb most_visits is_held is_taken is_waiting is_open is_shut ancestors parent shown
 using_debt = refl
 
 disposed_waiting : waiting_resources (using ++ Close 0 ∷ []) ≡ 1 ∷ []
-unfolding is_waiting is_taken is_held is_open is_shut ancestors parent
+unfolding is_waiting is_taken is_held is_open is_shut ancestors parent shown
 disposed_waiting = refl
 
 disposed_held : held_resources (using ++ Close 0 ∷ []) ≡ []
-unfolding is_held is_open is_shut ancestors parent
+unfolding is_held is_open is_shut ancestors parent shown
 disposed_held = refl
 
 taken_waiting : waiting_resources (using ++ Close 0 ∷ Take 1 ∷ []) ≡ []
-unfolding is_waiting is_taken is_held is_open is_shut ancestors parent
+unfolding is_waiting is_taken is_held is_open is_shut ancestors parent shown
 taken_waiting = refl
 
 -- the completion of a source goes through the mirroring node above it, whose resource then waits
 abbrev completed : List Event
 completed = Open Root Pass ∷ Open (Source 0) Leaf ∷ Accept 0 4 ∷ Item 1 (pos 5) ∷ End 1 Completed ∷ []
 
-completion_due : IsDue completed (End 0 Completed)
-unfolding is_open is_shut ancestors parent
+completion_due : IsDue nothing_kept completed (End 0 Completed)
+unfolding is_open is_shut ancestors parent shown
 completion_due = mirrored refl refl (record { child = 1; below = refl; ended = record { place = 4; found = refl } })
 
 completion_notes : notes (completed ++ End 0 Completed ∷ []) ≡ (record { place = 3; to = 0; note = Next (pos 5) }) ∷ (record { place = 5; to = 0; note = Ended Completed }) ∷ []
-unfolding notes moments stops climb most_visits is_open is_shut ancestors parent
+unfolding notes moments stops climb most_visits is_open is_shut ancestors parent shown
 completion_notes = refl
 
 completion_waiting : waiting_resources (completed ++ End 0 Completed ∷ []) ≡ 2 ∷ []
-unfolding is_waiting is_taken is_held is_open is_shut ancestors parent
+unfolding is_waiting is_taken is_held is_open is_shut ancestors parent shown
 completion_waiting = refl

@@ -7,6 +7,7 @@ use Rattle.std.proofs.lemmas.Bool.{false≢true, cases_order, both_ways, and_par
 use Rattle.std.proofs.lemmas.Option.{same_Some, none-some}
 use Rattle.rx_note.specs.declared.note.Terminal.{Terminal}
 use Rattle.rx_note.specs.declared.note.Terminal.TheVariants.{Completed, Error}
+use Rattle.rx_event.specs.Kept.{Kept}
 use Rattle.rx_event.specs.declared.event.Place.{Place}
 use Rattle.rx_event.specs.declared.event.Kind.{Kind}
 use Rattle.rx_event.specs.declared.event.Kind.TheVariants.{Sub}
@@ -34,13 +35,13 @@ use Rattle.rx_event.proofs.Laws.OneEnd.{ends_as, completes, ends_so, completes_o
 -- ends --------------------------------------------------------------------------------------------
 
 -- no node is due to end
-abbrev pub EndsNone : List Event → Type 0
-EndsNone h = (n : ℕ) (t : Terminal) → ¬ IsDue h (End n t)
+abbrev pub EndsNone : (base : Kept) → List Event → Type 0
+EndsNone base h = (n : ℕ) (t : Terminal) → ¬ IsDue base h (End n t)
 
 -- after such an event what is due to end was so before
-pub due_calm : (h : List Event) (e : Event) → IsLawful h → MayFollow h e → ends_or_declines e ≡ false → FiresNone h e → (n : ℕ) (t : Terminal) →
-    IsDue (h ++ e ∷ []) (End n t) → IsDue h (End n t)
-due_calm h e law next calm unfired n t d = by_reason (due_before h e law next n t d) where
+pub due_calm : (base : Kept) → (h : List Event) (e : Event) → IsLawful base h → MayFollow base h e → ends_or_declines e ≡ false → FiresNone h e → (n : ℕ) (t : Terminal) →
+    IsDue base (h ++ e ∷ []) (End n t) → IsDue base h (End n t)
+due_calm base h e law next calm unfired n t d = by_reason (due_before base h e law next n t d) where
   ends_calm : (x : Event) → ends_or_declines x ≡ false → ends_as x ≡ Some t → ⊥
   ends_calm (End c u) still now = false≢true (sym still)
   ends_calm _ still now = none-some t now
@@ -50,33 +51,33 @@ due_calm h e law next calm unfired n t d = by_reason (due_before h e law next n 
   completes_calm (Decline f) still now = false≢true (sym still)
   completes_calm _ still now = false≢true now
 
-  by_reason : IsDue h (End n t) ⊎ IsReason h e n t → IsDue h (End n t)
+  by_reason : IsDue base h (End n t) ⊎ IsReason h e n t → IsDue base h (End n t)
   by_reason (inl before) = before
   by_reason (inr (ends_so now)) = absurd (ends_calm e calm now)
   by_reason (inr (completes_one now whole)) = absurd (completes_calm e calm now)
   by_reason (inr (fires_it now whole)) = absurd (both_ways (list_any (is_firing_of n) (stops_of h e)) (unfired n) now)
 
 -- so no node is, where none was
-pub ends_none_on : (h : List Event) (e : Event) → IsLawful h → MayFollow h e → ends_or_declines e ≡ false → FiresNone h e → EndsNone h →
-    EndsNone (h ++ e ∷ [])
-ends_none_on h e law next calm unfired ends_none n t d = ends_none n t (due_calm h e law next calm unfired n t d)
+pub ends_none_on : (base : Kept) → (h : List Event) (e : Event) → IsLawful base h → MayFollow base h e → ends_or_declines e ≡ false → FiresNone h e → EndsNone base h →
+    EndsNone base (h ++ e ∷ [])
+ends_none_on base h e law next calm unfired ends_none n t d = ends_none n t (due_calm base h e law next calm unfired n t d)
 
-pub settled_ends_none : (h : List Event) → IsSettled h → EndsNone h
-settled_ends_none h settled n t d = settled.none (End n t) (due (settled_connected h settled) d)
+pub settled_ends_none : (base : Kept) → (h : List Event) → IsSettled base h → EndsNone base h
+settled_ends_none base h settled n t d = settled.none (End n t) (due (settled_connected base h settled) d)
 
 -- where no node is due to end, no marks of an open node give an event
-quiet_ends_none : (h : List Event) → EndsNone h → (n : ℕ) (made : Event) → is_open h n ≡ true → slice_get h n ≡ Some made →
-    due_at made (marks_of h n) n ≡ None
-quiet_ends_none h ends_none n made o at_n = by_terminal (terminal_due made (marks_of h n)) refl where
-  by_terminal : (u : Option Terminal) → terminal_due made (marks_of h n) ≡ u → option_map (λ t. End n t) u ≡ None
+quiet_ends_none : (base : Kept) → (h : List Event) → EndsNone base h → (n : ℕ) (made : Event) → is_open h n ≡ true → slice_get h n ≡ Some made →
+    due_at made (marks_of base h n) n ≡ None
+quiet_ends_none base h ends_none n made o at_n = by_terminal (terminal_due made (marks_of base h n)) refl where
+  by_terminal : (u : Option Terminal) → terminal_due made (marks_of base h n) ≡ u → option_map (λ t. End n t) u ≡ None
   by_terminal None found = refl
-  by_terminal (Some t) found = absurd (ends_none n t (terminal_due_due h n made t o at_n found))
+  by_terminal (Some t) found = absurd (ends_none n t (terminal_due_due base h n made t o at_n found))
 
 -- so none do after such an event
-pub quiet_on : (h : List Event) (e : Event) → IsLawful h → MayFollow h e → IsSettled h → ends_or_declines e ≡ false → FiresNone h e → (n : ℕ) (made : Event) →
-    is_open (h ++ e ∷ []) n ≡ true → slice_get (h ++ e ∷ []) n ≡ Some made → due_at made (marks_of (h ++ e ∷ []) n) n ≡ None
-quiet_on h e law next settled calm unfired n made o at_n =
-    quiet_ends_none (h ++ e ∷ []) (ends_none_on h e law next calm unfired (settled_ends_none h settled)) n made o at_n
+pub quiet_on : (base : Kept) → (h : List Event) (e : Event) → IsLawful base h → MayFollow base h e → IsSettled base h → ends_or_declines e ≡ false → FiresNone h e → (n : ℕ) (made : Event) →
+    is_open (h ++ e ∷ []) n ≡ true → slice_get (h ++ e ∷ []) n ≡ Some made → due_at made (marks_of base (h ++ e ∷ []) n) n ≡ None
+quiet_on base h e law next settled calm unfired n made o at_n =
+    quiet_ends_none base (h ++ e ∷ []) (ends_none_on base h e law next calm unfired (settled_ends_none base h settled)) n made o at_n
 
 -- connections that nobody uses ----------------------------------------------------------------------
 
@@ -91,17 +92,17 @@ abbrev pub HasNoUnused : List Event → Type 0
 HasNoUnused h = (c g : ℕ) → ¬ IsUnused h c g
 
 -- in a settled history there is none
-pub settled_used : (h : List Event) → IsSettled h → HasNoUnused h
-settled_used h settled c g u = settled.none (Close c) (due (settled_connected h settled) (left u.alive u.made u.auto u.unsubscribed))
+pub settled_used : (base : Kept) → (h : List Event) → IsSettled base h → HasNoUnused h
+settled_used base h settled c g u = settled.none (Close c) (due (settled_connected base h settled) (left u.alive u.made u.auto u.unsubscribed))
 
 -- an open subscriber is among those of its hub
-subscriber_listed : (h : List Event) (g s : ℕ) → at (is_subscriber_of g) h s ≡ true → is_open h s ≡ true → open_subscribers h g ≡ [] → ⊥
+pub subscriber_listed : (h : List Event) (g s : ℕ) → at (is_subscriber_of g) h s ≡ true → is_open h s ≡ true → open_subscribers h g ≡ [] → ⊥
 subscriber_listed h g s subscribes o none =
     let l : s < length h = is_open_within h s o in
     filter_nonempty (λ m. at (is_subscriber_of g) h m && is_open h m) 0 (length h) s (omega arith) (omega arith) (and_from _ _ subscribes o) none
 
 -- a hub without an open one has none
-none_subscribed : (h : List Event) (g : ℕ) → ((s : ℕ) → at (is_subscriber_of g) h s ≡ true → is_open h s ≡ true → ⊥) → open_subscribers h g ≡ []
+pub none_subscribed : (h : List Event) (g : ℕ) → ((s : ℕ) → at (is_subscriber_of g) h s ≡ true → is_open h s ≡ true → ⊥) → open_subscribers h g ≡ []
 none_subscribed h g none = by_list (open_subscribers h g) refl where
   passes : ℕ → Bool
   passes m = at (is_subscriber_of g) h m && is_open h m
@@ -124,136 +125,136 @@ abbrev pub KeepsSubscribers : List Event → List Event → ℕ → Type 0
 KeepsSubscribers h k g = (s : ℕ) → at (is_subscriber_of g) h s ≡ true → is_open h s ≡ true → is_open k s ≡ true
 
 -- then an older connection of g that nobody uses was so before
-pub unused_older : (h t k : List Event) → k ≡ h ++ t → IsLawful k → (c g : ℕ) → IsUnused k c g → c < length h → KeepsSubscribers h k g → IsUnused h c g
-unused_older h t k grown law c g u l keeps = record {
+pub unused_older : (base : Kept) → (h t k : List Event) → k ≡ h ++ t → IsLawful base k → (c g : ℕ) → IsUnused k c g → c < length h → KeepsSubscribers h k g → IsUnused h c g
+unused_older base h t k grown law c g u l keeps = record {
   alive = open_older h t c l (ap (λ (q : List Event). is_open q c) (sym grown) ∙ u.alive);
   made = sym (slice_get-append h t c l) ∙ ap (λ (q : List Event). slice_get q c) (sym grown) ∙ u.made;
   auto = sym (at-append is_auto_hub h t g hub_older) ∙ ap (λ (q : List Event). at is_auto_hub q g) (sym grown) ∙ u.auto;
   unsubscribed = none_subscribed h g (λ s subscribes was. subscriber_listed k g s (subscribes_still s subscribes was) (keeps s subscribes was) u.unsubscribed);
 } where
   hub_older : g < length h
-  hub_older = let older : g < c = connection_hub k law g c u.made in omega arith
+  hub_older = let older : g < c = connection_hub base k law g c u.made in omega arith
 
   subscribes_still : (s : ℕ) → at (is_subscriber_of g) h s ≡ true → is_open h s ≡ true → at (is_subscriber_of g) k s ≡ true
   subscribes_still s subscribes was =
       ap (λ (q : List Event). at (is_subscriber_of g) q s) grown ∙ at-append (is_subscriber_of g) h t s (is_open_within h s was) ∙ subscribes
 
 -- after an event that closes nothing only what it connects is unused that was not before
-unused_new : (h : List Event) (e : Event) (c g : ℕ) → IsLawful (h ++ e ∷ []) → ClosesNone h e → HasNoUnused h → IsUnused (h ++ e ∷ []) c g → e ≡ Connect g
-unused_new h e c g law still used u = by_place (cases_order c (length h)) where
+unused_new : (base : Kept) → (h : List Event) (e : Event) (c g : ℕ) → IsLawful base (h ++ e ∷ []) → ClosesNone h e → HasNoUnused h → IsUnused (h ++ e ∷ []) c g → e ≡ Connect g
+unused_new base h e c g law still used u = by_place (cases_order c (length h)) where
   by_place : (c ≡ length h) ⊎ ((c < length h) ⊎ (length h < c)) → e ≡ Connect g
   by_place (inl same) = same_Some e (Connect g) (sym (slice_get_last h e) ∙ ap (slice_get (h ++ e ∷ [])) (sym same) ∙ u.made)
-  by_place (inr (inl l)) = absurd (used c g (unused_older h (e ∷ []) (h ++ e ∷ []) refl law c g u l (λ s subscribes was. still s was)))
+  by_place (inr (inl l)) = absurd (used c g (unused_older base h (e ∷ []) (h ++ e ∷ []) refl law c g u l (λ s subscribes was. still s was)))
   by_place (inr (inr past)) = absurd (let w = is_open_within (h ++ e ∷ []) c u.alive in omega (arith, length-append h (e ∷ [])))
 
 -- settled histories ---------------------------------------------------------------------------------
 
 -- nothing is forced where no hub waits, no node is due to end and each connection is used
-settled_undue : (h : List Event) → IsConnected h → EndsNone h → HasNoUnused h → IsSettled h
-settled_undue h none_waits ends_none used = record { none = none } where
-  undue : {e : Event} → IsDue h e → ⊥
+settled_undue : (base : Kept) → (h : List Event) → IsConnected h → EndsNone base h → HasNoUnused h → IsSettled base h
+settled_undue base h none_waits ends_none used = record { none = none } where
+  undue : {e : Event} → IsDue base h e → ⊥
   undue (mirrored {p = p} {t = t} o k e) = ends_none p t (mirrored o k e)
   undue (fired {u = u} o k e) = ends_none u Completed (fired o k e)
   undue (failed {f = f} {c = code} o k e) = ends_none f (Error code) (failed o k e)
-  undue (completed {f = f} o k n s e c w) = ends_none f Completed (completed o k n s e c w)
+  undue (completed {f = f} o k n e c w) = ends_none f Completed (completed o k n e c w)
   undue (cut {s = s} {t = t} o e) = ends_none s t (cut o e)
   undue (left {c = c} {g = g} o at_c a n) = used c g (record { alive = o; made = at_c; auto = a; unsubscribed = n })
 
-  none : (e : Event) → IsForced h e → ⊥
+  none : (e : Event) → IsForced base h e → ⊥
   none e (connecting {g = g} d) = none_waits g d
   none e (due n d) = undue d
 
-allowed_manual : {h : List Event} {g : ℕ} → IsAllowed h (Connect g) → at is_manual_hub h g ≡ true
-allowed_manual (connected manual unconnected few) = manual
+allowed_manual : (base : Kept) → {h : List Event} {g : ℕ} → IsAllowed base h (Connect g) → at is_manual_hub h g ≡ true
+allowed_manual base (connected manual unconnected few) = manual
 
 -- what is connected after a settled history is a hub that a caller connects
-connect_manual : {h : List Event} {g : ℕ} → IsSettled h → MayFollow h (Connect g) → at is_manual_hub h g ≡ true
-connect_manual {g = g} settled (forced f) = absurd (settled.none (Connect g) f)
-connect_manual settled (allowed s a) = allowed_manual a
+connect_manual : (base : Kept) → {h : List Event} {g : ℕ} → IsSettled base h → MayFollow base h (Connect g) → at is_manual_hub h g ≡ true
+connect_manual base {g = g} settled (forced f) = absurd (settled.none (Connect g) f)
+connect_manual base settled (allowed s a) = allowed_manual base a
 
 -- what shuts nothing closes nothing
 pub closes_none_kept : (h : List Event) (e : Event) → shuts_none e ≡ true → ClosesNone h e
 closes_none_kept h e spares n was = is_open_kept h e n (is_open_within h n was) spares ∙ was
 
 -- and what closes nothing is no closing
-closes_none_by : (h : List Event) (e : Event) → MayFollow h e → ends_or_declines e ≡ false → ClosesNone h e → closes_none e ≡ true
-closes_none_by h (End n t) next calm still = absurd (false≢true (sym calm))
-closes_none_by h (Close n) next calm still =
-    let o = may_close next in
+closes_none_by : (base : Kept) → (h : List Event) (e : Event) → MayFollow base h e → ends_or_declines e ≡ false → ClosesNone h e → closes_none e ≡ true
+closes_none_by base h (End n t) next calm still = absurd (false≢true (sym calm))
+closes_none_by base h (Close n) next calm still =
+    let o = may_close base next in
     let whole : is_open (h ++ Close n ∷ []) n ≡ (is_open h n && not (is_cut h (Close n) n)) = is_open_cut h (Close n) n (is_open_within h n o) in
     absurd (both_ways (is_open (h ++ Close n ∷ []) n) (whole ∙ rw (self_cut h (Close n) n (eq-eqb n n refl), o) refl) (still n o))
-closes_none_by h _ next calm still = refl
+closes_none_by base h _ next calm still = refl
 
 -- After a calm event that closes nothing and subscribes to no hub nothing is forced, where nothing was before
-pub settled_on : (h : List Event) (e : Event) → IsLawful h → MayFollow h e → IsSettled h → ends_or_declines e ≡ false → FiresNone h e → ClosesNone h e →
-    hub_subscribed e ≡ None → IsSettled (h ++ e ∷ [])
-settled_on h e law next settled calm unfired still unsubscribed =
-    settled_undue (h ++ e ∷ []) (kept_unsubscribed h e law (settled_connected h settled) (closes_none_by h e next calm still) unsubscribed)
-    (ends_none_on h e law next calm unfired (settled_ends_none h settled)) used
+pub settled_on : (base : Kept) → (h : List Event) (e : Event) → IsLawful base h → MayFollow base h e → IsSettled base h → ends_or_declines e ≡ false → FiresNone h e → ClosesNone h e →
+    hub_subscribed e ≡ None → IsSettled base (h ++ e ∷ [])
+settled_on base h e law next settled calm unfired still unsubscribed =
+    settled_undue base (h ++ e ∷ []) (kept_unsubscribed base h e law (settled_connected base h settled) (closes_none_by base h e next calm still) unsubscribed)
+    (ends_none_on base h e law next calm unfired (settled_ends_none base h settled)) used
   where
     used : HasNoUnused (h ++ e ∷ [])
     used c g u =
-        let is = unused_new h e c g (IsLawful-push h e law next) still (settled_used h settled) u in
-        let manual = connect_manual settled (subst (λ (x : Event). MayFollow h x) is next) in
+        let is = unused_new base h e c g (IsLawful-push base h e law next) still (settled_used base h settled) u in
+        let manual = connect_manual base settled (subst (λ (x : Event). MayFollow base h x) is next) in
         is_both (slice_get h g) manual (sym (at-append is_auto_hub h (e ∷ []) g (at_within is_manual_hub h g manual)) ∙ u.auto)
 
 -- to a settled history nothing is added
-pub unforced : {h k : List Event} → IsForcedOn h k → IsSettled h → k ≡ h
-unforced stays settled = refl
-unforced (more {e = e} on f) settled = absurd (settled.none e (subst (λ (q : List Event). IsForced q e) (unforced on settled) f))
+pub unforced : (base : Kept) → {h k : List Event} → IsForcedOn base h k → IsSettled base h → k ≡ h
+unforced base stays settled = refl
+unforced base (more {e = e} on f) settled = absurd (settled.none e (subst (λ (q : List Event). IsForced base q e) (unforced base on settled) f))
 
 -- subscribers ---------------------------------------------------------------------------------------
 
 -- where no other hub waits than that of s, and nothing else is due
-connects_at_most : (h : List Event) (g s : ℕ) → IsLawful h → EndsNone h → HasNoUnused h → ((k : ℕ) → IsConnectDue h k → k ≡ g) →
-    at (is_subscriber_of g) h s ≡ true → is_open h s ≡ true → ConnectsAtMost h g
-connects_at_most h g s law ends_none used only subscribes o = by_test (at is_auto_hub h g) refl where
+connects_at_most : (base : Kept) → (h : List Event) (g s : ℕ) → IsLawful base h → EndsNone base h → HasNoUnused h → ((k : ℕ) → IsConnectDue h k → k ≡ g) →
+    at (is_subscriber_of g) h s ≡ true → is_open h s ≡ true → ConnectsAtMost base h g
+connects_at_most base h g s law ends_none used only subscribes o = by_test (at is_auto_hub h g) refl where
   still : ClosesNone h (Connect g)
   still = closes_none_kept h (Connect g) refl
 
-  used_after : MayFollow h (Connect g) → HasNoUnused (h ++ Connect g ∷ [])
+  used_after : MayFollow base h (Connect g) → HasNoUnused (h ++ Connect g ∷ [])
   used_after next c k u =
-      let is = unused_new h (Connect g) c k (IsLawful-push h (Connect g) law next) still used u in
+      let is = unused_new base h (Connect g) c k (IsLawful-push base h (Connect g) law next) still used u in
       let same : g ≡ k = cc in
       let subscribes_on = at-append (is_subscriber_of g) h (Connect g ∷ []) s (is_open_within h s o) ∙ subscribes in
       subscriber_listed (h ++ Connect g ∷ []) g s subscribes_on (still s o) (ap (open_subscribers (h ++ Connect g ∷ [])) same ∙ u.unsubscribed)
 
-  alone : IsConnectDue h g → (e : Event) → IsForced h e → e ≡ Connect g
+  alone : IsConnectDue h g → (e : Event) → IsForced base h e → e ≡ Connect g
   alone d e (connecting {g = k} w) = ap (λ q. Connect q) (only k w)
   alone d e (due none x) = absurd (none g d)
 
-  waiting : IsConnectDue h g → ConnectsAtMost h g
+  waiting : IsConnectDue h g → ConnectsAtMost base h g
   waiting d =
       let next = forced (connecting d) in
       is_waiting_for (connecting d) (alone d)
-      (settled_undue (h ++ Connect g ∷ []) (connected_first h g only) (ends_none_on h (Connect g) law next refl (λ m. refl) ends_none) (used_after next))
+      (settled_undue base (h ++ Connect g ∷ []) (connected_first base h g only) (ends_none_on base h (Connect g) law next refl (λ m. refl) ends_none) (used_after next))
 
-  done : ((k : ℕ) → IsConnectDue h k → k ≡ g → ⊥) → ConnectsAtMost h g
-  done other = is_done (settled_undue h (λ k d. other k d (only k d)) ends_none used)
+  done : ((k : ℕ) → IsConnectDue h k → k ≡ g → ⊥) → ConnectsAtMost base h g
+  done other = is_done (settled_undue base h (λ k d. other k d (only k d)) ends_none used)
 
-  by_list : at is_auto_hub h g ≡ true → (cs : List ℕ) → open_connections h g ≡ cs → ConnectsAtMost h g
+  by_list : at is_auto_hub h g ≡ true → (cs : List ℕ) → open_connections h g ≡ cs → ConnectsAtMost base h g
   by_list auto [] found =
       let whole : (t : Terminal) → ¬ SourceEnded h s t = (λ t ended. ends_none s t (cut o ended)) in
       waiting (record { auto = auto; subscriber = s; subscribes = subscribes; subscribed = o; waits = whole; unconnected = found })
   by_list auto (c ∷ cs) found = done (λ k d same. let none : c ∷ cs ≡ [] = sym found ∙ ap (open_connections h) (sym same) ∙ d.unconnected in cc)
 
-  by_test : (b : Bool) → at is_auto_hub h g ≡ b → ConnectsAtMost h g
+  by_test : (b : Bool) → at is_auto_hub h g ≡ b → ConnectsAtMost base h g
   by_test true auto = by_list auto (open_connections h g) refl
   by_test false manual = done (λ k d same. both_ways (at is_auto_hub h g) manual (ap (at is_auto_hub h) (sym same) ∙ d.auto))
 
 -- what is opened is opened after a settled history
-pub opened_settled : {h : List Event} {place : Place} {kind : Kind} → MayFollow h (Open place kind) → IsSettled h
-opened_settled (forced f) = absurd (false≢true (forced_kind f))
-opened_settled (allowed settled a) = settled
+pub opened_settled : (base : Kept) → {h : List Event} {place : Place} {kind : Kind} → MayFollow base h (Open place kind) → IsSettled base h
+opened_settled base (forced f) = absurd (false≢true (forced_kind base f))
+opened_settled base (allowed settled a) = settled
 
 -- After the opening of a subscriber that closes nothing either nothing is forced, or just that its hub is connected, and then nothing
-pub subscribed_on : (h : List Event) (place : Place) (g : ℕ) → IsLawful h → MayFollow h (Open place (Sub g)) → ClosesNone h (Open place (Sub g)) →
-    ConnectsAtMost (h ++ Open place (Sub g) ∷ []) g
-subscribed_on h place g law next still =
-    let settled = opened_settled next in
-    let law_on = IsLawful-push h (Open place (Sub g)) law next in
-    let ends_none = ends_none_on h (Open place (Sub g)) law next refl (λ n. refl) (settled_ends_none h settled) in
+pub subscribed_on : (base : Kept) → (h : List Event) (place : Place) (g : ℕ) → IsLawful base h → MayFollow base h (Open place (Sub g)) → ClosesNone h (Open place (Sub g)) →
+    ConnectsAtMost base (h ++ Open place (Sub g) ∷ []) g
+subscribed_on base h place g law next still =
+    let settled = opened_settled base next in
+    let law_on = IsLawful-push base h (Open place (Sub g)) law next in
+    let ends_none = ends_none_on base h (Open place (Sub g)) law next refl (λ n. refl) (settled_ends_none base h settled) in
     let subscribes : at (is_subscriber_of g) (h ++ Open place (Sub g) ∷ []) (length h) ≡ true = rw (slice_get_last h (Open place (Sub g))) (eq-eqb g g refl) in
-    connects_at_most (h ++ Open place (Sub g) ∷ []) g (length h) law_on ends_none
-    (λ c k u. let is : Open place (Sub g) ≡ Connect k = unused_new h (Open place (Sub g)) c k law_on still (settled_used h settled) u in cc)
-    (kept_subscribed h place g law (settled_connected h settled)) subscribes (is_open_new h (Open place (Sub g)) next)
+    connects_at_most base (h ++ Open place (Sub g) ∷ []) g (length h) law_on ends_none
+    (λ c k u. let is : Open place (Sub g) ≡ Connect k = unused_new base h (Open place (Sub g)) c k law_on still (settled_used base h settled) u in cc)
+    (kept_subscribed base h place g law (settled_connected base h settled)) subscribes (is_open_new base h (Open place (Sub g)) next)

@@ -8,6 +8,7 @@ use Rattle.std.proofs.Math.Nat.{add-mul}
 use Rattle.std.proofs.lemmas.List.{length-take, take_all}
 use Rattle.std.proofs.lemmas.List.Elements.{filter_map-append}
 use Rattle.std.proofs.lemmas.List.Sums.{sum_by-cons, sum_by-append}
+use Rattle.rx_event.specs.Kept.{Kept}
 use Rattle.rx_event.specs.declared.event.Event.{Event}
 use Rattle.rx_event.specs.declared.event.Event.TheVariants.{Connect}
 use Rattle.rx_event.specs.Events.{is_subscriber_of}
@@ -87,13 +88,13 @@ ends_below h d subscribed (suc j) n l o late = whole (ends_each h (onward h n) (
   by_stop up None = by_event up (slice_get h n) refl
 
 -- the hubs above a subscriber are later than its own, and there are only so many
-ends_from : (h : List Event) → IsLawful h → (d : ℕ) → EndsFrom h d
-ends_from h law zero = λ g s subscribes o l. absurd (let w = subscriber_hub h law g s subscribes in omega arith)
-ends_from h law (suc d) = λ g s subscribes o l. ends_below h d (ends_from h law d) (suc s) s (omega arith) o (λ a k within connects. let m = hubs_in_order h law g s a k subscribes within connects in omega arith)
+ends_from : (base : Kept) → (h : List Event) → IsLawful base h → (d : ℕ) → EndsFrom h d
+ends_from base h law zero = λ g s subscribes o l. absurd (let w = subscriber_hub base h law g s subscribes in omega arith)
+ends_from base h law (suc d) = λ g s subscribes o l. ends_below h d (ends_from base h law d) (suc s) s (omega arith) o (λ a k within connects. let m = hubs_in_order base h law g s a k subscribes within connects in omega arith)
 
 -- so the climb from each open node ends
-pub visits_end : (h : List Event) → IsLawful h → (n : ℕ) → is_open h n ≡ true → (vs : List ℕ) × Visits h (n ∷ []) vs
-visits_end h law n o = ends_below h (length h) (ends_from h law (length h)) (suc n) n (omega arith) o (λ a k within connects. omega arith)
+pub visits_end : (base : Kept) → (h : List Event) → IsLawful base h → (n : ℕ) → is_open h n ≡ true → (vs : List ℕ) × Visits h (n ∷ []) vs
+visits_end base h law n o = ends_below h (length h) (ends_from base h law (length h)) (suc n) n (omega arith) o (λ a k within connects. omega arith)
 
 -- the climb, as far as the limit ------------------------------------------------------------------
 
@@ -128,8 +129,8 @@ climbs_each {h = h} (visit {n = n} {others = others} {later = later} {rest = res
     λ i. sym first i ++ next i
 
 -- within the limit the climb is the node, and then the climbs of where it goes on
-pub climb_in_order : (h : List Event) → IsLawful h → (n : ℕ) → is_open h n ≡ true → visits h n ≤ most_visits → climb h n ≡ n ∷ flat_map (climb h) (onward h n)
-climb_in_order h law n o few = by_visits (visits_end h law n o) where
+pub climb_in_order : (base : Kept) → (h : List Event) → IsLawful base h → (n : ℕ) → is_open h n ≡ true → visits h n ≤ most_visits → climb h n ≡ n ∷ flat_map (climb h) (onward h n)
+climb_in_order base h law n o few = by_visits (visits_end base h law n o) where
   by_parts : {m : ℕ} {vs : List ℕ} → Visits h (m ∷ []) vs → climb h m ≡ vs → length vs ≤ most_visits → climb h m ≡ m ∷ flat_map (climb h) (onward h m)
   by_parts (visit {n = m} {later = later} p nowhere) whole short =
       let later_short : length later ≤ most_visits = omega (arith, length-append later []) in
@@ -161,10 +162,10 @@ filter_map-flat_map f g [] = refl
 filter_map-flat_map f g (x ∷ xs) = filter_map-append f (g x) (flat_map g xs) ∙ ap (λ rest. filter_map f (g x) ++ rest) (filter_map-flat_map f g xs)
 
 -- else its stops are those of where it goes on
-pub stops_in_order : (h : List Event) → IsLawful h → (n : ℕ) → is_open h n ≡ true → visits h n ≤ most_visits → stop_at h n ≡ None →
+pub stops_in_order : (base : Kept) → (h : List Event) → IsLawful base h → (n : ℕ) → is_open h n ≡ true → visits h n ≤ most_visits → stop_at h n ≡ None →
     stops h n ≡ flat_map (stops h) (onward h n)
 unfolding stops
-stops_in_order h law n o few passes = ap (filter_map (stop_at h)) (climb_in_order h law n o few) ∙ ap (λ t. cons_option t (filter_map (stop_at h) (flat_map (climb h) (onward h n)))) passes ∙ filter_map-flat_map (stop_at h) (climb h) (onward h n)
+stops_in_order base h law n o few passes = ap (filter_map (stop_at h)) (climb_in_order base h law n o few) ∙ ap (λ t. cons_option t (filter_map (stop_at h) (flat_map (climb h) (onward h n)))) passes ∙ filter_map-flat_map (stop_at h) (climb h) (onward h n)
 
 -- counts ------------------------------------------------------------------------------------------
 

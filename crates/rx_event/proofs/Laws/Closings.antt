@@ -5,6 +5,7 @@ use Rattle.std.specs.List.{count_by, list_all}
 use Rattle.std.specs.Option.{option_map_or}
 use Rattle.std.proofs.lemmas.Bool.{both_ways, false≢true, and_parts, and_from, and_left, eq-eqb, false_from_ne_true}
 use Rattle.std.proofs.lemmas.Option.{slice_get_within}
+use Rattle.rx_event.specs.Kept.{Kept}
 use Rattle.rx_event.specs.declared.event.Mode.TheVariants.{Manual}
 use Rattle.rx_event.specs.declared.event.Event.{Event}
 use Rattle.rx_event.specs.declared.event.Event.TheVariants.{Open, Hub, Connect, End, Close}
@@ -42,18 +43,18 @@ neither_opens h e no_node no_hub = record {
   auto = λ g same. absurd (both_ways (makes_node e) no_node (ap makes_node same));
 }
 
-due_opens : {h : List Event} {e : Event} → IsDue h e → OpensNone h e
-due_opens {h = h} (mirrored {p = p} {t = t} o k c) = neither_opens h (End p t) refl refl
-due_opens {h = h} (fired {u = u} o k f) = neither_opens h (End u _) refl refl
-due_opens {h = h} (failed {f = m} o k c) = neither_opens h (End m _) refl refl
-due_opens {h = h} (completed {f = m} o k n s e c w) = neither_opens h (End m _) refl refl
-due_opens {h = h} (cut {s = s} {t = t} o c) = neither_opens h (End s t) refl refl
-due_opens {h = h} (left {c = c} o at_c a n) = neither_opens h (Close c) refl refl
+due_opens : (base : Kept) → {h : List Event} {e : Event} → IsDue base h e → OpensNone h e
+due_opens base {h = h} (mirrored {p = p} {t = t} o k c) = neither_opens h (End p t) refl refl
+due_opens base {h = h} (fired {u = u} o k f) = neither_opens h (End u _) refl refl
+due_opens base {h = h} (failed {f = m} o k c) = neither_opens h (End m _) refl refl
+due_opens base {h = h} (completed {f = m} o k n e c w) = neither_opens h (End m _) refl refl
+due_opens base {h = h} (cut {s = s} {t = t} o c) = neither_opens h (End s t) refl refl
+due_opens base {h = h} (left {c = c} o at_c a n) = neither_opens h (Close c) refl refl
 
 -- nor does what is forced
-pub forced_opens : {h : List Event} {e : Event} → IsForced h e → OpensNone h e
-forced_opens (due n d) = due_opens d
-forced_opens {h = h} (connecting {g = g} d) = record {
+pub forced_opens : (base : Kept) → {h : List Event} {e : Event} → IsForced base h e → OpensNone h e
+forced_opens base (due n d) = due_opens base d
+forced_opens base {h = h} (connecting {g = g} d) = record {
   no_root = refl;
   no_hub = refl;
   auto = λ k same. let hub : g ≡ k = cc in rw (← hub) d.auto;
@@ -64,9 +65,9 @@ pub data OpensNoneUpTo (h : List Event) : List Event → Type 0 where
   stays_so : OpensNoneUpTo h h
   one_further : {k : List Event} {e : Event} → OpensNoneUpTo h k → OpensNone k e → OpensNoneUpTo h (k ++ e ∷ [])
 
-forced_on : {h m k : List Event} → IsForcedOn m k → OpensNoneUpTo h m → OpensNoneUpTo h k
-forced_on stays before = before
-forced_on (more rest f) before = one_further (forced_on rest before) (forced_opens f)
+forced_on : (base : Kept) → {h m k : List Event} → IsForcedOn base m k → OpensNoneUpTo h m → OpensNoneUpTo h k
+forced_on base stays before = before
+forced_on base (more rest f) before = one_further (forced_on base rest before) (forced_opens base f)
 
 not_true : (b : Bool) → not b ≡ true → b ≡ false
 not_true false n = refl
@@ -81,8 +82,8 @@ outside_on h m (e ∷ outside) neither before =
     rw (← append_assoc m (e ∷ []) outside) (outside_on h (m ++ e ∷ []) outside parts.1 (one_further before opens))
 
 -- so after events that make neither a node nor a hub, and what they force
-pub makes_neither_opens : {h k : List Event} → MakesNeither h k → OpensNoneUpTo h k
-makes_neither_opens {h = h} on = forced_on on.forced (outside_on h h on.outside on.neither stays_so)
+pub makes_neither_opens : (base : Kept) → {h k : List Event} → MakesNeither base h k → OpensNoneUpTo h k
+makes_neither_opens base {h = h} on = forced_on base on.forced (outside_on h h on.outside on.neither stays_so)
 
 -- roots --------------------------------------------------------------------------------------------
 
@@ -262,23 +263,23 @@ closed_after h c = is_open_outside-close h c c ∙ rw (is_within_self h c) (no_l
   no_longer false = refl
 
 -- and a root or a connection less, whatever is forced then
-pub root_less : (h k : List Event) (n : ℕ) → is_open_root h n ≡ true → IsForcedOn (h ++ Close n ∷ []) k → open_root_count k + 1 ≤ open_root_count h
-root_less h k n root f =
-    let rest = roots_no_more (forced_on f stays_so) in
+pub root_less : (base : Kept) → (h k : List Event) (n : ℕ) → is_open_root h n ≡ true → IsForcedOn base (h ++ Close n ∷ []) k → open_root_count k + 1 ≤ open_root_count h
+root_less base h k n root f =
+    let rest = roots_no_more (forced_on base f stays_so) in
     let less = count_less is_open_root h (Close n) n roots_kept_back (close_opens h n) root (and_left _ _ (closed_after h n)) in
     omega arith
 
-pub connection_less : (h k : List Event) (c : ℕ) → is_manual_connection h c ≡ true → IsForcedOn (h ++ Close c ∷ []) k →
+pub connection_less : (base : Kept) → (h k : List Event) (c : ℕ) → is_manual_connection h c ≡ true → IsForcedOn base (h ++ Close c ∷ []) k →
     manual_connection_count k + 1 ≤ manual_connection_count h
-connection_less h k c connection f =
-    let rest = connections_no_more (forced_on f stays_so) in
+connection_less base h k c connection f =
+    let rest = connections_no_more (forced_on base f stays_so) in
     let less = count_less is_manual_connection h (Close c) c connections_kept_back (close_opens h c) connection (and_left _ _ (closed_after h c)) in
     omega arith
 
 -- the hub of a connection that is closed is not connected then
-pub hub_disconnected : (h k : List Event) (g c : ℕ) → IsLawful h → at is_manual_hub h g ≡ true → is_open h c ≡ true → slice_get h c ≡ Some (Connect g) →
-    IsForcedOn (h ++ Close c ∷ []) k → open_connections k g ≡ []
-hub_disconnected h k g c law manual alive connects f = unconnected_after (forced_on f stays_so) g here (by_list (open_connections (h ++ Close c ∷ []) g) refl) where
+pub hub_disconnected : (base : Kept) → (h k : List Event) (g c : ℕ) → IsLawful base h → at is_manual_hub h g ≡ true → is_open h c ≡ true → slice_get h c ≡ Some (Connect g) →
+    IsForcedOn base (h ++ Close c ∷ []) k → open_connections k g ≡ []
+hub_disconnected base h k g c law manual alive connects f = unconnected_after (forced_on base f stays_so) g here (by_list (open_connections (h ++ Close c ∷ []) g) refl) where
   hub : slice_get h g ≡ Some (Hub Manual)
   hub = manual_hub h g manual
 
@@ -293,20 +294,20 @@ hub_disconnected h k g c law manual alive connects f = unconnected_after (forced
   by_list (d ∷ cs) found =
       let first : (slice_get (h ++ Close c ∷ []) d ≡ Some (Connect g)) × (is_open (h ++ Close c ∷ []) d ≡ true) = first_connection (h ++ Close c ∷ []) g d cs found in
       let before : IsManualConnection h g d = connection_before h (Close c) g d (close_opens h c) (record { connected = first.0; manual = later; alive = first.1 }) in
-      let same : c ≡ d = one_connection h law g c d (record { one = rw connects (eq-eqb g g refl); one_open = alive; other = rw before.connected (eq-eqb g g refl); other_open = before.alive }) in
+      let same : c ≡ d = one_connection base h law g c d (record { one = rw connects (eq-eqb g g refl); one_open = alive; other = rw before.connected (eq-eqb g g refl); other_open = before.alive }) in
       absurd (both_ways _ (closed_after h c) (ap (is_open (h ++ Close c ∷ [])) same ∙ first.1))
 
 -- a disconnection closes the one connection of its hub
-one_listed : (h : List Event) → IsLawful h → (g c : ℕ) → slice_get h c ≡ Some (Connect g) → is_open h c ≡ true → open_connections h g ≡ c ∷ []
-one_listed h law g c connects alive = by_list (open_connections h g) refl (one_open_connection h law g) where
+one_listed : (base : Kept) → (h : List Event) → IsLawful base h → (g c : ℕ) → slice_get h c ≡ Some (Connect g) → is_open h c ≡ true → open_connections h g ≡ c ∷ []
+one_listed base h law g c connects alive = by_list (open_connections h g) refl (one_open_connection base h law g) where
   by_list : (cs : List ℕ) → open_connections h g ≡ cs → length cs ≤ 1 → cs ≡ c ∷ []
   by_list [] found few = absurd (connection_listed h g c connects alive found)
   by_list (d ∷ []) found few =
       let first : (slice_get h d ≡ Some (Connect g)) × (is_open h d ≡ true) = first_connection h g d [] found in
-      ap (λ (n : ℕ). n ∷ []) (one_connection h law g d c (record { one = rw first.0 (eq-eqb g g refl); one_open = first.1; other = rw connects (eq-eqb g g refl); other_open = alive }))
+      ap (λ (n : ℕ). n ∷ []) (one_connection base h law g d c (record { one = rw first.0 (eq-eqb g g refl); one_open = first.1; other = rw connects (eq-eqb g g refl); other_open = alive }))
   by_list (d ∷ e ∷ cs) found few = absurd (omega arith)
 
-pub disconnection_closes : (h k : List Event) (g c : ℕ) → IsLawful h → slice_get h c ≡ Some (Connect g) → is_open h c ≡ true → IsStepOf h (Disconnecting g) k →
-    IsForcedOn (h ++ Close c ∷ []) k
-disconnection_closes h k g c law connects alive step =
-    subst (λ (cs : List ℕ). IsForcedOn (h ++ map (λ n. Close n) cs) k) (one_listed h law g c connects alive) step.forced
+pub disconnection_closes : (base : Kept) → (h k : List Event) (g c : ℕ) → IsLawful base h → slice_get h c ≡ Some (Connect g) → is_open h c ≡ true → IsStepOf base h (Disconnecting g) k →
+    IsForcedOn base (h ++ Close c ∷ []) k
+disconnection_closes base h k g c law connects alive step =
+    subst (λ (cs : List ℕ). IsForcedOn base (h ++ map (λ n. Close n) cs) k) (one_listed base h law g c connects alive) step.forced

@@ -5,6 +5,7 @@ use Rattle.std.specs.List.{sum_by, count_by, range_with_len}
 use Rattle.std.specs.Option.{option_map_or}
 use Rattle.std.proofs.lemmas.Bool.{eq-eqb, eqb-true}
 use Rattle.rx_note.specs.declared.note.Terminal.{Terminal}
+use Rattle.rx_event.specs.Kept.{Kept}
 use Rattle.rx_event.specs.declared.event.Place.TheVariants.{Root, Source, Inner, Notifier}
 use Rattle.rx_event.specs.declared.event.Kind.{Kind}
 use Rattle.rx_event.specs.declared.event.Mode.{Mode}
@@ -39,12 +40,12 @@ count_twice p n =
     shape false = refl
 
 -- one for each open node, two for each held resource, one for each that waits, and what is owed
-pub debt-counts : (h : List Event) → debt h ≡ open_count h + 2 * held_count h + waiting_count h + owed_count h
+pub debt-counts : (base : Kept) → (h : List Event) → debt base h ≡ open_count h + 2 * held_count h + waiting_count h + owed_count base h
 unfolding debt
-debt-counts h =
+debt-counts base h =
     let a = sum_by-plus (λ n. cond (is_open h n) 1 0) (λ n. cond (is_held h n) 2 0) (length h) in
     let b = sum_by-plus (λ n. cond (is_open h n) 1 0 + cond (is_held h n) 2 0) (λ n. cond (is_waiting h n) 1 0) (length h) in
-    let c = sum_by-plus (λ n. cond (is_open h n) 1 0 + cond (is_held h n) 2 0 + cond (is_waiting h n) 1 0) (owed_open h) (length h) in
+    let c = sum_by-plus (λ n. cond (is_open h n) 1 0 + cond (is_held h n) 2 0 + cond (is_waiting h n) 1 0) (owed_open base h) (length h) in
     let d = count_twice (is_held h) (length h) in
     omega arith
 
@@ -55,23 +56,23 @@ zero_or_zero true = refl
 zero_or_zero false = refl
 
 -- a new node owes nothing
-owed_open_new : (h : List Event) (e : Event) → owed_open (h ++ e ∷ []) (length h) ≡ 0
-owed_open_new h e = rw (owed_new h e) (zero_or_zero (is_open (h ++ e ∷ []) (length h) && at is_merging (h ++ e ∷ []) (length h)))
+owed_open_new : (base : Kept) → (h : List Event) → IsLawful base h → (e : Event) → owed_open base (h ++ e ∷ []) (length h) ≡ 0
+owed_open_new base h law e = rw (owed_new base h law e) (zero_or_zero (is_open (h ++ e ∷ []) (length h) && at is_merging (h ++ e ∷ []) (length h)))
 
-owed_count_older : (h : List Event) (e : Event) → owed_count (h ++ e ∷ []) ≡ sum_by (owed_open (h ++ e ∷ [])) (places h)
-owed_count_older h e = let last = sum_by-places-push (owed_open (h ++ e ∷ [])) h e in let new = owed_open_new h e in omega arith
+owed_count_older : (base : Kept) → (h : List Event) → IsLawful base h → (e : Event) → owed_count base (h ++ e ∷ []) ≡ sum_by (owed_open base (h ++ e ∷ [])) (places h)
+owed_count_older base h law e = let last = sum_by-places-push (owed_open base (h ++ e ∷ [])) h e in let new = owed_open_new base h law e in omega arith
 
 -- how many open FlatMaps and Switches the event pays: one or none
 abbrev pub paid_count : List Event → Event → ℕ
 paid_count h e = count_by (λ n. (is_open h n && at is_merging h n) && pays n e) (places h)
 
 -- what is owed after an event that cuts nothing, and what it pays, was owed before, or is projected by it
-pub owed_count-push : (h : List Event) (e : Event) → IsLawful h → MayFollow h e → ((n : ℕ) → is_cut h e n ≡ false) →
-    owed_count (h ++ e ∷ []) + paid_count h e ≡ owed_count h + sum_by (projected_open h (stops_of h e)) (places h)
-owed_count-push h e law next whole =
-    let older = owed_count_older h e in
-    let balance = sums_balance (owed_open (h ++ e ∷ [])) (λ n. cond ((is_open h n && at is_merging h n) && pays n e) 1 0) (owed_open h) (projected_open h (stops_of h e)) (length h) (λ n l.
-    rw (is_open_cut h e n l, whole n, at-append is_merging h (e ∷ []) n l) (shape (is_open h n) (at is_merging h n) (pays n e) _ _ _ (owed-push h e law next n))) in
+pub owed_count-push : (base : Kept) → (h : List Event) (e : Event) → IsLawful base h → MayFollow base h e → ((n : ℕ) → is_cut h e n ≡ false) →
+    owed_count base (h ++ e ∷ []) + paid_count h e ≡ owed_count base h + sum_by (projected_open h (stops_of h e)) (places h)
+owed_count-push base h e law next whole =
+    let older = owed_count_older base h law e in
+    let balance = sums_balance (owed_open base (h ++ e ∷ [])) (λ n. cond ((is_open h n && at is_merging h n) && pays n e) 1 0) (owed_open base h) (projected_open h (stops_of h e)) (length h) (λ n l.
+    rw (is_open_cut h e n l, whole n, at-append is_merging h (e ∷ []) n l) (shape (is_open h n) (at is_merging h n) (pays n e) _ _ _ (owed-push base h e law next n))) in
     omega arith
   where
     inner : (b p : Bool) (x y z : ℕ) → x + cond p 1 0 ≡ y + z → cond b x 0 + cond (b && p) 1 0 ≡ cond b y 0 + cond b z 0
@@ -83,12 +84,12 @@ owed_count-push h e law next whole =
     shape true m p x y z same = inner m p x y z same
     shape false m p x y z same = refl
 
-owed_open_no_rise : (h : List Event) (e : Event) → IsLawful h → MayFollow h e → stops_of h e ≡ [] → (n : ℕ) → n < length h →
-    owed_open (h ++ e ∷ []) n ≤ owed_open h n
-owed_open_no_rise h e law next no_stops n l =
-    let b = owed-push h e law next n in
+owed_open_no_rise : (base : Kept) → (h : List Event) (e : Event) → IsLawful base h → MayFollow base h e → stops_of h e ≡ [] → (n : ℕ) → n < length h →
+    owed_open base (h ++ e ∷ []) n ≤ owed_open base h n
+owed_open_no_rise base h e law next no_stops n l =
+    let b = owed-push base h e law next n in
     let c : count_by (is_projection_to n) (stops_of h e) ≡ 0 = ap (λ ss. count_by (is_projection_to n) ss) no_stops in
-    rw (is_open_cut h e n l, at-append is_merging h (e ∷ []) n l) (shape (is_open h n) (is_cut h e n) (at is_merging h n) (owed (h ++ e ∷ []) n) (owed h n) (omega arith))
+    rw (is_open_cut h e n l, at-append is_merging h (e ∷ []) n l) (shape (is_open h n) (is_cut h e n) (at is_merging h n) (owed base (h ++ e ∷ []) n) (owed base h n) (omega arith))
   where
     shape : (o c m : Bool) (x y : ℕ) → x ≤ y → cond ((o && not c) && m) x 0 ≤ cond (o && m) y 0
     shape true true m x y le = omega arith
@@ -97,28 +98,28 @@ owed_open_no_rise h e law next no_stops n l =
     shape false c m x y le = omega arith
 
 -- an event that projects nothing raises nothing that is owed
-pub owed_count_no_rise : (h : List Event) (e : Event) → IsLawful h → MayFollow h e → stops_of h e ≡ [] → owed_count (h ++ e ∷ []) ≤ owed_count h
-owed_count_no_rise h e law next no_stops =
-    let older = owed_count_older h e in
-    let b = sum_by_no_rise (owed_open h) (owed_open (h ++ e ∷ [])) (length h) (owed_open_no_rise h e law next no_stops) in
+pub owed_count_no_rise : (base : Kept) → (h : List Event) (e : Event) → IsLawful base h → MayFollow base h e → stops_of h e ≡ [] → owed_count base (h ++ e ∷ []) ≤ owed_count base h
+owed_count_no_rise base h e law next no_stops =
+    let older = owed_count_older base h law e in
+    let b = sum_by_no_rise (owed_open base h) (owed_open base (h ++ e ∷ [])) (length h) (owed_open_no_rise base h e law next no_stops) in
     omega arith
 
 -- the opening of an inner pays one
-pub owed_count_falls-inner : (h : List Event) (f : ℕ) (kind : Kind) → IsLawful h → MayFollow h (Open (Inner f) kind) →
-    owed_count (h ++ Open (Inner f) kind ∷ []) + 1 ≤ owed_count h
-owed_count_falls-inner h f kind law next =
-    let older = owed_count_older h (Open (Inner f) kind) in
-    let falls = sum_by_falls (owed_open h) (owed_open (h ++ Open (Inner f) kind ∷ [])) (length h) f l (owed_open_no_rise h (Open (Inner f) kind) law next refl) at_f in
+pub owed_count_falls-inner : (base : Kept) → (h : List Event) (f : ℕ) (kind : Kind) → IsLawful base h → MayFollow base h (Open (Inner f) kind) →
+    owed_count base (h ++ Open (Inner f) kind ∷ []) + 1 ≤ owed_count base h
+owed_count_falls-inner base h f kind law next =
+    let older = owed_count_older base h law (Open (Inner f) kind) in
+    let falls = sum_by_falls (owed_open base h) (owed_open base (h ++ Open (Inner f) kind ∷ [])) (length h) f l (owed_open_no_rise base h (Open (Inner f) kind) law next refl) at_f in
     omega arith
   where
     l : f < length h
-    l = is_open_within h f (may_open next).0
+    l = is_open_within h f (may_open base next).0
 
-    at_f : owed_open (h ++ Open (Inner f) kind ∷ []) f + 1 ≤ owed_open h f
+    at_f : owed_open base (h ++ Open (Inner f) kind ∷ []) f + 1 ≤ owed_open base h f
     at_f =
-        let b : owed (h ++ Open (Inner f) kind ∷ []) f + cond (f == f) 1 0 ≡ owed h f + 0 = owed-push h (Open (Inner f) kind) law next f in
+        let b : owed base (h ++ Open (Inner f) kind ∷ []) f + cond (f == f) 1 0 ≡ owed base h f + 0 = owed-push base h (Open (Inner f) kind) law next f in
         let c : cond {A = ℕ} (f == f) 1 0 ≡ 1 = one_if (eq-eqb f f refl) in
-        rw (is_open_cut h (Open (Inner f) kind) f l, is_cut_inner h f kind f (omega arith), at-append is_merging h (Open (Inner f) kind ∷ []) f l, (may_open next).0, (may_open next).1) (omega arith)
+        rw (is_open_cut h (Open (Inner f) kind) f l, is_cut_inner h f kind f (omega arith), at-append is_merging h (Open (Inner f) kind ∷ []) f l, (may_open base next).0, (may_open base next).1) (omega arith)
 
 paid_none : (h : List Event) (e : Event) → ((n : ℕ) → pays n e ≡ false) → paid_count h e ≡ 0
 paid_none h e never = sum_by_none _ (length h) (λ n l. rw (never n) (shape (is_open h n && at is_merging h n))) where
@@ -144,16 +145,16 @@ projects_nothing h = sum_by_none (projected_open h []) (length h) (λ n l. zero_
 -- the debt after one more event -------------------------------------------------------------------
 
 -- the debt with all that the event takes away, against the debt with all that it adds
-pub debt-push : (h : List Event) (e : Event) → IsLawful h → MayFollow h e →
-    debt (h ++ e ∷ []) + cut_count h e + lost_count h e + cond (is_take e) 1 0 + owed_count h ≡ debt h + cond (makes_node e) 1 0 + 2 * cond (makes_resource e) 1 0 + owed_count (h ++ e ∷ [])
-debt-push h e law next =
-    let before = debt-counts h in
-    let after = debt-counts (h ++ e ∷ []) in
+pub debt-push : (base : Kept) → (h : List Event) (e : Event) → IsLawful base h → MayFollow base h e →
+    debt base (h ++ e ∷ []) + cut_count h e + lost_count h e + cond (is_take e) 1 0 + owed_count base h ≡ debt base h + cond (makes_node e) 1 0 + 2 * cond (makes_resource e) 1 0 + owed_count base (h ++ e ∷ [])
+debt-push base h e law next =
+    let before = debt-counts base h in
+    let after = debt-counts base (h ++ e ∷ []) in
     let o = open_count-push h e in
-    let n = one_if (is_open_new h e next) in
-    let k = held_count-push h e law in
-    let a = one_if (accepts_open h e next) in
-    let w = waiting_count-push h e law next in
+    let n = one_if (is_open_new base h e next) in
+    let k = held_count-push base h e law in
+    let a = one_if (accepts_open base h e next) in
+    let w = waiting_count-push base h e law next in
     omega arith
 
 no_cut_count : (h : List Event) (e : Event) → ((n : ℕ) → is_cut h e n ≡ false) → cut_count h e ≡ 0
@@ -169,132 +170,132 @@ no_loss h e whole keeps = lost_none h e (λ r. by_node (node_of h r) (keeps r)) 
   by_node (Some n) none = rw (whole n) none
 
 -- an event that only makes a node, or nothing
-debt_made : (h : List Event) (e : Event) → IsLawful h → MayFollow h e → shuts_none e ≡ true → makes_resource e ≡ false → is_take e ≡ false →
-    ((r : ℕ) → is_remove_of r e ≡ false) → ((n : ℕ) → pays n e ≡ false) → stops_of h e ≡ [] → debt (h ++ e ∷ []) ≡ debt h + cond (makes_node e) 1 0
-debt_made h e law next s no_accept no_take no_remove no_pay no_stops =
+debt_made : (base : Kept) → (h : List Event) (e : Event) → IsLawful base h → MayFollow base h e → shuts_none e ≡ true → makes_resource e ≡ false → is_take e ≡ false →
+    ((r : ℕ) → is_remove_of r e ≡ false) → ((n : ℕ) → pays n e ≡ false) → stops_of h e ≡ [] → debt base (h ++ e ∷ []) ≡ debt base h + cond (makes_node e) 1 0
+debt_made base h e law next s no_accept no_take no_remove no_pay no_stops =
     let whole : (n : ℕ) → is_cut h e n ≡ false = λ n. is_cut_none h e n s in
-    let b = debt-push h e law next in
+    let b = debt-push base h e law next in
     let c = no_cut_count h e whole in
     let d = no_loss h e whole no_remove in
     let t = one_if no_take in
     let a = one_if no_accept in
-    let w = owed_count-push h e law next whole in
+    let w = owed_count-push base h e law next whole in
     let p = paid_none h e no_pay in
     let q : sum_by (projected_open h (stops_of h e)) (places h) ≡ 0 = ap (λ ss. sum_by (projected_open h ss) (places h)) no_stops ∙ projects_nothing h in
     omega arith
 
 -- one more open node
-pub debt-root : (h : List Event) (kind : Kind) → IsLawful h → MayFollow h (Open Root kind) → debt (h ++ Open Root kind ∷ []) ≡ debt h + 1
-debt-root h kind law next = debt_made h (Open Root kind) law next refl refl refl (λ r. refl) (λ n. refl) refl
+pub debt-root : (base : Kept) → (h : List Event) (kind : Kind) → IsLawful base h → MayFollow base h (Open Root kind) → debt base (h ++ Open Root kind ∷ []) ≡ debt base h + 1
+debt-root base h kind law next = debt_made base h (Open Root kind) law next refl refl refl (λ r. refl) (λ n. refl) refl
 
-pub debt-source : (h : List Event) (p : ℕ) (kind : Kind) → IsLawful h → MayFollow h (Open (Source p) kind) → debt (h ++ Open (Source p) kind ∷ []) ≡ debt h + 1
-debt-source h p kind law next = debt_made h (Open (Source p) kind) law next refl refl refl (λ r. refl) (λ n. refl) refl
+pub debt-source : (base : Kept) → (h : List Event) (p : ℕ) (kind : Kind) → IsLawful base h → MayFollow base h (Open (Source p) kind) → debt base (h ++ Open (Source p) kind ∷ []) ≡ debt base h + 1
+debt-source base h p kind law next = debt_made base h (Open (Source p) kind) law next refl refl refl (λ r. refl) (λ n. refl) refl
 
-pub debt-notifier : (h : List Event) (p : ℕ) (kind : Kind) → IsLawful h → MayFollow h (Open (Notifier p) kind) →
-    debt (h ++ Open (Notifier p) kind ∷ []) ≡ debt h + 1
-debt-notifier h p kind law next = debt_made h (Open (Notifier p) kind) law next refl refl refl (λ r. refl) (λ n. refl) refl
+pub debt-notifier : (base : Kept) → (h : List Event) (p : ℕ) (kind : Kind) → IsLawful base h → MayFollow base h (Open (Notifier p) kind) →
+    debt base (h ++ Open (Notifier p) kind ∷ []) ≡ debt base h + 1
+debt-notifier base h p kind law next = debt_made base h (Open (Notifier p) kind) law next refl refl refl (λ r. refl) (λ n. refl) refl
 
-pub debt-connect : (h : List Event) (g : ℕ) → IsLawful h → MayFollow h (Connect g) → debt (h ++ Connect g ∷ []) ≡ debt h + 1
-debt-connect h g law next = debt_made h (Connect g) law next refl refl refl (λ r. refl) (λ n. refl) refl
+pub debt-connect : (base : Kept) → (h : List Event) (g : ℕ) → IsLawful base h → MayFollow base h (Connect g) → debt base (h ++ Connect g ∷ []) ≡ debt base h + 1
+debt-connect base h g law next = debt_made base h (Connect g) law next refl refl refl (λ r. refl) (λ n. refl) refl
 
 -- a hub and a use cost nothing
-pub debt-hub : (h : List Event) (mode : Mode) → IsLawful h → MayFollow h (Hub mode) → debt (h ++ Hub mode ∷ []) ≡ debt h
-debt-hub h mode law next = let b = debt_made h (Hub mode) law next refl refl refl (λ r. refl) (λ n. refl) refl in omega arith
+pub debt-hub : (base : Kept) → (h : List Event) (mode : Mode) → IsLawful base h → MayFollow base h (Hub mode) → debt base (h ++ Hub mode ∷ []) ≡ debt base h
+debt-hub base h mode law next = let b = debt_made base h (Hub mode) law next refl refl refl (λ r. refl) (λ n. refl) refl in omega arith
 
-pub debt-use : (h : List Event) (r : ℕ) → IsLawful h → MayFollow h (Use r) → debt (h ++ Use r ∷ []) ≡ debt h
-debt-use h r law next = let b = debt_made h (Use r) law next refl refl refl (λ r. refl) (λ n. refl) refl in omega arith
+pub debt-use : (base : Kept) → (h : List Event) (r : ℕ) → IsLawful base h → MayFollow base h (Use r) → debt base (h ++ Use r ∷ []) ≡ debt base h
+debt-use base h r law next = let b = debt_made base h (Use r) law next refl refl refl (λ r. refl) (λ n. refl) refl in omega arith
 
 -- a resource costs two: its removal and its taking
-pub debt-accept : (h : List Event) (n tag : ℕ) → IsLawful h → MayFollow h (Accept n tag) → debt (h ++ Accept n tag ∷ []) ≡ debt h + 2
-debt-accept h n tag law next =
+pub debt-accept : (base : Kept) → (h : List Event) (n tag : ℕ) → IsLawful base h → MayFollow base h (Accept n tag) → debt base (h ++ Accept n tag ∷ []) ≡ debt base h + 2
+debt-accept base h n tag law next =
     let whole : (m : ℕ) → is_cut h (Accept n tag) m ≡ false = λ m. is_cut_none h (Accept n tag) m refl in
-    let b = debt-push h (Accept n tag) law next in
+    let b = debt-push base h (Accept n tag) law next in
     let c = no_cut_count h (Accept n tag) whole in
     let d = no_loss h (Accept n tag) whole (λ r. refl) in
-    let w = owed_count-push h (Accept n tag) law next whole in
+    let w = owed_count-push base h (Accept n tag) law next whole in
     let p = paid_none h (Accept n tag) (λ m. refl) in
     let q = projects_nothing h in
     omega arith
 
 -- the removal of a held resource pays one
-pub debt-remove : (h : List Event) (q : ℕ) → IsLawful h → MayFollow h (Remove q) → debt (h ++ Remove q ∷ []) + 1 ≡ debt h
-debt-remove h q law next =
+pub debt-remove : (base : Kept) → (h : List Event) (q : ℕ) → IsLawful base h → MayFollow base h (Remove q) → debt base (h ++ Remove q ∷ []) + 1 ≡ debt base h
+debt-remove base h q law next =
     let whole : (m : ℕ) → is_cut h (Remove q) m ≡ false = λ m. is_cut_none h (Remove q) m refl in
-    let b = debt-push h (Remove q) law next in
+    let b = debt-push base h (Remove q) law next in
     let c = no_cut_count h (Remove q) whole in
-    let d = lost_one h q (may_remove next) in
-    let w = owed_count-push h (Remove q) law next whole in
+    let d = lost_one h q (may_remove base next) in
+    let w = owed_count-push base h (Remove q) law next whole in
     let p = paid_none h (Remove q) (λ m. refl) in
     let z = projects_nothing h in
     omega arith
 
 -- so does a taking
-pub debt-take : (h : List Event) (q : ℕ) → IsLawful h → MayFollow h (Take q) → debt (h ++ Take q ∷ []) + 1 ≡ debt h
-debt-take h q law next =
+pub debt-take : (base : Kept) → (h : List Event) (q : ℕ) → IsLawful base h → MayFollow base h (Take q) → debt base (h ++ Take q ∷ []) + 1 ≡ debt base h
+debt-take base h q law next =
     let whole : (m : ℕ) → is_cut h (Take q) m ≡ false = λ m. is_cut_none h (Take q) m refl in
-    let b = debt-push h (Take q) law next in
+    let b = debt-push base h (Take q) law next in
     let c = no_cut_count h (Take q) whole in
     let d = no_loss h (Take q) whole (λ r. refl) in
-    let w = owed_count-push h (Take q) law next whole in
+    let w = owed_count-push base h (Take q) law next whole in
     let p = paid_none h (Take q) (λ m. refl) in
     let z = projects_nothing h in
     omega arith
 
 -- an item costs one for each of its projections
-pub debt-item : (h : List Event) (l : ℕ) (v : ℤ) → IsLawful h → MayFollow h (Item l v) → debt (h ++ Item l v ∷ []) ≡ debt h + count_by is_projection (stops h l)
-debt-item h l v law next =
+pub debt-item : (base : Kept) → (h : List Event) (l : ℕ) (v : ℤ) → IsLawful base h → MayFollow base h (Item l v) → debt base (h ++ Item l v ∷ []) ≡ debt base h + count_by is_projection (stops h l)
+debt-item base h l v law next =
     let whole : (m : ℕ) → is_cut h (Item l v) m ≡ false = λ m. is_cut_none h (Item l v) m refl in
-    let b = debt-push h (Item l v) law next in
+    let b = debt-push base h (Item l v) law next in
     let c = no_cut_count h (Item l v) whole in
     let d = no_loss h (Item l v) whole (λ r. refl) in
-    let w = owed_count-push h (Item l v) law next whole in
+    let w = owed_count-push base h (Item l v) law next whole in
     let p = paid_none h (Item l v) (λ m. refl) in
-    let z = projected_count h (stops h l) (stops_open h l law (may_emit next)) in
+    let z = projected_count h (stops h l) (stops_open base h l law (may_emit base next)) in
     omega arith
 
 -- a declined projection pays one
-pub debt-decline : (h : List Event) (f : ℕ) → IsLawful h → MayFollow h (Decline f) → debt (h ++ Decline f ∷ []) + 1 ≡ debt h
-debt-decline h f law next =
+pub debt-decline : (base : Kept) → (h : List Event) (f : ℕ) → IsLawful base h → MayFollow base h (Decline f) → debt base (h ++ Decline f ∷ []) + 1 ≡ debt base h
+debt-decline base h f law next =
     let whole : (m : ℕ) → is_cut h (Decline f) m ≡ false = λ m. is_cut_none h (Decline f) m refl in
-    let b = debt-push h (Decline f) law next in
+    let b = debt-push base h (Decline f) law next in
     let c = no_cut_count h (Decline f) whole in
     let d = no_loss h (Decline f) whole (λ r. refl) in
-    let w = owed_count-push h (Decline f) law next whole in
-    let p = paid_one h (Decline f) f (may_decline next).0 (may_decline next).1 (λ n. refl) in
+    let w = owed_count-push base h (Decline f) law next whole in
+    let p = paid_one h (Decline f) f (may_decline base next).0 (may_decline base next).1 (λ n. refl) in
     let z = projects_nothing h in
     omega arith
 
 -- an inner of a FlatMap costs what the projection cost that it pays
-pub debt-inner_flat : (h : List Event) (f : ℕ) (kind : Kind) → IsLawful h → MayFollow h (Open (Inner f) kind) → at is_switch h f ≡ false →
-    debt (h ++ Open (Inner f) kind ∷ []) ≡ debt h
-debt-inner_flat h f kind law next flat =
+pub debt-inner_flat : (base : Kept) → (h : List Event) (f : ℕ) (kind : Kind) → IsLawful base h → MayFollow base h (Open (Inner f) kind) → at is_switch h f ≡ false →
+    debt base (h ++ Open (Inner f) kind ∷ []) ≡ debt base h
+debt-inner_flat base h f kind law next flat =
     let whole : (m : ℕ) → is_cut h (Open (Inner f) kind) m ≡ false = is_cut_inner_flat h f kind flat in
-    let b = debt-push h (Open (Inner f) kind) law next in
+    let b = debt-push base h (Open (Inner f) kind) law next in
     let c = no_cut_count h (Open (Inner f) kind) whole in
     let d = no_loss h (Open (Inner f) kind) whole (λ r. refl) in
-    let w = owed_count-push h (Open (Inner f) kind) law next whole in
-    let p = paid_one h (Open (Inner f) kind) f (may_open next).0 (may_open next).1 (λ n. refl) in
+    let w = owed_count-push base h (Open (Inner f) kind) law next whole in
+    let p = paid_one h (Open (Inner f) kind) f (may_open base next).0 (may_open base next).1 (λ n. refl) in
     let z = projects_nothing h in
     omega arith
 
 -- an inner of a Switch costs no more
-pub debt_no_rise-inner : (h : List Event) (f : ℕ) (kind : Kind) → IsLawful h → MayFollow h (Open (Inner f) kind) → debt (h ++ Open (Inner f) kind ∷ []) ≤ debt h
-debt_no_rise-inner h f kind law next =
-    let b = debt-push h (Open (Inner f) kind) law next in
-    let w = owed_count_falls-inner h f kind law next in
+pub debt_no_rise-inner : (base : Kept) → (h : List Event) (f : ℕ) (kind : Kind) → IsLawful base h → MayFollow base h (Open (Inner f) kind) → debt base (h ++ Open (Inner f) kind ∷ []) ≤ debt base h
+debt_no_rise-inner base h f kind law next =
+    let b = debt-push base h (Open (Inner f) kind) law next in
+    let w = owed_count_falls-inner base h f kind law next in
     omega arith
 
 -- an end and a closing pay at least one
-pub debt_falls-end : (h : List Event) (c : ℕ) (t : Terminal) → IsLawful h → MayFollow h (End c t) → debt (h ++ End c t ∷ []) + 1 ≤ debt h
-debt_falls-end h c t law next =
-    let b = debt-push h (End c t) law next in
-    let s = within_some h c (may_end next) in
-    let w = owed_count_no_rise h (End c t) law next refl in
+pub debt_falls-end : (base : Kept) → (h : List Event) (c : ℕ) (t : Terminal) → IsLawful base h → MayFollow base h (End c t) → debt base (h ++ End c t ∷ []) + 1 ≤ debt base h
+debt_falls-end base h c t law next =
+    let b = debt-push base h (End c t) law next in
+    let s = within_some h c (may_end base next) in
+    let w = owed_count_no_rise base h (End c t) law next refl in
     omega arith
 
-pub debt_falls-close : (h : List Event) (c : ℕ) → IsLawful h → MayFollow h (Close c) → debt (h ++ Close c ∷ []) + 1 ≤ debt h
-debt_falls-close h c law next =
-    let b = debt-push h (Close c) law next in
-    let s = within_some h c (may_close next) in
-    let w = owed_count_no_rise h (Close c) law next refl in
+pub debt_falls-close : (base : Kept) → (h : List Event) (c : ℕ) → IsLawful base h → MayFollow base h (Close c) → debt base (h ++ Close c ∷ []) + 1 ≤ debt base h
+debt_falls-close base h c law next =
+    let b = debt-push base h (Close c) law next in
+    let s = within_some h c (may_close base next) in
+    let w = owed_count_no_rise base h (Close c) law next refl in
     omega arith

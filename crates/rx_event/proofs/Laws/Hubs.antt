@@ -1,11 +1,12 @@
 -- Hubs: at most one connection of each is open, and in a settled history a RefCount hub has one just where it has a subscriber.
-use Rattle.std.proofs.Common.{◌≡◌, ◌≢◌, ℕ, ◌+◌, ◌<◌, ◌≤◌, true, false, List, [], ◌∷◌, ◌++◌, length, Option, Some, None, refl, sym, ap, ◌∙◌, arith, inl, inr, ◌⊎◌, ◌==◌, take, drop, slice_get, length-append, take-append-drop}
+use Rattle.std.proofs.Common.{subst, ◌≡◌, ◌≢◌, ℕ, ◌+◌, ◌<◌, ◌≤◌, true, false, List, [], ◌∷◌, ◌++◌, length, Option, Some, None, refl, sym, ap, ◌∙◌, arith, inl, inr, ◌⊎◌, ◌==◌, take, drop, slice_get, length-append, take-append-drop}
 use Rattle.std.proofs.Math.Bool.{◌&&◌}
 use Rattle.std.specs.Option.{option_map_or}
-use Rattle.std.proofs.lemmas.Bool.{cases_order, both_ways, false≢true, and_parts, and_from, eq-eqb, eqb-true}
+use Rattle.std.proofs.lemmas.Bool.{cases_order, false≢true, and_parts, and_from, eq-eqb, eqb-true}
 use Rattle.std.proofs.lemmas.List.{length-take, length-take-le}
 use Rattle.std.proofs.lemmas.Option.{slice_get_within, same_Some, none-some}
 use Rattle.std.specs.List.{list_any}
+use Rattle.rx_event.specs.Kept.{Kept}
 use Rattle.rx_event.specs.declared.event.Place.{Place}
 use Rattle.rx_event.specs.declared.event.Place.TheVariants.{Root, Source, Inner, Notifier}
 use Rattle.rx_event.specs.declared.event.Kind.{Kind}
@@ -20,8 +21,8 @@ use Rattle.rx_event.specs.Lawful.{forced, allowed, MayFollow, IsLawful}
 use Rattle.rx_event.proofs.Laws.Lists.{first_passes, filter_nonempty, filter_few}
 use Rattle.rx_event.proofs.Laws.Places.{slice_get-append, slice_get_last, at-append, at_within}
 use Rattle.rx_event.proofs.Laws.Parents.{parent-lt, parent_name, ancestors-append, is_within-le, within_cases}
-use Rattle.rx_event.proofs.Laws.Lawful.{lawful_at}
-use Rattle.rx_event.proofs.Laws.Openness.{is_open_within, is_open_past, is_open_cut}
+use Rattle.rx_event.proofs.Laws.Lawful.{in_base, since_base, FoundAt, found_at}
+use Rattle.rx_event.proofs.Laws.Openness.{is_open_within, is_open_cut}
 use Rattle.rx_event.proofs.Laws.Steps.{by_events, forced_kind}
 
 -- a connection --------------------------------------------------------------------------------------
@@ -35,24 +36,24 @@ connect_found g (Some _) connects = absurd (false≢true connects)
 pub at_connect : (h : List Event) (g c : ℕ) → at (is_connect_of g) h c ≡ true → slice_get h c ≡ Some (Connect g)
 at_connect h g c connects = connect_found g (slice_get h c) connects
 
-due_connect : {h : List Event} {g : ℕ} → IsDue h (Connect g) → ⊥
-due_connect d = elim d [ ]
+due_connect : (base : Kept) → {h : List Event} {g : ℕ} → IsDue base h (Connect g) → ⊥
+due_connect base d = elim d [ ]
 
-forced_connect : {h : List Event} {g : ℕ} → IsForced h (Connect g) → open_connections h g ≡ []
-forced_connect (connecting d) = d.unconnected
-forced_connect (due n d) = absurd (due_connect d)
+forced_connect : (base : Kept) → {h : List Event} {g : ℕ} → IsForced base h (Connect g) → open_connections h g ≡ []
+forced_connect base (connecting d) = d.unconnected
+forced_connect base (due n d) = absurd (due_connect base d)
 
-allowed_connect : {h : List Event} {g : ℕ} → IsAllowed h (Connect g) → open_connections h g ≡ []
-allowed_connect (connected m unconnected few) = unconnected
+allowed_connect : (base : Kept) → {h : List Event} {g : ℕ} → IsAllowed base h (Connect g) → open_connections h g ≡ []
+allowed_connect base (connected m unconnected few) = unconnected
 
 -- a hub is connected where no connection of it is open
-pub may_connect : {h : List Event} {g : ℕ} → MayFollow h (Connect g) → open_connections h g ≡ []
-may_connect (forced f) = forced_connect f
-may_connect (allowed s a) = allowed_connect a
+pub may_connect : (base : Kept) → {h : List Event} {g : ℕ} → MayFollow base h (Connect g) → open_connections h g ≡ []
+may_connect base (forced f) = forced_connect base f
+may_connect base (allowed s a) = allowed_connect base a
 
-connect_free : (h : List Event) (e : Event) (g : ℕ) → MayFollow h e → is_connect_of g e ≡ true → open_connections h g ≡ []
-connect_free h (Connect k) g next connects = rw (← eqb-true k g connects) (may_connect next)
-connect_free h _ g next connects = absurd (false≢true connects)
+connect_free : (base : Kept) → (h : List Event) (e : Event) (g : ℕ) → MayFollow base h e → is_connect_of g e ≡ true → open_connections h g ≡ []
+connect_free base h (Connect k) g next connects = rw (← eqb-true k g connects) (may_connect base next)
+connect_free base h _ g next connects = absurd (false≢true connects)
 
 -- one connection ----------------------------------------------------------------------------------
 
@@ -64,19 +65,19 @@ pub record TwoConnections (h : List Event) (g a b : ℕ) : Type 0 where
   pub other_open : is_open h b ≡ true
 
 -- are the same
-pub one_connection : (h : List Event) → IsLawful h → (g a b : ℕ) → TwoConnections h g a b → a ≡ b
-one_connection = by_events (λ h. (g a b : ℕ) → TwoConnections h g a b → a ≡ b) (λ g a b two. absurd (both_ways _ (is_open_past [] a (omega arith)) two.one_open)) after where
+pub one_connection : (base : Kept) → (h : List Event) → IsLawful base h → (g a b : ℕ) → TwoConnections h g a b → a ≡ b
+one_connection base = by_events base (λ h. (g a b : ℕ) → TwoConnections h g a b → a ≡ b) (λ s g a b two. s.one_connection g a b two.one two.one_open two.other two.other_open) after where
   before_open : (h : List Event) (e : Event) (a : ℕ) → a < length h → is_open (h ++ e ∷ []) a ≡ true → is_open h a ≡ true
   before_open h e a l o = (and_parts _ _ (sym (is_open_cut h e a l) ∙ o)).0
 
-  clash : (h : List Event) (e : Event) → MayFollow h e → (g a b : ℕ) → a < length h → b ≡ length h → at (is_connect_of g) (h ++ e ∷ []) a ≡ true →
+  clash : (h : List Event) (e : Event) → MayFollow base h e → (g a b : ℕ) → a < length h → b ≡ length h → at (is_connect_of g) (h ++ e ∷ []) a ≡ true →
       is_open (h ++ e ∷ []) a ≡ true → at (is_connect_of g) (h ++ e ∷ []) b ≡ true → ⊥
   clash h e next g a b l last one one_open other =
       let new : is_connect_of g e ≡ true = sym (ap (λ o. option_map_or (is_connect_of g) o false) (ap (slice_get (h ++ e ∷ [])) last ∙ slice_get_last h e)) ∙ other in
       let connects : at (is_connect_of g) h a ≡ true = sym (at-append (is_connect_of g) h (e ∷ []) a l) ∙ one in
-      filter_nonempty (λ n. at (is_connect_of g) h n && is_open h n) 0 (length h) a (omega arith) (omega arith) (and_from _ _ connects (before_open h e a l one_open)) (connect_free h e g next new)
+      filter_nonempty (λ n. at (is_connect_of g) h n && is_open h n) 0 (length h) a (omega arith) (omega arith) (and_from _ _ connects (before_open h e a l one_open)) (connect_free base h e g next new)
 
-  after : (h : List Event) (e : Event) → IsLawful h → MayFollow h e → ((g a b : ℕ) → TwoConnections h g a b → a ≡ b) → (g a b : ℕ) →
+  after : (h : List Event) (e : Event) → IsLawful base h → MayFollow base h e → ((g a b : ℕ) → TwoConnections h g a b → a ≡ b) → (g a b : ℕ) →
       TwoConnections (h ++ e ∷ []) g a b → a ≡ b
   after h e law next before g a b two = by_place (cases_order a (length h)) (cases_order b (length h)) where
     within : (n : ℕ) → is_open (h ++ e ∷ []) n ≡ true → n < length h + 1
@@ -98,13 +99,13 @@ one_connection = by_events (λ h. (g a b : ℕ) → TwoConnections h g a b → a
         })
 
 -- so a hub has at most one
-pub one_open_connection : (h : List Event) → IsLawful h → (g : ℕ) → length (open_connections h g) ≤ 1
-one_open_connection h law g = filter_few (λ n. at (is_connect_of g) h n && is_open h n) 0 (length h) same where
+pub one_open_connection : (base : Kept) → (h : List Event) → IsLawful base h → (g : ℕ) → length (open_connections h g) ≤ 1
+one_open_connection base h law g = filter_few (λ n. at (is_connect_of g) h n && is_open h n) 0 (length h) same where
   same : (a b : ℕ) → (at (is_connect_of g) h a && is_open h a) ≡ true → (at (is_connect_of g) h b && is_open h b) ≡ true → a ≡ b
   same a b one other =
       let p : (at (is_connect_of g) h a ≡ true) × (is_open h a ≡ true) = and_parts _ _ one in
       let q : (at (is_connect_of g) h b ≡ true) × (is_open h b ≡ true) = and_parts _ _ other in
-      one_connection h law g a b (record { one = p.0; one_open = p.1; other = q.0; other_open = q.1 })
+      one_connection base h law g a b (record { one = p.0; one_open = p.1; other = q.0; other_open = q.1 })
 
 -- the hub of a connection ------------------------------------------------------------------------
 
@@ -118,22 +119,28 @@ manual_made None manual = manual
 manual_made (Some (Hub mode)) manual = refl
 manual_made (Some _) manual = absurd (false≢true manual)
 
-forced_hub : {h : List Event} {g : ℕ} → IsForced h (Connect g) → at makes_hub h g ≡ true
-forced_hub {h = h} {g = g} (connecting d) = auto_made (slice_get h g) d.auto
-forced_hub (due n d) = absurd (due_connect d)
+forced_hub : (base : Kept) → {h : List Event} {g : ℕ} → IsForced base h (Connect g) → at makes_hub h g ≡ true
+forced_hub base {h = h} {g = g} (connecting d) = auto_made (slice_get h g) d.auto
+forced_hub base (due n d) = absurd (due_connect base d)
 
-allowed_hub : {h : List Event} {g : ℕ} → IsAllowed h (Connect g) → at makes_hub h g ≡ true
-allowed_hub {h = h} {g = g} (connected manual unconnected few) = manual_made (slice_get h g) manual
+allowed_hub : (base : Kept) → {h : List Event} {g : ℕ} → IsAllowed base h (Connect g) → at makes_hub h g ≡ true
+allowed_hub base {h = h} {g = g} (connected manual unconnected few) = manual_made (slice_get h g) manual
 
 -- what is connected is a hub
-pub may_connect_hub : {h : List Event} {g : ℕ} → MayFollow h (Connect g) → at makes_hub h g ≡ true
-may_connect_hub (forced f) = forced_hub f
-may_connect_hub (allowed s a) = allowed_hub a
+pub may_connect_hub : (base : Kept) → {h : List Event} {g : ℕ} → MayFollow base h (Connect g) → at makes_hub h g ≡ true
+may_connect_hub base (forced f) = forced_hub base f
+may_connect_hub base (allowed s a) = allowed_hub base a
+
+pub hub_before : (base : Kept) → (h : List Event) → IsLawful base h → (c g : ℕ) → slice_get h c ≡ Some (Connect g) → at makes_hub (take c h) g ≡ true
+hub_before base h law c g at_c = by_case (found_at base h law c (Connect g) at_c) where
+  by_case : FoundAt base h c (Connect g) → at makes_hub (take c h) g ≡ true
+  by_case (in_base found same) = ap (λ k. at makes_hub k g) same ∙ law.started.connects c g found
+  by_case (since_base next) = may_connect_hub base next
 
 -- so a connection has a larger number than its hub
-pub connection_hub : (h : List Event) → IsLawful h → (g c : ℕ) → slice_get h c ≡ Some (Connect g) → g < c
-connection_hub h law g c at_c =
-    let l : g < length (take c h) = at_within makes_hub (take c h) g (may_connect_hub (lawful_at h law c (Connect g) at_c)) in
+pub connection_hub : (base : Kept) → (h : List Event) → IsLawful base h → (g c : ℕ) → slice_get h c ≡ Some (Connect g) → g < c
+connection_hub base h law g c at_c =
+    let l : g < length (take c h) = at_within makes_hub (take c h) g (hub_before base h law c g at_c) in
     let room = slice_get_within h c (Connect g) at_c in
     let long : length (take c h) ≡ c = length-take-le c h (omega arith) in
     omega arith
@@ -141,8 +148,8 @@ connection_hub h law g c at_c =
 -- settled histories -------------------------------------------------------------------------------
 
 -- in a settled history no RefCount hub has a subscriber and no connection
-pub subscribed_connected : (h : List Event) (g : ℕ) → IsSettled h → at is_auto_hub h g ≡ true → open_connections h g ≡ [] → open_subscribers h g ≡ []
-subscribed_connected h g settled auto unconnected = by_list (open_subscribers h g) refl where
+pub subscribed_connected : (base : Kept) → (h : List Event) (g : ℕ) → IsSettled base h → at is_auto_hub h g ≡ true → open_connections h g ≡ [] → open_subscribers h g ≡ []
+subscribed_connected base h g settled auto unconnected = by_list (open_subscribers h g) refl where
   none_due : (k : ℕ) → IsConnectDue h k → ⊥
   none_due k d = settled.none (Connect k) (connecting d)
 
@@ -157,8 +164,8 @@ subscribed_connected h g settled auto unconnected = by_list (open_subscribers h 
       absurd (waiting s parts.0 parts.1)
 
 -- nor a connection and no subscriber
-pub unsubscribed_unconnected : (h : List Event) (g : ℕ) → IsSettled h → at is_auto_hub h g ≡ true → open_subscribers h g ≡ [] → open_connections h g ≡ []
-unsubscribed_unconnected h g settled auto unsubscribed = by_list (open_connections h g) refl where
+pub unsubscribed_unconnected : (base : Kept) → (h : List Event) (g : ℕ) → IsSettled base h → at is_auto_hub h g ≡ true → open_subscribers h g ≡ [] → open_connections h g ≡ []
+unsubscribed_unconnected base h g settled auto unsubscribed = by_list (open_connections h g) refl where
   none_due : (k : ℕ) → IsConnectDue h k → ⊥
   none_due k d = settled.none (Connect k) (connecting d)
 
@@ -170,34 +177,40 @@ unsubscribed_unconnected h g settled auto unsubscribed = by_list (open_connectio
       absurd (settled.none (Close c) (due none_due (left parts.1 (at_connect h g c parts.0) auto unsubscribed)))
 
 -- so it has one connection where it has a subscriber
-pub one_where_subscribed : (h : List Event) (g : ℕ) → IsLawful h → IsSettled h → at is_auto_hub h g ≡ true → open_subscribers h g ≢ [] →
+pub one_where_subscribed : (base : Kept) → (h : List Event) (g : ℕ) → IsLawful base h → IsSettled base h → at is_auto_hub h g ≡ true → open_subscribers h g ≢ [] →
     length (open_connections h g) ≡ 1
-one_where_subscribed h g law settled auto subscribed = by_list (open_connections h g) refl (one_open_connection h law g) where
+one_where_subscribed base h g law settled auto subscribed = by_list (open_connections h g) refl (one_open_connection base h law g) where
   by_list : (cs : List ℕ) → open_connections h g ≡ cs → length cs ≤ 1 → length cs ≡ 1
-  by_list [] e few = absurd (subscribed (subscribed_connected h g settled auto e))
+  by_list [] e few = absurd (subscribed (subscribed_connected base h g settled auto e))
   by_list (c ∷ []) e few = refl
   by_list (c ∷ d ∷ cs) e few = absurd (omega arith)
 
 -- the order of hubs -------------------------------------------------------------------------------
 
-subscriber_found : (g : ℕ) (o : Option Event) → option_map_or (is_subscriber_of g) o false ≡ true → (place : Place) × (o ≡ Some (Open place (Sub g)))
+pub subscriber_found : (g : ℕ) (o : Option Event) → option_map_or (is_subscriber_of g) o false ≡ true → (place : Place) × (o ≡ Some (Open place (Sub g)))
 subscriber_found g None subscribes = absurd (false≢true subscribes)
 subscriber_found g (Some (Open place (Sub k))) subscribes = (place, ap (λ q. Some (Open place (Sub q))) (eqb-true k g subscribes))
 subscriber_found g (Some _) subscribes = absurd (false≢true subscribes)
 
-allowed_hubbed : {h : List Event} {place : Place} {kind : Kind} → IsAllowed h (Open place kind) → IsHubbed h place kind
-allowed_hubbed (opened free hubbed few room) = hubbed
+allowed_hubbed : (base : Kept) → {h : List Event} {place : Place} {kind : Kind} → IsAllowed base h (Open place kind) → IsHubbed h place kind
+allowed_hubbed base (opened free hubbed few room) = hubbed
 
 -- the hub of what is opened is there, and in order
-pub may_subscribe : {h : List Event} {place : Place} {kind : Kind} → MayFollow h (Open place kind) → IsHubbed h place kind
-may_subscribe (forced f) = absurd (false≢true (forced_kind f))
-may_subscribe (allowed s a) = allowed_hubbed a
+pub may_subscribe : (base : Kept) → {h : List Event} {place : Place} {kind : Kind} → MayFollow base h (Open place kind) → IsHubbed h place kind
+may_subscribe base (forced f) = absurd (false≢true (forced_kind base f))
+may_subscribe base (allowed s a) = allowed_hubbed base a
+
+hubbed_before : (base : Kept) → (h : List Event) → IsLawful base h → (n : ℕ) (place : Place) (kind : Kind) → slice_get h n ≡ Some (Open place kind) → IsHubbed (take n h) place kind
+hubbed_before base h law n place kind at_n = by_case (found_at base h law n (Open place kind) at_n) where
+  by_case : FoundAt base h n (Open place kind) → IsHubbed (take n h) place kind
+  by_case (in_base found same) = subst (λ k. IsHubbed k place kind) (sym same) (law.started.hubbed n place kind found)
+  by_case (since_base next) = may_subscribe base next
 
 -- the hub of a subscriber is in the history
-pub subscriber_hub : (h : List Event) → IsLawful h → (g s : ℕ) → at (is_subscriber_of g) h s ≡ true → g < length h
-subscriber_hub h law g s subscribes =
+pub subscriber_hub : (base : Kept) → (h : List Event) → IsLawful base h → (g s : ℕ) → at (is_subscriber_of g) h s ≡ true → g < length h
+subscriber_hub base h law g s subscribes =
     let found = subscriber_found g (slice_get h s) subscribes in
-    let hubbed : IsHubbed (take s h) found.0 (Sub g) = may_subscribe (lawful_at h law s (Open found.0 (Sub g)) found.1) in
+    let hubbed : IsHubbed (take s h) found.0 (Sub g) = hubbed_before base h law s found.0 (Sub g) found.1 in
     let l : g < length (take s h) = at_within makes_hub (take s h) g hubbed.0 in
     omega (arith, length-take s h)
 
@@ -213,9 +226,9 @@ older_order h g s q a k order l m within connects =
     order a k (ap (list_any (λ b. a == b)) above ∙ within) (here ∙ connects)
 
 -- every connection above a subscriber is of a later hub, so that no item goes round in a circle
-pub hubs_in_order : (h : List Event) → IsLawful h → (g s a k : ℕ) → at (is_subscriber_of g) h s ≡ true → is_within h a s ≡ true →
+pub hubs_in_order : (base : Kept) → (h : List Event) → IsLawful base h → (g s a k : ℕ) → at (is_subscriber_of g) h s ≡ true → is_within h a s ≡ true →
     slice_get h a ≡ Some (Connect k) → g < k
-hubs_in_order h law g s a k subscribes within connects = by_place found.0 found.1 (may_subscribe (lawful_at h law s (Open found.0 (Sub g)) found.1)).1 (within_cases h a s within) where
+hubs_in_order base h law g s a k subscribes within connects = by_place found.0 found.1 (hubbed_before base h law s found.0 (Sub g) found.1).1 (within_cases h a s within) where
   found : (place : Place) × (slice_get h s ≡ Some (Open place (Sub g)))
   found = subscriber_found g (slice_get h s) subscribes
 

@@ -6,6 +6,8 @@ use Rattle.std.specs.List.{count_by, range_with_len}
 use Rattle.std.specs.Option.{option_map_or}
 use Rattle.std.proofs.lemmas.Bool.{cases_Bool, both_ways, false≢true, and_parts, and_from, eq-eqb, false_from_ne_true}
 use Rattle.std.proofs.lemmas.Option.{slice_get_within}
+use Rattle.rx_event.proofs.Laws.Hubs.{hub_before}
+use Rattle.rx_event.specs.Kept.{Kept}
 use Rattle.rx_event.specs.declared.event.Place.TheVariants.{Root, Source, Inner, Notifier}
 use Rattle.rx_event.specs.declared.event.Mode.TheVariants.{Auto, Manual}
 use Rattle.rx_event.specs.declared.event.Event.{Event}
@@ -20,12 +22,11 @@ use Rattle.rx_event.proofs.Laws.Lists.{first_passes, filter_nonempty}
 use Rattle.rx_event.proofs.Laws.Places.{at-take}
 use Rattle.rx_event.proofs.Laws.Parents.{parent-lt, within_parent}
 use Rattle.rx_event.proofs.Laws.Openness.{is_open_within, parent_open}
-use Rattle.rx_event.proofs.Laws.Lawful.{lawful_at}
 use Rattle.rx_event.proofs.Laws.Steps.{parent-named}
 use Rattle.rx_event.proofs.Laws.Stands.{open_node}
 use Rattle.rx_event.proofs.Laws.Sums.{sum_by_none, term_in_sum}
 use Rattle.rx_event.proofs.Laws.Totals.{is_within_self}
-use Rattle.rx_event.proofs.Laws.Hubs.{at_connect, may_connect_hub, connection_hub, unsubscribed_unconnected, hubs_in_order}
+use Rattle.rx_event.proofs.Laws.Hubs.{at_connect, connection_hub, unsubscribed_unconnected, hubs_in_order}
 
 -- the topmost node ---------------------------------------------------------------------------------
 
@@ -36,9 +37,9 @@ pub record IsTopOf (h : List Event) (n a : ℕ) : Type 0 where
   pub sort : (at is_root h a ≡ true) ⊎ ((g : ℕ) × (slice_get h a ≡ Some (Connect g)))
 
 -- each open node has one
-topmost_below : (h : List Event) → IsLawful h → (steps n : ℕ) → n < steps → is_open h n ≡ true → (a : ℕ) × IsTopOf h n a
-topmost_below h law zero n l o = absurd (omega arith)
-topmost_below h law (suc steps) n l o = by_event (topmost_below h law steps) (slice_get h n) refl (open_node h n o) where
+topmost_below : (base : Kept) → (h : List Event) → IsLawful base h → (steps n : ℕ) → n < steps → is_open h n ≡ true → (a : ℕ) × IsTopOf h n a
+topmost_below base h law zero n l o = absurd (omega arith)
+topmost_below base h law (suc steps) n l o = by_event (topmost_below base h law steps) (slice_get h n) refl (open_node h n o) where
   below : ((p : ℕ) → p < steps → is_open h p ≡ true → (a : ℕ) × IsTopOf h p a) → (p : ℕ) → parent h n ≡ Some p → (a : ℕ) × IsTopOf h n a
   below rest p under =
       let s : p < n = parent-lt h n p under in
@@ -50,13 +51,13 @@ topmost_below h law (suc steps) n l o = by_event (topmost_below h law steps) (sl
   by_event rest None at_n node = absurd (false≢true node)
   by_event rest (Some (Connect g)) at_n node = (n, record { above = is_within_self h n; alive = o; sort = inr (g, at_n) })
   by_event rest (Some (Open Root kind)) at_n node = (n, record { above = is_within_self h n; alive = o; sort = inl (rw at_n refl) })
-  by_event rest (Some (Open (Source p) kind)) at_n node = below rest p (parent-named h law n p (Open (Source p) kind) at_n refl)
-  by_event rest (Some (Open (Inner p) kind)) at_n node = below rest p (parent-named h law n p (Open (Inner p) kind) at_n refl)
-  by_event rest (Some (Open (Notifier p) kind)) at_n node = below rest p (parent-named h law n p (Open (Notifier p) kind) at_n refl)
+  by_event rest (Some (Open (Source p) kind)) at_n node = below rest p (parent-named base h law n p (Open (Source p) kind) at_n refl)
+  by_event rest (Some (Open (Inner p) kind)) at_n node = below rest p (parent-named base h law n p (Open (Inner p) kind) at_n refl)
+  by_event rest (Some (Open (Notifier p) kind)) at_n node = below rest p (parent-named base h law n p (Open (Notifier p) kind) at_n refl)
   by_event rest (Some _) at_n node = absurd (false≢true node)
 
-pub topmost : (h : List Event) → IsLawful h → (n : ℕ) → is_open h n ≡ true → (a : ℕ) × IsTopOf h n a
-topmost h law n o = topmost_below h law (suc n) n (omega arith) o
+pub topmost : (base : Kept) → (h : List Event) → IsLawful base h → (n : ℕ) → is_open h n ≡ true → (a : ℕ) × IsTopOf h n a
+topmost base h law n o = topmost_below base h law (suc n) n (omega arith) o
 
 -- connections --------------------------------------------------------------------------------------
 
@@ -75,34 +76,34 @@ first_connection h g c cs found =
     (at_connect h g c parts.0, parts.1)
 
 -- the hub of a connection is a hub
-connected_hub : (h : List Event) → IsLawful h → (g c : ℕ) → slice_get h c ≡ Some (Connect g) → at makes_hub h g ≡ true
-connected_hub h law g c connects =
-    sym (at-take makes_hub h c g (connection_hub h law g c connects) (slice_get_within h c (Connect g) connects)) ∙ may_connect_hub (lawful_at h law c (Connect g) connects)
+pub connected_hub : (base : Kept) → (h : List Event) → IsLawful base h → (g c : ℕ) → slice_get h c ≡ Some (Connect g) → at makes_hub h g ≡ true
+connected_hub base h law g c connects =
+    sym (at-take makes_hub h c g (connection_hub base h law g c connects) (slice_get_within h c (Connect g) connects)) ∙ hub_before base h law c g connects
 
 -- where a caller holds nothing open, no hub is connected
-let_go_unconnected : (h : List Event) → IsLawful h → IsSettled h → IsLetGo h → (steps g c : ℕ) → length h ≤ g + steps → slice_get h c ≡ Some (Connect g) →
+let_go_unconnected : (base : Kept) → (h : List Event) → IsLawful base h → IsSettled base h → IsLetGo h → (steps g c : ℕ) → length h ≤ g + steps → slice_get h c ≡ Some (Connect g) →
     is_open h c ≡ true → ⊥
-let_go_unconnected h law settled free zero g c l connects alive =
-    let s = connection_hub h law g c connects in
+let_go_unconnected base h law settled free zero g c l connects alive =
+    let s = connection_hub base h law g c connects in
     let w = slice_get_within h c (Connect g) connects in
     absurd (omega arith)
-let_go_unconnected h law settled free (suc steps) g c l connects alive =
-    by_hub (let_go_unconnected h law settled free steps) (slice_get h g) refl (connected_hub h law g c connects)
+let_go_unconnected base h law settled free (suc steps) g c l connects alive =
+    by_hub (let_go_unconnected base h law settled free steps) (slice_get h g) refl (connected_hub base h law g c connects)
   where
     by_top : ((k a : ℕ) → length h ≤ k + steps → slice_get h a ≡ Some (Connect k) → is_open h a ≡ true → ⊥) → (s a : ℕ) →
         at (is_subscriber_of g) h s ≡ true → IsTopOf h s a → (at is_root h a ≡ true) ⊎ ((k : ℕ) × (slice_get h a ≡ Some (Connect k))) → ⊥
     by_top rest s a subscribes top (inl root) = both_ways _ (free.unsubscribed a) (and_from _ _ top.alive root)
     by_top rest s a subscribes top (inr (k, at_a)) =
-        let later : g < k = hubs_in_order h law g s a k subscribes top.above at_a in
+        let later : g < k = hubs_in_order base h law g s a k subscribes top.above at_a in
         rest k a (omega arith) at_a top.alive
 
     by_subscribers : ((k a : ℕ) → length h ≤ k + steps → slice_get h a ≡ Some (Connect k) → is_open h a ≡ true → ⊥) →
         at is_auto_hub h g ≡ true → (ss : List ℕ) → open_subscribers h g ≡ ss → ⊥
-    by_subscribers rest auto [] none = connection_listed h g c connects alive (unsubscribed_unconnected h g settled auto none)
+    by_subscribers rest auto [] none = connection_listed h g c connects alive (unsubscribed_unconnected base h g settled auto none)
     by_subscribers rest auto (s ∷ ss) found =
         let first : (at (is_subscriber_of g) h s && is_open h s) ≡ true = first_passes (λ n. at (is_subscriber_of g) h n && is_open h n) (places h) s ss found in
         let parts : (at (is_subscriber_of g) h s ≡ true) × (is_open h s ≡ true) = and_parts _ _ first in
-        let top : (a : ℕ) × IsTopOf h s a = topmost h law s parts.1 in
+        let top : (a : ℕ) × IsTopOf h s a = topmost base h law s parts.1 in
         by_top rest s top.0 parts.0 top.1 top.1.sort
 
     by_hub : ((k a : ℕ) → length h ≤ k + steps → slice_get h a ≡ Some (Connect k) → is_open h a ≡ true → ⊥) → (e : Option Event) →
@@ -115,15 +116,15 @@ let_go_unconnected h law settled free (suc steps) g c l connects alive =
 -- nothing open -------------------------------------------------------------------------------------
 
 -- where a caller holds nothing open, nothing is open
-pub nothing_open : (h : List Event) → IsLawful h → IsSettled h → IsLetGo h → (n : ℕ) → is_open h n ≡ false
-nothing_open h law settled free n = false_from_ne_true _ (λ o. let top : (a : ℕ) × IsTopOf h n a = topmost h law n o in by_top top.0 top.1 top.1.sort) where
+pub nothing_open : (base : Kept) → (h : List Event) → IsLawful base h → IsSettled base h → IsLetGo h → (n : ℕ) → is_open h n ≡ false
+nothing_open base h law settled free n = false_from_ne_true _ (λ o. let top : (a : ℕ) × IsTopOf h n a = topmost base h law n o in by_top top.0 top.1 top.1.sort) where
   by_top : (a : ℕ) → IsTopOf h n a → (at is_root h a ≡ true) ⊎ ((g : ℕ) × (slice_get h a ≡ Some (Connect g))) → ⊥
   by_top a top (inl root) = both_ways _ (free.unsubscribed a) (and_from _ _ top.alive root)
-  by_top a top (inr (g, at_a)) = let_go_unconnected h law settled free (length h) g a (omega arith) at_a top.alive
+  by_top a top (inr (g, at_a)) = let_go_unconnected base h law settled free (length h) g a (omega arith) at_a top.alive
 
-pub nothing_open_counted : (h : List Event) → IsLawful h → IsSettled h → IsLetGo h → open_count h ≡ 0
-nothing_open_counted h law settled free =
-    sum_by_none (λ n. cond (is_open h n) 1 0) (length h) (λ n l. ap (λ (b : Bool). cond {A = ℕ} b 1 0) (nothing_open h law settled free n))
+pub nothing_open_counted : (base : Kept) → (h : List Event) → IsLawful base h → IsSettled base h → IsLetGo h → open_count h ≡ 0
+nothing_open_counted base h law settled free =
+    sum_by_none (λ n. cond (is_open h n) 1 0) (length h) (λ n l. ap (λ (b : Bool). cond {A = ℕ} b 1 0) (nothing_open base h law settled free n))
 
 -- counts -------------------------------------------------------------------------------------------
 

@@ -1,7 +1,7 @@
 -- What holds of the elements of a list, and what a filter leaves.
-use Rattle.std.proofs.Common.{◌≡◌, ℕ, zero, suc, ◌+◌, ◌<◌, ◌≤◌, Bool, true, false, List, [], ◌∷◌, ◌++◌, length, cond, refl, ap, ◌∙◌, arith, inl, inr, ◌⊎◌, filter}
+use Rattle.std.proofs.Common.{◌≡◌, ℕ, zero, suc, ◌+◌, ◌-◌, ◌<◌, ◌≤◌, Bool, true, false, List, [], ◌∷◌, ◌++◌, length, cond, refl, sym, ap, ◌∙◌, arith, inl, inr, ◌⊎◌, filter}
 use Rattle.std.specs.List.{AllByRecursion, range_with_len}
-use Rattle.std.proofs.lemmas.Bool.{cases_Bool, cases_order, both_ways}
+use Rattle.std.proofs.lemmas.Bool.{cases_Bool, cases_lt, cases_order, both_ways}
 
 pub AllByRecursion-both : {X : Type 0} (P : X → Type 0) (xs ys : List X) → AllByRecursion P xs → AllByRecursion P ys → AllByRecursion P (xs ++ ys)
 AllByRecursion-both P [] ys a b = b
@@ -37,7 +37,7 @@ filter_nonempty p s (suc n) k above below passes empty = by_test (p s) refl (fil
   by_test true at_s rest none = absurd (let long : suc (length (filter p (range_with_len (s + 1) n))) ≡ 0 = ap length none in omega arith)
   by_test false at_s rest none = by_place at_s rest none (cases_order s k)
 
-filter_none : (p : ℕ → Bool) (s n : ℕ) → ((k : ℕ) → s ≤ k → p k ≡ false) → filter p (range_with_len s n) ≡ []
+pub filter_none : (p : ℕ → Bool) (s n : ℕ) → ((k : ℕ) → s ≤ k → p k ≡ false) → filter p (range_with_len s n) ≡ []
 filter_none p s zero none = refl
 filter_none p s (suc n) none = rw (none s (omega arith)) (filter_none p (s + 1) n (λ k l. none k (omega arith)))
 
@@ -53,3 +53,29 @@ filter_few p s (suc n) same = by_test (p s) refl (filter_few p (s + 1) n same) w
       length (cond b (s ∷ filter p (range_with_len (s + 1) n)) (filter p (range_with_len (s + 1) n))) ≤ 1
   by_test true at_s rest = rw (filter_none p (s + 1) n (λ k l. other at_s k l (cases_Bool (p k)))) (omega arith)
   by_test false at_s rest = rest
+
+-- filters of unlike length ---------------------------------------------------------------------------------
+
+-- what fails from there on adds nothing to a filter
+filter_to : (p : ℕ → Bool) (s a c : ℕ) → ((n : ℕ) → s + a ≤ n → p n ≡ false) → filter p (range_with_len s (a + c)) ≡ filter p (range_with_len s a)
+filter_to p s zero c past =
+    let same : 0 + c ≡ c = omega arith in
+    ap (λ m. filter p (range_with_len s m)) same ∙ filter_none p s c (λ n l. past n (omega arith))
+filter_to p s (suc a) c past =
+    let same : suc a + c ≡ suc (a + c) = omega arith in
+    let rest = filter_to p (s + 1) a c (λ n l. past n (omega arith)) in
+    ap (λ m. filter p (range_with_len s m)) same ∙ ap (λ xs. cond (p s) (s ∷ xs) xs) rest
+
+-- so one test gives one list
+pub same_filter : (p q : ℕ → Bool) (m n : ℕ) → ((x : ℕ) → p x ≡ q x) → ((x : ℕ) → m ≤ x → p x ≡ false) → ((x : ℕ) → n ≤ x → q x ≡ false) →
+    filter p (range_with_len 0 m) ≡ filter q (range_with_len 0 n)
+same_filter p q m n same past_p past_q = by_length (cases_lt m n) where
+  by_length : (m < n) ⊎ (n ≤ m) → filter p (range_with_len 0 m) ≡ filter q (range_with_len 0 n)
+  by_length (inl l) =
+      let long : m + (n - m) ≡ n = omega arith in
+      ap (λ f. filter f (range_with_len 0 m)) (λ i x. same x i) ∙ sym (filter_to q 0 m (n - m) (λ x le. sym (same x) ∙ past_p x (omega arith))) ∙
+      ap (λ k. filter q (range_with_len 0 k)) long
+  by_length (inr l) =
+      let long : n + (m - n) ≡ m = omega arith in
+      ap (λ k. filter p (range_with_len 0 k)) (sym long) ∙ filter_to p 0 n (m - n) (λ x le. same x ∙ past_q x (omega arith)) ∙
+      ap (λ f. filter f (range_with_len 0 n)) (λ i x. same x i)

@@ -7,6 +7,8 @@ use Rattle.std.proofs.lemmas.Bool.{false≢true}
 use Rattle.std.proofs.lemmas.Option.{slice_get_within}
 use Rattle.rx_note.specs.declared.note.Terminal.{Terminal}
 use Rattle.rx_note.specs.declared.note.Terminal.TheVariants.{Completed, Error}
+use Rattle.rx_event.specs.Kept.{Kept, node_kept}
+use Rattle.rx_event.specs.Opened.{source_opened, notifier_opened}
 use Rattle.rx_event.specs.declared.event.Place.TheVariants.{Root, Source, Inner, Notifier}
 use Rattle.rx_event.specs.declared.event.Kind.{Kind}
 use Rattle.rx_event.specs.declared.event.Event.{Event}
@@ -31,12 +33,12 @@ use Rattle.rx_event.proofs.Laws.Searches.{or_false, list_any_push, list_any_same
 -- one more event: each mark -----------------------------------------------------------------------
 
 -- what ends was there before
-ended_old : (h : List Event) (e : Event) → MayFollow h e → (c : ℕ) (u : Terminal) → e ≡ End c u → c < length h
-ended_old h e next c u same = let now : MayFollow h (End c u) = rw (← same) next in is_open_within h c (may_end now)
+ended_old : (base : Kept) → (h : List Event) (e : Event) → MayFollow base h e → (c : ℕ) (u : Terminal) → e ≡ End c u → c < length h
+ended_old base h e next c u same = let now : MayFollow base h (End c u) = rw (← same) next in is_open_within h c (may_end base now)
 
-pub ended_older : (h : List Event) → IsLawful h → (i : ℕ) (x : Event) → slice_get h i ≡ Some x → (c : ℕ) (u : Terminal) → x ≡ End c u → c < length h
-ended_older h law i x at_i c u same =
-    let a : c < i = ended_after h law i c u (at_i ∙ ap Some same) in
+pub ended_older : (base : Kept) → (h : List Event) → IsLawful base h → (i : ℕ) (x : Event) → slice_get h i ≡ Some x → (c : ℕ) (u : Terminal) → x ≡ End c u → c < length h
+ended_older base h law i x at_i c u same =
+    let a : c < i = ended_after base h law i c u (at_i ∙ ap Some same) in
     let b : i < length h = slice_get_within h i x at_i in
     omega arith
 
@@ -51,21 +53,32 @@ completes_kept h t n (End c Completed) old = at-append (is_source_of n) h t c (o
 completes_kept h t n (End c (Error code)) old = refl
 completes_kept h t n _ old = refl
 
-pub child_terminal-push : (h : List Event) (e : Event) → IsLawful h → MayFollow h e → (n : ℕ) → n < length h →
+pub child_terminal-push : (base : Kept) → (h : List Event) (e : Event) → IsLawful base h → MayFollow base h e → (n : ℕ) → n < length h →
     child_terminal (h ++ e ∷ []) n ≡ option_or (child_terminal h n) (ends_by h n e)
 unfolding child_terminal
-child_terminal-push h e law next n l =
+child_terminal-push base h e law next n l =
     first_some_push (ends_by (h ++ e ∷ []) n) h e ∙
-    ap (λ o. option_or o (ends_by (h ++ e ∷ []) n e)) (first_some_same_at (ends_by (h ++ e ∷ []) n) (ends_by h n) h (λ i x at_i. ends_by_kept h (e ∷ []) n l x (ended_older h law i x at_i))) ∙
-    ap (option_or (first_some (ends_by h n) h)) (ends_by_kept h (e ∷ []) n l e (ended_old h e next))
+    ap (λ o. option_or o (ends_by (h ++ e ∷ []) n e)) (first_some_same_at (ends_by (h ++ e ∷ []) n) (ends_by h n) h (λ i x at_i. ends_by_kept h (e ∷ []) n l x (ended_older base h law i x at_i))) ∙
+    ap (option_or (first_some (ends_by h n) h)) (ends_by_kept h (e ∷ []) n l e (ended_old base h e next))
 
-pub source_completed-push : (h : List Event) (e : Event) → IsLawful h → MayFollow h e → (n : ℕ) →
-    source_completed (h ++ e ∷ []) n ≡ (source_completed h n || completes_source h n e)
+or_assoc : (a b c : Bool) → (a || (b || c)) ≡ ((a || b) || c)
+or_assoc true b c = refl
+or_assoc false b c = refl
+
+pub source_opened-push : (base : Kept) → (h : List Event) (e : Event) (n : ℕ) → source_opened base (h ++ e ∷ []) n ≡ (source_opened base h n || is_source_of n e)
+source_opened-push base h e n = ap (λ c. option_map_or (λ k. k.source_opened) (node_kept base n) false || c) (list_any_push (is_source_of n) h e) ∙ or_assoc (option_map_or (λ k. k.source_opened) (node_kept base n) false) (list_any (is_source_of n) h) (is_source_of n e)
+
+pub notifier_opened-push : (base : Kept) → (h : List Event) (e : Event) (n : ℕ) → notifier_opened base (h ++ e ∷ []) n ≡ (notifier_opened base h n || is_notifier_of n e)
+notifier_opened-push base h e n = ap (λ c. option_map_or (λ k. k.notifier_opened) (node_kept base n) false || c) (list_any_push (is_notifier_of n) h e) ∙ or_assoc (option_map_or (λ k. k.notifier_opened) (node_kept base n) false) (list_any (is_notifier_of n) h) (is_notifier_of n e)
+
+pub source_completed-push : (base : Kept) → (h : List Event) (e : Event) → IsLawful base h → MayFollow base h e → (n : ℕ) →
+    source_completed base (h ++ e ∷ []) n ≡ (source_completed base h n || completes_source h n e)
 unfolding source_completed
-source_completed-push h e law next n =
-    list_any_push (completes_source (h ++ e ∷ []) n) h e ∙
-    ap (λ b. b || completes_source (h ++ e ∷ []) n e) (list_any_same_at (completes_source (h ++ e ∷ []) n) (completes_source h n) h (λ i x at_i. completes_kept h (e ∷ []) n x (ended_older h law i x at_i))) ∙
-    ap (λ b. list_any (completes_source h n) h || b) (completes_kept h (e ∷ []) n e (ended_old h e next))
+source_completed-push base h e law next n =
+    ap (λ c. option_map_or (λ k. k.source_completed) (node_kept base n) false || c) (list_any_push (completes_source (h ++ e ∷ []) n) h e ∙
+    ap (λ b. b || completes_source (h ++ e ∷ []) n e) (list_any_same_at (completes_source (h ++ e ∷ []) n) (completes_source h n) h (λ i x at_i. completes_kept h (e ∷ []) n x (ended_older base h law i x at_i))) ∙
+    ap (λ b. list_any (completes_source h n) h || b) (completes_kept h (e ∷ []) n e (ended_old base h e next))) ∙
+    or_assoc (option_map_or (λ k. k.source_completed) (node_kept base n) false) (list_any (completes_source h n) h) (completes_source h n e)
 
 pub is_fired-push : (h : List Event) (e : Event) (u : ℕ) → is_fired (h ++ e ∷ []) u ≡ (is_fired h u || list_any (is_firing_of u) (stops_of h e))
 unfolding is_fired
@@ -89,18 +102,18 @@ parent_none : (h : List Event) (e : Event) → parent_named e ≡ None → paren
 unfolding parent
 parent_none h e named = rw (slice_get_last h e, named) refl
 
-pub child_new : (h : List Event) (e : Event) → IsLawful h → MayFollow h e → (n : ℕ) → is_open_child_of (h ++ e ∷ []) n (length h) ≡ adds_child n e
-child_new h e law next n = rw (is_open_new h e next, parent_last (parent_named e) refl) (adds_made n e) where
+pub child_new : (base : Kept) → (h : List Event) (e : Event) → IsLawful base h → MayFollow base h e → (n : ℕ) → is_open_child_of (h ++ e ∷ []) n (length h) ≡ adds_child n e
+child_new base h e law next n = rw (is_open_new base h e next, parent_last (parent_named e) refl) (adds_made n e) where
   parent_last : (o : Option ℕ) → parent_named e ≡ o → parent (h ++ e ∷ []) (length h) ≡ parent_named e
-  parent_last (Some p) named = parent-named (h ++ e ∷ []) (IsLawful-push h e law next) (length h) p e (slice_get_last h e) named ∙ sym named
+  parent_last (Some p) named = parent-named base (h ++ e ∷ []) (IsLawful-push base h e law next) (length h) p e (slice_get_last h e) named ∙ sym named
   parent_last None named = parent_none h e named ∙ sym named
 
-pub open_children-push : (h : List Event) (e : Event) → IsLawful h → MayFollow h e → (n : ℕ) →
+pub open_children-push : (base : Kept) → (h : List Event) (e : Event) → IsLawful base h → MayFollow base h e → (n : ℕ) →
     open_children (h ++ e ∷ []) n + cut_children h e n ≡ open_children h n + cond (adds_child n e) 1 0
 unfolding open_children
-open_children-push h e law next n =
+open_children-push base h e law next n =
     let more = sum_by-places-push (λ k. cond (is_open_child_of (h ++ e ∷ []) n k) 1 0) h e in
-    let new : cond {A = ℕ} (is_open_child_of (h ++ e ∷ []) n (length h)) 1 0 ≡ cond (adds_child n e) 1 0 = ap (λ b. cond {A = ℕ} b 1 0) (child_new h e law next n) in
+    let new : cond {A = ℕ} (is_open_child_of (h ++ e ∷ []) n (length h)) 1 0 ≡ cond (adds_child n e) 1 0 = ap (λ b. cond {A = ℕ} b 1 0) (child_new base h e law next n) in
     let rest = sums_balance (λ k. cond (is_open_child_of (h ++ e ∷ []) n k) 1 0) (λ k. cond (is_open_child_of h n k && is_cut h e k) 1 0) (λ k. cond (is_open_child_of h n k) 1 0) (λ k. 0) (length h) (λ k l. rw (is_open_cut h e k l, parent-append h (e ∷ []) k l) (shape (is_open h k) (is_cut h e k) (is_child_of h n k))) in
     let zeros = sum_by_none (λ k. 0) (length h) (λ k l. refl) in
     omega arith
@@ -115,8 +128,8 @@ open_children-push h e law next n =
 -- one more event: all marks of an older node ------------------------------------------------------
 
 -- the marks of n after the event
-abbrev pub marks_after : List Event → Event → ℕ → Marks → Marks
-marks_after h e n m =
+abbrev pub marks_after : (base : Kept) → List Event → Event → ℕ → Marks → Marks
+marks_after base h e n m =
     record {
       source_opened = m.source_opened || is_source_of n e;
       notifier_opened = m.notifier_opened || is_notifier_of n e;
@@ -127,15 +140,15 @@ marks_after h e n m =
       open_children = m.open_children + cond (adds_child n e) 1 0 - cut_children h e n;
     }
 
-pub same_marks : {a b : Bool} {c d : Bool} {i j : Bool} {k l : Bool} {t u : Option Terminal} {o p : ℕ} {q r : ℕ} → a ≡ b → c ≡ d → i ≡ j → k ≡ l → t ≡ u → o ≡ p → q ≡ r → (let x : Marks = record { source_opened = a; notifier_opened = c; fired = i; source_completed = k; child_terminal = t; owed = o; open_children = q } in x) ≡ (let y : Marks = record { source_opened = b; notifier_opened = d; fired = j; source_completed = l; child_terminal = u; owed = p; open_children = r } in y)
-same_marks s n f c t o q = λ x. record { source_opened = s x; notifier_opened = n x; fired = f x; source_completed = c x; child_terminal = t x; owed = o x; open_children = q x }
+pub same_marks : (base : Kept) → {a b : Bool} {c d : Bool} {i j : Bool} {k l : Bool} {t u : Option Terminal} {o p : ℕ} {q r : ℕ} → a ≡ b → c ≡ d → i ≡ j → k ≡ l → t ≡ u → o ≡ p → q ≡ r → (let x : Marks = record { source_opened = a; notifier_opened = c; fired = i; source_completed = k; child_terminal = t; owed = o; open_children = q } in x) ≡ (let y : Marks = record { source_opened = b; notifier_opened = d; fired = j; source_completed = l; child_terminal = u; owed = p; open_children = r } in y)
+same_marks base s n f c t o q = λ x. record { source_opened = s x; notifier_opened = n x; fired = f x; source_completed = c x; child_terminal = t x; owed = o x; open_children = q x }
 
-pub marks-push : (h : List Event) (e : Event) → IsLawful h → MayFollow h e → (n : ℕ) → n < length h →
-    marks_of (h ++ e ∷ []) n ≡ marks_after h e n (marks_of h n)
-marks-push h e law next n l =
-    let o = owed-push h e law next n in
-    let q = open_children-push h e law next n in
-    same_marks (list_any_push (is_source_of n) h e) (list_any_push (is_notifier_of n) h e) (is_fired-push h e n) (source_completed-push h e law next n) (child_terminal-push h e law next n l) (omega arith) (omega arith)
+pub marks-push : (base : Kept) → (h : List Event) (e : Event) → IsLawful base h → MayFollow base h e → (n : ℕ) → n < length h →
+    marks_of base (h ++ e ∷ []) n ≡ marks_after base h e n (marks_of base h n)
+marks-push base h e law next n l =
+    let o = owed-push base h e law next n in
+    let q = open_children-push base h e law next n in
+    same_marks base (source_opened-push base h e n) (notifier_opened-push base h e n) (is_fired-push h e n) (source_completed-push base h e law next n) (child_terminal-push base h e law next n l) (omega arith) (omega arith)
 
 pub cut_children_none : (h : List Event) (e : Event) (n : ℕ) → ((k : ℕ) → is_cut h e k ≡ false) → cut_children h e n ≡ 0
 cut_children_none h e n whole = sum_by_none (λ k. cond (is_open_child_of h n k && is_cut h e k) 1 0) (length h) (λ k l. rw (whole k) (shape (is_open_child_of h n k))) where
@@ -144,17 +157,17 @@ cut_children_none h e n whole = sum_by_none (λ k. cond (is_open_child_of h n k 
   shape false = refl
 
 -- an item sets what it fires and adds what it projects
-pub marks-item : (h : List Event) (leaf : ℕ) (v : ℤ) → IsLawful h → MayFollow h (Item leaf v) → (n : ℕ) → n < length h → marks_of (h ++ Item leaf v ∷ []) n ≡ record (marks_of h n) { fired = is_fired h n || list_any (is_firing_of n) (stops h leaf); owed = owed h n + count_by (is_projection_to n) (stops h leaf) }
-marks-item h leaf v law next n l =
+pub marks-item : (base : Kept) → (h : List Event) (leaf : ℕ) (v : ℤ) → IsLawful base h → MayFollow base h (Item leaf v) → (n : ℕ) → n < length h → marks_of base (h ++ Item leaf v ∷ []) n ≡ record (marks_of base h n) { fired = is_fired h n || list_any (is_firing_of n) (stops h leaf); owed = owed base h n + count_by (is_projection_to n) (stops h leaf) }
+marks-item base h leaf v law next n l =
     let z = cut_children_none h (Item leaf v) n (λ k. is_cut_none h (Item leaf v) k refl) in
-    marks-push h (Item leaf v) law next n l ∙ same_marks (or_false _) (or_false _) refl (or_false _) (or_nothing _) (omega arith) (omega arith)
+    marks-push base h (Item leaf v) law next n l ∙ same_marks base (or_false _) (or_false _) refl (or_false _) (or_nothing _) (omega arith) (omega arith)
 
 -- a declining pays one
-pub marks-decline : (h : List Event) (f : ℕ) → IsLawful h → MayFollow h (Decline f) → (n : ℕ) → n < length h → marks_of (h ++ Decline f ∷ []) n ≡ record (marks_of h n) { owed = owed h n - cond (f == n) 1 0 }
-marks-decline h f law next n l =
+pub marks-decline : (base : Kept) → (h : List Event) (f : ℕ) → IsLawful base h → MayFollow base h (Decline f) → (n : ℕ) → n < length h → marks_of base (h ++ Decline f ∷ []) n ≡ record (marks_of base h n) { owed = owed base h n - cond (f == n) 1 0 }
+marks-decline base h f law next n l =
     let z = cut_children_none h (Decline f) n (λ k. is_cut_none h (Decline f) k refl) in
     let p : count_by (is_projection_to n) [] ≡ 0 = refl in
-    marks-push h (Decline f) law next n l ∙ same_marks (or_false _) (or_false _) (or_false _) (or_false _) (or_nothing _) (omega arith) (omega arith)
+    marks-push base h (Decline f) law next n l ∙ same_marks base (or_false _) (or_false _) (or_false _) (or_false _) (or_nothing _) (omega arith) (omega arith)
 
 -- what neither makes nor shuts a node, nor projects nor pays, leaves all marks
 abbrev pub is_still : Event → Bool
@@ -167,40 +180,40 @@ is_still (Remove r) = true
 is_still (Take r) = true
 is_still _ = false
 
-marks_still : (h : List Event) (e : Event) → IsLawful h → MayFollow h e → (n : ℕ) → n < length h → shuts_none e ≡ true → is_source_of n e ≡ false →
+marks_still : (base : Kept) → (h : List Event) (e : Event) → IsLawful base h → MayFollow base h e → (n : ℕ) → n < length h → shuts_none e ≡ true → is_source_of n e ≡ false →
     is_notifier_of n e ≡ false → stops_of h e ≡ [] → completes_source h n e ≡ false → ends_by h n e ≡ None → pays n e ≡ false → adds_child n e ≡ false →
-    marks_of (h ++ e ∷ []) n ≡ marks_of h n
-marks_still h e law next n l s source notifier no_stops no_end no_terminal no_pay no_child =
+    marks_of base (h ++ e ∷ []) n ≡ marks_of base h n
+marks_still base h e law next n l s source notifier no_stops no_end no_terminal no_pay no_child =
     let z = cut_children_none h e n (λ k. is_cut_none h e k s) in
     let p : count_by (is_projection_to n) (stops_of h e) ≡ 0 = ap (count_by (is_projection_to n)) no_stops in
     let w : cond {A = ℕ} (pays n e) 1 0 ≡ 0 = ap (λ b. cond {A = ℕ} b 1 0) no_pay in
     let y : cond {A = ℕ} (adds_child n e) 1 0 ≡ 0 = ap (λ b. cond {A = ℕ} b 1 0) no_child in
-    marks-push h e law next n l ∙
-    same_marks (ap (λ b. list_any (is_source_of n) h || b) source ∙ or_false (list_any (is_source_of n) h)) (ap (λ b. list_any (is_notifier_of n) h || b) notifier ∙ or_false (list_any (is_notifier_of n) h)) (ap (λ ss. is_fired h n || list_any (is_firing_of n) ss) no_stops ∙ or_false (is_fired h n)) (ap (λ b. source_completed h n || b) no_end ∙ or_false (source_completed h n)) (ap (option_or (child_terminal h n)) no_terminal ∙ or_nothing (child_terminal h n)) (omega arith) (omega arith)
+    marks-push base h e law next n l ∙
+    same_marks base (ap (λ b. source_opened base h n || b) source ∙ or_false (source_opened base h n)) (ap (λ b. notifier_opened base h n || b) notifier ∙ or_false (notifier_opened base h n)) (ap (λ ss. is_fired h n || list_any (is_firing_of n) ss) no_stops ∙ or_false (is_fired h n)) (ap (λ b. source_completed base h n || b) no_end ∙ or_false (source_completed base h n)) (ap (option_or (child_terminal h n)) no_terminal ∙ or_nothing (child_terminal h n)) (omega arith) (omega arith)
 
-pub marks_kept : (h : List Event) (e : Event) → IsLawful h → MayFollow h e → is_still e ≡ true → (n : ℕ) → n < length h →
-    marks_of (h ++ e ∷ []) n ≡ marks_of h n
-marks_kept h (Hub mode) law next still n l = marks_still h (Hub mode) law next n l refl refl refl refl refl refl refl refl
-marks_kept h (Connect g) law next still n l = marks_still h (Connect g) law next n l refl refl refl refl refl refl refl refl
-marks_kept h (Open Root kind) law next still n l = marks_still h (Open Root kind) law next n l refl refl refl refl refl refl refl refl
-marks_kept h (Accept m tag) law next still n l = marks_still h (Accept m tag) law next n l refl refl refl refl refl refl refl refl
-marks_kept h (Use r) law next still n l = marks_still h (Use r) law next n l refl refl refl refl refl refl refl refl
-marks_kept h (Remove r) law next still n l = marks_still h (Remove r) law next n l refl refl refl refl refl refl refl refl
-marks_kept h (Take r) law next still n l = marks_still h (Take r) law next n l refl refl refl refl refl refl refl refl
-marks_kept h (Open (Source p) kind) law next still n l = absurd (false≢true still)
-marks_kept h (Open (Inner p) kind) law next still n l = absurd (false≢true still)
-marks_kept h (Open (Notifier p) kind) law next still n l = absurd (false≢true still)
-marks_kept h _ law next still n l = absurd (false≢true still)
+pub marks_kept : (base : Kept) → (h : List Event) (e : Event) → IsLawful base h → MayFollow base h e → is_still e ≡ true → (n : ℕ) → n < length h →
+    marks_of base (h ++ e ∷ []) n ≡ marks_of base h n
+marks_kept base h (Hub mode) law next still n l = marks_still base h (Hub mode) law next n l refl refl refl refl refl refl refl refl
+marks_kept base h (Connect g) law next still n l = marks_still base h (Connect g) law next n l refl refl refl refl refl refl refl refl
+marks_kept base h (Open Root kind) law next still n l = marks_still base h (Open Root kind) law next n l refl refl refl refl refl refl refl refl
+marks_kept base h (Accept m tag) law next still n l = marks_still base h (Accept m tag) law next n l refl refl refl refl refl refl refl refl
+marks_kept base h (Use r) law next still n l = marks_still base h (Use r) law next n l refl refl refl refl refl refl refl refl
+marks_kept base h (Remove r) law next still n l = marks_still base h (Remove r) law next n l refl refl refl refl refl refl refl refl
+marks_kept base h (Take r) law next still n l = marks_still base h (Take r) law next n l refl refl refl refl refl refl refl refl
+marks_kept base h (Open (Source p) kind) law next still n l = absurd (false≢true still)
+marks_kept base h (Open (Inner p) kind) law next still n l = absurd (false≢true still)
+marks_kept base h (Open (Notifier p) kind) law next still n l = absurd (false≢true still)
+marks_kept base h _ law next still n l = absurd (false≢true still)
 
 -- a source, a notifier
-pub marks-source : (h : List Event) (p : ℕ) (kind : Kind) → IsLawful h → MayFollow h (Open (Source p) kind) → (n : ℕ) → n < length h → marks_of (h ++ Open (Source p) kind ∷ []) n ≡ record (marks_of h n) { source_opened = list_any (is_source_of n) h || (p == n); open_children = open_children h n + cond (p == n) 1 0 }
-marks-source h p kind law next n l =
+pub marks-source : (base : Kept) → (h : List Event) (p : ℕ) (kind : Kind) → IsLawful base h → MayFollow base h (Open (Source p) kind) → (n : ℕ) → n < length h → marks_of base (h ++ Open (Source p) kind ∷ []) n ≡ record (marks_of base h n) { source_opened = source_opened base h n || (p == n); open_children = open_children h n + cond (p == n) 1 0 }
+marks-source base h p kind law next n l =
     let z = cut_children_none h (Open (Source p) kind) n (λ k. is_cut_none h (Open (Source p) kind) k refl) in
     let w : count_by (is_projection_to n) [] ≡ 0 = refl in
-    marks-push h (Open (Source p) kind) law next n l ∙ same_marks refl (or_false _) (or_false _) (or_false _) (or_nothing _) (omega arith) (omega arith)
+    marks-push base h (Open (Source p) kind) law next n l ∙ same_marks base refl (or_false _) (or_false _) (or_false _) (or_nothing _) (omega arith) (omega arith)
 
-pub marks-notifier : (h : List Event) (p : ℕ) (kind : Kind) → IsLawful h → MayFollow h (Open (Notifier p) kind) → (n : ℕ) → n < length h → marks_of (h ++ Open (Notifier p) kind ∷ []) n ≡ record (marks_of h n) { notifier_opened = list_any (is_notifier_of n) h || (p == n); open_children = open_children h n + cond (p == n) 1 0 }
-marks-notifier h p kind law next n l =
+pub marks-notifier : (base : Kept) → (h : List Event) (p : ℕ) (kind : Kind) → IsLawful base h → MayFollow base h (Open (Notifier p) kind) → (n : ℕ) → n < length h → marks_of base (h ++ Open (Notifier p) kind ∷ []) n ≡ record (marks_of base h n) { notifier_opened = notifier_opened base h n || (p == n); open_children = open_children h n + cond (p == n) 1 0 }
+marks-notifier base h p kind law next n l =
     let z = cut_children_none h (Open (Notifier p) kind) n (λ k. is_cut_none h (Open (Notifier p) kind) k refl) in
     let w : count_by (is_projection_to n) [] ≡ 0 = refl in
-    marks-push h (Open (Notifier p) kind) law next n l ∙ same_marks (or_false _) refl (or_false _) (or_false _) (or_nothing _) (omega arith) (omega arith)
+    marks-push base h (Open (Notifier p) kind) law next n l ∙ same_marks base (or_false _) refl (or_false _) (or_false _) (or_nothing _) (omega arith) (omega arith)

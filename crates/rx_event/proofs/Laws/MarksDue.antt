@@ -8,6 +8,8 @@ use Rattle.std.proofs.lemmas.List.{length-take-le}
 use Rattle.std.proofs.lemmas.Option.{cond_some, slice_get_within, same_Some, none-some}
 use Rattle.rx_note.specs.declared.note.Terminal.{Terminal}
 use Rattle.rx_note.specs.declared.note.Terminal.TheVariants.{Completed, Error}
+use Rattle.rx_event.proofs.Laws.Hubs.{hub_before}
+use Rattle.rx_event.specs.Kept.{Kept}
 use Rattle.rx_event.specs.declared.event.Kind.TheVariants.{Leaf, Pass, Flat, Switch, Until, Sub}
 use Rattle.rx_event.specs.declared.event.Event.{Event}
 use Rattle.rx_event.specs.declared.event.Event.TheVariants.{Open, Hub, Connect, End, Close}
@@ -21,64 +23,62 @@ use Rattle.rx_event.specs.Allowed.{connected, IsAllowed}
 use Rattle.rx_event.specs.Lawful.{forced, allowed, MayFollow, IsLawful}
 use Rattle.rx_event.proofs.Laws.Places.{at-take, at_within}
 use Rattle.rx_event.proofs.Laws.Openness.{is_open_step}
-use Rattle.rx_event.proofs.Laws.Lawful.{lawful_at}
 use Rattle.rx_event.proofs.Laws.Searches.{list_any_holds}
-use Rattle.rx_event.proofs.Laws.MarksFound.{child_terminal_some, child_terminal_none, source_completed_true, source_completed_has, open_children_none, open_children_zero}
+use Rattle.rx_event.proofs.Laws.MarksFound.{child_terminal_some, child_terminal_none, open_children_none, open_children_zero}
 
 -- the rule at one node ----------------------------------------------------------------------------
 
 completed_if_some : (b : Bool) (t : Terminal) → completed_if b ≡ Some t → (b ≡ true) × (Completed ≡ t)
 completed_if_some b t found = cond_some b Completed t found
 
-over_parts : (h : List Event) (n : ℕ) → is_over (marks_of h n) ≡ true → (source_completed h n ≡ true) × (open_children h n ≡ 0) × (owed h n ≡ 0)
-over_parts h n over =
-    let a = and_parts (source_completed h n && (open_children h n == 0)) (owed h n == 0) over in
-    let b = and_parts (source_completed h n) (open_children h n == 0) a.0 in
-    (b.0, eqb-true (open_children h n) 0 b.1, eqb-true (owed h n) 0 a.1)
+over_parts : (base : Kept) → (h : List Event) (n : ℕ) → is_over (marks_of base h n) ≡ true → (source_completed base h n ≡ true) × (open_children h n ≡ 0) × (owed base h n ≡ 0)
+over_parts base h n over =
+    let a = and_parts (source_completed base h n && (open_children h n == 0)) (owed base h n == 0) over in
+    let b = and_parts (source_completed base h n) (open_children h n == 0) a.0 in
+    (b.0, eqb-true (open_children h n) 0 b.1, eqb-true (owed base h n) 0 a.1)
 
 -- what a FlatMap's or a Switch's marks give is due
-merging_due : (h : List Event) (n : ℕ) (t : Terminal) → is_open h n ≡ true → at is_merging h n ≡ true →
-    option_or (child_terminal h n) (completed_if (is_over (marks_of h n))) ≡ Some t → IsDue h (End n t)
-merging_due h n t o m found = by_child (child_terminal h n) refl found where
-  as_failed : (u : Terminal) → child_terminal h n ≡ Some u → IsDue h (End n u)
+pub merging_due : (base : Kept) → (h : List Event) (n : ℕ) (t : Terminal) → is_open h n ≡ true → at is_merging h n ≡ true →
+    option_or (child_terminal h n) (completed_if (is_over (marks_of base h n))) ≡ Some t → IsDue base h (End n t)
+merging_due base h n t o m found = by_child (child_terminal h n) refl found where
+  as_failed : (u : Terminal) → child_terminal h n ≡ Some u → IsDue base h (End n u)
   as_failed (Error c) ended = failed o m (child_terminal_some h n (Error c) ended).0
   as_failed Completed ended = absurd (both_ways _ (ap not m) (child_terminal_some h n Completed ended).1)
 
-  by_child : (c : Option Terminal) → child_terminal h n ≡ c → option_or c (completed_if (is_over (marks_of h n))) ≡ Some t → IsDue h (End n t)
+  by_child : (c : Option Terminal) → child_terminal h n ≡ c → option_or c (completed_if (is_over (marks_of base h n))) ≡ Some t → IsDue base h (End n t)
   by_child (Some u) ended same = rw (← same_Some u t same) (as_failed u ended)
   by_child None none over =
-      let w = completed_if_some (is_over (marks_of h n)) t over in
-      let parts = over_parts h n w.0 in
-      let s = source_completed_true h n parts.0 in
-      rw (← w.1) (completed o m (λ c. child_terminal_none h n (Error c) none refl) s.1 s.2 (open_children_none h n parts.1) parts.2)
+      let w = completed_if_some (is_over (marks_of base h n)) t over in
+      let parts = over_parts base h n w.0 in
+      rw (← w.1) (completed o m (λ c. child_terminal_none h n (Error c) none refl) parts.0 (open_children_none h n parts.1) parts.2)
 
-until_due : (h : List Event) (n : ℕ) (t : Terminal) → is_open h n ≡ true → at is_mirroring h n ≡ true → at is_until h n ≡ true →
-    option_or (child_terminal h n) (completed_if (is_fired h n)) ≡ Some t → IsDue h (End n t)
-until_due h n t o m u found = by_child (child_terminal h n) refl found where
-  by_child : (c : Option Terminal) → child_terminal h n ≡ c → option_or c (completed_if (is_fired h n)) ≡ Some t → IsDue h (End n t)
+until_due : (base : Kept) → (h : List Event) (n : ℕ) (t : Terminal) → is_open h n ≡ true → at is_mirroring h n ≡ true → at is_until h n ≡ true →
+    option_or (child_terminal h n) (completed_if (is_fired h n)) ≡ Some t → IsDue base h (End n t)
+until_due base h n t o m u found = by_child (child_terminal h n) refl found where
+  by_child : (c : Option Terminal) → child_terminal h n ≡ c → option_or c (completed_if (is_fired h n)) ≡ Some t → IsDue base h (End n t)
   by_child (Some v) ended same = rw (← same_Some v t same) (mirrored o m (child_terminal_some h n v ended).0)
   by_child None none over =
       let w = completed_if_some (is_fired h n) t over in
       rw (← w.1) (fired o u w.0)
 
 -- the terminal that the marks of an open node give is due
-pub terminal_due_due : (h : List Event) (n : ℕ) (made : Event) (t : Terminal) → is_open h n ≡ true → slice_get h n ≡ Some made →
-    terminal_due made (marks_of h n) ≡ Some t → IsDue h (End n t)
-terminal_due_due h n (Open place Pass) t o at_n found = mirrored o (rw at_n refl) (child_terminal_some h n t found).0
-terminal_due_due h n (Connect g) t o at_n found = mirrored o (rw at_n refl) (child_terminal_some h n t found).0
-terminal_due_due h n (Open place Until) t o at_n found = until_due h n t o (rw at_n refl) (rw at_n refl) found
-terminal_due_due h n (Open place Flat) t o at_n found = merging_due h n t o (rw at_n refl) found
-terminal_due_due h n (Open place Switch) t o at_n found = merging_due h n t o (rw at_n refl) found
-terminal_due_due h n (Open place Leaf) t o at_n found = absurd (none-some t found)
-terminal_due_due h n (Open place (Sub g)) t o at_n found = absurd (none-some t found)
-terminal_due_due h n _ t o at_n found = absurd (none-some t found)
+pub terminal_due_due : (base : Kept) → (h : List Event) (n : ℕ) (made : Event) (t : Terminal) → is_open h n ≡ true → slice_get h n ≡ Some made →
+    terminal_due made (marks_of base h n) ≡ Some t → IsDue base h (End n t)
+terminal_due_due base h n (Open place Pass) t o at_n found = mirrored o (rw at_n refl) (child_terminal_some h n t found).0
+terminal_due_due base h n (Connect g) t o at_n found = mirrored o (rw at_n refl) (child_terminal_some h n t found).0
+terminal_due_due base h n (Open place Until) t o at_n found = until_due base h n t o (rw at_n refl) (rw at_n refl) found
+terminal_due_due base h n (Open place Flat) t o at_n found = merging_due base h n t o (rw at_n refl) found
+terminal_due_due base h n (Open place Switch) t o at_n found = merging_due base h n t o (rw at_n refl) found
+terminal_due_due base h n (Open place Leaf) t o at_n found = absurd (none-some t found)
+terminal_due_due base h n (Open place (Sub g)) t o at_n found = absurd (none-some t found)
+terminal_due_due base h n _ t o at_n found = absurd (none-some t found)
 
 -- so is the event
-pub due_at_due : (h : List Event) (n : ℕ) (made e : Event) → is_open h n ≡ true → slice_get h n ≡ Some made → due_at made (marks_of h n) n ≡ Some e → IsDue h e
-due_at_due h n made e o at_n found = by_terminal (terminal_due made (marks_of h n)) refl found where
-  by_terminal : (u : Option Terminal) → terminal_due made (marks_of h n) ≡ u → option_map (λ t. End n t) u ≡ Some e → IsDue h e
+pub due_at_due : (base : Kept) → (h : List Event) (n : ℕ) (made e : Event) → is_open h n ≡ true → slice_get h n ≡ Some made → due_at made (marks_of base h n) n ≡ Some e → IsDue base h e
+due_at_due base h n made e o at_n found = by_terminal (terminal_due made (marks_of base h n)) refl found where
+  by_terminal : (u : Option Terminal) → terminal_due made (marks_of base h n) ≡ u → option_map (λ t. End n t) u ≡ Some e → IsDue base h e
   by_terminal None none same = absurd (none-some e same)
-  by_terminal (Some t) ended same = rw (← same_Some (End n t) e same) (terminal_due_due h n made t o at_n ended)
+  by_terminal (Some t) ended same = rw (← same_Some (End n t) e same) (terminal_due_due base h n made t o at_n ended)
 
 -- where nothing is due ----------------------------------------------------------------------------
 
@@ -126,30 +126,30 @@ pub made_passes : (q : Event → Bool) (h : List Event) (n : ℕ) (made : Event)
 made_passes q h n made at_n passes = sym (ap (λ o. option_map_or q o false) at_n) ∙ passes
 
 -- Where the marks of a node give none, only the end of a connection ends it
-pub none_due : (h : List Event) (n : ℕ) (made : Event) (t : Terminal) → slice_get h n ≡ Some made → terminal_due made (marks_of h n) ≡ None →
-    IsDue h (End n t) → SourceEnded h n t
-none_due h n made t at_n none (mirrored o m c) =
-    let w = mirroring_none made (marks_of h n) (made_passes is_mirroring h n made at_n m) none in
+pub none_due : (base : Kept) → (h : List Event) (n : ℕ) (made : Event) (t : Terminal) → slice_get h n ≡ Some made → terminal_due made (marks_of base h n) ≡ None →
+    IsDue base h (End n t) → SourceEnded h n t
+none_due base h n made t at_n none (mirrored o m c) =
+    let w = mirroring_none made (marks_of base h n) (made_passes is_mirroring h n made at_n m) none in
     absurd (child_terminal_none h n t w.0 (ap (λ b. passes_on b t) (ap (λ o. option_map_or is_merging o false) at_n ∙ w.1) ∙ any_passes t) c)
-none_due h n made t at_n none (fired o u f) = absurd (both_ways (is_fired h n) (until_none made (marks_of h n) (made_passes is_until h n made at_n u) none) f)
-none_due h n made t at_n none (failed {c = code} o m c) = absurd (child_terminal_none h n (Error code) (merging_none made (marks_of h n) (made_passes is_merging h n made at_n m) none).0 refl c)
-none_due h n made t at_n none (completed {s = s} o m unfailed source ended closed paid) =
-    let over : is_over (marks_of h n) ≡ true = and_from (source_completed h n && (open_children h n == 0)) (owed h n == 0) (and_from (source_completed h n) (open_children h n == 0) (source_completed_has h n s source ended) (eq-eqb (open_children h n) 0 (open_children_zero h n closed))) (eq-eqb (owed h n) 0 paid) in
-    absurd (both_ways (is_over (marks_of h n)) (merging_none made (marks_of h n) (made_passes is_merging h n made at_n m) none).1 over)
-none_due h n made t at_n none (cut o e) = e
+none_due base h n made t at_n none (fired o u f) = absurd (both_ways (is_fired h n) (until_none made (marks_of base h n) (made_passes is_until h n made at_n u) none) f)
+none_due base h n made t at_n none (failed {c = code} o m c) = absurd (child_terminal_none h n (Error code) (merging_none made (marks_of base h n) (made_passes is_merging h n made at_n m) none).0 refl c)
+none_due base h n made t at_n none (completed o m unfailed source closed paid) =
+    let over : is_over (marks_of base h n) ≡ true = and_from (source_completed base h n && (open_children h n == 0)) (owed base h n == 0) (and_from (source_completed base h n) (open_children h n == 0) source (eq-eqb (open_children h n) 0 (open_children_zero h n closed))) (eq-eqb (owed base h n) 0 paid) in
+    absurd (both_ways (is_over (marks_of base h n)) (merging_none made (marks_of base h n) (made_passes is_merging h n made at_n m) none).1 over)
+none_due base h n made t at_n none (cut o e) = e
 
 -- the same of the event
-pub due_at_none : (h : List Event) (n : ℕ) (made : Event) (t : Terminal) → slice_get h n ≡ Some made → due_at made (marks_of h n) n ≡ None → IsDue h (End n t) →
+pub due_at_none : (base : Kept) → (h : List Event) (n : ℕ) (made : Event) (t : Terminal) → slice_get h n ≡ Some made → due_at made (marks_of base h n) n ≡ None → IsDue base h (End n t) →
     SourceEnded h n t
-due_at_none h n made t at_n none d = by_terminal (terminal_due made (marks_of h n)) refl none where
-  by_terminal : (u : Option Terminal) → terminal_due made (marks_of h n) ≡ u → option_map (λ v. End n v) u ≡ None → SourceEnded h n t
-  by_terminal None ended same = none_due h n made t at_n ended d
+due_at_none base h n made t at_n none d = by_terminal (terminal_due made (marks_of base h n)) refl none where
+  by_terminal : (u : Option Terminal) → terminal_due made (marks_of base h n) ≡ u → option_map (λ v. End n v) u ≡ None → SourceEnded h n t
+  by_terminal None ended same = none_due base h n made t at_n ended d
   by_terminal (Some v) ended same = absurd (none-some (End n v) (sym same))
 
 -- what the marks of an open node give is forced, where no hub waits
-pub due_at_forced : (h : List Event) (n : ℕ) (made e : Event) → ((g : ℕ) → ¬ IsConnectDue h g) → is_open h n ≡ true → slice_get h n ≡ Some made →
-    due_at made (marks_of h n) n ≡ Some e → IsForced h e
-due_at_forced h n made e none_waits o at_n found = due none_waits (due_at_due h n made e o at_n found)
+pub due_at_forced : (base : Kept) → (h : List Event) (n : ℕ) (made e : Event) → ((g : ℕ) → ¬ IsConnectDue h g) → is_open h n ≡ true → slice_get h n ≡ Some made →
+    due_at made (marks_of base h n) n ≡ Some e → IsForced base h e
+due_at_forced base h n made e none_waits o at_n found = due none_waits (due_at_due base h n made e o at_n found)
 
 -- a settled history -------------------------------------------------------------------------------
 
@@ -159,32 +159,32 @@ open_made h n o = by_event (slice_get h n) refl where
   by_event (Some made) at_n = (made, refl)
   by_event None at_n = absurd (both_ways (is_open h n) (is_open_step h n ∙ rw at_n refl) o)
 
-due_is_open : {h : List Event} {n : ℕ} {t : Terminal} → IsDue h (End n t) → is_open h n ≡ true
-due_is_open (mirrored o k e) = o
-due_is_open (fired o k e) = o
-due_is_open (failed o k e) = o
-due_is_open (completed o k n s e c w) = o
-due_is_open (cut o e) = o
+due_is_open : (base : Kept) → {h : List Event} {n : ℕ} {t : Terminal} → IsDue base h (End n t) → is_open h n ≡ true
+due_is_open base (mirrored o k e) = o
+due_is_open base (fired o k e) = o
+due_is_open base (failed o k e) = o
+due_is_open base (completed o k n e c w) = o
+due_is_open base (cut o e) = o
 
 -- A history is settled where no marks of an open node give an event, and no hub's rule does
-pub settled_by_marks : (h : List Event) → ((g : ℕ) → ¬ IsConnectDue h g) → ((n : ℕ) (t : Terminal) → is_open h n ≡ true → ¬ SourceEnded h n t) →
-    ((c : ℕ) → ¬ IsDue h (Close c)) → ((n : ℕ) (made : Event) → is_open h n ≡ true → slice_get h n ≡ Some made → due_at made (marks_of h n) n ≡ None) →
-    IsSettled h
-settled_by_marks h none_waits whole kept quiet = record { none = none } where
-  ended : (n : ℕ) (t : Terminal) → IsDue h (End n t) → ⊥
+pub settled_by_marks : (base : Kept) → (h : List Event) → ((g : ℕ) → ¬ IsConnectDue h g) → ((n : ℕ) (t : Terminal) → is_open h n ≡ true → ¬ SourceEnded h n t) →
+    ((c : ℕ) → ¬ IsDue base h (Close c)) → ((n : ℕ) (made : Event) → is_open h n ≡ true → slice_get h n ≡ Some made → due_at made (marks_of base h n) n ≡ None) →
+    IsSettled base h
+settled_by_marks base h none_waits whole kept quiet = record { none = none } where
+  ended : (n : ℕ) (t : Terminal) → IsDue base h (End n t) → ⊥
   ended n t d =
-      let made = open_made h n (due_is_open d) in
-      whole n t (due_is_open d) (due_at_none h n made.0 t made.1 (quiet n made.0 (due_is_open d) made.1) d)
+      let made = open_made h n (due_is_open base d) in
+      whole n t (due_is_open base d) (due_at_none base h n made.0 t made.1 (quiet n made.0 (due_is_open base d) made.1) d)
 
-  none_is : {e : Event} → IsDue h e → ⊥
+  none_is : {e : Event} → IsDue base h e → ⊥
   none_is (mirrored {p = p} {t = t} o k e) = ended p t (mirrored o k e)
   none_is (fired {u = u} o k e) = ended u Completed (fired o k e)
   none_is (failed {f = f} {c = code} o k e) = ended f (Error code) (failed o k e)
-  none_is (completed {f = f} o k n s e c w) = ended f Completed (completed o k n s e c w)
+  none_is (completed {f = f} o k n e c w) = ended f Completed (completed o k n e c w)
   none_is (cut {s = s} {t = t} o e) = ended s t (cut o e)
   none_is (left {c = c} o at_c a n) = kept c (left o at_c a n)
 
-  none : (e : Event) → IsForced h e → ⊥
+  none : (e : Event) → IsForced base h e → ⊥
   none e (connecting {g = g} d) = none_waits g d
   none e (due n d) = none_is d
 
@@ -202,20 +202,20 @@ manual_makes_hub : (e : Event) → is_manual_hub e ≡ true → makes_hub e ≡ 
 manual_makes_hub (Hub mode) a = refl
 manual_makes_hub _ a = absurd (false≢true a)
 
-allowed_hub : {h : List Event} {g : ℕ} → IsAllowed h (Connect g) → at is_manual_hub h g ≡ true
-allowed_hub (connected m u few) = m
+allowed_hub : (base : Kept) → {h : List Event} {g : ℕ} → IsAllowed base h (Connect g) → at is_manual_hub h g ≡ true
+allowed_hub base (connected m u few) = m
 
-forced_hub : {h : List Event} {g : ℕ} → IsForced h (Connect g) → at is_auto_hub h g ≡ true
-forced_hub (connecting d) = d.auto
-forced_hub (due n d) = absurd (elim d [ ])
+forced_hub : (base : Kept) → {h : List Event} {g : ℕ} → IsForced base h (Connect g) → at is_auto_hub h g ≡ true
+forced_hub base (connecting d) = d.auto
+forced_hub base (due n d) = absurd (elim d [ ])
 
-connect_hub : {h : List Event} {g : ℕ} → MayFollow h (Connect g) → (at is_auto_hub h g ≡ true) ⊎ (at is_manual_hub h g ≡ true)
-connect_hub (forced f) = inl (forced_hub f)
-connect_hub (allowed s a) = inr (allowed_hub a)
+connect_hub : (base : Kept) → {h : List Event} {g : ℕ} → MayFollow base h (Connect g) → (at is_auto_hub h g ≡ true) ⊎ (at is_manual_hub h g ≡ true)
+connect_hub base (forced f) = inl (forced_hub base f)
+connect_hub base (allowed s a) = inr (allowed_hub base a)
 
 -- without a hub nothing was connected
-pub unconnected : (h : List Event) → IsLawful h → list_any makes_hub h ≡ false → (c g : ℕ) → slice_get h c ≡ Some (Connect g) → ⊥
-unconnected h law hubless c g at_c = by_mode (connect_hub (lawful_at h law c (Connect g) at_c)) where
+pub unconnected : (base : Kept) → (h : List Event) → IsLawful base h → list_any makes_hub h ≡ false → (c g : ℕ) → slice_get h c ≡ Some (Connect g) → ⊥
+unconnected base h law hubless c g at_c = hub_at h makes_hub (λ e is. is) hubless g (older makes_hub (hub_before base h law c g at_c)) where
   l : c < length h
   l = slice_get_within h c (Connect g) at_c
 
@@ -226,38 +226,34 @@ unconnected h law hubless c g at_c = by_mode (connect_hub (lawful_at h law c (Co
       let k : length (take c h) ≡ c = length-take-le c h (omega arith) in
       sym (at-take q h c g (omega arith) l) ∙ passes
 
-  by_mode : (at is_auto_hub (take c h) g ≡ true) ⊎ (at is_manual_hub (take c h) g ≡ true) → ⊥
-  by_mode (inl a) = hub_at h is_auto_hub auto_makes_hub hubless g (older is_auto_hub a)
-  by_mode (inr m) = hub_at h is_manual_hub manual_makes_hub hubless g (older is_manual_hub m)
-
-due_close_auto : {h : List Event} {c : ℕ} → IsDue h (Close c) → (g : ℕ) × (at is_auto_hub h g ≡ true)
-due_close_auto (left {g = g} o at_c a n) = (g, a)
+due_close_auto : (base : Kept) → {h : List Event} {c : ℕ} → IsDue base h (Close c) → (g : ℕ) × (at is_auto_hub h g ≡ true)
+due_close_auto base (left {g = g} o at_c a n) = (g, a)
 
 -- a lawful history without hubs is settled where no marks give an event
-pub settled_hubless : (h : List Event) → IsLawful h → list_any makes_hub h ≡ false →
-    ((n : ℕ) (made : Event) → is_open h n ≡ true → slice_get h n ≡ Some made → due_at made (marks_of h n) n ≡ None) → IsSettled h
-settled_hubless h law hubless quiet =
-    settled_by_marks h (λ g d. hub_at h is_auto_hub auto_makes_hub hubless g d.auto) (λ n t o s. unconnected h law hubless s.connection s.hub s.connects) (λ c d. let w = due_close_auto d in hub_at h is_auto_hub auto_makes_hub hubless w.0 w.1) quiet
+pub settled_hubless : (base : Kept) → (h : List Event) → IsLawful base h → list_any makes_hub h ≡ false →
+    ((n : ℕ) (made : Event) → is_open h n ≡ true → slice_get h n ≡ Some made → due_at made (marks_of base h n) n ≡ None) → IsSettled base h
+settled_hubless base h law hubless quiet =
+    settled_by_marks base h (λ g d. hub_at h is_auto_hub auto_makes_hub hubless g d.auto) (λ n t o s. unconnected base h law hubless s.connection s.hub s.connects) (λ c d. let w = due_close_auto base d in hub_at h is_auto_hub auto_makes_hub hubless w.0 w.1) quiet
 
 -- settled and due ---------------------------------------------------------------------------------
 
 -- in a settled history no marks of an open node give an event
-pub settled_quiet : (h : List Event) → IsSettled h → (n : ℕ) (made : Event) → is_open h n ≡ true → slice_get h n ≡ Some made →
-    due_at made (marks_of h n) n ≡ None
-settled_quiet h settled n made o at_n = by_event (due_at made (marks_of h n) n) refl where
-  by_event : (x : Option Event) → due_at made (marks_of h n) n ≡ x → x ≡ None
+pub settled_quiet : (base : Kept) → (h : List Event) → IsSettled base h → (n : ℕ) (made : Event) → is_open h n ≡ true → slice_get h n ≡ Some made →
+    due_at made (marks_of base h n) n ≡ None
+settled_quiet base h settled n made o at_n = by_event (due_at made (marks_of base h n) n) refl where
+  by_event : (x : Option Event) → due_at made (marks_of base h n) n ≡ x → x ≡ None
   by_event None none = refl
-  by_event (Some e) found = absurd (settled.none e (due_at_forced h n made e (λ g d. settled.none (Connect g) (connecting d)) o at_n found))
+  by_event (Some e) found = absurd (settled.none e (due_at_forced base h n made e (λ g d. settled.none (Connect g) (connecting d)) o at_n found))
 
 -- without a hub what the marks give is forced
-pub forced_hubless : (h : List Event) → list_any makes_hub h ≡ false → (n : ℕ) (made e : Event) → is_open h n ≡ true → slice_get h n ≡ Some made →
-    due_at made (marks_of h n) n ≡ Some e → IsForced h e
-forced_hubless h hubless n made e o at_n found = due_at_forced h n made e (λ g d. hub_at h is_auto_hub auto_makes_hub hubless g d.auto) o at_n found
+pub forced_hubless : (base : Kept) → (h : List Event) → list_any makes_hub h ≡ false → (n : ℕ) (made e : Event) → is_open h n ≡ true → slice_get h n ≡ Some made →
+    due_at made (marks_of base h n) n ≡ Some e → IsForced base h e
+forced_hubless base h hubless n made e o at_n found = due_at_forced base h n made e (λ g d. hub_at h is_auto_hub auto_makes_hub hubless g d.auto) o at_n found
 
 -- what is due at a node, if not by the end of a connection, its marks give an end of it
-pub due_by_marks : (h : List Event) (n : ℕ) (made : Event) (t : Terminal) → slice_get h n ≡ Some made → ¬ SourceEnded h n t → IsDue h (End n t) →
-    (u : Terminal) × (due_at made (marks_of h n) n ≡ Some (End n u))
-due_by_marks h n made t at_n whole d = by_terminal (terminal_due made (marks_of h n)) refl where
-  by_terminal : (o : Option Terminal) → terminal_due made (marks_of h n) ≡ o → (u : Terminal) × (option_map (λ v. End n v) o ≡ Some (End n u))
+pub due_by_marks : (base : Kept) → (h : List Event) (n : ℕ) (made : Event) (t : Terminal) → slice_get h n ≡ Some made → ¬ SourceEnded h n t → IsDue base h (End n t) →
+    (u : Terminal) × (due_at made (marks_of base h n) n ≡ Some (End n u))
+due_by_marks base h n made t at_n whole d = by_terminal (terminal_due made (marks_of base h n)) refl where
+  by_terminal : (o : Option Terminal) → terminal_due made (marks_of base h n) ≡ o → (u : Terminal) × (option_map (λ v. End n v) o ≡ Some (End n u))
   by_terminal (Some u) found = (u, refl)
-  by_terminal None none = absurd (whole (none_due h n made t at_n none d))
+  by_terminal None none = absurd (whole (none_due base h n made t at_n none d))

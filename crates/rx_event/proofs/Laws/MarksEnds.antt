@@ -8,6 +8,7 @@ use Rattle.std.proofs.lemmas.Bool.{cases_Bool, both_ways, false≢true, and_part
 use Rattle.std.proofs.lemmas.Option.{same_Some, none-some}
 use Rattle.rx_note.specs.declared.note.Terminal.{Terminal}
 use Rattle.rx_note.specs.declared.note.Terminal.TheVariants.{Completed, Error}
+use Rattle.rx_event.specs.Kept.{Kept}
 use Rattle.rx_event.specs.declared.event.Place.TheVariants.{Root, Source, Inner, Notifier}
 use Rattle.rx_event.specs.declared.event.Event.{Event}
 use Rattle.rx_event.specs.declared.event.Event.TheVariants.{Open, Connect, End, Close}
@@ -65,33 +66,33 @@ closing_cut h e c n cuts o outside = sum_by-same (λ k. cond (c == k) (cond (is_
       each k false other = rw (cuts k) (apart k other (is_child_of h n k) refl (is_within h c k) refl (is_open h k))
 
 -- the marks of a node that the end of c leaves open
-pub marks-end : (h : List Event) (c : ℕ) (t : Terminal) → IsLawful h → MayFollow h (End c t) → (n : ℕ) → is_open (h ++ End c t ∷ []) n ≡ true → marks_of (h ++ End c t ∷ []) n ≡ record (marks_of h n) { source_completed = source_completed h n || completes_source h n (End c t); child_terminal = option_or (child_terminal h n) (ends_by h n (End c t)); open_children = open_children h n - cond (is_child_of h n c) 1 0 }
-marks-end h c t law next n o =
+pub marks-end : (base : Kept) → (h : List Event) (c : ℕ) (t : Terminal) → IsLawful base h → MayFollow base h (End c t) → (n : ℕ) → is_open (h ++ End c t ∷ []) n ≡ true → marks_of base (h ++ End c t ∷ []) n ≡ record (marks_of base h n) { source_completed = source_completed base h n || completes_source h n (End c t); child_terminal = option_or (child_terminal h n) (ends_by h n (End c t)); open_children = open_children h n - cond (is_child_of h n c) 1 0 }
+marks-end base h c t law next n o =
     let parts = and_parts (is_open h n) (not (is_within h c n)) (sym (is_open_outside-end h c t n) ∙ o) in
-    let z = closing_cut h (End c t) c n (λ k. refl) (may_end next) (not_false (is_within h c n) parts.1) in
+    let z = closing_cut h (End c t) c n (λ k. refl) (may_end base next) (not_false (is_within h c n) parts.1) in
     let w : count_by (is_projection_to n) [] ≡ 0 = refl in
-    marks-push h (End c t) law next n (is_open_within h n parts.0) ∙ same_marks (or_false _) (or_false _) (or_false _) refl refl (omega arith) (omega arith)
+    marks-push base h (End c t) law next n (is_open_within h n parts.0) ∙ same_marks base (or_false _) (or_false _) (or_false _) refl refl (omega arith) (omega arith)
 
 -- and of one that the closing of c leaves open
-pub marks-close : (h : List Event) (c : ℕ) → IsLawful h → MayFollow h (Close c) → (n : ℕ) → is_open (h ++ Close c ∷ []) n ≡ true → marks_of (h ++ Close c ∷ []) n ≡ record (marks_of h n) { open_children = open_children h n - cond (is_child_of h n c) 1 0 }
-marks-close h c law next n o =
+pub marks-close : (base : Kept) → (h : List Event) (c : ℕ) → IsLawful base h → MayFollow base h (Close c) → (n : ℕ) → is_open (h ++ Close c ∷ []) n ≡ true → marks_of base (h ++ Close c ∷ []) n ≡ record (marks_of base h n) { open_children = open_children h n - cond (is_child_of h n c) 1 0 }
+marks-close base h c law next n o =
     let parts = and_parts (is_open h n) (not (is_within h c n)) (sym (is_open_outside-close h c n) ∙ o) in
-    let z = closing_cut h (Close c) c n (λ k. refl) (may_close next) (not_false (is_within h c n) parts.1) in
+    let z = closing_cut h (Close c) c n (λ k. refl) (may_close base next) (not_false (is_within h c n) parts.1) in
     let w : count_by (is_projection_to n) [] ≡ 0 = refl in
-    marks-push h (Close c) law next n (is_open_within h n parts.0) ∙
-    same_marks (or_false _) (or_false _) (or_false _) (or_false _) (or_nothing _) (omega arith) (omega arith)
+    marks-push base h (Close c) law next n (is_open_within h n parts.0) ∙
+    same_marks base (or_false _) (or_false _) (or_false _) (or_false _) (or_nothing _) (omega arith) (omega arith)
 
 -- the marks of a node that is not above what ended stay, and of its parent alone do they change
-pub marks-end_other : (h : List Event) (c : ℕ) (t : Terminal) → IsLawful h → MayFollow h (End c t) → (n : ℕ) → is_open (h ++ End c t ∷ []) n ≡ true →
-    is_child_of h n c ≡ false → marks_of (h ++ End c t ∷ []) n ≡ marks_of h n
-marks-end_other h c t law next n o other =
+pub marks-end_other : (base : Kept) → (h : List Event) (c : ℕ) (t : Terminal) → IsLawful base h → MayFollow base h (End c t) → (n : ℕ) → is_open (h ++ End c t ∷ []) n ≡ true →
+    is_child_of h n c ≡ false → marks_of base (h ++ End c t ∷ []) n ≡ marks_of base h n
+marks-end_other base h c t law next n o other =
     let z : cond {A = ℕ} (is_child_of h n c) 1 0 ≡ 0 = ap (λ b. cond {A = ℕ} b 1 0) other in
-    marks-end h c t law next n o ∙
-    same_marks refl refl refl (ap (λ b. source_completed h n || b) (no_source t) ∙ or_false (source_completed h n)) (ap (option_or (child_terminal h n)) (rw other refl) ∙ or_nothing (child_terminal h n)) refl (omega arith)
+    marks-end base h c t law next n o ∙
+    same_marks base refl refl refl (ap (λ b. source_completed base h n || b) (no_source t) ∙ or_false (source_completed base h n)) (ap (option_or (child_terminal h n)) (rw other refl) ∙ or_nothing (child_terminal h n)) refl (omega arith)
   where
     source_named : (x : Option Event) → slice_get h c ≡ x → option_map_or (is_source_of n) x false ≡ true → parent h c ≡ Some n
     source_named None at_c source = absurd (false≢true source)
-    source_named (Some (Open (Source q) kind)) at_c source = parent-named h law c n (Open (Source q) kind) at_c (ap Some (eqb-true q n source))
+    source_named (Some (Open (Source q) kind)) at_c source = parent-named base h law c n (Open (Source q) kind) at_c (ap Some (eqb-true q n source))
     source_named (Some (Open Root kind)) at_c source = absurd (false≢true source)
     source_named (Some (Open (Inner q) kind)) at_c source = absurd (false≢true source)
     source_named (Some (Open (Notifier q) kind)) at_c source = absurd (false≢true source)
@@ -105,50 +106,50 @@ marks-end_other h c t law next n o other =
     no_source Completed = by_test (cases_Bool (at (is_source_of n) h c))
     no_source (Error code) = refl
 
-pub marks-close_other : (h : List Event) (c : ℕ) → IsLawful h → MayFollow h (Close c) → (n : ℕ) → is_open (h ++ Close c ∷ []) n ≡ true →
-    is_child_of h n c ≡ false → marks_of (h ++ Close c ∷ []) n ≡ marks_of h n
-marks-close_other h c law next n o other =
+pub marks-close_other : (base : Kept) → (h : List Event) (c : ℕ) → IsLawful base h → MayFollow base h (Close c) → (n : ℕ) → is_open (h ++ Close c ∷ []) n ≡ true →
+    is_child_of h n c ≡ false → marks_of base (h ++ Close c ∷ []) n ≡ marks_of base h n
+marks-close_other base h c law next n o other =
     let z : cond {A = ℕ} (is_child_of h n c) 1 0 ≡ 0 = ap (λ b. cond {A = ℕ} b 1 0) other in
-    marks-close h c law next n o ∙ same_marks refl refl refl refl refl refl (omega arith)
+    marks-close base h c law next n o ∙ same_marks base refl refl refl refl refl refl (omega arith)
 
 -- the parent of what ended, by what the event of the child and its own say
-pub marks-end_parent : (h : List Event) (c p : ℕ) (t : Terminal) → IsLawful h → MayFollow h (End c t) → parent h c ≡ Some p → marks_of (h ++ End c t ∷ []) p ≡ record (marks_of h p) { source_completed = source_completed h p || completes_source h p (End c t); child_terminal = option_or (child_terminal h p) (if passes_on (at is_merging h p) t then Some t else None); open_children = open_children h p - 1 }
-marks-end_parent h c p t law next below =
+pub marks-end_parent : (base : Kept) → (h : List Event) (c p : ℕ) (t : Terminal) → IsLawful base h → MayFollow base h (End c t) → parent h c ≡ Some p → marks_of base (h ++ End c t ∷ []) p ≡ record (marks_of base h p) { source_completed = source_completed base h p || completes_source h p (End c t); child_terminal = option_or (child_terminal h p) (if passes_on (at is_merging h p) t then Some t else None); open_children = open_children h p - 1 }
+marks-end_parent base h c p t law next below =
     let child : is_child_of h p c ≡ true = parent_is_child h p c below in
     let z : cond {A = ℕ} (is_child_of h p c) 1 0 ≡ 1 = ap (λ b. cond {A = ℕ} b 1 0) child in
-    marks-end h c t law next p stays_open ∙ same_marks refl refl refl refl (ap (option_or (child_terminal h p)) (rw child refl)) refl (omega arith)
+    marks-end base h c t law next p stays_open ∙ same_marks base refl refl refl refl (ap (option_or (child_terminal h p)) (rw child refl)) refl (omega arith)
   where
     outside : (is_within h c p ≡ true) ⊎ (is_within h c p ≡ false) → is_within h c p ≡ false
     outside (inr out) = out
     outside (inl within) = absurd (let a = is_within-le h c p within in let b = parent-lt h c p below in omega arith)
 
     stays_open : is_open (h ++ End c t ∷ []) p ≡ true
-    stays_open = is_open_outside-end h c t p ∙ rw (parent_open h c p (may_end next) below, outside (cases_Bool (is_within h c p))) refl
+    stays_open = is_open_outside-end h c t p ∙ rw (parent_open h c p (may_end base next) below, outside (cases_Bool (is_within h c p))) refl
 
 -- a closing ---------------------------------------------------------------------------------------
 
-closed_names_none : {h : List Event} {c : ℕ} → IsAllowed h (Close c) → (e : Event) → slice_get h c ≡ Some e → parent_named e ≡ None
-closed_names_none {h = h} {c = c} (root_closed o k) (Open Root kind) at_c = refl
-closed_names_none {h = h} {c = c} (root_closed o k) (Open (Source p) kind) at_c = absurd (false≢true (made_passes is_root h c (Open (Source p) kind) at_c k))
-closed_names_none {h = h} {c = c} (root_closed o k) (Open (Inner p) kind) at_c = absurd (false≢true (made_passes is_root h c (Open (Inner p) kind) at_c k))
-closed_names_none {h = h} {c = c} (root_closed o k) (Open (Notifier p) kind) at_c = absurd (false≢true (made_passes is_root h c (Open (Notifier p) kind) at_c k))
-closed_names_none (root_closed o k) _ at_c = refl
-closed_names_none (disconnected {g = g} o at_g a) e at_c = rw (same_Some e (Connect g) (sym at_c ∙ at_g)) refl
+closed_names_none : (base : Kept) → {h : List Event} {c : ℕ} → IsAllowed base h (Close c) → (e : Event) → slice_get h c ≡ Some e → parent_named e ≡ None
+closed_names_none base {h = h} {c = c} (root_closed o k) (Open Root kind) at_c = refl
+closed_names_none base {h = h} {c = c} (root_closed o k) (Open (Source p) kind) at_c = absurd (false≢true (made_passes is_root h c (Open (Source p) kind) at_c k))
+closed_names_none base {h = h} {c = c} (root_closed o k) (Open (Inner p) kind) at_c = absurd (false≢true (made_passes is_root h c (Open (Inner p) kind) at_c k))
+closed_names_none base {h = h} {c = c} (root_closed o k) (Open (Notifier p) kind) at_c = absurd (false≢true (made_passes is_root h c (Open (Notifier p) kind) at_c k))
+closed_names_none base (root_closed o k) _ at_c = refl
+closed_names_none base (disconnected {g = g} o at_g a) e at_c = rw (same_Some e (Connect g) (sym at_c ∙ at_g)) refl
 
-due_names_none : {h : List Event} {c : ℕ} → IsDue h (Close c) → (e : Event) → slice_get h c ≡ Some e → parent_named e ≡ None
-due_names_none (left {g = g} o at_g a n) e at_c = rw (same_Some e (Connect g) (sym at_c ∙ at_g)) refl
+due_names_none : (base : Kept) → {h : List Event} {c : ℕ} → IsDue base h (Close c) → (e : Event) → slice_get h c ≡ Some e → parent_named e ≡ None
+due_names_none base (left {g = g} o at_g a n) e at_c = rw (same_Some e (Connect g) (sym at_c ∙ at_g)) refl
 
-forced_names_none : {h : List Event} {c : ℕ} → IsForced h (Close c) → (e : Event) → slice_get h c ≡ Some e → parent_named e ≡ None
-forced_names_none (due n d) = due_names_none d
+forced_names_none : (base : Kept) → {h : List Event} {c : ℕ} → IsForced base h (Close c) → (e : Event) → slice_get h c ≡ Some e → parent_named e ≡ None
+forced_names_none base (due n d) = due_names_none base d
 
-pub may_close_none : {h : List Event} {c : ℕ} → MayFollow h (Close c) → (e : Event) → slice_get h c ≡ Some e → parent_named e ≡ None
-may_close_none (forced f) = forced_names_none f
-may_close_none (allowed s a) = closed_names_none a
+pub may_close_none : (base : Kept) → {h : List Event} {c : ℕ} → MayFollow base h (Close c) → (e : Event) → slice_get h c ≡ Some e → parent_named e ≡ None
+may_close_none base (forced f) = forced_names_none base f
+may_close_none base (allowed s a) = closed_names_none base a
 
 -- what is closed has no parent, so no marks of what stays open change
-pub marks_closed : (h : List Event) (c : ℕ) → IsLawful h → MayFollow h (Close c) → (n : ℕ) → is_open (h ++ Close c ∷ []) n ≡ true →
-    marks_of (h ++ Close c ∷ []) n ≡ marks_of h n
-marks_closed h c law next n o = marks-close_other h c law next n o (never (is_child_of h n c) (λ child. by_event (slice_get h c) refl (is_child_parent h n c child))) where
+pub marks_closed : (base : Kept) → (h : List Event) (c : ℕ) → IsLawful base h → MayFollow base h (Close c) → (n : ℕ) → is_open (h ++ Close c ∷ []) n ≡ true →
+    marks_of base (h ++ Close c ∷ []) n ≡ marks_of base h n
+marks_closed base h c law next n o = marks-close_other base h c law next n o (never (is_child_of h n c) (λ child. by_event (slice_get h c) refl (is_child_parent h n c child))) where
   by_event : (x : Option Event) → slice_get h c ≡ x → parent h c ≡ Some n → ⊥
-  by_event None at_c below = absurd (let l = parent_within h c n below in let k = open_made h c (may_close next) in none-some k.0 (sym at_c ∙ k.1))
-  by_event (Some e) at_c below = none-some n (sym (may_close_none next e at_c) ∙ parent_name h c n e below at_c)
+  by_event None at_c below = absurd (let l = parent_within h c n below in let k = open_made h c (may_close base next) in none-some k.0 (sym at_c ∙ k.1))
+  by_event (Some e) at_c below = none-some n (sym (may_close_none base next e at_c) ∙ parent_name h c n e below at_c)

@@ -2,11 +2,14 @@
 use Rattle.std.proofs.Common.{◌≡◌, ℕ, ◌≤◌, Bool, true, false, List, length, Option, Some, None, cond, refl, sym, ap, ◌∙◌, arith, inl, inr, ◌⊎◌, ◌==◌}
 use Rattle.std.proofs.Math.Bool.{◌&&◌}
 use Rattle.std.specs.List.{count_by}
+use Rattle.std.proofs.Math.Bool.{◌||◌}
+use Rattle.std.specs.List.{list_any}
 use Rattle.std.specs.Option.{option_map_or}
-use Rattle.std.proofs.lemmas.Bool.{cases_Bool, both_ways, false≢true, and_parts, and_from, eq-eqb, eqb-true}
+use Rattle.std.proofs.lemmas.Bool.{cases_Bool, both_ways, false≢true, and_parts, and_from, eq-eqb, eqb-true, or_cases}
 use Rattle.std.proofs.lemmas.Option.{cond_some, none-some}
 use Rattle.rx_note.specs.declared.note.Terminal.{Terminal}
 use Rattle.rx_note.specs.declared.note.Terminal.TheVariants.{Completed, Error}
+use Rattle.rx_event.specs.Kept.{Kept, node_kept}
 use Rattle.rx_event.specs.declared.event.Event.{Event}
 use Rattle.rx_event.specs.declared.event.Event.TheVariants.{End}
 use Rattle.rx_event.specs.Events.{is_merging, is_source_of}
@@ -58,16 +61,30 @@ completes_end h p (End s Completed) found = (s, refl, found)
 completes_end h p (End s (Error c)) found = absurd (false≢true found)
 completes_end h p _ found = absurd (false≢true found)
 
-pub source_completed_true : (h : List Event) (n : ℕ) → source_completed h n ≡ true → (s : ℕ) × (at (is_source_of n) h s ≡ true) × Has h (End s Completed)
+or_yes : (x y : Bool) → y ≡ true → (x || y) ≡ true
+or_yes true y yes_y = refl
+or_yes false y yes_y = yes_y
+
+-- the source completed before the base, or since
+pub completed_by : (base : Kept) → (h : List Event) (n : ℕ) → source_completed base h n ≡ true →
+    (option_map_or (λ k. k.source_completed) (node_kept base n) false ≡ true) ⊎ (list_any (completes_source h n) h ≡ true)
 unfolding source_completed
-source_completed_true h n found =
+completed_by base h n found = or_cases (option_map_or (λ k. k.source_completed) (node_kept base n) false) (list_any (completes_source h n) h) found
+
+pub completed_kept : (base : Kept) → (h : List Event) (n : ℕ) → option_map_or (λ k. k.source_completed) (node_kept base n) false ≡ true → source_completed base h n ≡ true
+unfolding source_completed
+completed_kept base h n kept = ap (λ m. m || list_any (completes_source h n) h) kept
+
+pub source_completed_true : (base : Kept) → (h : List Event) (n : ℕ) → list_any (completes_source h n) h ≡ true → (s : ℕ) × (at (is_source_of n) h s ≡ true) × Has h (End s Completed)
+unfolding source_completed
+source_completed_true base h n found =
     let r = list_any_found (completes_source h n) h found in
     let w = completes_end h n r.1 r.3 in
     (w.0, w.2, record { place = r.0; found = r.2 ∙ ap Some w.1 })
 
-pub source_completed_has : (h : List Event) (n s : ℕ) → at (is_source_of n) h s ≡ true → Has h (End s Completed) → source_completed h n ≡ true
+pub source_completed_has : (base : Kept) → (h : List Event) (n s : ℕ) → at (is_source_of n) h s ≡ true → Has h (End s Completed) → source_completed base h n ≡ true
 unfolding source_completed
-source_completed_has h n s source ended = list_any_holds (completes_source h n) h ended.place (End s Completed) ended.found source
+source_completed_has base h n s source ended = or_yes (option_map_or (λ k. k.source_completed) (node_kept base n) false) (list_any (completes_source h n) h) (list_any_holds (completes_source h n) h ended.place (End s Completed) ended.found source)
 
 pub open_children_none : (h : List Event) (n : ℕ) → open_children h n ≡ 0 → (c : ℕ) → parent h c ≡ Some n → is_open h c ≡ false
 unfolding open_children

@@ -5,6 +5,9 @@ use Rattle.std.specs.Option.{option_map_or}
 use Rattle.std.proofs.lemmas.Bool.{false≢true, eqb-true, ne_eqb}
 use Rattle.std.proofs.lemmas.Option.{slice_get_within}
 use Rattle.rx_note.specs.declared.note.Terminal.{Terminal}
+use Rattle.std.proofs.Math.Bool.{◌||◌}
+use Rattle.rx_event.proofs.Laws.Lawful.{shown_within}
+use Rattle.rx_event.specs.Kept.{Kept, node_kept, shown}
 use Rattle.rx_event.specs.declared.event.Place.TheVariants.{Root, Source, Inner, Notifier}
 use Rattle.rx_event.specs.declared.event.Event.{Event}
 use Rattle.rx_event.specs.declared.event.Event.TheVariants.{Open, Item}
@@ -12,7 +15,7 @@ use Rattle.rx_event.specs.Events.{is_source_of, is_notifier_of, parent_named}
 use Rattle.rx_event.specs.Tree.{parent}
 use Rattle.rx_event.specs.Climb.{Stop, Delivery, Projection, Firing, stops}
 use Rattle.rx_event.specs.Moments.{moments, is_fired, stops_of, is_firing_of}
-use Rattle.rx_event.specs.Marks.{blank_marks, child_terminal, marks_of}
+use Rattle.rx_event.specs.Marks.{source_completed, completes_source, blank_marks, child_terminal, marks_of}
 use Rattle.rx_event.specs.Lawful.{MayFollow, IsLawful}
 use Rattle.rx_event.proofs.Laws.Parents.{parent-lt, parent_within}
 use Rattle.rx_event.proofs.Laws.Openness.{is_open_within}
@@ -23,13 +26,14 @@ use Rattle.rx_event.proofs.Laws.Projections.{stops_open, owed_new}
 use Rattle.rx_event.proofs.Laws.Searches.{list_any_found}
 use Rattle.rx_event.proofs.Laws.MarksFound.{child_terminal_some, source_completed_true, open_children_zero}
 use Rattle.rx_event.proofs.Laws.MarksAfter.{is_fired-push, same_marks}
+use Rattle.rx_event.proofs.Laws.Making.{made_unfired}
 
 -- a new node --------------------------------------------------------------------------------------
 
-names_new : (h : List Event) (e : Event) → IsLawful h → MayFollow h e → (i : ℕ) (x : Event) → slice_get (h ++ e ∷ []) i ≡ Some x →
+names_new : (base : Kept) → (h : List Event) (e : Event) → IsLawful base h → MayFollow base h e → (i : ℕ) (x : Event) → slice_get (h ++ e ∷ []) i ≡ Some x →
     parent_named x ≡ Some (length h) → ⊥
-names_new h e law next i x at_i named =
-    let a : length h < i = named_below (h ++ e ∷ []) (IsLawful-push h e law next) i (length h) x at_i named in
+names_new base h e law next i x at_i named =
+    let a : length h < i = named_below base (h ++ e ∷ []) (IsLawful-push base h e law next) i (length h) x at_i named in
     let b : i < length (h ++ e ∷ []) = slice_get_within (h ++ e ∷ []) i x at_i in
     absurd (omega (arith, length-append h (e ∷ [])))
 
@@ -52,7 +56,7 @@ never true no_way = absurd (no_way refl)
 never false no_way = refl
 
 -- stops of an open leaf fire what is there
-firing_old : (h : List Event) (ss : List Stop) → AllByRecursion (StopsAtOpen h) ss → (u : ℕ) → length h ≤ u → list_any (is_firing_of u) ss ≡ false
+pub firing_old : (h : List Event) (ss : List Stop) → AllByRecursion (StopsAtOpen h) ss → (u : ℕ) → length h ≤ u → list_any (is_firing_of u) ss ≡ false
 firing_old h [] well u past = refl
 firing_old h (Firing v ∷ ss) well u past =
     let l : v < length h = is_open_within h v well.0.0 in
@@ -60,15 +64,15 @@ firing_old h (Firing v ∷ ss) well u past =
 firing_old h (Delivery m ∷ ss) well u past = firing_old h ss well.1 u past
 firing_old h (Projection m ∷ ss) well u past = firing_old h ss well.1 u past
 
-fires_old : (h : List Event) (e : Event) → IsLawful h → MayFollow h e → (u : ℕ) → length h ≤ u → list_any (is_firing_of u) (stops_of h e) ≡ false
-fires_old h (Item leaf v) law next u past = firing_old h (stops h leaf) (stops_open h leaf law (may_emit next)) u past
-fires_old h _ law next u past = refl
+fires_old : (base : Kept) → (h : List Event) (e : Event) → IsLawful base h → MayFollow base h e → (u : ℕ) → length h ≤ u → list_any (is_firing_of u) (stops_of h e) ≡ false
+fires_old base h (Item leaf v) law next u past = firing_old h (stops h leaf) (stops_open base h leaf law (may_emit base next)) u past
+fires_old base h _ law next u past = refl
 
-pub fired_past : (h : List Event) → IsLawful h → (u : ℕ) → length h ≤ u → is_fired h u ≡ false
+pub fired_past : (base : Kept) → (h : List Event) → IsLawful base h → (u : ℕ) → length h ≤ u → is_fired h u ≡ false
 unfolding is_fired moments
-fired_past = by_events (λ h. (u : ℕ) → length h ≤ u → is_fired h u ≡ false) (λ u l. refl) (λ h e law next before u past.
+fired_past base = by_events base (λ h. (u : ℕ) → length h ≤ u → is_fired h u ≡ false) (λ s u l. made_unfired (shown base) s.making u) (λ h e law next before u past.
     let b : length h ≤ u = omega (arith, length-append h (e ∷ [])) in
-    is_fired-push h e u ∙ rw (before u b, fires_old h e law next u b) refl)
+    is_fired-push h e u ∙ rw (before u b, fires_old base h e law next u b) refl)
 
 child_new_none : (h : List Event) (e : Event) (c : ℕ) → parent (h ++ e ∷ []) c ≡ Some (length h) → ⊥
 child_new_none h e c below =
@@ -76,20 +80,30 @@ child_new_none h e c below =
     let b : c < length (h ++ e ∷ []) = parent_within (h ++ e ∷ []) c (length h) below in
     absurd (omega (arith, length-append h (e ∷ [])))
 
-pub marks-new : (h : List Event) (e : Event) → IsLawful h → MayFollow h e → marks_of (h ++ e ∷ []) (length h) ≡ blank_marks
-marks-new h e law next =
-    same_marks
-    (never _ (λ s. let r = list_any_found (is_source_of (length h)) (h ++ e ∷ []) s in names_new h e law next r.0 r.1 r.2 (source_names (length h) r.1 r.3)))
-    (never _ (λ s. let r = list_any_found (is_notifier_of (length h)) (h ++ e ∷ []) s in names_new h e law next r.0 r.1 r.2 (notifier_names (length h) r.1 r.3)))
-    (is_fired-push h e (length h) ∙ rw (fired_past h law (length h) (omega arith), fires_old h e law next (length h) (omega arith)) refl)
-    (never _ (λ s. let r = source_completed_true (h ++ e ∷ []) (length h) s in source_new r.0 (slice_get (h ++ e ∷ []) r.0) refl r.1))
+pub source_completed_is : (base : Kept) → (h : List Event) (n : ℕ) → source_completed base h n ≡ (option_map_or (λ k. k.source_completed) (node_kept base n) false || list_any (completes_source h n) h)
+unfolding source_completed
+source_completed_is base h n = refl
+
+pub marks-new : (base : Kept) → (h : List Event) (e : Event) → IsLawful base h → MayFollow base h e → marks_of base (h ++ e ∷ []) (length h) ≡ blank_marks
+marks-new base h e law next =
+    same_marks base
+    (λ i. option_map_or (λ k. k.source_opened) (unkept i) false || never _ (λ s. let r = list_any_found (is_source_of (length h)) (h ++ e ∷ []) s in names_new base h e law next r.0 r.1 r.2 (source_names (length h) r.1 r.3)) i)
+    (λ i. option_map_or (λ k. k.notifier_opened) (unkept i) false || never _ (λ s. let r = list_any_found (is_notifier_of (length h)) (h ++ e ∷ []) s in names_new base h e law next r.0 r.1 r.2 (notifier_names (length h) r.1 r.3)) i)
+    (is_fired-push h e (length h) ∙ rw (fired_past base h law (length h) (omega arith), fires_old base h e law next (length h) (omega arith)) refl)
+    completed_new
     (terminal_new (child_terminal (h ++ e ∷ []) (length h)) refl)
-    (owed_new h e)
+    (owed_new base h law e)
     (open_children_zero (h ++ e ∷ []) (length h) (λ c below. absurd (child_new_none h e c below)))
   where
+    unkept : node_kept base (length h) ≡ None
+    unkept = law.started.unkept (length h) (shown_within base h law)
+
     source_new : (s : ℕ) (x : Option Event) → slice_get (h ++ e ∷ []) s ≡ x → option_map_or (is_source_of (length h)) x false ≡ true → ⊥
     source_new s None at_s source = false≢true source
-    source_new s (Some x) at_s source = names_new h e law next s x at_s (source_names (length h) x source)
+    source_new s (Some x) at_s source = names_new base h e law next s x at_s (source_names (length h) x source)
+
+    completed_new : source_completed base (h ++ e ∷ []) (length h) ≡ false
+    completed_new = (source_completed_is base (h ++ e ∷ []) (length h)) ∙ (λ i. option_map_or (λ k. k.source_completed) (unkept i) false || never _ (λ s. let r = source_completed_true base (h ++ e ∷ []) (length h) s in source_new r.0 (slice_get (h ++ e ∷ []) r.0) refl r.1) i)
 
     terminal_new : (o : Option Terminal) → child_terminal (h ++ e ∷ []) (length h) ≡ o → o ≡ None
     terminal_new None ended = refl

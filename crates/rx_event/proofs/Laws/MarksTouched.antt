@@ -8,13 +8,15 @@ use Rattle.std.proofs.lemmas.Bool.{cases_order, both_ways, false≢true, eq-eqb}
 use Rattle.std.proofs.lemmas.List.Sums.{sum_by-cons}
 use Rattle.rx_note.specs.declared.note.Terminal.{Terminal}
 use Rattle.rx_note.specs.declared.note.Terminal.TheVariants.{Completed, Error}
+use Rattle.rx_event.specs.Kept.{Kept}
+use Rattle.rx_event.specs.Opened.{source_opened, notifier_opened}
 use Rattle.rx_event.specs.declared.event.Place.TheVariants.{Root, Source, Inner, Notifier}
 use Rattle.rx_event.specs.declared.event.Kind.{Kind}
 use Rattle.rx_event.specs.declared.event.Kind.TheVariants.{Leaf, Pass, Flat, Switch, Until, Sub}
 use Rattle.rx_event.specs.declared.event.Event.{Event}
 use Rattle.rx_event.specs.declared.event.Event.TheVariants.{Open, Hub, Connect, Accept, Use, Remove, Item, Decline, End, Close, Take}
 use Rattle.rx_event.specs.declared.marks.Marks.{Marks}
-use Rattle.rx_event.specs.Events.{is_merging, is_source_of, is_notifier_of, is_inner_of, is_switch, makes_node}
+use Rattle.rx_event.specs.Events.{is_merging, is_source_of, is_inner_of, is_switch, makes_node}
 use Rattle.rx_event.specs.Tree.{at, parent, is_open}
 use Rattle.rx_event.specs.Climb.{Stop, Delivery, Projection, Firing, stops}
 use Rattle.rx_event.specs.Moments.{is_fired, is_firing_of, is_projection_to}
@@ -49,39 +51,39 @@ stops_apart n (s ∷ ss) apart =
     (rw (b.0, rest.0) refl, sum_by-cons (λ x. cond (is_projection_to n x) 1 0) s ss ∙ rw (b.1, rest.1) refl)
 
 -- All marks of a node that stays open, and that the event does not touch, stay
-pub marks_untouched : (h : List Event) (e : Event) → IsLawful h → MayFollow h e → (n : ℕ) → n < length h → is_open (h ++ e ∷ []) n ≡ true →
-    touches h n e ≡ false → marks_of (h ++ e ∷ []) n ≡ marks_of h n
-marks_untouched h (Open (Source p) kind) law next n l o apart =
+pub marks_untouched : (base : Kept) → (h : List Event) (e : Event) → IsLawful base h → MayFollow base h e → (n : ℕ) → n < length h → is_open (h ++ e ∷ []) n ≡ true →
+    touches h n e ≡ false → marks_of base (h ++ e ∷ []) n ≡ marks_of base h n
+marks_untouched base h (Open (Source p) kind) law next n l o apart =
     let w : cond {A = ℕ} (p == n) 1 0 ≡ 0 = ap (λ b. cond {A = ℕ} b 1 0) apart in
-    marks-source h p kind law next n l ∙
-    same_marks (ap (λ b. list_any (is_source_of n) h || b) apart ∙ or_false (list_any (is_source_of n) h)) refl refl refl refl refl (omega arith)
-marks_untouched h (Open (Notifier p) kind) law next n l o apart =
+    marks-source base h p kind law next n l ∙
+    same_marks base (ap (λ b. source_opened base h n || b) apart ∙ or_false (source_opened base h n)) refl refl refl refl refl (omega arith)
+marks_untouched base h (Open (Notifier p) kind) law next n l o apart =
     let w : cond {A = ℕ} (p == n) 1 0 ≡ 0 = ap (λ b. cond {A = ℕ} b 1 0) apart in
-    marks-notifier h p kind law next n l ∙
-    same_marks refl (ap (λ b. list_any (is_notifier_of n) h || b) apart ∙ or_false (list_any (is_notifier_of n) h)) refl refl refl refl (omega arith)
-marks_untouched h (Open (Inner f) kind) law next n l o apart = marks-inner_other h f kind law next n l o apart
-marks_untouched h (Open Root kind) law next n l o apart = marks_kept h (Open Root kind) law next refl n l
-marks_untouched h (Item leaf v) law next n l o apart =
+    marks-notifier base h p kind law next n l ∙
+    same_marks base refl (ap (λ b. notifier_opened base h n || b) apart ∙ or_false (notifier_opened base h n)) refl refl refl refl (omega arith)
+marks_untouched base h (Open (Inner f) kind) law next n l o apart = marks-inner_other base h f kind law next n l o apart
+marks_untouched base h (Open Root kind) law next n l o apart = marks_kept base h (Open Root kind) law next refl n l
+marks_untouched base h (Item leaf v) law next n l o apart =
     let w = stops_apart n (stops h leaf) apart in
     let k = w.1 in
-    marks-item h leaf v law next n l ∙ same_marks refl refl (ap (λ b. is_fired h n || b) w.0 ∙ or_false (is_fired h n)) refl refl (omega arith) refl
-marks_untouched h (Decline f) law next n l o apart =
+    marks-item base h leaf v law next n l ∙ same_marks base refl refl (ap (λ b. is_fired h n || b) w.0 ∙ or_false (is_fired h n)) refl refl (omega arith) refl
+marks_untouched base h (Decline f) law next n l o apart =
     let w : cond {A = ℕ} (f == n) 1 0 ≡ 0 = ap (λ b. cond {A = ℕ} b 1 0) apart in
-    marks-decline h f law next n l ∙ same_marks refl refl refl refl refl (omega arith) refl
-marks_untouched h (End c t) law next n l o apart = marks-end_other h c t law next n o apart
-marks_untouched h (Close c) law next n l o apart = marks-close_other h c law next n o apart
-marks_untouched h (Hub mode) law next n l o apart = marks_kept h (Hub mode) law next refl n l
-marks_untouched h (Connect g) law next n l o apart = marks_kept h (Connect g) law next refl n l
-marks_untouched h (Accept m tag) law next n l o apart = marks_kept h (Accept m tag) law next refl n l
-marks_untouched h (Use r) law next n l o apart = marks_kept h (Use r) law next refl n l
-marks_untouched h (Remove r) law next n l o apart = marks_kept h (Remove r) law next refl n l
-marks_untouched h (Take r) law next n l o apart = marks_kept h (Take r) law next refl n l
+    marks-decline base h f law next n l ∙ same_marks base refl refl refl refl refl (omega arith) refl
+marks_untouched base h (End c t) law next n l o apart = marks-end_other base h c t law next n o apart
+marks_untouched base h (Close c) law next n l o apart = marks-close_other base h c law next n o apart
+marks_untouched base h (Hub mode) law next n l o apart = marks_kept base h (Hub mode) law next refl n l
+marks_untouched base h (Connect g) law next n l o apart = marks_kept base h (Connect g) law next refl n l
+marks_untouched base h (Accept m tag) law next n l o apart = marks_kept base h (Accept m tag) law next refl n l
+marks_untouched base h (Use r) law next n l o apart = marks_kept base h (Use r) law next refl n l
+marks_untouched base h (Remove r) law next n l o apart = marks_kept base h (Remove r) law next refl n l
+marks_untouched base h (Take r) law next n l o apart = marks_kept base h (Take r) law next refl n l
 
 -- of the parent of what ended, by the events of both
-pub marks-end_parent_at : (h : List Event) (c p : ℕ) (made above : Event) (t : Terminal) → IsLawful h → MayFollow h (End c t) → parent h c ≡ Some p → slice_get h c ≡ Some made → slice_get h p ≡ Some above → marks_of (h ++ End c t ∷ []) p ≡ record (marks_of h p) { source_completed = source_completed h p || (is_source_of p made && not (passes_on true t)); child_terminal = option_or (child_terminal h p) (if passes_on (is_merging above) t then Some t else None); open_children = open_children h p - 1 }
-marks-end_parent_at h c p made above t law next below at_c at_p =
-    marks-end_parent h c p t law next below ∙
-    same_marks refl refl refl (ap (λ b. source_completed h p || b) (source_is t)) (ap (λ o. option_or (child_terminal h p) (if passes_on (option_map_or is_merging o false) t then Some t else None)) at_p) refl refl
+pub marks-end_parent_at : (base : Kept) → (h : List Event) (c p : ℕ) (made above : Event) (t : Terminal) → IsLawful base h → MayFollow base h (End c t) → parent h c ≡ Some p → slice_get h c ≡ Some made → slice_get h p ≡ Some above → marks_of base (h ++ End c t ∷ []) p ≡ record (marks_of base h p) { source_completed = source_completed base h p || (is_source_of p made && not (passes_on true t)); child_terminal = option_or (child_terminal h p) (if passes_on (is_merging above) t then Some t else None); open_children = open_children h p - 1 }
+marks-end_parent_at base h c p made above t law next below at_c at_p =
+    marks-end_parent base h c p t law next below ∙
+    same_marks base refl refl refl (ap (λ b. source_completed base h p || b) (source_is t)) (ap (λ o. option_or (child_terminal h p) (if passes_on (option_map_or is_merging o false) t then Some t else None)) at_p) refl refl
   where
     and_yes : (b : Bool) → b ≡ (b && true)
     and_yes true = refl
@@ -101,50 +103,50 @@ or_true : (b : Bool) → (b || true) ≡ true
 or_true true = refl
 or_true false = refl
 
-pub marks-source_at : (h : List Event) (p : ℕ) (kind : Kind) → IsLawful h → MayFollow h (Open (Source p) kind) →
-    marks_of (h ++ Open (Source p) kind ∷ []) p ≡ after_source (marks_of h p)
-marks-source_at h p kind law next =
+pub marks-source_at : (base : Kept) → (h : List Event) (p : ℕ) (kind : Kind) → IsLawful base h → MayFollow base h (Open (Source p) kind) →
+    marks_of base (h ++ Open (Source p) kind ∷ []) p ≡ after_source (marks_of base h p)
+marks-source_at base h p kind law next =
     let same : (p == p) ≡ true = eq-eqb p p refl in
     let w : cond {A = ℕ} (p == p) 1 0 ≡ 1 = ap (λ b. cond {A = ℕ} b 1 0) same in
-    marks-source h p kind law next p (is_open_within h p (may_open next).0) ∙
-    same_marks (ap (λ b. list_any (is_source_of p) h || b) same ∙ or_true (list_any (is_source_of p) h)) refl refl refl refl refl (omega arith)
+    marks-source base h p kind law next p (is_open_within h p (may_open base next).0) ∙
+    same_marks base (ap (λ b. source_opened base h p || b) same ∙ or_true (source_opened base h p)) refl refl refl refl refl (omega arith)
 
-pub marks-notifier_at : (h : List Event) (p : ℕ) (kind : Kind) → IsLawful h → MayFollow h (Open (Notifier p) kind) →
-    marks_of (h ++ Open (Notifier p) kind ∷ []) p ≡ after_notifier (marks_of h p)
-marks-notifier_at h p kind law next =
+pub marks-notifier_at : (base : Kept) → (h : List Event) (p : ℕ) (kind : Kind) → IsLawful base h → MayFollow base h (Open (Notifier p) kind) →
+    marks_of base (h ++ Open (Notifier p) kind ∷ []) p ≡ after_notifier (marks_of base h p)
+marks-notifier_at base h p kind law next =
     let same : (p == p) ≡ true = eq-eqb p p refl in
     let w : cond {A = ℕ} (p == p) 1 0 ≡ 1 = ap (λ b. cond {A = ℕ} b 1 0) same in
-    marks-notifier h p kind law next p (is_open_within h p (may_open next).0) ∙
-    same_marks refl (ap (λ b. list_any (is_notifier_of p) h || b) same ∙ or_true (list_any (is_notifier_of p) h)) refl refl refl refl (omega arith)
+    marks-notifier base h p kind law next p (is_open_within h p (may_open base next).0) ∙
+    same_marks base refl (ap (λ b. notifier_opened base h p || b) same ∙ or_true (notifier_opened base h p)) refl refl refl refl (omega arith)
 
-pub marks-decline_at : (h : List Event) (f : ℕ) → IsLawful h → MayFollow h (Decline f) → marks_of (h ++ Decline f ∷ []) f ≡ after_decline (marks_of h f)
-marks-decline_at h f law next =
+pub marks-decline_at : (base : Kept) → (h : List Event) (f : ℕ) → IsLawful base h → MayFollow base h (Decline f) → marks_of base (h ++ Decline f ∷ []) f ≡ after_decline (marks_of base h f)
+marks-decline_at base h f law next =
     let w : cond {A = ℕ} (f == f) 1 0 ≡ 1 = ap (λ b. cond {A = ℕ} b 1 0) (eq-eqb f f refl) in
-    marks-decline h f law next f (is_open_within h f (may_decline next).0) ∙ same_marks refl refl refl refl refl (omega arith) refl
+    marks-decline base h f law next f (is_open_within h f (may_decline base next).0) ∙ same_marks base refl refl refl refl refl (omega arith) refl
 
-pub marks-end_at : (h : List Event) (c p : ℕ) (made above : Event) (t : Terminal) → IsLawful h → MayFollow h (End c t) → parent h c ≡ Some p →
+pub marks-end_at : (base : Kept) → (h : List Event) (c p : ℕ) (made above : Event) (t : Terminal) → IsLawful base h → MayFollow base h (End c t) → parent h c ≡ Some p →
     slice_get h c ≡ Some made → slice_get h p ≡ Some above →
-    marks_of (h ++ End c t ∷ []) p ≡ after_child (is_source_of p made) (is_merging above) t (marks_of h p)
-marks-end_at h c p made above t law next below at_c at_p = marks-end_parent_at h c p made above t law next below at_c at_p
+    marks_of base (h ++ End c t ∷ []) p ≡ after_child (is_source_of p made) (is_merging above) t (marks_of base h p)
+marks-end_at base h c p made above t law next below at_c at_p = marks-end_parent_at base h c p made above t law next below at_c at_p
 
 -- stops one at a time say what all together do
-stops_together : (n : ℕ) (ss : List Stop) (m : Marks) → after_stops n ss m ≡ record m { fired = m.fired || list_any (is_firing_of n) ss; owed = m.owed + count_by (is_projection_to n) ss }
-stops_together n [] m = sym (same_marks refl refl (or_false m.fired) refl refl (omega arith) refl)
-stops_together n (Delivery r ∷ ss) m =
+stops_together : (base : Kept) → (n : ℕ) (ss : List Stop) (m : Marks) → after_stops n ss m ≡ record m { fired = m.fired || list_any (is_firing_of n) ss; owed = m.owed + count_by (is_projection_to n) ss }
+stops_together base n [] m = sym (same_marks base refl refl (or_false m.fired) refl refl (omega arith) refl)
+stops_together base n (Delivery r ∷ ss) m =
     let k = sum_by-cons (λ s. cond (is_projection_to n s) 1 0) (Delivery r) ss in
-    stops_together n ss m ∙ same_marks refl refl refl refl refl (omega arith) refl
-stops_together n (Projection f ∷ ss) m = by_test (f == n) (sum_by-cons (λ s. cond (is_projection_to n s) 1 0) (Projection f) ss) (λ x. stops_together n ss x) where
+    stops_together base n ss m ∙ same_marks base refl refl refl refl refl (omega arith) refl
+stops_together base n (Projection f ∷ ss) m = by_test (f == n) (sum_by-cons (λ s. cond (is_projection_to n s) 1 0) (Projection f) ss) (λ x. stops_together base n ss x) where
   by_test : (b : Bool) → count_by (is_projection_to n) (Projection f ∷ ss) ≡ cond b 1 0 + count_by (is_projection_to n) ss → ((x : Marks) → after_stops n ss x ≡ record x { fired = x.fired || list_any (is_firing_of n) ss; owed = x.owed + count_by (is_projection_to n) ss }) → after_stops n ss (cond b (record m { owed = m.owed + 1 }) m) ≡ record m { fired = m.fired || list_any (is_firing_of n) ss; owed = m.owed + count_by (is_projection_to n) (Projection f ∷ ss) }
-  by_test true k rest = rest (record m { owed = m.owed + 1 }) ∙ same_marks refl refl refl refl refl (omega arith) refl
-  by_test false k rest = rest m ∙ same_marks refl refl refl refl refl (omega arith) refl
-stops_together n (Firing u ∷ ss) m = by_test (u == n) (sum_by-cons (λ s. cond (is_projection_to n s) 1 0) (Firing u) ss) (λ x. stops_together n ss x) where
+  by_test true k rest = rest (record m { owed = m.owed + 1 }) ∙ same_marks base refl refl refl refl refl (omega arith) refl
+  by_test false k rest = rest m ∙ same_marks base refl refl refl refl refl (omega arith) refl
+stops_together base n (Firing u ∷ ss) m = by_test (u == n) (sum_by-cons (λ s. cond (is_projection_to n s) 1 0) (Firing u) ss) (λ x. stops_together base n ss x) where
   by_test : (b : Bool) → count_by (is_projection_to n) (Firing u ∷ ss) ≡ 0 + count_by (is_projection_to n) ss → ((x : Marks) → after_stops n ss x ≡ record x { fired = x.fired || list_any (is_firing_of n) ss; owed = x.owed + count_by (is_projection_to n) ss }) → after_stops n ss (cond b (record m { fired = true }) m) ≡ record m { fired = m.fired || (b || list_any (is_firing_of n) ss); owed = m.owed + count_by (is_projection_to n) (Firing u ∷ ss) }
-  by_test true k rest = rest (record m { fired = true }) ∙ same_marks refl refl (sym (or_true m.fired)) refl refl (omega arith) refl
-  by_test false k rest = rest m ∙ same_marks refl refl refl refl refl (omega arith) refl
+  by_test true k rest = rest (record m { fired = true }) ∙ same_marks base refl refl (sym (or_true m.fired)) refl refl (omega arith) refl
+  by_test false k rest = rest m ∙ same_marks base refl refl refl refl refl (omega arith) refl
 
-pub marks-item_at : (h : List Event) (leaf : ℕ) (v : ℤ) → IsLawful h → MayFollow h (Item leaf v) → (n : ℕ) → n < length h →
-    marks_of (h ++ Item leaf v ∷ []) n ≡ after_stops n (stops h leaf) (marks_of h n)
-marks-item_at h leaf v law next n l = marks-item h leaf v law next n l ∙ sym (stops_together n (stops h leaf) (marks_of h n))
+pub marks-item_at : (base : Kept) → (h : List Event) (leaf : ℕ) (v : ℤ) → IsLawful base h → MayFollow base h (Item leaf v) → (n : ℕ) → n < length h →
+    marks_of base (h ++ Item leaf v ∷ []) n ≡ after_stops n (stops h leaf) (marks_of base h n)
+marks-item_at base h leaf v law next n l = marks-item base h leaf v law next n l ∙ sym (stops_together base n (stops h leaf) (marks_of base h n))
 
 -- an open child is counted, so the count does not fall below 0
 pub child_counted : (h : List Event) (c p : ℕ) → is_open h c ≡ true → parent h c ≡ Some p → 0 < open_children h p
@@ -154,17 +156,17 @@ child_counted h c p o below = by_count (cases_order (open_children h p) 0) where
   by_count (inr (inl less)) = absurd (omega arith)
   by_count (inr (inr some)) = some
 
-pub marks-inner_at_flat : (h : List Event) (f : ℕ) (kind : Kind) → IsLawful h → MayFollow h (Open (Inner f) kind) → at is_switch h f ≡ false →
-    marks_of (h ++ Open (Inner f) kind ∷ []) f ≡ after_inner false (marks_of h f)
-marks-inner_at_flat h f kind law next flat = marks-inner_flat h f kind law next flat
+pub marks-inner_at_flat : (base : Kept) → (h : List Event) (f : ℕ) (kind : Kind) → IsLawful base h → MayFollow base h (Open (Inner f) kind) → at is_switch h f ≡ false →
+    marks_of base (h ++ Open (Inner f) kind ∷ []) f ≡ after_inner false (marks_of base h f)
+marks-inner_at_flat base h f kind law next flat = marks-inner_flat base h f kind law next flat
 
-pub marks-inner_at_first : (h : List Event) (f : ℕ) (kind : Kind) → IsLawful h → MayFollow h (Open (Inner f) kind) →
-    ((k : ℕ) → at (is_inner_of f) h k ≡ true → is_open h k ≡ false) → marks_of (h ++ Open (Inner f) kind ∷ []) f ≡ after_inner false (marks_of h f)
-marks-inner_at_first h f kind law next closed = marks-inner_first h f kind law next closed
+pub marks-inner_at_first : (base : Kept) → (h : List Event) (f : ℕ) (kind : Kind) → IsLawful base h → MayFollow base h (Open (Inner f) kind) →
+    ((k : ℕ) → at (is_inner_of f) h k ≡ true → is_open h k ≡ false) → marks_of base (h ++ Open (Inner f) kind ∷ []) f ≡ after_inner false (marks_of base h f)
+marks-inner_at_first base h f kind law next closed = marks-inner_first base h f kind law next closed
 
-pub marks-inner_at_next : (h : List Event) (f old : ℕ) (kind : Kind) → IsLawful h → MayFollow h (Open (Inner f) kind) → at is_switch h f ≡ true →
-    at (is_inner_of f) h old ≡ true → is_open h old ≡ true → marks_of (h ++ Open (Inner f) kind ∷ []) f ≡ after_inner true (marks_of h f)
-marks-inner_at_next h f old kind law next switch inner o = marks-inner_next h f old kind law next switch inner o
+pub marks-inner_at_next : (base : Kept) → (h : List Event) (f old : ℕ) (kind : Kind) → IsLawful base h → MayFollow base h (Open (Inner f) kind) → at is_switch h f ≡ true →
+    at (is_inner_of f) h old ≡ true → is_open h old ≡ true → marks_of base (h ++ Open (Inner f) kind ∷ []) f ≡ after_inner true (marks_of base h f)
+marks-inner_at_next base h f old kind law next switch inner o = marks-inner_next base h f old kind law next switch inner o
 
 -- a new node has nothing to do
 pub blank_quiet : (made : Event) (n : ℕ) → due_at made blank_marks n ≡ None
@@ -177,17 +179,17 @@ blank_quiet (Open place (Sub g)) n = refl
 blank_quiet (Connect g) n = refl
 blank_quiet _ n = refl
 
-pub quiet_new : (h : List Event) (e : Event) → IsLawful h → MayFollow h e → due_at e (marks_of (h ++ e ∷ []) (length h)) (length h) ≡ None
-quiet_new h e law next = ap (λ m. due_at e m (length h)) (marks-new h e law next) ∙ blank_quiet e (length h)
+pub quiet_new : (base : Kept) → (h : List Event) (e : Event) → IsLawful base h → MayFollow base h e → due_at e (marks_of base (h ++ e ∷ []) (length h)) (length h) ≡ None
+quiet_new base h e law next = ap (λ m. due_at e m (length h)) (marks-new base h e law next) ∙ blank_quiet e (length h)
 
 -- what has nothing to do, and is not touched, has nothing to do
-pub quiet_untouched : (h : List Event) (e : Event) → IsLawful h → MayFollow h e → (n : ℕ) (made : Event) → n < length h → is_open (h ++ e ∷ []) n ≡ true →
-    touches h n e ≡ false → due_at made (marks_of h n) n ≡ None → due_at made (marks_of (h ++ e ∷ []) n) n ≡ None
-quiet_untouched h e law next n made l o apart quiet = ap (λ m. due_at made m n) (marks_untouched h e law next n l o apart) ∙ quiet
+pub quiet_untouched : (base : Kept) → (h : List Event) (e : Event) → IsLawful base h → MayFollow base h e → (n : ℕ) (made : Event) → n < length h → is_open (h ++ e ∷ []) n ≡ true →
+    touches h n e ≡ false → due_at made (marks_of base h n) n ≡ None → due_at made (marks_of base (h ++ e ∷ []) n) n ≡ None
+quiet_untouched base h e law next n made l o apart quiet = ap (λ m. due_at made m n) (marks_untouched base h e law next n l o apart) ∙ quiet
 
 -- each forced event but a Connect lowers the debt
-pub forced_falls : (h : List Event) (e : Event) → IsLawful h → IsForced h e → makes_node e ≡ false → debt (h ++ e ∷ []) + 1 ≤ debt h
-forced_falls h (End c t) law f no_node = debt_falls-end h c t law (forced f)
-forced_falls h (Close c) law f no_node = debt_falls-close h c law (forced f)
-forced_falls h (Connect g) law f no_node = absurd (false≢true (sym no_node))
-forced_falls h _ law f no_node = absurd (false≢true (forced_kind f))
+pub forced_falls : (base : Kept) → (h : List Event) (e : Event) → IsLawful base h → IsForced base h e → makes_node e ≡ false → debt base (h ++ e ∷ []) + 1 ≤ debt base h
+forced_falls base h (End c t) law f no_node = debt_falls-end base h c t law (forced f)
+forced_falls base h (Close c) law f no_node = debt_falls-close base h c law (forced f)
+forced_falls base h (Connect g) law f no_node = absurd (false≢true (sym no_node))
+forced_falls base h _ law f no_node = absurd (false≢true (forced_kind base f))

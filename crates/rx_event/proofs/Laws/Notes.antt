@@ -11,6 +11,7 @@ use Rattle.rx_note.specs.declared.note.Terminal.{Terminal}
 use Rattle.rx_note.specs.declared.note.Note.{Note}
 use Rattle.rx_note.specs.declared.note.Note.TheVariants.{Next, Project, End as EndNote}
 use Rattle.rx_note.specs.Notes.{is_end, IsGrammatical}
+use Rattle.rx_event.specs.Kept.{Kept, shown}
 use Rattle.rx_event.specs.declared.event.Event.{Event}
 use Rattle.rx_event.specs.declared.event.Event.TheVariants.{Item, End}
 use Rattle.rx_event.specs.Events.{is_root}
@@ -29,6 +30,7 @@ use Rattle.rx_event.proofs.Laws.Lawful.{may_end}
 use Rattle.rx_event.proofs.Laws.Steps.{by_events, may_emit}
 use Rattle.rx_event.proofs.Laws.Totals.{is_within_self}
 use Rattle.rx_event.proofs.Laws.Projections.{stops_open}
+use Rattle.rx_event.proofs.Laws.Making.{made_untold}
 
 -- the notes of this mail that go to n
 abbrev pub notes_in : ℕ → List Mail → List Note
@@ -39,7 +41,7 @@ pub notes_to-push : (h : List Event) (e : Event) (n : ℕ) → notes_to (h ++ e 
 notes_to-push h e n =
     ap (notes_in n) (notes-push h e) ∙ ap (map (λ (m : Mail). m.note)) (filter-append (λ (m : Mail). m.to == n) (notes h) (mail_of h e)) ∙ map-append (λ (m : Mail). m.note) (filter (λ (m : Mail). m.to == n) (notes h)) (filter (λ (m : Mail). m.to == n) (mail_of h e))
 
-notes_to_empty : (n : ℕ) → notes_to [] n ≡ []
+pub notes_to_empty : (n : ℕ) → notes_to [] n ≡ []
 unfolding notes moments
 notes_to_empty n = refl
 
@@ -55,10 +57,10 @@ IsProjected note = (value : ℤ) × (note ≡ Project value)
 abbrev item_notes : ℕ → ℕ → ℤ → List Stop → List Note
 item_notes n place value ss = notes_in n (filter_map (told place value) ss)
 
-abbrev noted : Bool → Note → List Note → List Note
+abbrev pub noted : Bool → Note → List Note → List Note
 noted b note rest = cond b (note ∷ rest) rest
 
-noted_to : (n to place : ℕ) (note : Note) (rest : List Mail) → notes_in n ((record { place = place; to = to; note = note }) ∷ rest) ≡ noted (to == n) note (notes_in n rest)
+pub noted_to : (n to place : ℕ) (note : Note) (rest : List Mail) → notes_in n ((record { place = place; to = to; note = note }) ∷ rest) ≡ noted (to == n) note (notes_in n rest)
 noted_to n to place note rest = by_number (to == n) where
   by_number : (b : Bool) → map (λ (m : Mail). m.note) (cond b ((record { place = place; to = to; note = note }) ∷ filter (λ m. m.to == n) rest) (filter (λ m. m.to == n) rest)) ≡ noted b note (notes_in n rest)
   by_number true = refl
@@ -105,27 +107,27 @@ item_notes_projected h n place value plain (Projection f ∷ ss) open_all = rw (
 -- one event ---------------------------------------------------------------------------------------
 
 -- what is not open is told nothing
-mail_silent : (h : List Event) (e : Event) → IsLawful h → MayFollow h e → (n : ℕ) → is_open h n ≡ false → notes_in n (mail_of h e) ≡ []
-mail_silent h (Item l value) law next n closed = item_notes_closed h n (length h) value closed (stops h l) (stops_open h l law (may_emit next))
-mail_silent h (End m t) law next n closed = by_root (at is_root h m) where
+pub mail_silent : (base : Kept) → (h : List Event) (e : Event) → IsLawful base h → MayFollow base h e → (n : ℕ) → is_open h n ≡ false → notes_in n (mail_of h e) ≡ []
+mail_silent base h (Item l value) law next n closed = item_notes_closed h n (length h) value closed (stops h l) (stops_open base h l law (may_emit base next))
+mail_silent base h (End m t) law next n closed = by_root (at is_root h m) where
   by_root : (b : Bool) → notes_in n (cond b ((record { place = length h; to = m; note = EndNote t }) ∷ []) []) ≡ []
-  by_root true = rw (noted_to n m (length h) (EndNote t) [], differ (is_open h) n m closed (may_end next)) refl
+  by_root true = rw (noted_to n m (length h) (EndNote t) [], differ (is_open h) n m closed (may_end base next)) refl
   by_root false = refl
-mail_silent h _ law next n closed = refl
+mail_silent base h _ law next n closed = refl
 
 -- what is no root is told projected items alone
-mail_projected : (h : List Event) (e : Event) → IsLawful h → MayFollow h e → (n : ℕ) → at is_root h n ≡ false →
+mail_projected : (base : Kept) → (h : List Event) (e : Event) → IsLawful base h → MayFollow base h e → (n : ℕ) → at is_root h n ≡ false →
     AllByRecursion IsProjected (notes_in n (mail_of h e))
-mail_projected h (Item l value) law next n plain = item_notes_projected h n (length h) value plain (stops h l) (stops_open h l law (may_emit next))
-mail_projected h (End m t) law next n plain = by_root (at is_root h m) refl where
+mail_projected base h (Item l value) law next n plain = item_notes_projected h n (length h) value plain (stops h l) (stops_open base h l law (may_emit base next))
+mail_projected base h (End m t) law next n plain = by_root (at is_root h m) refl where
   by_root : (b : Bool) → at is_root h m ≡ b → AllByRecursion IsProjected (notes_in n (cond b ((record { place = length h; to = m; note = EndNote t }) ∷ []) []))
   by_root true root = rw (noted_to n m (length h) (EndNote t) [], differ (at is_root h) n m plain root) tt
   by_root false root = tt
-mail_projected h _ law next n plain = tt
+mail_projected base h _ law next n plain = tt
 
 -- what is not open is told nothing more
-pub notes_silent : (h : List Event) (e : Event) → IsLawful h → MayFollow h e → (n : ℕ) → is_open h n ≡ false → notes_to (h ++ e ∷ []) n ≡ notes_to h n
-notes_silent h e law next n closed = notes_to-push h e n ∙ ap (λ (ns : List Note). notes_to h n ++ ns) (mail_silent h e law next n closed) ∙ append-nil (notes_to h n)
+pub notes_silent : (base : Kept) → (h : List Event) (e : Event) → IsLawful base h → MayFollow base h e → (n : ℕ) → is_open h n ≡ false → notes_to (h ++ e ∷ []) n ≡ notes_to h n
+notes_silent base h e law next n closed = notes_to-push h e n ∙ ap (λ (ns : List Note). notes_to h n ++ ns) (mail_silent base h e law next n closed) ∙ append-nil (notes_to h n)
 
 -- whole histories ---------------------------------------------------------------------------------
 
@@ -161,34 +163,37 @@ told_end h m n t o items = by_root (at is_root h m) refl where
   by_root true root = apart_or_not root (cases_Bool (m == n))
   by_root false root = told_more h (End m t) n items (rw root refl)
 
-told_open : (h : List Event) (e : Event) → MayFollow h e → (n : ℕ) → list_all is_item_note (notes_to h n) ≡ true → Told (h ++ e ∷ []) n
-told_open h (Item l value) next n items = told_more h (Item l value) n items (item_notes_items n (length h) value (stops h l))
-told_open h (End m t) next n items = told_end h m n t (may_end next) items
-told_open h e next n items = told_more h e n items refl
+told_open : (base : Kept) → (h : List Event) (e : Event) → MayFollow base h e → (n : ℕ) → list_all is_item_note (notes_to h n) ≡ true → Told (h ++ e ∷ []) n
+told_open base h (Item l value) next n items = told_more h (Item l value) n items (item_notes_items n (length h) value (stops h l))
+told_open base h (End m t) next n items = told_end h m n t (may_end base next) items
+told_open base h e next n items = told_more h e n items refl
 
-told_closed : (h : List Event) (e : Event) → IsLawful h → MayFollow h e → (n : ℕ) → is_open h n ≡ false → Told h n → Told (h ++ e ∷ []) n
-told_closed h e law next n closed (going items) = going (rw (notes_silent h e law next n closed) items)
-told_closed h e law next n closed (over g l c) = over (rw (notes_silent h e law next n closed) g) (omega (arith, length-append {A = Event})) (stays_closed h e n l c)
+told_closed : (base : Kept) → (h : List Event) (e : Event) → IsLawful base h → MayFollow base h e → (n : ℕ) → is_open h n ≡ false → Told h n → Told (h ++ e ∷ []) n
+told_closed base h e law next n closed (going items) = going (rw (notes_silent base h e law next n closed) items)
+told_closed base h e law next n closed (over g l c) = over (rw (notes_silent base h e law next n closed) g) (omega (arith, length-append {A = Event})) (stays_closed h e n l c)
 
-told_always : (h : List Event) → IsLawful h → (n : ℕ) → Told h n
-told_always = by_events (λ h. (n : ℕ) → Told h n) (λ n. going (rw (notes_to_empty n) refl)) (λ h e law next before n. by_test h e law next n (before n) (is_open h n) refl) where
-  by_test : (h : List Event) (e : Event) → IsLawful h → MayFollow h e → (n : ℕ) → Told h n → (b : Bool) → is_open h n ≡ b → Told (h ++ e ∷ []) n
-  by_test h e law next n before false closed = told_closed h e law next n closed before
-  by_test h e law next n (going items) true o = told_open h e next n items
+told_none : (h : List Event) → notes h ≡ [] → (n : ℕ) → notes_to h n ≡ []
+told_none h none n = ap (λ (ms : List Mail). Rattle.std.specs.Prelude.map (λ m. m.note) (Rattle.std.specs.Prelude.filter (λ m. m.to == n) ms)) none
+
+told_always : (base : Kept) → (h : List Event) → IsLawful base h → (n : ℕ) → Told h n
+told_always base = by_events base (λ h. (n : ℕ) → Told h n) (λ s n. going (rw (told_none _ (made_untold (shown base) s.making) n) refl)) (λ h e law next before n. by_test h e law next n (before n) (is_open h n) refl) where
+  by_test : (h : List Event) (e : Event) → IsLawful base h → MayFollow base h e → (n : ℕ) → Told h n → (b : Bool) → is_open h n ≡ b → Told (h ++ e ∷ []) n
+  by_test h e law next n before false closed = told_closed base h e law next n closed before
+  by_test h e law next n (going items) true o = told_open base h e next n items
   by_test h e law next n (over g l c) true o = absurd (both_ways _ c o)
 
 -- what each node is told obeys the grammar
-pub notes_grammatical : (h : List Event) → IsLawful h → (n : ℕ) → IsGrammatical (notes_to h n)
-notes_grammatical h law n = by_told (told_always h law n) where
+pub notes_grammatical : (base : Kept) → (h : List Event) → IsLawful base h → (n : ℕ) → IsGrammatical (notes_to h n)
+notes_grammatical base h law n = by_told (told_always base h law n) where
   by_told : Told h n → IsGrammatical (notes_to h n)
   by_told (going items) = record { items = notes_to h n; last = None; no_end = items; whole = sym (append-nil (notes_to h n)) }
   by_told (over g l c) = g
 
 -- and of what is no root it is projected items
-pub notes_projected : (h : List Event) → IsLawful h → (n : ℕ) → at is_root h n ≡ false → AllByRecursion IsProjected (notes_to h n)
-notes_projected = by_events (λ h. (n : ℕ) → at is_root h n ≡ false → AllByRecursion IsProjected (notes_to h n)) (λ n plain. rw (notes_to_empty n) tt) (λ h e law next before n plain.
+pub notes_projected : (base : Kept) → (h : List Event) → IsLawful base h → (n : ℕ) → at is_root h n ≡ false → AllByRecursion IsProjected (notes_to h n)
+notes_projected base = by_events base (λ h. (n : ℕ) → at is_root h n ≡ false → AllByRecursion IsProjected (notes_to h n)) (λ s n plain. rw (told_none _ (made_untold (shown base) s.making) n) tt) (λ h e law next before n plain.
     let old : at is_root h n ≡ false = plain_before h e n plain (cases_lt n (length h)) in
-    rw (notes_to-push h e n) (AllByRecursion-both IsProjected (notes_to h n) (notes_in n (mail_of h e)) (before n old) (mail_projected h e law next n old)))
+    rw (notes_to-push h e n) (AllByRecursion-both IsProjected (notes_to h n) (notes_in n (mail_of h e)) (before n old) (mail_projected base h e law next n old)))
   where
     plain_before : (h : List Event) (e : Event) (n : ℕ) → at is_root (h ++ e ∷ []) n ≡ false → (n < length h) ⊎ (length h ≤ n) → at is_root h n ≡ false
     plain_before h e n plain (inl l) = sym (at-append is_root h (e ∷ []) n l) ∙ plain

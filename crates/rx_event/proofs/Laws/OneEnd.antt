@@ -7,13 +7,22 @@ use Rattle.std.proofs.lemmas.Bool.{cases_lt, both_ways, false≢true, and_parts,
 use Rattle.std.proofs.lemmas.Option.{slice_get_within, same_Some, none-some}
 use Rattle.rx_note.specs.declared.note.Terminal.{Terminal}
 use Rattle.rx_note.specs.declared.note.Terminal.TheVariants.{Completed, Error}
+use Rattle.std.proofs.Math.Bool.{◌||◌}
+use Rattle.rx_event.specs.Kept.{Kept}
+use Rattle.rx_event.specs.Marks.{completes_source, source_completed}
+use Rattle.rx_event.proofs.Laws.MarksAfter.{source_completed-push}
+use Rattle.rx_event.proofs.Laws.MarksNew.{source_completed_is}
+use Rattle.rx_event.proofs.Laws.MarksFound.{source_completed_true}
+use Rattle.rx_event.proofs.Laws.Lawful.{shown_within}
+use Rattle.rx_event.specs.Kept.{node_kept}
+use Rattle.rx_event.proofs.Laws.Searches.{or_false}
 use Rattle.rx_event.specs.declared.event.Place.TheVariants.{Root, Source, Inner, Notifier}
 use Rattle.rx_event.specs.declared.event.Event.{Event}
 use Rattle.rx_event.specs.declared.event.Event.TheVariants.{Open, Item, Decline, End, Close}
 use Rattle.rx_event.specs.Events.{is_mirroring, is_merging, is_until, is_source_of, is_inner_of, is_subscriber_of, pays}
 use Rattle.rx_event.specs.Tree.{at, parent, is_open, shuts}
 use Rattle.rx_event.specs.Moments.{owed, is_fired, is_firing_of, stops_of}
-use Rattle.rx_event.specs.Forced.{mirrored, fired, failed, completed, cut, due, Has, ChildEnded, SourceEnded, IsDue, IsForced, IsSettled}
+use Rattle.rx_event.specs.Forced.{mirrored, fired, failed, completed, cut, due, ChildEnded, SourceEnded, IsDue, IsForced, IsSettled}
 use Rattle.rx_event.specs.Marks.{due_at, marks_of, is_child_of}
 use Rattle.rx_event.specs.Lawful.{forced, allowed, opened_with, MayFollow, IsLawful}
 use Rattle.rx_event.proofs.Laws.Places.{slice_get-append, slice_get_last, at-append, cases_push}
@@ -59,24 +68,24 @@ pub open_old : (h : List Event) (e : Event) (n : ℕ) → n < length h → is_op
 open_old h e n l o = (and_parts (is_open h n) (not (is_cut h e n)) (sym (is_open_cut h e n l) ∙ o)).0
 
 -- a child that ended had ended, or ends by this event
-child_ended_before : (h : List Event) (e : Event) → IsLawful h → (n : ℕ) (u : Terminal) → ChildEnded (h ++ e ∷ []) n u →
+pub child_ended_before : (base : Kept) → (h : List Event) (e : Event) → IsLawful base h → (n : ℕ) (u : Terminal) → ChildEnded (h ++ e ∷ []) n u →
     (ChildEnded h n u × (n < length h)) ⊎ (ends_as e ≡ Some u)
-child_ended_before h e law n u c = by_place (cases_push h e (End c.child u) c.ended.place c.ended.found) where
+child_ended_before base h e law n u c = by_place (cases_push h e (End c.child u) c.ended.place c.ended.found) where
   by_place : (slice_get h c.ended.place ≡ Some (End c.child u)) ⊎ (e ≡ End c.child u) → (ChildEnded h n u × (n < length h)) ⊎ (ends_as e ≡ Some u)
   by_place (inr same) = inr (ap ends_as same)
   by_place (inl found) =
-      let l : c.child < length h = ended_older h law c.ended.place (End c.child u) found c.child u refl in
+      let l : c.child < length h = ended_older base h law c.ended.place (End c.child u) found c.child u refl in
       let below : parent h c.child ≡ Some n = sym (parent-append h (e ∷ []) c.child l) ∙ c.below in
       inl (record { child = c.child; below = below; ended = record { place = c.ended.place; found = found } }, (let p = parent-lt h c.child n below in omega arith))
 
-source_ended_before : (h : List Event) (e : Event) → IsLawful h → (n : ℕ) (u : Terminal) → SourceEnded (h ++ e ∷ []) n u →
+pub source_ended_before : (base : Kept) → (h : List Event) (e : Event) → IsLawful base h → (n : ℕ) (u : Terminal) → SourceEnded (h ++ e ∷ []) n u →
     (SourceEnded h n u × (n < length h)) ⊎ (ends_as e ≡ Some u)
-source_ended_before h e law n u s = by_place (cases_push h e (End s.connection u) s.place s.ended) where
+source_ended_before base h e law n u s = by_place (cases_push h e (End s.connection u) s.place s.ended) where
   by_place : (slice_get h s.place ≡ Some (End s.connection u)) ⊎ (e ≡ End s.connection u) → (SourceEnded h n u × (n < length h)) ⊎ (ends_as e ≡ Some u)
   by_place (inr same) = inr (ap ends_as same)
   by_place (inl found) =
       let l : s.place < length h = slice_get_within h s.place _ found in
-      let before : s.connection < s.place = ended_after h law s.place s.connection u found in
+      let before : s.connection < s.place = ended_after base h law s.place s.connection u found in
       let after = s.later in
       let old : n < length h = omega arith in
       inl (
@@ -95,10 +104,10 @@ source_ended_before h e law n u s = by_place (cases_push h e (End s.connection u
 -- a completion of a FlatMap or Switch -----------------------------------------------------------------
 
 -- where no child of n is open, the event opens none
-opens_none : (h : List Event) (e : Event) → IsLawful h → MayFollow h e → (n : ℕ) →
+opens_none : (base : Kept) → (h : List Event) (e : Event) → IsLawful base h → MayFollow base h e → (n : ℕ) →
     ((c : ℕ) → parent (h ++ e ∷ []) c ≡ Some n → is_open (h ++ e ∷ []) c ≡ false) → adds_child n e ≡ true → ⊥
-opens_none h e law next n closed adds =
-    let new = and_parts (is_open (h ++ e ∷ []) (length h)) (is_child_of (h ++ e ∷ []) n (length h)) (child_new h e law next n ∙ adds) in
+opens_none base h e law next n closed adds =
+    let new = and_parts (is_open (h ++ e ∷ []) (length h)) (is_child_of (h ++ e ∷ []) n (length h)) (child_new base h e law next n ∙ adds) in
     both_ways (is_open (h ++ e ∷ []) (length h)) (closed (length h) (is_child_parent (h ++ e ∷ []) n (length h) new.1)) new.0
 
 pays_none : (h : List Event) (e : Event) (n : ℕ) → completes e ≡ false → (adds_child n e ≡ true → ⊥) → pays n e ≡ false
@@ -113,21 +122,21 @@ pays_none h (Open (Notifier f) kind) n silent opens = refl
 pays_none h _ n silent opens = refl
 
 -- what takes a child of n away, but not n
-child_shut : (h : List Event) (e : Event) → IsLawful h → MayFollow h e → (n k : ℕ) → parent h k ≡ Some n → shuts h k e ≡ true →
+child_shut : (base : Kept) → (h : List Event) (e : Event) → IsLawful base h → MayFollow base h e → (n k : ℕ) → parent h k ≡ Some n → shuts h k e ≡ true →
     completes e ≡ false → (adds_child n e ≡ true → ⊥) → (code : ℕ) × (e ≡ End k (Error code))
-child_shut h (End c Completed) law next n k below shut silent opens = absurd (false≢true (sym silent))
-child_shut h (End c (Error code)) law next n k below shut silent opens = (code, ap (λ q. End q (Error code)) (eqb-true c k shut))
-child_shut h (Close c) law next n k below shut silent opens =
+child_shut base h (End c Completed) law next n k below shut silent opens = absurd (false≢true (sym silent))
+child_shut base h (End c (Error code)) law next n k below shut silent opens = (code, ap (λ q. End q (Error code)) (eqb-true c k shut))
+child_shut base h (Close c) law next n k below shut silent opens =
     let made = event_at h k (parent_within h k n below) in
-    absurd (none-some n (sym (may_close_none next made.0 (ap (slice_get h) (eqb-true c k shut) ∙ made.1)) ∙ parent_name h k n made.0 below made.1))
-child_shut h (Open (Inner f) kind) law next n k below shut silent opens =
+    absurd (none-some n (sym (may_close_none base next made.0 (ap (slice_get h) (eqb-true c k shut) ∙ made.1)) ∙ parent_name h k n made.0 below made.1))
+child_shut base h (Open (Inner f) kind) law next n k below shut silent opens =
     let inner : at (is_inner_of f) h k ≡ true = (and_parts _ _ shut).1 in
-    let same : f ≡ n = same_Some f n (sym (switched_parent h law f k inner) ∙ below) in
+    let same : f ≡ n = same_Some f n (sym (switched_parent base h law f k inner) ∙ below) in
     absurd (opens (eq-eqb f n same))
-child_shut h (Open Root kind) law next n k below shut silent opens = absurd (false≢true shut)
-child_shut h (Open (Source f) kind) law next n k below shut silent opens = absurd (false≢true shut)
-child_shut h (Open (Notifier f) kind) law next n k below shut silent opens = absurd (false≢true shut)
-child_shut h _ law next n k below shut silent opens = absurd (false≢true shut)
+child_shut base h (Open Root kind) law next n k below shut silent opens = absurd (false≢true shut)
+child_shut base h (Open (Source f) kind) law next n k below shut silent opens = absurd (false≢true shut)
+child_shut base h (Open (Notifier f) kind) law next n k below shut silent opens = absurd (false≢true shut)
+child_shut base h _ law next n k below shut silent opens = absurd (false≢true shut)
 
 not_false : (b : Bool) → not b ≡ true → b ≡ false
 not_false false n = refl
@@ -138,24 +147,30 @@ now_closed false c gone whole = refl
 now_closed true false gone whole = gone
 now_closed true true gone whole = absurd (false≢true (sym whole))
 
-source_parent : (h : List Event) → IsLawful h → (n s : ℕ) → at (is_source_of n) h s ≡ true → parent h s ≡ Some n
-source_parent h law n s source = by_event (slice_get h s) refl source where
+pub source_parent : (base : Kept) → (h : List Event) → IsLawful base h → (n s : ℕ) → at (is_source_of n) h s ≡ true → parent h s ≡ Some n
+source_parent base h law n s source = by_event (slice_get h s) refl source where
   by_event : (x : Option Event) → slice_get h s ≡ x → option_map_or (is_source_of n) x false ≡ true → parent h s ≡ Some n
   by_event None at_s source = absurd (false≢true source)
-  by_event (Some (Open (Source q) kind)) at_s source = parent-named h law s n (Open (Source q) kind) at_s (ap Some (eqb-true q n source))
+  by_event (Some (Open (Source q) kind)) at_s source = parent-named base h law s n (Open (Source q) kind) at_s (ap Some (eqb-true q n source))
   by_event (Some (Open Root kind)) at_s source = absurd (false≢true source)
   by_event (Some (Open (Inner q) kind)) at_s source = absurd (false≢true source)
   by_event (Some (Open (Notifier q) kind)) at_s source = absurd (false≢true source)
   by_event (Some _) at_s source = absurd (false≢true source)
 
+not_completing : (h : List Event) (n : ℕ) (e : Event) → completes e ≡ false → completes_source h n e ≡ false
+not_completing h n (End c Completed) silent = absurd (false≢true (sym silent))
+not_completing h n (End c (Error code)) silent = refl
+not_completing h n (Open place kind) silent = refl
+not_completing h n _ silent = refl
+
 -- a completion that is due without such an event was due before
-completed_before : (h : List Event) (e : Event) → IsLawful h → MayFollow h e → (n s : ℕ) → completes e ≡ false → is_open (h ++ e ∷ []) n ≡ true →
-    at is_merging (h ++ e ∷ []) n ≡ true → ((code : ℕ) → ¬ ChildEnded (h ++ e ∷ []) n (Error code)) → at (is_source_of n) (h ++ e ∷ []) s ≡ true →
-    Has (h ++ e ∷ []) (End s Completed) → ((c : ℕ) → parent (h ++ e ∷ []) c ≡ Some n → is_open (h ++ e ∷ []) c ≡ false) → owed (h ++ e ∷ []) n ≡ 0 →
-    IsDue h (End n Completed)
-completed_before h e law next n s silent o merging unfailed source ended closed paid = by_place (cases_push h e (End s Completed) ended.place ended.found) where
+completed_before : (base : Kept) → (h : List Event) (e : Event) → IsLawful base h → MayFollow base h e → (n : ℕ) → completes e ≡ false → is_open (h ++ e ∷ []) n ≡ true →
+    at is_merging (h ++ e ∷ []) n ≡ true → ((code : ℕ) → ¬ ChildEnded (h ++ e ∷ []) n (Error code)) → source_completed base (h ++ e ∷ []) n ≡ true →
+    ((c : ℕ) → parent (h ++ e ∷ []) c ≡ Some n → is_open (h ++ e ∷ []) c ≡ false) → owed base (h ++ e ∷ []) n ≡ 0 →
+    IsDue base h (End n Completed)
+completed_before base h e law next n silent o merging unfailed source closed paid = whole_case (cases_lt n (length h)) where
   opens : adds_child n e ≡ true → ⊥
-  opens = opens_none h e law next n closed
+  opens = opens_none base h e law next n closed
 
   from_child : (k : ℕ) → k < length h → parent h k ≡ Some n → parent (h ++ e ∷ []) k ≡ Some n
   from_child k l below = parent-append h (e ∷ []) k l ∙ below
@@ -169,7 +184,7 @@ completed_before h e law next n s silent o merging unfailed source ended closed 
 
   shut_apart : (k : ℕ) → parent h k ≡ Some n → shuts h k e ≡ true → ⊥
   shut_apart k below shut =
-      let w = child_shut h e law next n k below shut silent opens in
+      let w = child_shut base h e law next n k below shut silent opens in
       unfailed w.0 (record {
         child = k;
         below = from_child k (parent_within h k n below) below;
@@ -180,46 +195,54 @@ completed_before h e law next n s silent o merging unfailed source ended closed 
   cut_apart k below whole true shut = absurd (shut_apart k below shut)
   cut_apart k below whole false unshut = rw (ancestors_step h k, below, unshut) whole
 
-  by_place : (slice_get h ended.place ≡ Some (End s Completed)) ⊎ (e ≡ End s Completed) → IsDue h (End n Completed)
-  by_place (inr same) = absurd (both_ways (completes e) silent (ap completes same))
-  by_place (inl found) =
-      let s_old : s < length h = ended_older h law ended.place (End s Completed) found s Completed refl in
-      let source_old : at (is_source_of n) h s ≡ true = sym (at-append (is_source_of n) h (e ∷ []) s s_old) ∙ source in
-      let n_old : n < length h = (let b = parent-lt h s n (source_parent h law n s source_old) in omega arith) in
+  not_now : completes_source h n e ≡ false
+  not_now = not_completing h n e silent
+
+  source_old : source_completed base h n ≡ true
+  source_old = sym (or_false (source_completed base h n)) ∙ ap (λ x. source_completed base h n || x) (sym not_now) ∙ sym (source_completed-push base h e law next n) ∙ source
+
+  whole_case : (n < length h) ⊎ (length h ≤ n) → IsDue base h (End n Completed)
+  whole_case (inr past) = absurd (by_child (source_completed_is base h n)) where
+    child : list_any (completes_source h n) h ≡ true → ⊥
+    child some = let r = source_completed_true base h n some in let below = parent-lt h r.0 n (source_parent base h law n r.0 r.1) in let w = parent_within h r.0 n (source_parent base h law n r.0 r.1) in absurd (omega arith)
+
+    by_child : source_completed base h n ≡ (option_map_or (λ k. k.source_completed) (node_kept base n) false || list_any (completes_source h n) h) → ⊥
+    by_child split = child (sym (ap (λ k. option_map_or (λ x. x.source_completed) k false || list_any (completes_source h n) h) (law.started.unkept n (let w = shown_within base h law in omega arith))) ∙ sym split ∙ source_old)
+  whole_case (inl n_old) =
       let stays = and_parts (is_open h n) (not (is_cut h e n)) (sym (is_open_cut h e n n_old) ∙ o) in
       let whole : is_cut h e n ≡ false = not_false (is_cut h e n) stays.1 in
-      let push = owed-push h e law next n in
+      let push = owed-push base h e law next n in
       let unpaid : cond {A = ℕ} (pays n e) 1 0 ≡ 0 = ap (λ b. cond {A = ℕ} b 1 0) (pays_none h e n silent opens) in
-      completed stays.0 (sym (at-append is_merging h (e ∷ []) n n_old) ∙ merging) failed_after source_old (record { place = ended.place; found = found }) (λ k below.
+      completed stays.0 (sym (at-append is_merging h (e ∷ []) n n_old) ∙ merging) failed_after source_old (λ k below.
       let k_old = parent_within h k n below in
       let gone = closed k (from_child k k_old below) in
       now_closed (is_open h k) (is_cut h e k) (sym (is_open_cut h e k k_old) ∙ gone) (cut_apart k below whole (shuts h k e) refl)) (omega arith)
 
 -- what is due after the event was due before, or the event is its reason
-pub due_before : (h : List Event) (e : Event) → IsLawful h → MayFollow h e → (n : ℕ) (u : Terminal) → IsDue (h ++ e ∷ []) (End n u) →
-    IsDue h (End n u) ⊎ IsReason h e n u
-due_before h e law next n u (mirrored o m c) = by_case (child_ended_before h e law n u c) where
-  by_case : (ChildEnded h n u × (n < length h)) ⊎ (ends_as e ≡ Some u) → IsDue h (End n u) ⊎ IsReason h e n u
+pub due_before : (base : Kept) → (h : List Event) (e : Event) → IsLawful base h → MayFollow base h e → (n : ℕ) (u : Terminal) → IsDue base (h ++ e ∷ []) (End n u) →
+    IsDue base h (End n u) ⊎ IsReason h e n u
+due_before base h e law next n u (mirrored o m c) = by_case (child_ended_before base h e law n u c) where
+  by_case : (ChildEnded h n u × (n < length h)) ⊎ (ends_as e ≡ Some u) → IsDue base h (End n u) ⊎ IsReason h e n u
   by_case (inr now) = inr (ends_so now)
   by_case (inl old) = inl (mirrored (open_old h e n old.1 o) (sym (at-append is_mirroring h (e ∷ []) n old.1) ∙ m) old.0)
-due_before h e law next n u (failed {c = code} o m c) = by_case (child_ended_before h e law n (Error code) c) where
-  by_case : (ChildEnded h n (Error code) × (n < length h)) ⊎ (ends_as e ≡ Some (Error code)) → IsDue h (End n (Error code)) ⊎ IsReason h e n (Error code)
+due_before base h e law next n u (failed {c = code} o m c) = by_case (child_ended_before base h e law n (Error code) c) where
+  by_case : (ChildEnded h n (Error code) × (n < length h)) ⊎ (ends_as e ≡ Some (Error code)) → IsDue base h (End n (Error code)) ⊎ IsReason h e n (Error code)
   by_case (inr now) = inr (ends_so now)
   by_case (inl old) = inl (failed (open_old h e n old.1 o) (sym (at-append is_merging h (e ∷ []) n old.1) ∙ m) old.0)
-due_before h e law next n u (fired o m f) = by_fired (or_cases (is_fired h n) (list_any (is_firing_of n) (stops_of h e)) (sym (is_fired-push h e n) ∙ f)) where
-  by_old : is_fired h n ≡ true → (n < length h) ⊎ (length h ≤ n) → IsDue h (End n Completed) ⊎ IsReason h e n Completed
+due_before base h e law next n u (fired o m f) = by_fired (or_cases (is_fired h n) (list_any (is_firing_of n) (stops_of h e)) (sym (is_fired-push h e n) ∙ f)) where
+  by_old : is_fired h n ≡ true → (n < length h) ⊎ (length h ≤ n) → IsDue base h (End n Completed) ⊎ IsReason h e n Completed
   by_old before (inl l) = inl (fired (open_old h e n l o) (sym (at-append is_until h (e ∷ []) n l) ∙ m) before)
-  by_old before (inr past) = absurd (both_ways (is_fired h n) (fired_past h law n past) before)
+  by_old before (inr past) = absurd (both_ways (is_fired h n) (fired_past base h law n past) before)
 
-  by_fired : (is_fired h n ≡ true) ⊎ (list_any (is_firing_of n) (stops_of h e) ≡ true) → IsDue h (End n Completed) ⊎ IsReason h e n Completed
+  by_fired : (is_fired h n ≡ true) ⊎ (list_any (is_firing_of n) (stops_of h e) ≡ true) → IsDue base h (End n Completed) ⊎ IsReason h e n Completed
   by_fired (inr now) = inr (fires_it now refl)
   by_fired (inl before) = by_old before (cases_lt n (length h))
-due_before h e law next n u (completed {s = s} o m unfailed source ended closed paid) = by_test (completes e) refl where
-  by_test : (b : Bool) → completes e ≡ b → IsDue h (End n Completed) ⊎ IsReason h e n Completed
+due_before base h e law next n u (completed o m unfailed source closed paid) = by_test (completes e) refl where
+  by_test : (b : Bool) → completes e ≡ b → IsDue base h (End n Completed) ⊎ IsReason h e n Completed
   by_test true now = inr (completes_one now refl)
-  by_test false silent = inl (completed_before h e law next n s silent o m unfailed source ended closed paid)
-due_before h e law next n u (cut o s) = by_case (source_ended_before h e law n u s) where
-  by_case : (SourceEnded h n u × (n < length h)) ⊎ (ends_as e ≡ Some u) → IsDue h (End n u) ⊎ IsReason h e n u
+  by_test false silent = inl (completed_before base h e law next n silent o m unfailed source closed paid)
+due_before base h e law next n u (cut o s) = by_case (source_ended_before base h e law n u s) where
+  by_case : (SourceEnded h n u × (n < length h)) ⊎ (ends_as e ≡ Some u) → IsDue base h (End n u) ⊎ IsReason h e n u
   by_case (inr now) = inr (ends_so now)
   by_case (inl old) = inl (cut (open_old h e n old.1 o) old.0)
 
@@ -240,43 +263,43 @@ reason_end h e n u (fires_it now whole) = by_event e now ∙ ap (λ t. Some t) (
   by_event (Item leaf v) fires = refl
   by_event _ fires = absurd (false≢true fires)
 
-due_or_now : (h : List Event) (e : Event) (n : ℕ) (u : Terminal) → IsDue h (End n u) ⊎ IsReason h e n u → IsDue h (End n u) ⊎ (end_by e ≡ Some u)
-due_or_now h e n u (inl before) = inl before
-due_or_now h e n u (inr now) = inr (reason_end h e n u now)
+due_or_now : (base : Kept) → (h : List Event) (e : Event) (n : ℕ) (u : Terminal) → IsDue base h (End n u) ⊎ IsReason h e n u → IsDue base h (End n u) ⊎ (end_by e ≡ Some u)
+due_or_now base h e n u (inl before) = inl before
+due_or_now base h e n u (inr now) = inr (reason_end h e n u now)
 
-none_due : (h : List Event) (e : Event) → IsSettled h → IsDue h e → ⊥
-none_due h e settled d = settled.none e (due (settled_connected h settled) d)
+none_due : (base : Kept) → (h : List Event) (e : Event) → IsSettled base h → IsDue base h e → ⊥
+none_due base h e settled d = settled.none e (due (settled_connected base h settled) d)
 
 -- what an event makes due ends as what was due before it
-end_alike : (h : List Event) (e : Event) → MayFollow h e → ((n m : ℕ) (t u : Terminal) → IsDue h (End n t) → IsDue h (End m u) → t ≡ u) →
-    (n : ℕ) (t u : Terminal) → IsDue h (End n t) → end_by e ≡ Some u → u ≡ t
-end_alike h e (allowed settled a) before n t u d now = absurd (none_due h (End n t) settled d)
-end_alike h e (opened_with at_n l o) before n t u d now = absurd (none-some u now)
-end_alike h e (forced f) before n t u d now = by_forced e f now where
-  by_forced : (x : Event) → IsForced h x → end_by x ≡ Some u → u ≡ t
+end_alike : (base : Kept) → (h : List Event) (e : Event) → MayFollow base h e → ((n m : ℕ) (t u : Terminal) → IsDue base h (End n t) → IsDue base h (End m u) → t ≡ u) →
+    (n : ℕ) (t u : Terminal) → IsDue base h (End n t) → end_by e ≡ Some u → u ≡ t
+end_alike base h e (allowed settled a) before n t u d now = absurd (none_due base h (End n t) settled d)
+end_alike base h e (opened_with at_n l o) before n t u d now = absurd (none-some u now)
+end_alike base h e (forced f) before n t u d now = by_forced e f now where
+  by_forced : (x : Event) → IsForced base h x → end_by x ≡ Some u → u ≡ t
   by_forced (End c v) (due none x) same = same_Some u v (sym same) ∙ before c n v t x d
-  by_forced (Item leaf v) f same = absurd (false≢true (forced_kind f))
-  by_forced (Decline g) f same = absurd (false≢true (forced_kind f))
+  by_forced (Item leaf v) f same = absurd (false≢true (forced_kind base f))
+  by_forced (Decline g) f same = absurd (false≢true (forced_kind base f))
   by_forced _ f same = absurd (none-some u same)
 
-nothing_due : (n : ℕ) (t : Terminal) → IsDue [] (End n t) → ⊥
-nothing_due n t d = let l = is_open_within [] n (due_open d) in omega arith
+nothing_due : (base : Kept) → (n : ℕ) (t : Terminal) → IsDue base [] (End n t) → ⊥
+nothing_due base n t d = let l = is_open_within [] n (due_open base d) in omega arith
 
 -- the ways in which two that are due now came to be so
-same_end : (h : List Event) (e : Event) → MayFollow h e → ((n m : ℕ) (t u : Terminal) → IsDue h (End n t) → IsDue h (End m u) → t ≡ u) →
-    (n m : ℕ) (t u : Terminal) → IsDue h (End n t) ⊎ (end_by e ≡ Some t) → IsDue h (End m u) ⊎ (end_by e ≡ Some u) → t ≡ u
-same_end h e next before n m t u (inl a) (inl b) = before n m t u a b
-same_end h e next before n m t u (inr a) (inr b) = same_Some t u (sym a ∙ b)
-same_end h e next before n m t u (inl a) (inr b) = sym (end_alike h e next before n t u a b)
-same_end h e next before n m t u (inr a) (inl b) = end_alike h e next before m u t b a
+same_end : (base : Kept) → (h : List Event) (e : Event) → MayFollow base h e → ((n m : ℕ) (t u : Terminal) → IsDue base h (End n t) → IsDue base h (End m u) → t ≡ u) →
+    (n m : ℕ) (t u : Terminal) → IsDue base h (End n t) ⊎ (end_by e ≡ Some t) → IsDue base h (End m u) ⊎ (end_by e ≡ Some u) → t ≡ u
+same_end base h e next before n m t u (inl a) (inl b) = before n m t u a b
+same_end base h e next before n m t u (inr a) (inr b) = same_Some t u (sym a ∙ b)
+same_end base h e next before n m t u (inl a) (inr b) = sym (end_alike base h e next before n t u a b)
+same_end base h e next before n m t u (inr a) (inl b) = end_alike base h e next before m u t b a
 
 -- two ends that are due in a lawful history are alike
-pub one_end : (h : List Event) → IsLawful h → (n m : ℕ) (t u : Terminal) → IsDue h (End n t) → IsDue h (End m u) → t ≡ u
-one_end = by_events (λ h. (n m : ℕ) (t u : Terminal) → IsDue h (End n t) → IsDue h (End m u) → t ≡ u) (λ n m t u a b. absurd (nothing_due n t a)) (λ h e law next before n m t u a b. same_end h e next before n m t u (due_or_now h e n t (due_before h e law next n t a)) (due_or_now h e m u (due_before h e law next m u b)))
+pub one_end : (base : Kept) → (h : List Event) → IsLawful base h → (n m : ℕ) (t u : Terminal) → IsDue base h (End n t) → IsDue base h (End m u) → t ≡ u
+one_end base = by_events base (λ h. (n m : ℕ) (t u : Terminal) → IsDue base h (End n t) → IsDue base h (End m u) → t ≡ u) (λ s n m t u a c. absurd (s.undue n t a)) (λ h e law next before n m t u a b. same_end base h e next before n m t u (due_or_now base h e n t (due_before base h e law next n t a)) (due_or_now base h e m u (due_before base h e law next m u b)))
 
 -- what is due to end a node in a lawful history, but for the end of a connection, is what its marks say
-pub due_by_marks_alone : (h : List Event) → IsLawful h → (n : ℕ) (made : Event) (t : Terminal) → is_open h n ≡ true → slice_get h n ≡ Some made →
-    ¬ SourceEnded h n t → IsDue h (End n t) → due_at made (marks_of h n) n ≡ Some (End n t)
-due_by_marks_alone h law n made t o at_n whole d =
-    let w = due_by_marks h n made t at_n whole d in
-    w.1 ∙ ap (λ v. Some (End n v)) (one_end h law n n w.0 t (due_at_due h n made (End n w.0) o at_n w.1) d)
+pub due_by_marks_alone : (base : Kept) → (h : List Event) → IsLawful base h → (n : ℕ) (made : Event) (t : Terminal) → is_open h n ≡ true → slice_get h n ≡ Some made →
+    ¬ SourceEnded h n t → IsDue base h (End n t) → due_at made (marks_of base h n) n ≡ Some (End n t)
+due_by_marks_alone base h law n made t o at_n whole d =
+    let w = due_by_marks base h n made t at_n whole d in
+    w.1 ∙ ap (λ v. Some (End n v)) (one_end base h law n n w.0 t (due_at_due base h n made (End n w.0) o at_n w.1) d)

@@ -4,6 +4,7 @@ use Rattle.std.proofs.Math.Bool.{not, ◌&&◌}
 use Rattle.std.specs.List.{range_with_len}
 use Rattle.std.specs.Option.{option_map_or}
 use Rattle.std.proofs.lemmas.List.Elements.{filter-append}
+use Rattle.rx_event.specs.Kept.{Kept}
 use Rattle.rx_event.specs.declared.event.Event.{Event}
 use Rattle.rx_event.specs.Events.{makes_node}
 use Rattle.rx_event.specs.Tree.{at, places, is_open}
@@ -38,9 +39,9 @@ abbrev pub open_of : (Event → Bool) → List Event → List ℕ
 open_of sort h = filter (λ n. at sort h n && is_open h n) (places h)
 
 -- after one more event those that are still open, and then the node that it makes
-pub open_of-push : (sort : Event → Bool) (h : List Event) (e : Event) → MayFollow h e → (sort e ≡ true → makes_node e ≡ true) →
+pub open_of-push : (base : Kept) → (sort : Event → Bool) (h : List Event) (e : Event) → MayFollow base h e → (sort e ≡ true → makes_node e ≡ true) →
     open_of sort (h ++ e ∷ []) ≡ filter (is_open (h ++ e ∷ [])) (open_of sort h) ++ cond (sort e) (length h ∷ []) []
-open_of-push sort h e next makes = ap (filter passes) (places-push h e) ∙ filter-append passes (places h) (length h ∷ []) ∙ (λ i. older i ++ last i) where
+open_of-push base sort h e next makes = ap (filter passes) (places-push h e) ∙ filter-append passes (places h) (length h ∷ []) ∙ (λ i. older i ++ last i) where
   passes : ℕ → Bool
   passes n = at sort (h ++ e ∷ []) n && is_open (h ++ e ∷ []) n
 
@@ -66,4 +67,4 @@ open_of-push sort h e next makes = ap (filter passes) (places-push h e) ∙ filt
 
   last : filter passes (length h ∷ []) ≡ cond (sort e) (length h ∷ []) []
   last = ap (λ b. cond b (length h ∷ []) [])
-      ((λ i. option_map_or sort (slice_get_last h e i) false && is_open_new h e next i) ∙ made (sort e) (makes_node e) makes)
+      ((λ i. option_map_or sort (slice_get_last h e i) false && is_open_new base h e next i) ∙ made (sort e) (makes_node e) makes)

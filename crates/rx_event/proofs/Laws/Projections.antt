@@ -1,11 +1,13 @@
 -- Projected items: where they go, and what each FlatMap and Switch owes after one more event.
-use Rattle.std.proofs.Common.{◌≡◌, ℕ, zero, suc, ◌+◌, ◌-◌, ◌<◌, ◌≤◌, Bool, true, false, List, [], ◌∷◌, ◌++◌, length, Option, Some, None, cond, refl, sym, ap, ◌∙◌, arith, inl, inr, ◌⊎◌, ◌==◌, slice_get, length-append}
+use Rattle.std.proofs.Common.{take, ◌≡◌, ℕ, zero, suc, ◌+◌, ◌-◌, ◌<◌, ◌≤◌, Bool, true, false, List, [], ◌∷◌, ◌++◌, length, Option, Some, None, cond, refl, sym, ap, ◌∙◌, arith, inl, inr, ◌⊎◌, ◌==◌, slice_get, length-append}
 use Rattle.std.proofs.Math.Bool.{◌&&◌}
 use Rattle.std.specs.List.{AllByRecursion, sum_by, count_by, filter_map}
 use Rattle.std.specs.Option.{option_and_then, option_map_or, option_to_list}
 use Rattle.std.proofs.lemmas.Bool.{cases_Bool, both_ways, false≢true, and_parts, eqb-true}
 use Rattle.std.proofs.lemmas.List.Sums.{sum_by_push, sum_by-cons}
 use Rattle.std.proofs.lemmas.Option.{slice_get_past, slice_get_within}
+use Rattle.rx_event.specs.declared.base.BaseNode.{BaseNode}
+use Rattle.rx_event.specs.Kept.{Kept, node_kept, shown}
 use Rattle.rx_event.specs.declared.event.Place.TheVariants.{Root, Source, Inner, Notifier}
 use Rattle.rx_event.specs.declared.event.Kind.{Kind}
 use Rattle.rx_event.specs.declared.event.Event.{Event}
@@ -13,12 +15,12 @@ use Rattle.rx_event.specs.declared.event.Event.TheVariants.{Open, Connect, Item,
 use Rattle.rx_event.specs.Events.{is_merging, is_until, pays}
 use Rattle.rx_event.specs.Tree.{at, places, parent, is_open}
 use Rattle.rx_event.specs.Climb.{Stop, Delivery, Projection, Firing, stop_made, stop_at, onward_from, onward, onward_unless, visited, climb, stops, most_visits}
-use Rattle.rx_event.specs.Moments.{moments, projections, owed, is_projection, is_projection_to, stops_of}
+use Rattle.rx_event.specs.Moments.{projected_by, moments, projections, owed, is_projection, is_projection_to, stops_of}
 use Rattle.rx_event.specs.Lawful.{MayFollow, IsLawful}
 use Rattle.rx_event.proofs.Laws.Openness.{is_open_within, parent_open}
 use Rattle.rx_event.specs.Claims.Climbs.{StopsAtOpen}
 use Rattle.rx_event.proofs.Laws.Places.{at-take}
-use Rattle.rx_event.proofs.Laws.Lawful.{lawful_at}
+use Rattle.rx_event.proofs.Laws.Lawful.{in_base, since_base, FoundAt, found_at, shown_within}
 use Rattle.rx_event.proofs.Laws.Lists.{AllByRecursion-both, filtered}
 use Rattle.rx_event.proofs.Laws.Counts.{projections-push}
 use Rattle.rx_event.proofs.Laws.Steps.{by_pushes, by_events, may_open, may_decline, named_below, parent-named}
@@ -69,57 +71,73 @@ projections_past = by_pushes (λ h. (f : ℕ) → length h ≤ f → projections
 -- owed --------------------------------------------------------------------------------------------
 
 -- nothing is owed beyond the end
-pub owed_past : (h : List Event) (f : ℕ) → length h ≤ f → owed h f ≡ 0
+pub owed_past : (base : Kept) → (h : List Event) → IsLawful base h → (f : ℕ) → length h ≤ f → owed base h f ≡ 0
 unfolding owed
-owed_past h f l = let p = projections_past h f l in omega arith
+owed_past base h law f l =
+    let p = projections_past h f l in
+    ap (λ k. option_map_or (λ (x : BaseNode). x.owed + count_by (pays f) (shown base) + projections h f) k (projections h f) - count_by (pays f) h) (law.started.unkept f (let w = shown_within base h law in omega arith)) ∙ (omega arith)
 
 -- a new node owes nothing
-pub owed_new : (h : List Event) (e : Event) → owed (h ++ e ∷ []) (length h) ≡ 0
+pub owed_new : (base : Kept) → (h : List Event) → IsLawful base h → (e : Event) → owed base (h ++ e ∷ []) (length h) ≡ 0
 unfolding owed
-owed_new h e =
+owed_new base h law e =
     let p = projections_past h (length h) (omega arith) in
     let q = projects_none h e (length h) (rw (slice_get_past h (length h) (omega arith)) refl) in
     let r = projections-push h e (length h) in
-    omega arith
+    ap (λ k. option_map_or (λ (x : BaseNode). x.owed + count_by (pays (length h)) (shown base) + projections (h ++ e ∷ []) (length h)) k (projections (h ++ e ∷ []) (length h)) - count_by (pays (length h)) (h ++ e ∷ [])) (law.started.unkept (length h) (shown_within base h law)) ∙ (omega arith)
 
-pays_owed : (h : List Event) (e : Event) → MayFollow h e → (f : ℕ) → pays f e ≡ true → 0 < owed h f
-pays_owed h (Open (Inner g) kind) next f same = rw (← eqb-true g f same) (may_open next).2
-pays_owed h (Decline g) next f same = rw (← eqb-true g f same) (may_decline next).2
-pays_owed h (Open Root kind) next f same = absurd (false≢true same)
-pays_owed h (Open (Source g) kind) next f same = absurd (false≢true same)
-pays_owed h (Open (Notifier g) kind) next f same = absurd (false≢true same)
-pays_owed h _ next f same = absurd (false≢true same)
+pays_owed : (base : Kept) → (h : List Event) (e : Event) → MayFollow base h e → (f : ℕ) → pays f e ≡ true → 0 < owed base h f
+pays_owed base h (Open (Inner g) kind) next f same = rw (← eqb-true g f same) (may_open base next).2
+pays_owed base h (Decline g) next f same = rw (← eqb-true g f same) (may_decline base next).2
+pays_owed base h (Open Root kind) next f same = absurd (false≢true same)
+pays_owed base h (Open (Source g) kind) next f same = absurd (false≢true same)
+pays_owed base h (Open (Notifier g) kind) next f same = absurd (false≢true same)
+pays_owed base h _ next f same = absurd (false≢true same)
+
+projected-push : (base : Kept) → (h : List Event) (e : Event) (f : ℕ) → projected_by base (h ++ e ∷ []) f ≡ projected_by base h f + count_by (is_projection_to f) (stops_of h e)
+projected-push base h e f = by_record (node_kept base f) where
+  by_record : (o : Option BaseNode) →
+      option_map_or (λ k. k.owed + count_by (pays f) (shown base) + projections (h ++ e ∷ []) f) o (projections (h ++ e ∷ []) f) ≡
+      option_map_or (λ k. k.owed + count_by (pays f) (shown base) + projections h f) o (projections h f) + count_by (is_projection_to f) (stops_of h e)
+  by_record None = projections-push h e f
+  by_record (Some k) = let p = projections-push h e f in omega arith
 
 -- no more was paid than was projected
-pub paid-le : (h : List Event) → IsLawful h → (f : ℕ) → count_by (pays f) h ≤ projections h f
+pub paid-le : (base : Kept) → (h : List Event) → IsLawful base h → (f : ℕ) → count_by (pays f) h ≤ projected_by base h f
 unfolding owed
-paid-le = by_events (λ h. (f : ℕ) → count_by (pays f) h ≤ projections h f) (λ f. omega arith) (λ h e law next before f. by_payment h e f (pays f e) (before f) (projections-push h e f) (sum_by_push (λ (x : Event). cond (pays f x) 1 0) h e) (pays_owed h e next f)) where
-  by_payment : (h : List Event) (e : Event) (f : ℕ) (b : Bool) → count_by (pays f) h ≤ projections h f →
-      projections (h ++ e ∷ []) f ≡ projections h f + count_by (is_projection_to f) (stops_of h e) →
-      count_by (pays f) (h ++ e ∷ []) ≡ count_by (pays f) h + cond b 1 0 → (b ≡ true → 0 < projections h f - count_by (pays f) h) →
-      count_by (pays f) (h ++ e ∷ []) ≤ projections (h ++ e ∷ []) f
+paid-le base = by_events base (λ h. (f : ℕ) → count_by (pays f) h ≤ projected_by base h f) (λ s f. s.paid f) (λ h e law next before f. by_payment h e f (pays f e) (before f) (projected-push base h e f) (sum_by_push (λ (x : Event). cond (pays f x) 1 0) h e) (pays_owed base h e next f)) where
+  by_payment : (h : List Event) (e : Event) (f : ℕ) (b : Bool) → count_by (pays f) h ≤ projected_by base h f →
+      projected_by base (h ++ e ∷ []) f ≡ projected_by base h f + count_by (is_projection_to f) (stops_of h e) →
+      count_by (pays f) (h ++ e ∷ []) ≡ count_by (pays f) h + cond b 1 0 → (b ≡ true → 0 < projected_by base h f - count_by (pays f) h) →
+      count_by (pays f) (h ++ e ∷ []) ≤ projected_by base (h ++ e ∷ []) f
   by_payment h e f true before more one some = let k = some refl in omega arith
   by_payment h e f false before more one some = omega arith
 
 -- what f owes after the event, and what it pays by it, it owed before, or was projected to it
-pub owed-push : (h : List Event) (e : Event) → IsLawful h → MayFollow h e → (f : ℕ) →
-    owed (h ++ e ∷ []) f + cond (pays f e) 1 0 ≡ owed h f + count_by (is_projection_to f) (stops_of h e)
+pub owed-push : (base : Kept) → (h : List Event) (e : Event) → IsLawful base h → MayFollow base h e → (f : ℕ) →
+    owed base (h ++ e ∷ []) f + cond (pays f e) 1 0 ≡ owed base h f + count_by (is_projection_to f) (stops_of h e)
 unfolding owed
-owed-push h e law next f = by_payment (pays f e) (paid-le h law f) (projections-push h e f) (sum_by_push (λ (x : Event). cond (pays f x) 1 0) h e) (pays_owed h e next f) where
-  by_payment : (b : Bool) → count_by (pays f) h ≤ projections h f →
-      projections (h ++ e ∷ []) f ≡ projections h f + count_by (is_projection_to f) (stops_of h e) →
-      count_by (pays f) (h ++ e ∷ []) ≡ count_by (pays f) h + cond b 1 0 → (b ≡ true → 0 < projections h f - count_by (pays f) h) →
-      projections (h ++ e ∷ []) f - count_by (pays f) (h ++ e ∷ []) + cond b 1 0 ≡ (projections h f - count_by (pays f) h) + count_by (is_projection_to f) (stops_of h e)
+owed-push base h e law next f = by_payment (pays f e) (paid-le base h law f) (projected-push base h e f) (sum_by_push (λ (x : Event). cond (pays f x) 1 0) h e) (pays_owed base h e next f) where
+  by_payment : (b : Bool) → count_by (pays f) h ≤ projected_by base h f →
+      projected_by base (h ++ e ∷ []) f ≡ projected_by base h f + count_by (is_projection_to f) (stops_of h e) →
+      count_by (pays f) (h ++ e ∷ []) ≡ count_by (pays f) h + cond b 1 0 → (b ≡ true → 0 < projected_by base h f - count_by (pays f) h) →
+      projected_by base (h ++ e ∷ []) f - count_by (pays f) (h ++ e ∷ []) + cond b 1 0 ≡ (projected_by base h f - count_by (pays f) h) + count_by (is_projection_to f) (stops_of h e)
   by_payment true before more one some = let k = some refl in omega arith
   by_payment false before more one some = omega arith
 
 -- an event that neither projects nor pays
-pub owed_kept : (h : List Event) (e : Event) (f : ℕ) → stops_of h e ≡ [] → pays f e ≡ false → owed (h ++ e ∷ []) f ≡ owed h f
+pub owed_kept : (base : Kept) → (h : List Event) (e : Event) (f : ℕ) → stops_of h e ≡ [] → pays f e ≡ false → owed base (h ++ e ∷ []) f ≡ owed base h f
 unfolding owed
-owed_kept h e f no_stops pays_none =
-    let same : projections (h ++ e ∷ []) f ≡ projections h f + 0 = projections-push h e f ∙ ap (λ (ss : List Stop). projections h f + count_by (is_projection_to f) ss) no_stops in
+owed_kept base h e f no_stops pays_none =
+    let same : projected_by base (h ++ e ∷ []) f ≡ projected_by base h f + 0 = projected-push base h e f ∙ ap (λ (ss : List Stop). projected_by base h f + count_by (is_projection_to f) ss) no_stops in
     let paid : count_by (pays f) (h ++ e ∷ []) ≡ count_by (pays f) h + 0 = sum_by_push (λ (x : Event). cond (pays f x) 1 0) h e ∙ ap (λ (b : Bool). count_by (pays f) h + cond b 1 0) pays_none in
     omega arith
+
+notified : (base : Kept) → (h : List Event) → IsLawful base h → (n u : ℕ) (kind : Kind) → slice_get h n ≡ Some (Open (Notifier u) kind) → at is_until (take n h) u ≡ true
+notified base h law n u kind at_n = by_case (found_at base h law n (Open (Notifier u) kind) at_n) where
+  by_case : FoundAt base h n (Open (Notifier u) kind) → at is_until (take n h) u ≡ true
+  by_case (in_base found same) = ap (λ k. at is_until k u) same ∙ law.started.placed n (Notifier u) kind found
+  by_case (since_base next) = (may_open base next).1
 
 -- projections of one item ---------------------------------------------------------------------------
 
@@ -155,39 +173,39 @@ StopsWell h None = Unit {0}
 StopsWell h (Some s) = StopsAtOpen h s
 
 -- the climb stops at an open root, FlatMap, Switch or TakeUntil
-stop_open : (h : List Event) → IsLawful h → (n : ℕ) → is_open h n ≡ true → StopsWell h (stop_at h n)
-stop_open h law n o = by_event (slice_get h n) refl where
+stop_open : (base : Kept) → (h : List Event) → IsLawful base h → (n : ℕ) → is_open h n ≡ true → StopsWell h (stop_at h n)
+stop_open base h law n o = by_event (slice_get h n) refl where
   if_merging : (f : ℕ) (kind : Kind) → slice_get h n ≡ Some (Open (Source f) kind) → (b : Bool) → at is_merging h f ≡ b →
       StopsWell h (cond b (Some (Projection f)) None)
   if_merging f kind at_n false m = tt
-  if_merging f kind at_n true m = (parent_open h n f o (parent-named h law n f (Open (Source f) kind) at_n refl), m)
+  if_merging f kind at_n true m = (parent_open h n f o (parent-named base h law n f (Open (Source f) kind) at_n refl), m)
 
   until : (u : ℕ) (kind : Kind) → slice_get h n ≡ Some (Open (Notifier u) kind) → at is_until h u ≡ true
   until u kind at_n =
-      let l : u < n = named_below h law n u (Open (Notifier u) kind) at_n refl in
-      sym (at-take is_until h n u l (slice_get_within h n (Open (Notifier u) kind) at_n)) ∙ (may_open (lawful_at h law n (Open (Notifier u) kind) at_n)).1
+      let l : u < n = named_below base h law n u (Open (Notifier u) kind) at_n refl in
+      sym (at-take is_until h n u l (slice_get_within h n (Open (Notifier u) kind) at_n)) ∙ notified base h law n u kind at_n
 
   by_event : (e : Option Event) → slice_get h n ≡ e → StopsWell h (option_and_then (stop_made h n) e)
   by_event None at_n = tt
   by_event (Some (Open Root kind)) at_n = (o, rw at_n refl)
   by_event (Some (Open (Source f) kind)) at_n = if_merging f kind at_n (at is_merging h f) refl
   by_event (Some (Open (Inner f) kind)) at_n = tt
-  by_event (Some (Open (Notifier u) kind)) at_n = (parent_open h n u o (parent-named h law n u (Open (Notifier u) kind) at_n refl), until u kind at_n)
+  by_event (Some (Open (Notifier u) kind)) at_n = (parent_open h n u o (parent-named base h law n u (Open (Notifier u) kind) at_n refl), until u kind at_n)
   by_event (Some _) at_n = tt
 
-stops_well : (h : List Event) → IsLawful h → (ns : List ℕ) → AllByRecursion (λ m. is_open h m ≡ true) ns →
+stops_well : (base : Kept) → (h : List Event) → IsLawful base h → (ns : List ℕ) → AllByRecursion (λ m. is_open h m ≡ true) ns →
     AllByRecursion (StopsAtOpen h) (filter_map (stop_at h) ns)
-stops_well h law [] open_all = tt
-stops_well h law (n ∷ ns) open_all = by_stop (stop_at h n) (stop_open h law n open_all.0) (stops_well h law ns open_all.1) where
+stops_well base h law [] open_all = tt
+stops_well base h law (n ∷ ns) open_all = by_stop (stop_at h n) (stop_open base h law n open_all.0) (stops_well base h law ns open_all.1) where
   by_stop : (s : Option Stop) → StopsWell h s → AllByRecursion (StopsAtOpen h) (filter_map (stop_at h) ns) →
       AllByRecursion (StopsAtOpen h) (Rattle.std.specs.List.cons_option s (filter_map (stop_at h) ns))
   by_stop None well rest = rest
   by_stop (Some s) well rest = (well, rest)
 
 -- so does the item of an open leaf
-pub stops_open : (h : List Event) (l : ℕ) → IsLawful h → is_open h l ≡ true → AllByRecursion (StopsAtOpen h) (stops h l)
+pub stops_open : (base : Kept) → (h : List Event) (l : ℕ) → IsLawful base h → is_open h l ≡ true → AllByRecursion (StopsAtOpen h) (stops h l)
 unfolding stops
-stops_open h l law o = stops_well h law (climb h l) (climb_open h l o)
+stops_open base h l law o = stops_well base h law (climb h l) (climb_open h l o)
 
 zero_or_zero : (b : Bool) → cond {A = ℕ} b 0 0 ≡ 0
 zero_or_zero true = refl

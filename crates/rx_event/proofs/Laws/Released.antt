@@ -2,6 +2,7 @@
 use Rattle.std.proofs.Common.{◌≡◌, ℕ, ◌≤◌, Bool, true, false, List, length, Option, Some, None, cond, refl, ap, arith, inl, inr, ◌⊎◌}
 use Rattle.std.specs.Option.{option_map_or}
 use Rattle.std.proofs.lemmas.Bool.{cases_Bool, false≢true, and_parts}
+use Rattle.rx_event.specs.Kept.{Kept}
 use Rattle.rx_event.specs.declared.event.Event.{Event}
 use Rattle.rx_event.specs.Tree.{is_open}
 use Rattle.rx_event.specs.Resources.{is_held}
@@ -35,8 +36,8 @@ held_count_closed h closed = sum_by_none (λ r. cond (is_held h r) 1 0) (length 
   by_test r (inl held) = absurd (let n = held_node h r held in let some = open_counted h n.0 n.2 in omega arith)
 
 -- where nothing waits either, all that was accepted was handed out
-pub taken_count_closed : (h : List Event) → IsLawful h → open_count h ≡ 0 → waiting_count h ≡ 0 → taken_count h ≡ accepted_count h
-taken_count_closed h law closed released =
+pub taken_count_closed : (base : Kept) → (h : List Event) → IsLawful base h → open_count h ≡ 0 → waiting_count h ≡ 0 → taken_count base h ≡ accepted_count base h
+taken_count_closed base h law closed released =
     let held = held_count_closed h closed in
-    let parts = accepted_count-parts h law in
+    let parts = accepted_count-parts base h law in
     omega arith

@@ -1,9 +1,13 @@
 -- Where nodes stand in a lawful history: below nodes, each place below what has such a place, connections topmost.
-use Rattle.std.proofs.Common.{◌≡◌, ℕ, ◌<◌, Bool, true, List, [], ◌∷◌, length, Some, None, refl, sym, ap, ◌∙◌, arith, zero, suc, inl, inr, ◌⊎◌, take, slice_get}
+use Rattle.std.proofs.Common.{subst, ◌≡◌, ℕ, ◌<◌, Bool, true, List, [], ◌∷◌, length, Some, None, refl, sym, ap, ◌∙◌, arith, zero, suc, inl, inr, ◌⊎◌, take, slice_get}
 use Rattle.std.specs.Option.{option_map_or}
 use Rattle.std.proofs.lemmas.Bool.{and_parts}
 use Rattle.std.proofs.lemmas.List.{length-take-le}
 use Rattle.std.proofs.lemmas.Option.{slice_get_within, same_Some, none-some}
+use Rattle.rx_event.proofs.Laws.Steps.{named_open}
+use Rattle.rx_event.specs.Lawful.{HasPlace}
+use Rattle.rx_event.specs.declared.event.Place.TheVariants.{Root}
+use Rattle.rx_event.specs.Kept.{Kept}
 use Rattle.rx_event.specs.declared.event.Place.{Place}
 use Rattle.rx_event.specs.declared.event.Place.TheVariants.{Source, Inner, Notifier}
 use Rattle.rx_event.specs.declared.event.Kind.{Kind}
@@ -16,11 +20,11 @@ use Rattle.rx_event.specs.Lawful.{IsLawful}
 use Rattle.rx_event.proofs.Laws.Places.{at-take, at_within}
 use Rattle.rx_event.proofs.Laws.Parents.{parent-lt, parent_within, parent_name, within_cases}
 use Rattle.rx_event.proofs.Laws.Openness.{is_open_step}
-use Rattle.rx_event.proofs.Laws.Lawful.{lawful_at}
-use Rattle.rx_event.proofs.Laws.Steps.{may_open, may_name}
+use Rattle.rx_event.proofs.Laws.Lawful.{in_base, since_base, FoundAt, found_at}
+use Rattle.rx_event.proofs.Laws.Steps.{may_open}
 
 -- what is true of an older event is so in the whole history
-at_older : (q : Event → Bool) (h : List Event) (n p : ℕ) → n < length h → at q (take n h) p ≡ true → at q h p ≡ true
+pub at_older : (q : Event → Bool) (h : List Event) (n p : ℕ) → n < length h → at q (take n h) p ≡ true → at q h p ≡ true
 at_older q h n p l passes =
     let w : p < length (take n h) = at_within q (take n h) p passes in
     let k : length (take n h) ≡ n = length-take-le n h (omega arith) in
@@ -36,27 +40,36 @@ pub open_node : (h : List Event) (n : ℕ) → is_open h n ≡ true → at makes
 open_node h n o = (and_parts _ _ (and_parts (is_standing h n) (option_map_or (is_open h) (parent h n) true) (sym (is_open_step h n) ∙ o)).0).0
 
 -- the parent of a node is a node
-pub parent_node : (h : List Event) → IsLawful h → (n p : ℕ) → parent h n ≡ Some p → at makes_node h p ≡ true
-parent_node h law n p below =
+pub parent_node : (base : Kept) → (h : List Event) → IsLawful base h → (n p : ℕ) → parent h n ≡ Some p → at makes_node h p ≡ true
+parent_node base h law n p below =
     let l : n < length h = parent_within h n p below in
     let e = event_at h n l in
-    at_older makes_node h n p l (open_node (take n h) p (may_name (lawful_at h law n e.0 e.1) (parent_name h n p e.0 below e.1)))
+    at_older makes_node h n p l (open_node (take n h) p (named_open base h law n p e.0 e.1 (parent_name h n p e.0 below e.1)))
 
 -- what was opened was opened at a free place
-opened_free : (h : List Event) → IsLawful h → (n : ℕ) (place : Place) (kind : Kind) → slice_get h n ≡ Some (Open place kind) → IsFree (take n h) place
-opened_free h law n place kind at_n = may_open (lawful_at h law n (Open place kind) at_n)
+pub opened_free : (base : Kept) → (h : List Event) → IsLawful base h → (n : ℕ) (place : Place) (kind : Kind) → slice_get h n ≡ Some (Open place kind) → HasPlace (take n h) place
+opened_free base h law n place kind at_n = by_case (found_at base h law n (Open place kind) at_n) where
+  has_place : (place : Place) → IsFree base (take n h) place → HasPlace (take n h) place
+  has_place Root free = tt
+  has_place (Source p) free = free.1
+  has_place (Inner p) free = free.1
+  has_place (Notifier p) free = free.1
+
+  by_case : FoundAt base h n (Open place kind) → HasPlace (take n h) place
+  by_case (in_base found same) = subst (λ k. HasPlace k place) (sym same) (law.started.placed n place kind found)
+  by_case (since_base next) = has_place place (may_open base next)
 
 -- a source stands below what has a place for one
-pub source_stands : (h : List Event) → IsLawful h → (n p : ℕ) (kind : Kind) → slice_get h n ≡ Some (Open (Source p) kind) → at has_source h p ≡ true
-source_stands h law n p kind at_n = at_older has_source h n p (slice_get_within h n _ at_n) (opened_free h law n (Source p) kind at_n).1
+pub source_stands : (base : Kept) → (h : List Event) → IsLawful base h → (n p : ℕ) (kind : Kind) → slice_get h n ≡ Some (Open (Source p) kind) → at has_source h p ≡ true
+source_stands base h law n p kind at_n = at_older has_source h n p (slice_get_within h n _ at_n) (opened_free base h law n (Source p) kind at_n)
 
 -- an inner observable stands below a FlatMap or a Switch
-pub inner_stands : (h : List Event) → IsLawful h → (n p : ℕ) (kind : Kind) → slice_get h n ≡ Some (Open (Inner p) kind) → at is_merging h p ≡ true
-inner_stands h law n p kind at_n = at_older is_merging h n p (slice_get_within h n _ at_n) (opened_free h law n (Inner p) kind at_n).1
+pub inner_stands : (base : Kept) → (h : List Event) → IsLawful base h → (n p : ℕ) (kind : Kind) → slice_get h n ≡ Some (Open (Inner p) kind) → at is_merging h p ≡ true
+inner_stands base h law n p kind at_n = at_older is_merging h n p (slice_get_within h n _ at_n) (opened_free base h law n (Inner p) kind at_n)
 
 -- a notifier stands below a TakeUntil
-pub notifier_stands : (h : List Event) → IsLawful h → (n p : ℕ) (kind : Kind) → slice_get h n ≡ Some (Open (Notifier p) kind) → at is_until h p ≡ true
-notifier_stands h law n p kind at_n = at_older is_until h n p (slice_get_within h n _ at_n) (opened_free h law n (Notifier p) kind at_n).1
+pub notifier_stands : (base : Kept) → (h : List Event) → IsLawful base h → (n p : ℕ) (kind : Kind) → slice_get h n ≡ Some (Open (Notifier p) kind) → at is_until h p ≡ true
+notifier_stands base h law n p kind at_n = at_older is_until h n p (slice_get_within h n _ at_n) (opened_free base h law n (Notifier p) kind at_n)
 
 -- a connection stands below no node
 pub connection_parent : (h : List Event) (c g : ℕ) → slice_get h c ≡ Some (Connect g) → parent h c ≡ None

@@ -6,6 +6,8 @@ use Rattle.std.specs.Option.{option_map_or}
 use Rattle.std.proofs.lemmas.Bool.{false≢true, cases_order, and_parts, or_cases}
 use Rattle.std.proofs.lemmas.Option.{slice_get_within, same_Some}
 use Rattle.rx_note.specs.declared.note.Terminal.TheVariants.{Completed, Error}
+use Rattle.rx_event.proofs.Laws.Lawful.{IsLawful_empty}
+use Rattle.rx_event.specs.Kept.{Kept, shown}
 use Rattle.rx_event.specs.declared.event.Place.{Place}
 use Rattle.rx_event.specs.declared.event.Place.TheVariants.{Root, Source, Inner, Notifier}
 use Rattle.rx_event.specs.declared.event.Kind.{Kind}
@@ -36,20 +38,20 @@ pub record IsUnder (h : List Event) (n c g : ℕ) : Type 0 where
 
 -- A step that began after h has come to k, and n is open, and will be: the connections above it are older than the step, and their
 -- hubs, and all later ones, have the subscribers that they had
-pub record IsUnharmed (h k : List Event) (n : ℕ) : Type 0 where
-  pub settled : IsSettled h
+pub record IsUnharmed (base : Kept) (h k : List Event) (n : ℕ) : Type 0 where
+  pub settled : IsSettled base h
   pub added : List Event
   pub grown : k ≡ h ++ added
-  pub law : IsLawful k
-  pub ends_none : EndsNone k
+  pub law : IsLawful base k
+  pub ends_none : EndsNone base k
   pub alive : is_open k n ≡ true
   pub older : (c g : ℕ) → IsUnder k n c g → c < length h
   pub keeps : (c g j : ℕ) → IsUnder k n c g → g ≤ j → KeepsSubscribers h k j
 
-module _ (h k : List Event) (n : ℕ) (w : IsUnharmed h k n) where
+module _ (base : Kept) (h k : List Event) (n : ℕ) (w : IsUnharmed base h k n) where
   -- an older connection whose hub keeps its subscribers is used
   used : (c g : ℕ) → c < length h → KeepsSubscribers h k g → ¬ IsUnused k c g
-  used c g l keeps u = settled_used h w.settled c g (unused_older h w.added k w.grown w.law c g u l keeps)
+  used c g l keeps u = settled_used base h w.settled c g (unused_older base h w.added k w.grown w.law c g u l keeps)
 
   under_before : (e : Event) (c g : ℕ) → IsUnder (k ++ e ∷ []) n c g → IsUnder k n c g
   under_before e c g under = record { above = before; connection = sym (slice_get-append k (e ∷ []) c near) ∙ under.connection } where
@@ -63,15 +65,15 @@ module _ (h k : List Event) (n : ℕ) (w : IsUnharmed h k n) where
     near = let le = is_within-le k c n before in let m = l in omega arith
 
   -- one more event that keeps n and those subscribers open
-  carried : (e : Event) → MayFollow k e → ends_or_declines e ≡ false → FiresNone k e → is_open (k ++ e ∷ []) n ≡ true →
+  carried : (e : Event) → MayFollow base k e → ends_or_declines e ≡ false → FiresNone k e → is_open (k ++ e ∷ []) n ≡ true →
       ((c g j s : ℕ) → IsUnder k n c g → g ≤ j → at (is_subscriber_of j) h s ≡ true → is_open k s ≡ true → is_open (k ++ e ∷ []) s ≡ true) →
-      IsUnharmed h (k ++ e ∷ []) n
+      IsUnharmed base h (k ++ e ∷ []) n
   carried e next calm unfired alive still = record {
     settled = w.settled;
     added = w.added ++ e ∷ [];
     grown = ap (λ (q : List Event). q ++ e ∷ []) w.grown ∙ append_assoc h w.added (e ∷ []);
-    law = IsLawful-push k e w.law next;
-    ends_none = ends_none_on k e w.law next calm unfired w.ends_none;
+    law = IsLawful-push base k e w.law next;
+    ends_none = ends_none_on base k e w.law next calm unfired w.ends_none;
     alive = alive;
     older = λ c g under. w.older c g (under_before e c g under);
     keeps = λ c g j under le s subscribes was.
@@ -80,13 +82,13 @@ module _ (h k : List Event) (n : ℕ) (w : IsUnharmed h k n) where
   }
 
   -- one that shuts nothing
-  carried_whole : (e : Event) → MayFollow k e → ends_or_declines e ≡ false → FiresNone k e → shuts_none e ≡ true → IsUnharmed h (k ++ e ∷ []) n
+  carried_whole : (e : Event) → MayFollow base k e → ends_or_declines e ≡ false → FiresNone k e → shuts_none e ≡ true → IsUnharmed base h (k ++ e ∷ []) n
   carried_whole e next calm unfired spares =
       let still = closes_none_kept k e spares in
       carried e next calm unfired (still n w.alive) (λ c g j s under le subscribes was. still s was)
 
   -- the closing of a connection that nobody uses
-  carried_close : (c g : ℕ) → IsForced k (Close c) → IsUnused k c g → IsUnharmed h (k ++ Close c ∷ []) n
+  carried_close : (c g : ℕ) → IsForced base k (Close c) → IsUnused k c g → IsUnharmed base h (k ++ Close c ∷ []) n
   carried_close c g f u = carried (Close c) (forced f) refl (λ m. refl) (outside n w.alive spares_node)
       (λ d i j s under le subscribes was. outside s was (spares_subscriber d i j s under le subscribes)) where
         outside : (m : ℕ) → is_open k m ≡ true → (is_within k c m ≡ true → ⊥) → is_open (k ++ Close c ∷ []) m ≡ true
@@ -105,38 +107,38 @@ module _ (h k : List Event) (n : ℕ) (w : IsUnharmed h k n) where
         spares_subscriber d i j s under le subscribes inside =
             let l : s < length h = at_within (is_subscriber_of j) h s subscribes in
             let now = ap (λ (q : List Event). at (is_subscriber_of j) q s) w.grown ∙ at-append (is_subscriber_of j) h w.added s l ∙ subscribes in
-            let order : j < g = hubs_in_order k w.law j s c g now inside u.made in
+            let order : j < g = hubs_in_order base k w.law j s c g now inside u.made in
             let near : c ≤ s = is_within-le k c s inside in
             used c g (omega arith) (w.keeps d i g under (omega arith)) u
 
   -- what is forced
-  carried_forced : (e : Event) → IsForced k e → IsUnharmed h (k ++ e ∷ []) n
+  carried_forced : (e : Event) → IsForced base k e → IsUnharmed base h (k ++ e ∷ []) n
   carried_forced e (connecting {g = g} d) = carried_whole (Connect g) (forced (connecting d)) refl (λ m. refl) refl
   carried_forced e (due none d) = by_due d where
-    by_due : {x : Event} → IsDue k x → IsUnharmed h (k ++ x ∷ []) n
+    by_due : {x : Event} → IsDue base k x → IsUnharmed base h (k ++ x ∷ []) n
     by_due (mirrored {p = p} {t = t} o m c) = absurd (w.ends_none p t (mirrored o m c))
     by_due (fired {u = u} o m c) = absurd (w.ends_none u Completed (fired o m c))
     by_due (failed {f = f} {c = code} o m c) = absurd (w.ends_none f (Error code) (failed o m c))
-    by_due (completed {f = f} o m x s y z v) = absurd (w.ends_none f Completed (completed o m x s y z v))
+    by_due (completed {f = f} o m x y z v) = absurd (w.ends_none f Completed (completed o m x y z v))
     by_due (cut {s = s} {t = t} o c) = absurd (w.ends_none s t (cut o c))
     by_due (left {c = c} {g = g} o at_c a s) =
         carried_close c g (due none (left o at_c a s)) (record { alive = o; made = at_c; auto = a; unsubscribed = s })
 
 -- so all that is forced keeps n open
-unharmed_on : {b k : List Event} → IsForcedOn b k → (h : List Event) (n : ℕ) → IsUnharmed h b n → IsUnharmed h k n
-unharmed_on stays h n w = w
-unharmed_on (more {k = k} {e = e} before f) h n w = carried_forced h k n (unharmed_on before h n w) e f
+unharmed_on : (base : Kept) → {b k : List Event} → IsForcedOn base b k → (h : List Event) (n : ℕ) → IsUnharmed base h b n → IsUnharmed base h k n
+unharmed_on base stays h n w = w
+unharmed_on base (more {k = k} {e = e} before f) h n w = carried_forced base h k n (unharmed_on base before h n w) e f
 
 -- where a step begins -------------------------------------------------------------------------------
 
 -- an open node of a settled history
-unharmed_settled : (h : List Event) (n : ℕ) → IsLawful h → IsSettled h → is_open h n ≡ true → IsUnharmed h h n
-unharmed_settled h n law settled o = record {
+unharmed_settled : (base : Kept) → (h : List Event) (n : ℕ) → IsLawful base h → IsSettled base h → is_open h n ≡ true → IsUnharmed base h h n
+unharmed_settled base h n law settled o = record {
   settled = settled;
   added = [];
   grown = sym (append-nil h);
   law = law;
-  ends_none = settled_ends_none h settled;
+  ends_none = settled_ends_none base h settled;
   alive = o;
   older = λ c g under. slice_get_within h c (Connect g) under.connection;
   keeps = λ c g j under le s subscribes was. was;
@@ -165,14 +167,14 @@ cut_within (suc steps) h e c s l each found = by_first (or_cases (shuts h s e) (
       by_first (inr later) rest = by_parent (parent h s) refl later rest
 
 -- what an opening shuts stands below the same node as what it opens
-shut_beside : (h : List Event) → IsLawful h → (place : Place) (kind : Kind) (p a : ℕ) → parent_named (Open place kind) ≡ Some p →
+shut_beside : (base : Kept) → (h : List Event) → IsLawful base h → (place : Place) (kind : Kind) (p a : ℕ) → parent_named (Open place kind) ≡ Some p →
     shuts h a (Open place kind) ≡ true → parent h a ≡ Some p
-shut_beside h law (Inner f) kind p a named shut = switched_parent h law f a (and_parts _ _ shut).1 ∙ named
-shut_beside h law Root kind p a named shut = absurd (false≢true shut)
-shut_beside h law (Source f) kind p a named shut = absurd (false≢true shut)
-shut_beside h law (Notifier f) kind p a named shut = absurd (false≢true shut)
+shut_beside base h law (Inner f) kind p a named shut = switched_parent base h law f a (and_parts _ _ shut).1 ∙ named
+shut_beside base h law Root kind p a named shut = absurd (false≢true shut)
+shut_beside base h law (Source f) kind p a named shut = absurd (false≢true shut)
+shut_beside base h law (Notifier f) kind p a named shut = absurd (false≢true shut)
 
-module _ (h : List Event) (place : Place) (kind : Kind) (law : IsLawful h) (next : MayFollow h (Open place kind)) where
+module _ (base : Kept) (h : List Event) (place : Place) (kind : Kind) (law : IsLawful base h) (next : MayFollow base h (Open place kind)) where
   abbrev opened_on : List Event
   opened_on = h ++ Open place kind ∷ []
 
@@ -196,7 +198,7 @@ module _ (h : List Event) (place : Place) (kind : Kind) (law : IsLawful h) (next
         let named = parent_name opened_on (length h) p (Open place kind) below (slice_get_last h (Open place kind)) in
         let stays_above = ancestors-append h (Open place kind ∷ []) p (parent-lt opened_on (length h) p below) in
         let above : is_within h c p ≡ true = sym (ap (list_any (λ a. c == a)) stays_above) ∙ inside in
-        cut_within (suc s) h (Open place kind) c s (omega arith) (λ a shut. within_parent h c a p (shut_beside h law place kind p a named shut) above) cut_off
+        cut_within (suc s) h (Open place kind) c s (omega arith) (λ a shut. within_parent h c a p (shut_beside base h law place kind p a named shut) above) cut_off
 
   -- so it takes away no subscriber of the hub of that connection, or of a later one
   keeps_later : (c g j : ℕ) → IsUnder opened_on (length h) c g → g ≤ j → KeepsSubscribers h opened_on j
@@ -206,71 +208,71 @@ module _ (h : List Event) (place : Place) (kind : Kind) (law : IsLawful h) (next
 
     by_test : (b : Bool) → is_cut h (Open place kind) s ≡ b → (is_open h s && not b) ≡ true
     by_test false apart = rw was refl
-    by_test true cut_off = absurd (let order : j < g = hubs_in_order h law j s c g subscribes (cut_under c g s under cut_off) at_c in omega arith)
+    by_test true cut_off = absurd (let order : j < g = hubs_in_order base h law j s c g subscribes (cut_under c g s under cut_off) at_c in omega arith)
 
   -- what was just opened
-  unharmed_opened : IsUnharmed h opened_on (length h)
+  unharmed_opened : IsUnharmed base h opened_on (length h)
   unharmed_opened = record {
-    settled = opened_settled next;
+    settled = opened_settled base next;
     added = Open place kind ∷ [];
     grown = refl;
-    law = IsLawful-push h (Open place kind) law next;
-    ends_none = ends_none_on h (Open place kind) law next refl (λ x. refl) (settled_ends_none h (opened_settled next));
-    alive = is_open_new h (Open place kind) next;
+    law = IsLawful-push base h (Open place kind) law next;
+    ends_none = ends_none_on base h (Open place kind) law next refl (λ x. refl) (settled_ends_none base h (opened_settled base next));
+    alive = is_open_new base h (Open place kind) next;
     older = older_above;
     keeps = keeps_later;
   }
 
 -- a resource is accepted in a step that began before, or with the opening of its node
-record IsBegun (k : List Event) (n : ℕ) : Type 0 where
+record IsBegun (base : Kept) (k : List Event) (n : ℕ) : Type 0 where
   pub before : List Event
-  pub unharmed : IsUnharmed before k n
+  pub unharmed : IsUnharmed base before k n
 
-begun_opened : (h : List Event) → IsLawful h → (n : ℕ) (place : Place) → slice_get h n ≡ Some (Open place Pass) → length h ≡ n + 1 → IsBegun h n
-begun_opened = by_events (λ h. (n : ℕ) (place : Place) → slice_get h n ≡ Some (Open place Pass) → length h ≡ n + 1 → IsBegun h n)
-    (λ n place at_n long. absurd (omega arith)) after where
-      opened : (h : List Event) (place : Place) → IsLawful h → MayFollow h (Open place Pass) → (n : ℕ) → length h ≡ n → IsBegun (h ++ Open place Pass ∷ []) n
+begun_opened : (base : Kept) → (h : List Event) → IsLawful base h → (n : ℕ) (place : Place) → slice_get h n ≡ Some (Open place Pass) → length h ≡ n + 1 → IsBegun base h n
+begun_opened base = by_events base (λ h. (n : ℕ) (place : Place) → slice_get h n ≡ Some (Open place Pass) → length h ≡ n + 1 → IsBegun base h n)
+    (λ s n place at_n long. record { before = shown base; unharmed = unharmed_settled base (shown base) n (IsLawful_empty base s) s.settled (s.alive n (Open place Pass) at_n refl) }) after where
+      opened : (h : List Event) (place : Place) → IsLawful base h → MayFollow base h (Open place Pass) → (n : ℕ) → length h ≡ n → IsBegun base (h ++ Open place Pass ∷ []) n
       opened h place law next n same =
-          subst (λ (m : ℕ). IsBegun (h ++ Open place Pass ∷ []) m) same (record { before = h; unharmed = unharmed_opened h place Pass law next })
+          subst (λ (m : ℕ). IsBegun base (h ++ Open place Pass ∷ []) m) same (record { before = h; unharmed = unharmed_opened base h place Pass law next })
 
-      after : (h : List Event) (e : Event) → IsLawful h → MayFollow h e →
-          ((n : ℕ) (place : Place) → slice_get h n ≡ Some (Open place Pass) → length h ≡ n + 1 → IsBegun h n) → (n : ℕ) (place : Place) →
-          slice_get (h ++ e ∷ []) n ≡ Some (Open place Pass) → length (h ++ e ∷ []) ≡ n + 1 → IsBegun (h ++ e ∷ []) n
+      after : (h : List Event) (e : Event) → IsLawful base h → MayFollow base h e →
+          ((n : ℕ) (place : Place) → slice_get h n ≡ Some (Open place Pass) → length h ≡ n + 1 → IsBegun base h n) → (n : ℕ) (place : Place) →
+          slice_get (h ++ e ∷ []) n ≡ Some (Open place Pass) → length (h ++ e ∷ []) ≡ n + 1 → IsBegun base (h ++ e ∷ []) n
       after h e law next rest n place at_n long =
           let same : length h ≡ n = omega (arith, length-append h (e ∷ [])) in
           let is : e ≡ Open place Pass = same_Some e (Open place Pass) (sym (slice_get_last h e) ∙ ap (slice_get (h ++ e ∷ [])) same ∙ at_n) in
-          subst (λ (x : Event). IsBegun (h ++ x ∷ []) n) (sym is) (opened h place law (subst (λ (x : Event). MayFollow h x) is next) n same)
+          subst (λ (x : Event). IsBegun base (h ++ x ∷ []) n) (sym is) (opened h place law (subst (λ (x : Event). MayFollow base h x) is next) n same)
 
-accepted_begun : (h : List Event) (n tag : ℕ) → IsLawful h → MayFollow h (Accept n tag) → IsBegun h n
-accepted_begun h n tag law (forced f) = absurd (false≢true (forced_kind f))
-accepted_begun h n tag law (allowed settled a) = record { before = h; unharmed = unharmed_settled h n law settled (may_accept (allowed settled a)) }
-accepted_begun h n tag law (opened_with {place = place} at_n long o) = begun_opened h law n place at_n long
+accepted_begun : (base : Kept) → (h : List Event) (n tag : ℕ) → IsLawful base h → MayFollow base h (Accept n tag) → IsBegun base h n
+accepted_begun base h n tag law (forced f) = absurd (false≢true (forced_kind base f))
+accepted_begun base h n tag law (allowed settled a) = record { before = h; unharmed = unharmed_settled base h n law settled (may_accept base (allowed settled a)) }
+accepted_begun base h n tag law (opened_with {place = place} at_n long o) = begun_opened base h law n place at_n long
 
 -- what stays open -----------------------------------------------------------------------------------
 
 -- What a caller opens stays open through all that is forced, also where it takes the place of a Switch's open inner
-pub opened_stays : (h k : List Event) (place : Place) (kind : Kind) → IsLawful h → MayFollow h (Open place kind) →
-    IsForcedOn (h ++ Open place kind ∷ []) k → is_open k (length h) ≡ true
-opened_stays h k place kind law next on = (unharmed_on on h (length h) (unharmed_opened h place kind law next)).alive
+pub opened_stays : (base : Kept) → (h k : List Event) (place : Place) (kind : Kind) → IsLawful base h → MayFollow base h (Open place kind) →
+    IsForcedOn base (h ++ Open place kind ∷ []) k → is_open k (length h) ≡ true
+opened_stays base h k place kind law next on = (unharmed_on base on h (length h) (unharmed_opened base h place kind law next)).alive
 
 -- So does the node at which a resource is accepted
-pub accepted_stays : (h k : List Event) (n tag : ℕ) → IsLawful h → MayFollow h (Accept n tag) → IsForcedOn (h ++ Accept n tag ∷ []) k →
+pub accepted_stays : (base : Kept) → (h k : List Event) (n tag : ℕ) → IsLawful base h → MayFollow base h (Accept n tag) → IsForcedOn base (h ++ Accept n tag ∷ []) k →
     is_open k n ≡ true
-accepted_stays h k n tag law next on =
-    let b = accepted_begun h n tag law next in
-    (unharmed_on on b.before n (carried_whole b.before h n b.unharmed (Accept n tag) next refl (λ m. refl) refl)).alive
+accepted_stays base h k n tag law next on =
+    let b = accepted_begun base h n tag law next in
+    (unharmed_on base on b.before n (carried_whole base b.before h n b.unharmed (Accept n tag) next refl (λ m. refl) refl)).alive
 
 -- also where it came with that node (Using)
-pub opened_using_stays : (h k : List Event) (place : Place) (tag : ℕ) → IsLawful h → MayFollow h (Open place Pass) →
-    IsForcedOn (h ++ Open place Pass ∷ Accept (length h) tag ∷ []) k → is_open k (length h) ≡ true
-opened_using_stays h k place tag law next on =
-    accepted_stays (h ++ Open place Pass ∷ []) k (length h) tag (IsLawful-push h (Open place Pass) law next)
-    (opened_with (slice_get_last h (Open place Pass)) (length-append h (Open place Pass ∷ [])) (is_open_new h (Open place Pass) next))
-    (subst (λ (q : List Event). IsForcedOn q k) (sym (append_assoc h (Open place Pass ∷ []) (Accept (length h) tag ∷ []))) on)
+pub opened_using_stays : (base : Kept) → (h k : List Event) (place : Place) (tag : ℕ) → IsLawful base h → MayFollow base h (Open place Pass) →
+    IsForcedOn base (h ++ Open place Pass ∷ Accept (length h) tag ∷ []) k → is_open k (length h) ≡ true
+opened_using_stays base h k place tag law next on =
+    accepted_stays base (h ++ Open place Pass ∷ []) k (length h) tag (IsLawful-push base h (Open place Pass) law next)
+    (opened_with (slice_get_last h (Open place Pass)) (length-append h (Open place Pass ∷ [])) (is_open_new base h (Open place Pass) next))
+    (subst (λ (q : List Event). IsForcedOn base q k) (sym (append_assoc h (Open place Pass ∷ []) (Accept (length h) tag ∷ []))) on)
 
 -- What a caller connects stays open
-pub connected_stays : (h k : List Event) (g : ℕ) → IsLawful h → IsSettled h → MayFollow h (Connect g) → IsForcedOn (h ++ Connect g ∷ []) k →
+pub connected_stays : (base : Kept) → (h k : List Event) (g : ℕ) → IsLawful base h → IsSettled base h → MayFollow base h (Connect g) → IsForcedOn base (h ++ Connect g ∷ []) k →
     is_open k (length h) ≡ true
-connected_stays h k g law settled next on =
-    let settled_after = settled_on h (Connect g) law next settled refl (λ m. refl) (closes_none_kept h (Connect g) refl) refl in
-    ap (λ (q : List Event). is_open q (length h)) (unforced on settled_after) ∙ is_open_new h (Connect g) next
+connected_stays base h k g law settled next on =
+    let settled_after = settled_on base h (Connect g) law next settled refl (λ m. refl) (closes_none_kept h (Connect g) refl) refl in
+    ap (λ (q : List Event). is_open q (length h)) (unforced base on settled_after) ∙ is_open_new base h (Connect g) next

@@ -1,9 +1,10 @@
 -- Histories, one event more at a time: proofs by their events, and what stands where an event may follow.
-use Rattle.std.proofs.Common.{◌≡◌, ℕ, ℤ, ◌<◌, Bool, true, false, List, [], ◌∷◌, ◌++◌, take, Some, refl, arith, slice_get, append_assoc, append-nil}
+use Rattle.std.proofs.Common.{◌≡◌, ℕ, ℤ, ◌<◌, Bool, true, false, List, [], ◌∷◌, ◌++◌, take, Some, refl, sym, ap, ◌∙◌, subst, arith, slice_get, append_assoc, append-nil}
 use Rattle.std.specs.List.{AllByRecursion}
 use Rattle.std.proofs.lemmas.Grind.{common_steps}
 use Rattle.std.proofs.lemmas.Bool.{false≢true, lt-ltb}
 use Rattle.std.proofs.lemmas.Option.{slice_get_within, same_Some, none-some}
+use Rattle.rx_event.specs.Kept.{Kept, shown}
 use Rattle.rx_event.specs.declared.event.Place.{Place}
 use Rattle.rx_event.specs.declared.event.Place.TheVariants.{Root, Source, Inner, Notifier}
 use Rattle.rx_event.specs.declared.event.Kind.{Kind}
@@ -12,12 +13,12 @@ use Rattle.rx_event.specs.declared.event.Event.TheVariants.{Open, Connect, Accep
 use Rattle.rx_event.specs.Events.{is_merging, parent_named}
 use Rattle.rx_event.specs.Tree.{at, parent, is_open}
 use Rattle.rx_event.specs.Resources.{is_held, is_waiting}
-use Rattle.rx_event.specs.Moments.{Moment, moments, moments_after, owed}
+use Rattle.rx_event.specs.Moments.{Moment, moments_after, owed}
 use Rattle.rx_event.specs.Forced.{mirrored, fired, failed, completed, cut, left, connecting, due, IsDue, IsForced}
 use Rattle.rx_event.specs.Allowed.{opened, accepted, used, removed, emitted, declined, root_closed, disconnected, taken, IsFree, IsAllowed}
-use Rattle.rx_event.specs.Lawful.{forced, allowed, opened_with, MayFollow, IsLawful}
+use Rattle.rx_event.specs.Lawful.{Started, forced, allowed, opened_with, MayFollow, IsLawful}
 use Rattle.rx_event.proofs.Laws.Openness.{is_open_within}
-use Rattle.rx_event.proofs.Laws.Lawful.{IsLawful-push, IsLawful_empty, lawful_at}
+use Rattle.rx_event.proofs.Laws.Lawful.{IsLawful-push, IsLawful_empty, in_base, since_base, FoundAt, found_at}
 
 by_pushes_after : (P : List Event → Type 0) → ((h : List Event) (e : Event) → P h → P (h ++ e ∷ [])) → (b h : List Event) → P b → P (b ++ h)
 by_pushes_after P step b [] p = rw (append-nil b) p
@@ -27,16 +28,15 @@ by_pushes_after P step b (x ∷ h) p = rw (← append_assoc b (x ∷ []) h) (by_
 pub by_pushes : (P : List Event → Type 0) → P [] → ((h : List Event) (e : Event) → P h → P (h ++ e ∷ [])) → (h : List Event) → P h
 by_pushes P start step h = by_pushes_after P step [] h start
 
-by_events_after : (P : List Event → Type 0) → ((h : List Event) (e : Event) → IsLawful h → MayFollow h e → P h → P (h ++ e ∷ [])) → (b h : List Event) →
-    IsLawful b → P b → AllByRecursion (λ (m : Moment). MayFollow m.before m.event) (moments_after b h) → P (b ++ h)
-by_events_after P step b [] law p each = rw (append-nil b) p
-by_events_after P step b (x ∷ h) law p each = rw (← append_assoc b (x ∷ []) h) (by_events_after P step (b ++ x ∷ []) h (IsLawful-push b x law each.0) (step b x law each.0 p) each.1)
+by_events_after : (base : Kept) → (P : List Event → Type 0) → ((h : List Event) (e : Event) → IsLawful base h → MayFollow base h e → P h → P (h ++ e ∷ [])) → (b h : List Event) →
+    IsLawful base b → P b → AllByRecursion (λ (m : Moment). MayFollow base m.before m.event) (moments_after b h) → P (b ++ h)
+by_events_after base P step b [] law p each = rw (append-nil b) p
+by_events_after base P step b (x ∷ h) law p each = rw (← append_assoc b (x ∷ []) h) (by_events_after base P step (b ++ x ∷ []) h (IsLawful-push base b x law each.0) (step b x law each.0 p) each.1)
 
--- what holds of the empty history, and after each event that may follow, holds of each lawful history
-pub by_events : (P : List Event → Type 0) → P [] → ((h : List Event) (e : Event) → IsLawful h → MayFollow h e → P h → P (h ++ e ∷ [])) → (h : List Event) →
-    IsLawful h → P h
-unfolding moments
-by_events P start step h law = by_events_after P step [] h IsLawful_empty start law.each
+-- what holds of what the base shows, and after each event that may follow, holds of each lawful history
+pub by_events : (base : Kept) → (P : List Event → Type 0) → (Started base → P (shown base)) → ((h : List Event) (e : Event) → IsLawful base h → MayFollow base h e → P h → P (h ++ e ∷ [])) → (h : List Event) →
+    IsLawful base h → P h
+by_events base P start step h law = subst P (sym law.reads) (by_events_after base P step (shown base) law.since (IsLawful_empty base law.started) (start law.started) law.each)
 
 -- what operators may have to do: a connection, an end or a closing
 abbrev pub may_be_forced : Event → Bool
@@ -45,106 +45,112 @@ may_be_forced (End n t) = true
 may_be_forced (Close n) = true
 may_be_forced _ = false
 
-due_kind : {h : List Event} {e : Event} → IsDue h e → may_be_forced e ≡ true
-due_kind (mirrored o k e) = refl
-due_kind (fired o k e) = refl
-due_kind (failed o k e) = refl
-due_kind (completed o k n s e c w) = refl
-due_kind (cut o e) = refl
-due_kind (left o at_c a n) = refl
+due_kind : (base : Kept) → {h : List Event} {e : Event} → IsDue base h e → may_be_forced e ≡ true
+due_kind base (mirrored o k e) = refl
+due_kind base (fired o k e) = refl
+due_kind base (failed o k e) = refl
+due_kind base (completed o k n e c w) = refl
+due_kind base (cut o e) = refl
+due_kind base (left o at_c a n) = refl
 
-pub forced_kind : {h : List Event} {e : Event} → IsForced h e → may_be_forced e ≡ true
-forced_kind (connecting d) = refl
-forced_kind (due n d) = due_kind d
+pub forced_kind : (base : Kept) → {h : List Event} {e : Event} → IsForced base h e → may_be_forced e ≡ true
+forced_kind base (connecting d) = refl
+forced_kind base (due n d) = due_kind base d
 
-allowed_accept : {h : List Event} {n tag : ℕ} → IsAllowed h (Accept n tag) → is_open h n ≡ true
-allowed_accept (accepted o) = o
+allowed_accept : (base : Kept) → {h : List Event} {n tag : ℕ} → IsAllowed base h (Accept n tag) → is_open h n ≡ true
+allowed_accept base (accepted o) = o
 
 -- what is accepted is accepted at an open node
-pub may_accept : {h : List Event} {n tag : ℕ} → MayFollow h (Accept n tag) → is_open h n ≡ true
-may_accept (forced f) = absurd (false≢true (forced_kind f))
-may_accept (allowed s a) = allowed_accept a
-may_accept (opened_with at_n l o) = o
+pub may_accept : (base : Kept) → {h : List Event} {n tag : ℕ} → MayFollow base h (Accept n tag) → is_open h n ≡ true
+may_accept base (forced f) = absurd (false≢true (forced_kind base f))
+may_accept base (allowed s a) = allowed_accept base a
+may_accept base (opened_with at_n l o) = o
 
-allowed_use : {h : List Event} {r : ℕ} → IsAllowed h (Use r) → is_held h r ≡ true
-allowed_use (used o) = o
+allowed_use : (base : Kept) → {h : List Event} {r : ℕ} → IsAllowed base h (Use r) → is_held h r ≡ true
+allowed_use base (used o) = o
 
 -- what is used is held
-pub may_use : {h : List Event} {r : ℕ} → MayFollow h (Use r) → is_held h r ≡ true
-may_use (forced f) = absurd (false≢true (forced_kind f))
-may_use (allowed s a) = allowed_use a
+pub may_use : (base : Kept) → {h : List Event} {r : ℕ} → MayFollow base h (Use r) → is_held h r ≡ true
+may_use base (forced f) = absurd (false≢true (forced_kind base f))
+may_use base (allowed s a) = allowed_use base a
 
-allowed_remove : {h : List Event} {r : ℕ} → IsAllowed h (Remove r) → is_held h r ≡ true
-allowed_remove (removed o) = o
+allowed_remove : (base : Kept) → {h : List Event} {r : ℕ} → IsAllowed base h (Remove r) → is_held h r ≡ true
+allowed_remove base (removed o) = o
 
 -- what is removed is held
-pub may_remove : {h : List Event} {r : ℕ} → MayFollow h (Remove r) → is_held h r ≡ true
-may_remove (forced f) = absurd (false≢true (forced_kind f))
-may_remove (allowed s a) = allowed_remove a
+pub may_remove : (base : Kept) → {h : List Event} {r : ℕ} → MayFollow base h (Remove r) → is_held h r ≡ true
+may_remove base (forced f) = absurd (false≢true (forced_kind base f))
+may_remove base (allowed s a) = allowed_remove base a
 
-allowed_take : {h : List Event} {r : ℕ} → IsAllowed h (Take r) → is_waiting h r ≡ true
-allowed_take (taken o) = o
+allowed_take : (base : Kept) → {h : List Event} {r : ℕ} → IsAllowed base h (Take r) → is_waiting h r ≡ true
+allowed_take base (taken o) = o
 
 -- what is taken waits
-pub may_take : {h : List Event} {r : ℕ} → MayFollow h (Take r) → is_waiting h r ≡ true
-may_take (forced f) = absurd (false≢true (forced_kind f))
-may_take (allowed s a) = allowed_take a
+pub may_take : (base : Kept) → {h : List Event} {r : ℕ} → MayFollow base h (Take r) → is_waiting h r ≡ true
+may_take base (forced f) = absurd (false≢true (forced_kind base f))
+may_take base (allowed s a) = allowed_take base a
 
-due_close : {h : List Event} {c : ℕ} → IsDue h (Close c) → is_open h c ≡ true
-due_close (left o at_c a n) = o
+due_close : (base : Kept) → {h : List Event} {c : ℕ} → IsDue base h (Close c) → is_open h c ≡ true
+due_close base (left o at_c a n) = o
 
-forced_close : {h : List Event} {c : ℕ} → IsForced h (Close c) → is_open h c ≡ true
-forced_close (due n d) = due_close d
+forced_close : (base : Kept) → {h : List Event} {c : ℕ} → IsForced base h (Close c) → is_open h c ≡ true
+forced_close base (due n d) = due_close base d
 
-allowed_close : {h : List Event} {c : ℕ} → IsAllowed h (Close c) → is_open h c ≡ true
-allowed_close (root_closed o k) = o
-allowed_close (disconnected o at_c a) = o
+allowed_close : (base : Kept) → {h : List Event} {c : ℕ} → IsAllowed base h (Close c) → is_open h c ≡ true
+allowed_close base (root_closed o k) = o
+allowed_close base (disconnected o at_c a) = o
 
 -- what is closed is open before
-pub may_close : {h : List Event} {c : ℕ} → MayFollow h (Close c) → is_open h c ≡ true
-may_close (forced f) = forced_close f
-may_close (allowed s a) = allowed_close a
+pub may_close : (base : Kept) → {h : List Event} {c : ℕ} → MayFollow base h (Close c) → is_open h c ≡ true
+may_close base (forced f) = forced_close base f
+may_close base (allowed s a) = allowed_close base a
 
-allowed_open_place : {h : List Event} {place : Place} {kind : Kind} → IsAllowed h (Open place kind) → IsFree h place
-allowed_open_place (opened free hub few room) = free
+allowed_open_place : (base : Kept) → {h : List Event} {place : Place} {kind : Kind} → IsAllowed base h (Open place kind) → IsFree base h place
+allowed_open_place base (opened free hub few room) = free
 
 -- what is opened is opened at a free place
-pub may_open : {h : List Event} {place : Place} {kind : Kind} → MayFollow h (Open place kind) → IsFree h place
-may_open (forced f) = absurd (false≢true (forced_kind f))
-may_open (allowed s a) = allowed_open_place a
+pub may_open : (base : Kept) → {h : List Event} {place : Place} {kind : Kind} → MayFollow base h (Open place kind) → IsFree base h place
+may_open base (forced f) = absurd (false≢true (forced_kind base f))
+may_open base (allowed s a) = allowed_open_place base a
 
-allowed_item : {h : List Event} {l : ℕ} {value : ℤ} → IsAllowed h (Item l value) → is_open h l ≡ true
-allowed_item (emitted o k v) = o
+allowed_item : (base : Kept) → {h : List Event} {l : ℕ} {value : ℤ} → IsAllowed base h (Item l value) → is_open h l ≡ true
+allowed_item base (emitted o k v) = o
 
 -- what emits is open
-pub may_emit : {h : List Event} {l : ℕ} {value : ℤ} → MayFollow h (Item l value) → is_open h l ≡ true
-may_emit (forced f) = absurd (false≢true (forced_kind f))
-may_emit (allowed s a) = allowed_item a
+pub may_emit : (base : Kept) → {h : List Event} {l : ℕ} {value : ℤ} → MayFollow base h (Item l value) → is_open h l ≡ true
+may_emit base (forced f) = absurd (false≢true (forced_kind base f))
+may_emit base (allowed s a) = allowed_item base a
 
-allowed_decline : {h : List Event} {f : ℕ} → IsAllowed h (Decline f) → (is_open h f ≡ true) × (at is_merging h f ≡ true) × (0 < owed h f)
-allowed_decline (declined o m some) = (o, m, some)
+allowed_decline : (base : Kept) → {h : List Event} {f : ℕ} → IsAllowed base h (Decline f) → (is_open h f ≡ true) × (at is_merging h f ≡ true) × (0 < owed base h f)
+allowed_decline base (declined o m some) = (o, m, some)
 
 -- what declines is an open FlatMap or Switch that owes
-pub may_decline : {h : List Event} {f : ℕ} → MayFollow h (Decline f) → (is_open h f ≡ true) × (at is_merging h f ≡ true) × (0 < owed h f)
-may_decline (forced f) = absurd (false≢true (forced_kind f))
-may_decline (allowed s a) = allowed_decline a
+pub may_decline : (base : Kept) → {h : List Event} {f : ℕ} → MayFollow base h (Decline f) → (is_open h f ≡ true) × (at is_merging h f ≡ true) × (0 < owed base h f)
+may_decline base (forced f) = absurd (false≢true (forced_kind base f))
+may_decline base (allowed s a) = allowed_decline base a
 
 -- a node that may be opened is named below an open node
-pub may_name : {h : List Event} {e : Event} {p : ℕ} → MayFollow h e → parent_named e ≡ Some p → is_open h p ≡ true
-may_name {h = h} {e = Open (Source q) kind} {p = p} next named = rw (← same_Some q p named) (may_open next).0
-may_name {h = h} {e = Open (Inner q) kind} {p = p} next named = rw (← same_Some q p named) (may_open next).0
-may_name {h = h} {e = Open (Notifier q) kind} {p = p} next named = rw (← same_Some q p named) (may_open next).0
-may_name {e = Open Root kind} {p = p} next named = absurd (none-some p named)
-may_name {p = p} next named = absurd (none-some p named)
+pub may_name : (base : Kept) → {h : List Event} {e : Event} {p : ℕ} → MayFollow base h e → parent_named e ≡ Some p → is_open h p ≡ true
+may_name base {h = h} {e = Open (Source q) kind} {p = p} next named = rw (← same_Some q p named) (may_open base next).0
+may_name base {h = h} {e = Open (Inner q) kind} {p = p} next named = rw (← same_Some q p named) (may_open base next).0
+may_name base {h = h} {e = Open (Notifier q) kind} {p = p} next named = rw (← same_Some q p named) (may_open base next).0
+may_name base {e = Open Root kind} {p = p} next named = absurd (none-some p named)
+may_name base {p = p} next named = absurd (none-some p named)
+
+pub named_open : (base : Kept) → (h : List Event) → IsLawful base h → (n p : ℕ) (e : Event) → slice_get h n ≡ Some e → parent_named e ≡ Some p → is_open (take n h) p ≡ true
+named_open base h law n p e at_n named = by_case (found_at base h law n e at_n) where
+  by_case : FoundAt base h n e → is_open (take n h) p ≡ true
+  by_case (in_base found same) = ap (λ k. is_open k p) same ∙ law.started.names n p e found named
+  by_case (since_base next) = may_name base next named
 
 -- so it has a larger number
-pub named_below : (h : List Event) → IsLawful h → (n p : ℕ) (e : Event) → slice_get h n ≡ Some e → parent_named e ≡ Some p → p < n
-named_below h law n p e at_n named =
-    let o = is_open_within (take n h) p (may_name (lawful_at h law n e at_n) named) in
+pub named_below : (base : Kept) → (h : List Event) → IsLawful base h → (n p : ℕ) (e : Event) → slice_get h n ≡ Some e → parent_named e ≡ Some p → p < n
+named_below base h law n p e at_n named =
+    let o = is_open_within (take n h) p (named_open base h law n p e at_n named) in
     let l = slice_get_within h n e at_n in
     grind (arith, common_steps)
 
 -- and stands below the node that it names
-pub parent-named : (h : List Event) → IsLawful h → (n p : ℕ) (e : Event) → slice_get h n ≡ Some e → parent_named e ≡ Some p → parent h n ≡ Some p
+pub parent-named : (base : Kept) → (h : List Event) → IsLawful base h → (n p : ℕ) (e : Event) → slice_get h n ≡ Some e → parent_named e ≡ Some p → parent h n ≡ Some p
 unfolding parent
-parent-named h law n p e at_n named = rw (at_n, named, lt-ltb p n (named_below h law n p e at_n named)) refl
+parent-named base h law n p e at_n named = rw (at_n, named, lt-ltb p n (named_below base h law n p e at_n named)) refl

@@ -6,6 +6,8 @@ use Rattle.std.specs.Option.{option_map_or}
 use Rattle.std.proofs.lemmas.Bool.{cases_Bool, both_ways, false≢true, eq-eqb, eqb-true, ne_eqb}
 use Rattle.std.proofs.lemmas.List.Sums.{sum_by_push}
 use Rattle.rx_note.specs.declared.note.Terminal.{Terminal}
+use Rattle.rx_event.specs.declared.base.BaseResource.{BaseResource}
+use Rattle.rx_event.specs.Kept.{Kept, resource_kept}
 use Rattle.rx_event.specs.declared.event.Place.TheVariants.{Root, Source, Inner, Notifier}
 use Rattle.rx_event.specs.declared.event.Kind.{Kind}
 use Rattle.rx_event.specs.declared.event.Event.{Event}
@@ -27,33 +29,36 @@ one_if same = ap (λ (b : Bool). cond {A = ℕ} b 1 0) same
 
 -- events counted ----------------------------------------------------------------------------------
 
-pub item_count-push : (h : List Event) (e : Event) → item_count (h ++ e ∷ []) ≡ item_count h + cond (is_item e) 1 0
-item_count-push h e = sum_by_push (λ (x : Event). cond (is_item x) 1 0) h e
+pub item_count-push : (base : Kept) → (h : List Event) (e : Event) → item_count base (h ++ e ∷ []) ≡ item_count base h + cond (is_item e) 1 0
+item_count-push base h e = let s = sum_by_push (λ (x : Event). cond (is_item x) 1 0) h e in omega arith
 
-pub accepted_count-push : (h : List Event) (e : Event) → accepted_count (h ++ e ∷ []) ≡ accepted_count h + cond (makes_resource e) 1 0
-accepted_count-push h e = sum_by_push (λ (x : Event). cond (makes_resource x) 1 0) h e
+pub accepted_count-push : (base : Kept) → (h : List Event) (e : Event) → accepted_count base (h ++ e ∷ []) ≡ accepted_count base h + cond (makes_resource e) 1 0
+accepted_count-push base h e = let s = sum_by_push (λ (x : Event). cond (makes_resource x) 1 0) h e in omega arith
 
-pub taken_count-push : (h : List Event) (e : Event) → taken_count (h ++ e ∷ []) ≡ taken_count h + cond (is_take e) 1 0
-taken_count-push h e = sum_by_push (λ (x : Event). cond (is_take x) 1 0) h e
+pub taken_count-push : (base : Kept) → (h : List Event) (e : Event) → taken_count base (h ++ e ∷ []) ≡ taken_count base h + cond (is_take e) 1 0
+taken_count-push base h e = let s = sum_by_push (λ (x : Event). cond (is_take x) 1 0) h e in omega arith
 
-pub uses-push : (h : List Event) (e : Event) (r : ℕ) → uses (h ++ e ∷ []) r ≡ uses h r + cond (is_use_of r e) 1 0
+pub uses-push : (base : Kept) → (h : List Event) (e : Event) (r : ℕ) → uses base (h ++ e ∷ []) r ≡ uses base h r + cond (is_use_of r e) 1 0
 unfolding uses
-uses-push h e r = sum_by_push (λ (x : Event). cond (is_use_of r x) 1 0) h e
+uses-push base h e r = by_record (resource_kept base r) where
+  by_record : (o : Option BaseResource) → option_map_or (λ k. k.uses + count_by (is_use_of r) (h ++ e ∷ [])) o (count_by (is_use_of r) (h ++ e ∷ [])) ≡ option_map_or (λ k. k.uses + count_by (is_use_of r) h) o (count_by (is_use_of r) h) + cond (is_use_of r e) 1 0
+  by_record None = sum_by_push (λ (x : Event). cond (is_use_of r x) 1 0) h e
+  by_record (Some k) = let s = sum_by_push (λ (x : Event). cond (is_use_of r x) 1 0) h e in omega arith
 
-uses_none : (h : List Event) (e : Event) → MayFollow h e → (r : ℕ) → length h ≤ r → is_use_of r e ≡ false
-uses_none h (Use q) next r l = let b = is_held_within h q (may_use next) in ne_eqb q r (omega arith)
-uses_none h _ next r l = refl
+uses_none : (base : Kept) → (h : List Event) (e : Event) → MayFollow base h e → (r : ℕ) → length h ≤ r → is_use_of r e ≡ false
+uses_none base h (Use q) next r l = let b = is_held_within h q (may_use base next) in ne_eqb q r (omega arith)
+uses_none base h _ next r l = refl
 
 -- only older resources were used
-pub uses_past : (h : List Event) → IsLawful h → (r : ℕ) → length h ≤ r → uses h r ≡ 0
+pub uses_past : (base : Kept) → (h : List Event) → IsLawful base h → (r : ℕ) → length h ≤ r → uses base h r ≡ 0
 unfolding uses
-uses_past = by_events (λ h. (r : ℕ) → length h ≤ r → uses h r ≡ 0) (λ r l. refl) (λ h e law next before r l.
+uses_past base = by_events base (λ h. (r : ℕ) → length h ≤ r → uses base h r ≡ 0) (λ s r l. s.unused r l) (λ h e law next before r l.
     let b : length h ≤ r = omega (arith, length-append h (e ∷ [])) in
-    uses-push h e r ∙ rw (before r b, uses_none h e next r b) refl)
+    uses-push base h e r ∙ rw (before r b, uses_none base h e next r b) refl)
 
 -- so a new resource was not used
-pub uses_new : (h : List Event) (e : Event) → IsLawful h → makes_resource e ≡ true → uses (h ++ e ∷ []) (length h) ≡ 0
-uses_new h e law made = uses-push h e (length h) ∙ rw (uses_past h law (length h) (omega arith)) (ap (λ b. 0 + cond b 1 0) (no_use e made)) where
+pub uses_new : (base : Kept) → (h : List Event) (e : Event) → IsLawful base h → makes_resource e ≡ true → uses base (h ++ e ∷ []) (length h) ≡ 0
+uses_new base h e law made = uses-push base h e (length h) ∙ rw (uses_past base h law (length h) (omega arith)) (ap (λ b. 0 + cond b 1 0) (no_use e made)) where
   no_use : (e : Event) → makes_resource e ≡ true → is_use_of (length h) e ≡ false
   no_use (Use q) made = absurd (false≢true made)
   no_use _ made = refl
@@ -65,14 +70,14 @@ abbrev pub lost_count : List Event → Event → ℕ
 lost_count h e = count_by (λ r. is_held h r && loses h e r) (places h)
 
 -- what is held after the event, and what it lost, was held before, or is new
-pub held_count-push : (h : List Event) (e : Event) → IsLawful h →
+pub held_count-push : (base : Kept) → (h : List Event) (e : Event) → IsLawful base h →
     held_count (h ++ e ∷ []) + lost_count h e ≡ held_count h + cond (option_map_or (is_open h) (node_of_accept e) false) 1 0
-held_count-push h e law =
+held_count-push base h e law =
     let older : count_by (is_held (h ++ e ∷ [])) (places h) + lost_count h e ≡ held_count h + sum_by (λ (r : ℕ). 0) (places h) =
-    sums_balance (λ r. cond (is_held (h ++ e ∷ []) r) 1 0) (λ r. cond (is_held h r && loses h e r) 1 0) (λ r. cond (is_held h r) 1 0) (λ r. 0) (length h) (λ r l. rw (is_held-push h e law r l) (shape (is_held h r) (loses h e r))) in
+    sums_balance (λ r. cond (is_held (h ++ e ∷ []) r) 1 0) (λ r. cond (is_held h r && loses h e r) 1 0) (λ r. cond (is_held h r) 1 0) (λ r. 0) (length h) (λ r l. rw (is_held-push base h e law r l) (shape (is_held h r) (loses h e r))) in
     let none = sum_by_none (λ r. 0) (length h) (λ r l. refl) in
     let last = sum_by-places-push (λ r. cond (is_held (h ++ e ∷ []) r) 1 0) h e in
-    let new = one_if (is_held_last h e law) in
+    let new = one_if (is_held_last base h e law) in
     omega arith
   where
     shape : (held lost : Bool) → cond (held && not lost) 1 0 + cond (held && lost) 1 0 ≡ cond held 1 0 + 0
@@ -80,23 +85,23 @@ held_count-push h e law =
     shape true false = refl
     shape false lost = refl
 
-takes_once : (h : List Event) (e : Event) → MayFollow h e → count_by (λ r. is_take_of r e) (places h) ≡ cond (is_take e) 1 0
-takes_once h (Take q) next = count_by_one q (length h) (is_waiting_within h q (may_take next))
-takes_once h _ next = sum_by_none (λ r. 0) (length h) (λ r l. refl)
+takes_once : (base : Kept) → (h : List Event) (e : Event) → MayFollow base h e → count_by (λ r. is_take_of r e) (places h) ≡ cond (is_take e) 1 0
+takes_once base h (Take q) next = count_by_one q (length h) (is_waiting_within h q (may_take base next))
+takes_once base h _ next = sum_by_none (λ r. 0) (length h) (λ r l. refl)
 
-taken_waited : (h : List Event) (e : Event) → MayFollow h e → (r : ℕ) → is_take_of r e ≡ true → is_waiting h r ≡ true
-taken_waited h (Take q) next r same = rw (← eqb-true q r same) (may_take next)
-taken_waited h _ next r same = absurd (false≢true same)
+taken_waited : (base : Kept) → (h : List Event) (e : Event) → MayFollow base h e → (r : ℕ) → is_take_of r e ≡ true → is_waiting h r ≡ true
+taken_waited base h (Take q) next r same = rw (← eqb-true q r same) (may_take base next)
+taken_waited base h _ next r same = absurd (false≢true same)
 
 -- what waits after the event, and what it takes, waited before, or was lost by it
-pub waiting_count-push : (h : List Event) (e : Event) → IsLawful h → MayFollow h e →
+pub waiting_count-push : (base : Kept) → (h : List Event) (e : Event) → IsLawful base h → MayFollow base h e →
     waiting_count (h ++ e ∷ []) + cond (is_take e) 1 0 ≡ waiting_count h + lost_count h e
-waiting_count-push h e law next =
+waiting_count-push base h e law next =
     let older : count_by (is_waiting (h ++ e ∷ [])) (places h) + count_by (λ r. is_take_of r e) (places h) ≡ waiting_count h + lost_count h e =
-    sums_balance (λ r. cond (is_waiting (h ++ e ∷ []) r) 1 0) (λ r. cond (is_take_of r e) 1 0) (λ r. cond (is_waiting h r) 1 0) (λ r. cond (is_held h r && loses h e r) 1 0) (length h) (λ r l. rw (is_waiting-push h e law r l) (shape (is_waiting h r) (is_held h r) (loses h e r) (is_take_of r e) (λ w. (waiting_parts h r w).1) (taken_waited h e next r))) in
-    let once = takes_once h e next in
+    sums_balance (λ r. cond (is_waiting (h ++ e ∷ []) r) 1 0) (λ r. cond (is_take_of r e) 1 0) (λ r. cond (is_waiting h r) 1 0) (λ r. cond (is_held h r && loses h e r) 1 0) (length h) (λ r l. rw (is_waiting-push base h e law r l) (shape (is_waiting h r) (is_held h r) (loses h e r) (is_take_of r e) (λ w. (waiting_parts h r w).1) (taken_waited base h e next r))) in
+    let once = takes_once base h e next in
     let last = sum_by-places-push (λ r. cond (is_waiting (h ++ e ∷ []) r) 1 0) h e in
-    let new = one_if (is_waiting_new h e law next) in
+    let new = one_if (is_waiting_new base h e law next) in
     omega arith
   where
     shape : (w b k t : Bool) → (w ≡ true → b ≡ false) → (t ≡ true → w ≡ true) →
@@ -109,18 +114,18 @@ waiting_count-push h e law next =
     shape false true false false apart waited = refl
     shape false false k false apart waited = refl
 
-pub accepts_open : (h : List Event) (e : Event) → MayFollow h e → option_map_or (is_open h) (node_of_accept e) false ≡ makes_resource e
-accepts_open h (Accept n tag) next = may_accept next
-accepts_open h _ next = refl
+pub accepts_open : (base : Kept) → (h : List Event) (e : Event) → MayFollow base h e → option_map_or (is_open h) (node_of_accept e) false ≡ makes_resource e
+accepts_open base h (Accept n tag) next = may_accept base next
+accepts_open base h _ next = refl
 
 -- each accepted resource is held, waits, or was taken, and once
-pub accepted_count-parts : (h : List Event) → IsLawful h → accepted_count h ≡ held_count h + waiting_count h + taken_count h
-accepted_count-parts = by_events (λ h. accepted_count h ≡ held_count h + waiting_count h + taken_count h) refl (λ h e law next before.
-    let a = accepted_count-push h e in
-    let b = held_count-push h e law in
-    let c = waiting_count-push h e law next in
-    let d = taken_count-push h e in
-    let n = one_if (accepts_open h e next) in
+pub accepted_count-parts : (base : Kept) → (h : List Event) → IsLawful base h → accepted_count base h ≡ held_count h + waiting_count h + taken_count base h
+accepted_count-parts base = by_events base (λ h. accepted_count base h ≡ held_count h + waiting_count h + taken_count base h) (λ s. s.parts) (λ h e law next before.
+    let a = accepted_count-push base h e in
+    let b = held_count-push base h e law in
+    let c = waiting_count-push base h e law next in
+    let d = taken_count-push base h e in
+    let n = one_if (accepts_open base h e next) in
     omega arith)
 
 pub lost_none : (h : List Event) (e : Event) → ((r : ℕ) → loses h e r ≡ false) → lost_count h e ≡ 0
@@ -130,34 +135,34 @@ lost_none h e keeps = sum_by_none (λ r. cond (is_held h r && loses h e r) 1 0) 
   shape false = refl
 
 -- no event but an acceptance raises what is held
-pub held_count_no_rise : (h : List Event) (e : Event) → IsLawful h → makes_resource e ≡ false → held_count (h ++ e ∷ []) ≤ held_count h
-held_count_no_rise h e law none = let b = held_count-push h e law in let n = one_if (no_accept e none) in omega arith where
+pub held_count_no_rise : (base : Kept) → (h : List Event) (e : Event) → IsLawful base h → makes_resource e ≡ false → held_count (h ++ e ∷ []) ≤ held_count h
+held_count_no_rise base h e law none = let b = held_count-push base h e law in let n = one_if (no_accept e none) in omega arith where
   no_accept : (e : Event) → makes_resource e ≡ false → option_map_or (is_open h) (node_of_accept e) false ≡ false
   no_accept (Accept n tag) none = absurd (false≢true (sym none))
   no_accept _ none = refl
 
 -- what is held and what waits go over into each other, but for an acceptance and a taking
-pub held_waiting_count-push : (h : List Event) (e : Event) → IsLawful h → MayFollow h e →
+pub held_waiting_count-push : (base : Kept) → (h : List Event) (e : Event) → IsLawful base h → MayFollow base h e →
     held_count (h ++ e ∷ []) + waiting_count (h ++ e ∷ []) + cond (is_take e) 1 0 ≡ held_count h + waiting_count h + cond (makes_resource e) 1 0
-held_waiting_count-push h e law next =
-    let b = held_count-push h e law in
-    let c = waiting_count-push h e law next in
-    let n = one_if (accepts_open h e next) in
+held_waiting_count-push base h e law next =
+    let b = held_count-push base h e law in
+    let c = waiting_count-push base h e law next in
+    let n = one_if (accepts_open base h e next) in
     omega arith
 
 -- an event that moves no resource
-pub held_count_unchanged : (h : List Event) (e : Event) → IsLawful h → moves_none e ≡ true → held_count (h ++ e ∷ []) ≡ held_count h
-held_count_unchanged h e law m =
-    let older = sum_by-same (λ r. cond (is_held h r) 1 0) (λ r. cond (is_held (h ++ e ∷ []) r) 1 0) (length h) (λ r l. one_if (is_held_unchanged h e law m r)) in
+pub held_count_unchanged : (base : Kept) → (h : List Event) (e : Event) → IsLawful base h → moves_none e ≡ true → held_count (h ++ e ∷ []) ≡ held_count h
+held_count_unchanged base h e law m =
+    let older = sum_by-same (λ r. cond (is_held h r) 1 0) (λ r. cond (is_held (h ++ e ∷ []) r) 1 0) (length h) (λ r l. one_if (is_held_unchanged base h e law m r)) in
     let last = sum_by-places-push (λ r. cond (is_held (h ++ e ∷ []) r) 1 0) h e in
-    let new = one_if (is_held_unchanged h e law m (length h) ∙ is_held_past h (length h) (omega arith)) in
+    let new = one_if (is_held_unchanged base h e law m (length h) ∙ is_held_past h (length h) (omega arith)) in
     omega arith
 
-pub waiting_count_unchanged : (h : List Event) (e : Event) → IsLawful h → moves_none e ≡ true → waiting_count (h ++ e ∷ []) ≡ waiting_count h
-waiting_count_unchanged h e law m =
-    let older = sum_by-same (λ r. cond (is_waiting h r) 1 0) (λ r. cond (is_waiting (h ++ e ∷ []) r) 1 0) (length h) (λ r l. one_if (is_waiting_unchanged h e law m r)) in
+pub waiting_count_unchanged : (base : Kept) → (h : List Event) (e : Event) → IsLawful base h → moves_none e ≡ true → waiting_count (h ++ e ∷ []) ≡ waiting_count h
+waiting_count_unchanged base h e law m =
+    let older = sum_by-same (λ r. cond (is_waiting h r) 1 0) (λ r. cond (is_waiting (h ++ e ∷ []) r) 1 0) (length h) (λ r l. one_if (is_waiting_unchanged base h e law m r)) in
     let last = sum_by-places-push (λ r. cond (is_waiting (h ++ e ∷ []) r) 1 0) h e in
-    let new = one_if (is_waiting_unchanged h e law m (length h) ∙ is_waiting_past h (length h) (omega arith)) in
+    let new = one_if (is_waiting_unchanged base h e law m (length h) ∙ is_waiting_past h (length h) (omega arith)) in
     omega arith
 
 -- an acceptance at an open node
@@ -167,16 +172,16 @@ accept_keeps h n tag r = by_node (node_of h r) where
   by_node None = refl
   by_node (Some m) = rw (is_cut_none h (Accept n tag) m refl) refl
 
-pub held_count-accept : (h : List Event) (n tag : ℕ) → IsLawful h → is_open h n ≡ true → held_count (h ++ Accept n tag ∷ []) ≡ held_count h + 1
-held_count-accept h n tag law o =
-    let b = held_count-push h (Accept n tag) law in
+pub held_count-accept : (base : Kept) → (h : List Event) (n tag : ℕ) → IsLawful base h → is_open h n ≡ true → held_count (h ++ Accept n tag ∷ []) ≡ held_count h + 1
+held_count-accept base h n tag law o =
+    let b = held_count-push base h (Accept n tag) law in
     let k = lost_none h (Accept n tag) (accept_keeps h n tag) in
     let c = one_if o in
     omega arith
 
-pub waiting_count-accept : (h : List Event) (n tag : ℕ) → IsLawful h → MayFollow h (Accept n tag) → waiting_count (h ++ Accept n tag ∷ []) ≡ waiting_count h
-waiting_count-accept h n tag law next =
-    let b = waiting_count-push h (Accept n tag) law next in
+pub waiting_count-accept : (base : Kept) → (h : List Event) (n tag : ℕ) → IsLawful base h → MayFollow base h (Accept n tag) → waiting_count (h ++ Accept n tag ∷ []) ≡ waiting_count h
+waiting_count-accept base h n tag law next =
+    let b = waiting_count-push base h (Accept n tag) law next in
     let k = lost_none h (Accept n tag) (accept_keeps h n tag) in
     omega arith
 
@@ -187,15 +192,15 @@ take_keeps h q r = by_node (node_of h r) where
   by_node None = refl
   by_node (Some m) = rw (is_cut_none h (Take q) m refl) refl
 
-pub held_count-take : (h : List Event) (q : ℕ) → IsLawful h → held_count (h ++ Take q ∷ []) ≡ held_count h
-held_count-take h q law =
-    let b = held_count-push h (Take q) law in
+pub held_count-take : (base : Kept) → (h : List Event) (q : ℕ) → IsLawful base h → held_count (h ++ Take q ∷ []) ≡ held_count h
+held_count-take base h q law =
+    let b = held_count-push base h (Take q) law in
     let k = lost_none h (Take q) (take_keeps h q) in
     omega arith
 
-pub waiting_count-take : (h : List Event) (q : ℕ) → IsLawful h → MayFollow h (Take q) → waiting_count (h ++ Take q ∷ []) + 1 ≡ waiting_count h
-waiting_count-take h q law next =
-    let b = waiting_count-push h (Take q) law next in
+pub waiting_count-take : (base : Kept) → (h : List Event) (q : ℕ) → IsLawful base h → MayFollow base h (Take q) → waiting_count (h ++ Take q ∷ []) + 1 ≡ waiting_count h
+waiting_count-take base h q law next =
+    let b = waiting_count-push base h (Take q) law next in
     let k = lost_none h (Take q) (take_keeps h q) in
     omega arith
 
@@ -215,16 +220,16 @@ lost_one h q held = sum_by-same (λ r. cond (q == r) 1 0) (λ r. cond (is_held h
   just_that r o (inl same) = let there : is_held h r ≡ true = rw (← eqb-true q r same) held in rw (no_cut o (q == r), there) refl
   just_that r o (inr apart) = rw (no_cut o (q == r), apart) (and_false (is_held h r))
 
-pub held_count-remove : (h : List Event) (q : ℕ) → IsLawful h → is_held h q ≡ true → held_count (h ++ Remove q ∷ []) + 1 ≡ held_count h
-held_count-remove h q law held =
-    let b = held_count-push h (Remove q) law in
+pub held_count-remove : (base : Kept) → (h : List Event) (q : ℕ) → IsLawful base h → is_held h q ≡ true → held_count (h ++ Remove q ∷ []) + 1 ≡ held_count h
+held_count-remove base h q law held =
+    let b = held_count-push base h (Remove q) law in
     let k = lost_one h q held in
     omega arith
 
-pub waiting_count-remove : (h : List Event) (q : ℕ) → IsLawful h → MayFollow h (Remove q) → waiting_count (h ++ Remove q ∷ []) ≡ waiting_count h + 1
-waiting_count-remove h q law next =
-    let b = waiting_count-push h (Remove q) law next in
-    let k = lost_one h q (may_remove next) in
+pub waiting_count-remove : (base : Kept) → (h : List Event) (q : ℕ) → IsLawful base h → MayFollow base h (Remove q) → waiting_count (h ++ Remove q ∷ []) ≡ waiting_count h + 1
+waiting_count-remove base h q law next =
+    let b = waiting_count-push base h (Remove q) law next in
+    let k = lost_one h q (may_remove base next) in
     omega arith
 
 -- open nodes counted ------------------------------------------------------------------------------
@@ -248,28 +253,28 @@ open_count-push h e =
     shape false c = refl
 
 -- what is made is open
-pub is_open_new : (h : List Event) (e : Event) → MayFollow h e → is_open (h ++ e ∷ []) (length h) ≡ makes_node e
-is_open_new h (Open Root kind) next = is_open_last h (Open Root kind) refl
-is_open_new h (Open (Source p) kind) next = is_open_made h (Open (Source p) kind) p refl refl (may_open next).0 (is_cut_none h (Open (Source p) kind) p refl)
-is_open_new h (Open (Inner p) kind) next = is_open_made h (Open (Inner p) kind) p refl refl (may_open next).0 (is_cut_inner h p kind p (omega arith))
-is_open_new h (Open (Notifier p) kind) next = is_open_made h (Open (Notifier p) kind) p refl refl (may_open next).0 (is_cut_none h (Open (Notifier p) kind) p refl)
-is_open_new h (Connect g) next = is_open_last h (Connect g) refl
-is_open_new h (Hub mode) next = is_open_last h (Hub mode) refl
-is_open_new h (Accept n tag) next = is_open_last h (Accept n tag) refl
-is_open_new h (Use r) next = is_open_last h (Use r) refl
-is_open_new h (Remove r) next = is_open_last h (Remove r) refl
-is_open_new h (Item l v) next = is_open_last h (Item l v) refl
-is_open_new h (Decline f) next = is_open_last h (Decline f) refl
-is_open_new h (Take r) next = is_open_last h (Take r) refl
-is_open_new h (End n t) next = is_open_last_none h (End n t) refl
-is_open_new h (Close n) next = is_open_last_none h (Close n) refl
+pub is_open_new : (base : Kept) → (h : List Event) (e : Event) → MayFollow base h e → is_open (h ++ e ∷ []) (length h) ≡ makes_node e
+is_open_new base h (Open Root kind) next = is_open_last h (Open Root kind) refl
+is_open_new base h (Open (Source p) kind) next = is_open_made h (Open (Source p) kind) p refl refl (may_open base next).0 (is_cut_none h (Open (Source p) kind) p refl)
+is_open_new base h (Open (Inner p) kind) next = is_open_made h (Open (Inner p) kind) p refl refl (may_open base next).0 (is_cut_inner h p kind p (omega arith))
+is_open_new base h (Open (Notifier p) kind) next = is_open_made h (Open (Notifier p) kind) p refl refl (may_open base next).0 (is_cut_none h (Open (Notifier p) kind) p refl)
+is_open_new base h (Connect g) next = is_open_last h (Connect g) refl
+is_open_new base h (Hub mode) next = is_open_last h (Hub mode) refl
+is_open_new base h (Accept n tag) next = is_open_last h (Accept n tag) refl
+is_open_new base h (Use r) next = is_open_last h (Use r) refl
+is_open_new base h (Remove r) next = is_open_last h (Remove r) refl
+is_open_new base h (Item l v) next = is_open_last h (Item l v) refl
+is_open_new base h (Decline f) next = is_open_last h (Decline f) refl
+is_open_new base h (Take r) next = is_open_last h (Take r) refl
+is_open_new base h (End n t) next = is_open_last_none h (End n t) refl
+is_open_new base h (Close n) next = is_open_last_none h (Close n) refl
 
 -- an event that cuts no node
-pub open_count_uncut : (h : List Event) (e : Event) → MayFollow h e → ((n : ℕ) → is_cut h e n ≡ false) →
+pub open_count_uncut : (base : Kept) → (h : List Event) (e : Event) → MayFollow base h e → ((n : ℕ) → is_cut h e n ≡ false) →
     open_count (h ++ e ∷ []) ≡ open_count h + cond (makes_node e) 1 0
-open_count_uncut h e next whole =
+open_count_uncut base h e next whole =
     let b = open_count-push h e in
-    let n = one_if (is_open_new h e next) in
+    let n = one_if (is_open_new base h e next) in
     let k = sum_by_none (λ n. cond (is_open h n && is_cut h e n) 1 0) (length h) (λ n l. rw (whole n) (shape (is_open h n))) in
     omega arith
   where
@@ -277,8 +282,8 @@ open_count_uncut h e next whole =
     shape true = refl
     shape false = refl
 
-pub open_count_made : (h : List Event) (e : Event) → MayFollow h e → shuts_none e ≡ true → open_count (h ++ e ∷ []) ≡ open_count h + cond (makes_node e) 1 0
-open_count_made h e next s = open_count_uncut h e next (λ n. is_cut_none h e n s)
+pub open_count_made : (base : Kept) → (h : List Event) (e : Event) → MayFollow base h e → shuts_none e ≡ true → open_count (h ++ e ∷ []) ≡ open_count h + cond (makes_node e) 1 0
+open_count_made base h e next s = open_count_uncut base h e next (λ n. is_cut_none h e n s)
 
 -- c is within itself
 pub is_within_self : (h : List Event) (c : ℕ) → is_within h c c ≡ true
@@ -313,16 +318,16 @@ pub open_count_falls-close : (h : List Event) (c : ℕ) → is_open h c ≡ true
 open_count_falls-close h c o = let b = open_count-close h c in let s = within_some h c o in omega arith
 
 -- an inner of a FlatMap is one open node more
-pub open_count-inner_flat : (h : List Event) (f : ℕ) (kind : Kind) → MayFollow h (Open (Inner f) kind) → at is_switch h f ≡ false →
+pub open_count-inner_flat : (base : Kept) → (h : List Event) (f : ℕ) (kind : Kind) → MayFollow base h (Open (Inner f) kind) → at is_switch h f ≡ false →
     open_count (h ++ Open (Inner f) kind ∷ []) ≡ open_count h + 1
-open_count-inner_flat h f kind next flat = open_count_uncut h (Open (Inner f) kind) next (is_cut_inner_flat h f kind flat)
+open_count-inner_flat base h f kind next flat = open_count_uncut base h (Open (Inner f) kind) next (is_cut_inner_flat h f kind flat)
 
 -- an inner of a Switch comes in place of the open inner c, and of what is open below it
-pub open_count-inner_switch : (h : List Event) (f c : ℕ) (kind : Kind) → IsLawful h → MayFollow h (Open (Inner f) kind) → at is_switch h f ≡ true →
+pub open_count-inner_switch : (base : Kept) → (h : List Event) (f c : ℕ) (kind : Kind) → IsLawful base h → MayFollow base h (Open (Inner f) kind) → at is_switch h f ≡ true →
     at (is_inner_of f) h c ≡ true → is_open h c ≡ true →
     open_count (h ++ Open (Inner f) kind ∷ []) + count_by (λ n. is_open h n && is_within h c n) (places h) ≡ open_count h + 1
-open_count-inner_switch h f c kind law next switch inner o =
+open_count-inner_switch base h f c kind law next switch inner o =
     let b = open_count-push h (Open (Inner f) kind) in
-    let n = one_if (is_open_new h (Open (Inner f) kind) next) in
-    let k = sum_by-same (λ n. cond (is_open h n && is_within h c n) 1 0) (λ n. cond (is_open h n && is_cut h (Open (Inner f) kind) n) 1 0) (length h) (λ n l. one_if (is_cut-inner_switch h f c kind law switch inner o n)) in
+    let n = one_if (is_open_new base h (Open (Inner f) kind) next) in
+    let k = sum_by-same (λ n. cond (is_open h n && is_within h c n) 1 0) (λ n. cond (is_open h n && is_cut h (Open (Inner f) kind) n) 1 0) (length h) (λ n l. one_if (is_cut-inner_switch base h f c kind law switch inner o n)) in
     omega arith

@@ -6,6 +6,7 @@ use Rattle.std.proofs.lemmas.Bool.{cases_Bool, cases_order, both_ways, false≢t
 use Rattle.std.proofs.lemmas.List.Sums.{sum_by_push}
 use Rattle.std.proofs.lemmas.Option.{slice_get_within, same_Some, none-some}
 use Rattle.rx_note.specs.declared.note.Terminal.{Terminal}
+use Rattle.rx_event.specs.Kept.{Kept}
 use Rattle.rx_event.specs.declared.event.Place.{Place}
 use Rattle.rx_event.specs.declared.event.Place.TheVariants.{Root, Source, Inner, Notifier}
 use Rattle.rx_event.specs.declared.event.Kind.TheVariants.{Leaf, Pass, Flat, Switch, Until, Sub}
@@ -28,7 +29,7 @@ use Rattle.rx_event.proofs.Laws.Steps.{forced_kind, may_close}
 use Rattle.rx_event.proofs.Laws.Totals.{open_count_falls-end, open_count_falls-close}
 use Rattle.rx_event.proofs.Laws.Searches.{or_false}
 
-at_before : (q : Event → Bool) (h : List Event) (e : Event) (n : ℕ) → q e ≡ false → at q (h ++ e ∷ []) n ≡ true → at q h n ≡ true
+pub at_before : (q : Event → Bool) (h : List Event) (e : Event) (n : ℕ) → q e ≡ false → at q (h ++ e ∷ []) n ≡ true → at q h n ≡ true
 at_before q h e n out found = by_place (cases_order n (length h)) where
   by_place : (n ≡ length h) ⊎ ((n < length h) ⊎ (length h < n)) → at q h n ≡ true
   by_place (inl last) =
@@ -38,8 +39,8 @@ at_before q h e n out found = by_place (cases_order n (length h)) where
   by_place (inr (inr l)) = absurd (let w = at_within q (h ++ e ∷ []) n found in omega (arith, length-append h (e ∷ [])))
 
 -- what has ended has ended
-source_ended-push : (h : List Event) (e : Event) (s : ℕ) (t : Terminal) → SourceEnded h s t → SourceEnded (h ++ e ∷ []) s t
-source_ended-push h e s t x = record {
+pub source_ended-push : (base : Kept) → (h : List Event) (e : Event) (s : ℕ) (t : Terminal) → SourceEnded h s t → SourceEnded (h ++ e ∷ []) s t
+source_ended-push base h e s t x = record {
   hub = x.hub;
   connection = x.connection;
   place = x.place;
@@ -52,7 +53,7 @@ source_ended-push h e s t x = record {
 -- what one event does to who waits ------------------------------------------------------------------
 
 -- an open connection
-pub record IsConnection (h : List Event) (g c : ℕ) : Type 0 where
+pub record IsConnection (base : Kept) (h : List Event) (g c : ℕ) : Type 0 where
   pub connects : slice_get h c ≡ Some (Connect g)
   pub is_alive : is_open h c ≡ true
 
@@ -62,13 +63,13 @@ unfolding parent
 alone h c g at_c = ancestors_step h c ∙ rw at_c refl
 
 -- so only an event on itself takes it away
-cut_alone : (h : List Event) (e : Event) (c g : ℕ) → slice_get h c ≡ Some (Connect g) → is_cut h e c ≡ shuts h c e
+pub cut_alone : (h : List Event) (e : Event) (c g : ℕ) → slice_get h c ≡ Some (Connect g) → is_cut h e c ≡ shuts h c e
 cut_alone h e c g at_c = rw (alone h c g at_c) (or_false (shuts h c e))
 
 -- what is left when a hub comes to wait: a connection that the event closed
-data HowWaits (h : List Event) (e : Event) (g : ℕ) : Type 0 where
-  waited : IsConnectDue h g → HowWaits h e g
-  lost : {c : ℕ} → IsConnection h g c → shuts h c e ≡ true → HowWaits h e g
+data HowWaits (base : Kept) (h : List Event) (e : Event) (g : ℕ) : Type 0 where
+  waited : IsConnectDue h g → HowWaits base h e g
+  lost : {c : ℕ} → IsConnection base h g c → shuts h c e ≡ true → HowWaits base h e g
 
 not_false : (b : Bool) → not b ≡ false → b ≡ true
 not_false true n = refl
@@ -81,12 +82,12 @@ subscribed_before h e g out d =
     let now = sym (is_open_cut h e d.subscriber (at_within (is_subscriber_of g) h d.subscriber old)) ∙ d.subscribed in
     (old, (and_parts (is_open h d.subscriber) (not (is_cut h e d.subscriber)) now).0)
 
-how_waits : (h : List Event) (e : Event) (g : ℕ) → is_subscriber_of g e ≡ false → at is_auto_hub h g ≡ true → IsConnectDue (h ++ e ∷ []) g → HowWaits h e g
-how_waits h e g out auto d = by_list (open_connections h g) refl where
+how_waits : (base : Kept) → (h : List Event) (e : Event) (g : ℕ) → is_subscriber_of g e ≡ false → at is_auto_hub h g ≡ true → IsConnectDue (h ++ e ∷ []) g → HowWaits base h e g
+how_waits base h e g out auto d = by_list (open_connections h g) refl where
   before : (at (is_subscriber_of g) h d.subscriber ≡ true) × (is_open h d.subscriber ≡ true)
   before = subscribed_before h e g out d
 
-  by_cut : (c : ℕ) → IsConnection h g c → (b : Bool) → is_open (h ++ e ∷ []) c ≡ b → HowWaits h e g
+  by_cut : (c : ℕ) → IsConnection base h g c → (b : Bool) → is_open (h ++ e ∷ []) c ≡ b → HowWaits base h e g
   by_cut c x true o =
       let within = is_open_within h c x.is_alive in
       let later : at (is_connect_of g) (h ++ e ∷ []) c ≡ true = at-append (is_connect_of g) h (e ∷ []) c within ∙ rw x.connects (eq-eqb g g refl) in
@@ -95,13 +96,13 @@ how_waits h e g out auto d = by_list (open_connections h g) refl where
       let now : (is_open h c && not (is_cut h e c)) ≡ false = sym (is_open_cut h e c (is_open_within h c x.is_alive)) ∙ gone in
       lost {c = c} x (sym (cut_alone h e c g x.connects) ∙ not_false (is_cut h e c) (rw x.is_alive at now))
 
-  by_list : (cs : List ℕ) → open_connections h g ≡ cs → HowWaits h e g
+  by_list : (cs : List ℕ) → open_connections h g ≡ cs → HowWaits base h e g
   by_list [] unconnected = waited (record {
     auto = auto;
     subscriber = d.subscriber;
     subscribes = before.0;
     subscribed = before.1;
-    waits = λ t ended. d.waits t (source_ended-push h e d.subscriber t ended);
+    waits = λ t ended. d.waits t (source_ended-push base h e d.subscriber t ended);
     unconnected = unconnected;
   })
   by_list (c ∷ cs) found =
@@ -112,9 +113,9 @@ how_waits h e g out auto d = by_list (open_connections h g) refl where
 -- ends and closings ---------------------------------------------------------------------------------
 
 -- an end of a connection ends its subscribers' source, so no end makes a hub wait
-pub kept_end : (h : List Event) (n : ℕ) (t : Terminal) → IsConnected h → IsConnected (h ++ End n t ∷ [])
-kept_end h n t none g d = by_way (how_waits h (End n t) g refl (at_before is_auto_hub h (End n t) g refl d.auto) d) where
-  by_way : HowWaits h (End n t) g → ⊥
+pub kept_end : (base : Kept) → (h : List Event) (n : ℕ) (t : Terminal) → IsConnected h → IsConnected (h ++ End n t ∷ [])
+kept_end base h n t none g d = by_way (how_waits base h (End n t) g refl (at_before is_auto_hub h (End n t) g refl d.auto) d) where
+  by_way : HowWaits base h (End n t) g → ⊥
   by_way (waited w) = none g w
   by_way (lost {c = c} x shut) =
       let within = is_open_within h c x.is_alive in
@@ -131,29 +132,29 @@ kept_end h n t none g d = by_way (how_waits h (End n t) g refl (at_before is_aut
 same_hub : (g k : ℕ) → Connect g ≡ Connect k → g ≡ k
 same_hub g k e = cc
 
-closed_unsubscribed : {h : List Event} {c g : ℕ} → IsDue h (Close c) → slice_get h c ≡ Some (Connect g) → open_subscribers h g ≡ []
-closed_unsubscribed {h = h} {c = c} {g = g} (left {g = k} o at_c a no_subscriber) connects = rw (same_hub g k (same_Some _ _ (sym connects ∙ at_c))) no_subscriber
+closed_unsubscribed : (base : Kept) → {h : List Event} {c g : ℕ} → IsDue base h (Close c) → slice_get h c ≡ Some (Connect g) → open_subscribers h g ≡ []
+closed_unsubscribed base {h = h} {c = c} {g = g} (left {g = k} o at_c a no_subscriber) connects = rw (same_hub g k (same_Some _ _ (sym connects ∙ at_c))) no_subscriber
 
 -- a connection is closed where it has no subscriber
-kept_close : (h : List Event) (n : ℕ) → IsConnected h → IsDue h (Close n) → IsConnected (h ++ Close n ∷ [])
-kept_close h n none f g d = by_way (how_waits h (Close n) g refl (at_before is_auto_hub h (Close n) g refl d.auto) d) where
+kept_close : (base : Kept) → (h : List Event) (n : ℕ) → IsConnected h → IsDue base h (Close n) → IsConnected (h ++ Close n ∷ [])
+kept_close base h n none f g d = by_way (how_waits base h (Close n) g refl (at_before is_auto_hub h (Close n) g refl d.auto) d) where
   before : (at (is_subscriber_of g) h d.subscriber ≡ true) × (is_open h d.subscriber ≡ true)
   before = subscribed_before h (Close n) g refl d
 
-  by_way : HowWaits h (Close n) g → ⊥
+  by_way : HowWaits base h (Close n) g → ⊥
   by_way (waited w) = none g w
   by_way (lost {c = c} x shut) =
-      let empty = closed_unsubscribed f (ap (slice_get h) (eqb-true n c shut) ∙ x.connects) in
+      let empty = closed_unsubscribed base f (ap (slice_get h) (eqb-true n c shut) ∙ x.connects) in
       filter_nonempty (λ m. at (is_subscriber_of g) h m && is_open h m) 0 (length h) d.subscriber (omega arith) (let w = is_open_within h d.subscriber before.1 in omega arith) (and_from _ _ before.0 before.1) empty
 
 -- no rule but a hub's makes a hub wait
-pub kept_due : (h : List Event) (e : Event) → IsConnected h → IsDue h e → IsConnected (h ++ e ∷ [])
-kept_due h e none (mirrored {p = p} {t = t} o k c) = kept_end h p t none
-kept_due h e none (fired {u = u} o k c) = kept_end h u _ none
-kept_due h e none (failed {f = m} o k c) = kept_end h m _ none
-kept_due h e none (completed {f = m} o k n s c d w) = kept_end h m _ none
-kept_due h e none (cut {s = s} {t = t} o c) = kept_end h s t none
-kept_due h e none (left {c = c} o at_c a n) = kept_close h c none (left o at_c a n)
+pub kept_due : (base : Kept) → (h : List Event) (e : Event) → IsConnected h → IsDue base h e → IsConnected (h ++ e ∷ [])
+kept_due base h e none (mirrored {p = p} {t = t} o k c) = kept_end base h p t none
+kept_due base h e none (fired {u = u} o k c) = kept_end base h u _ none
+kept_due base h e none (failed {f = m} o k c) = kept_end base h m _ none
+kept_due base h e none (completed {f = m} o k n c d w) = kept_end base h m _ none
+kept_due base h e none (cut {s = s} {t = t} o c) = kept_end base h s t none
+kept_due base h e none (left {c = c} o at_c a n) = kept_close base h c none (left o at_c a n)
 
 -- no hub is both
 pub is_both : (o : Option Event) → option_map_or is_manual_hub o false ≡ true → option_map_or is_auto_hub o false ≡ true → ⊥
@@ -165,16 +166,16 @@ is_both (Some _) m a = false≢true m
 root_connects : (g : ℕ) (o : Option Event) → option_map_or is_root o false ≡ true → o ≡ Some (Connect g) → ⊥
 root_connects g o root is = false≢true (sym (ap (λ (x : Option Event). option_map_or is_root x false) is) ∙ root)
 
-allowed_unsubscribed : {h : List Event} {c g : ℕ} → IsAllowed h (Close c) → slice_get h c ≡ Some (Connect g) → at is_auto_hub h g ≡ true → ⊥
-allowed_unsubscribed {h = h} {c = c} {g = g} (root_closed o root) connects auto = root_connects g (slice_get h c) root connects
-allowed_unsubscribed {h = h} {c = c} {g = g} (disconnected {g = k} o at_c manual) connects auto = is_both (slice_get h g) (rw (same_hub g k (same_Some _ _ (sym connects ∙ at_c))) manual) auto
+allowed_unsubscribed : (base : Kept) → {h : List Event} {c g : ℕ} → IsAllowed base h (Close c) → slice_get h c ≡ Some (Connect g) → at is_auto_hub h g ≡ true → ⊥
+allowed_unsubscribed base {h = h} {c = c} {g = g} (root_closed o root) connects auto = root_connects g (slice_get h c) root connects
+allowed_unsubscribed base {h = h} {c = c} {g = g} (disconnected {g = k} o at_c manual) connects auto = is_both (slice_get h g) (rw (same_hub g k (same_Some _ _ (sym connects ∙ at_c))) manual) auto
 
 -- a caller closes no connection of a RefCount hub
-pub kept_close_allowed : (h : List Event) (n : ℕ) → IsConnected h → IsAllowed h (Close n) → IsConnected (h ++ Close n ∷ [])
-kept_close_allowed h n none f g d = by_way (how_waits h (Close n) g refl (at_before is_auto_hub h (Close n) g refl d.auto) d) where
-  by_way : HowWaits h (Close n) g → ⊥
+pub kept_close_allowed : (base : Kept) → (h : List Event) (n : ℕ) → IsConnected h → IsAllowed base h (Close n) → IsConnected (h ++ Close n ∷ [])
+kept_close_allowed base h n none f g d = by_way (how_waits base h (Close n) g refl (at_before is_auto_hub h (Close n) g refl d.auto) d) where
+  by_way : HowWaits base h (Close n) g → ⊥
   by_way (waited w) = none g w
-  by_way (lost {c = c} x shut) = allowed_unsubscribed f (ap (slice_get h) (eqb-true n c shut) ∙ x.connects) (at_before is_auto_hub h (Close n) g refl d.auto)
+  by_way (lost {c = c} x shut) = allowed_unsubscribed base f (ap (slice_get h) (eqb-true n c shut) ∙ x.connects) (at_before is_auto_hub h (Close n) g refl d.auto)
 
 -- other events --------------------------------------------------------------------------------------
 
@@ -185,34 +186,34 @@ closes_none (Close n) = false
 closes_none _ = true
 
 -- what is no end and no closing takes no connection away
-spares : (h : List Event) (e : Event) (c g : ℕ) → closes_none e ≡ true → slice_get h c ≡ Some (Connect g) → shuts h c e ≡ true → ⊥
-spares h (Open (Inner f) kind) c g none connects shut =
+pub spares : (base : Kept) → (h : List Event) (e : Event) (c g : ℕ) → closes_none e ≡ true → slice_get h c ≡ Some (Connect g) → shuts h c e ≡ true → ⊥
+spares base h (Open (Inner f) kind) c g none connects shut =
     let inner : at (is_inner_of f) h c ≡ true = (and_parts _ _ shut).1 in
     false≢true (sym (ap (λ (o : Option Event). option_map_or (is_inner_of f) o false) connects) ∙ inner)
-spares h (Open Root kind) c g none connects shut = false≢true shut
-spares h (Open (Source f) kind) c g none connects shut = false≢true shut
-spares h (Open (Notifier f) kind) c g none connects shut = false≢true shut
-spares h (End n t) c g none connects shut = false≢true none
-spares h (Close n) c g none connects shut = false≢true none
-spares h _ c g none connects shut = false≢true shut
+spares base h (Open Root kind) c g none connects shut = false≢true shut
+spares base h (Open (Source f) kind) c g none connects shut = false≢true shut
+spares base h (Open (Notifier f) kind) c g none connects shut = false≢true shut
+spares base h (End n t) c g none connects shut = false≢true none
+spares base h (Close n) c g none connects shut = false≢true none
+spares base h _ c g none connects shut = false≢true shut
 
 -- so a hub that waits after it is that of the new subscriber, or waited before
-waited_before : (h : List Event) (e : Event) (g : ℕ) → closes_none e ≡ true → is_subscriber_of g e ≡ false → at is_auto_hub h g ≡ true →
+pub waited_before : (base : Kept) → (h : List Event) (e : Event) (g : ℕ) → closes_none e ≡ true → is_subscriber_of g e ≡ false → at is_auto_hub h g ≡ true →
     IsConnectDue (h ++ e ∷ []) g → IsConnectDue h g
-waited_before h e g none out auto d = by_way (how_waits h e g out auto d) where
-  by_way : HowWaits h e g → IsConnectDue h g
+waited_before base h e g none out auto d = by_way (how_waits base h e g out auto d) where
+  by_way : HowWaits base h e g → IsConnectDue h g
   by_way (waited w) = w
-  by_way (lost {c = c} x shut) = absurd (spares h e c g none x.connects shut)
+  by_way (lost {c = c} x shut) = absurd (spares base h e c g none x.connects shut)
 
 -- a RefCount hub with a subscriber is older than its subscriber
-auto_before : (h : List Event) (e : Event) (g : ℕ) → IsLawful h → is_subscriber_of g e ≡ false → IsConnectDue (h ++ e ∷ []) g → at is_auto_hub h g ≡ true
-auto_before h e g law out d =
-    let old : g < length h = subscriber_hub h law g d.subscriber (at_before (is_subscriber_of g) h e d.subscriber out d.subscribes) in
+pub auto_before : (base : Kept) → (h : List Event) (e : Event) (g : ℕ) → IsLawful base h → is_subscriber_of g e ≡ false → IsConnectDue (h ++ e ∷ []) g → at is_auto_hub h g ≡ true
+auto_before base h e g law out d =
+    let old : g < length h = subscriber_hub base h law g d.subscriber (at_before (is_subscriber_of g) h e d.subscriber out d.subscribes) in
     sym (at-append is_auto_hub h (e ∷ []) g old) ∙ d.auto
 
 -- what is no end, no closing and no subscriber makes no hub wait
-pub kept_unsubscribed : (h : List Event) (e : Event) → IsLawful h → IsConnected h → closes_none e ≡ true → hub_subscribed e ≡ None → IsConnected (h ++ e ∷ [])
-kept_unsubscribed h e law none keeps out g d = none g (waited_before h e g keeps (no_subscriber e out) (auto_before h e g law (no_subscriber e out) d) d) where
+pub kept_unsubscribed : (base : Kept) → (h : List Event) (e : Event) → IsLawful base h → IsConnected h → closes_none e ≡ true → hub_subscribed e ≡ None → IsConnected (h ++ e ∷ [])
+kept_unsubscribed base h e law none keeps out g d = none g (waited_before base h e g keeps (no_subscriber e out) (auto_before base h e g law (no_subscriber e out) d) d) where
   no_subscriber : (x : Event) → hub_subscribed x ≡ None → is_subscriber_of g x ≡ false
   no_subscriber (Open place (Sub k)) is = absurd (none-some k (sym is))
   no_subscriber (Open place Leaf) is = refl
@@ -223,43 +224,43 @@ kept_unsubscribed h e law none keeps out g d = none g (waited_before h e g keeps
   no_subscriber _ is = refl
 
 -- a subscriber makes its own hub wait at most
-pub kept_subscribed : (h : List Event) (place : Place) (g : ℕ) → IsLawful h → IsConnected h → (k : ℕ) → IsConnectDue (h ++ Open place (Sub g) ∷ []) k → k ≡ g
-kept_subscribed h place g law none k d = by_hub (cases_Bool (g == k)) where
+pub kept_subscribed : (base : Kept) → (h : List Event) (place : Place) (g : ℕ) → IsLawful base h → IsConnected h → (k : ℕ) → IsConnectDue (h ++ Open place (Sub g) ∷ []) k → k ≡ g
+kept_subscribed base h place g law none k d = by_hub (cases_Bool (g == k)) where
   by_hub : ((g == k) ≡ true) ⊎ ((g == k) ≡ false) → k ≡ g
   by_hub (inl same) = sym (eqb-true g k same)
-  by_hub (inr apart) = absurd (none k (waited_before h (Open place (Sub g)) k refl apart (auto_before h (Open place (Sub g)) k law apart d) d))
+  by_hub (inr apart) = absurd (none k (waited_before base h (Open place (Sub g)) k refl apart (auto_before base h (Open place (Sub g)) k law apart d) d))
 
 -- how many hubs may wait after a caller's event: one after a subscriber, else none
-pub waits_after : (h : List Event) (e : Event) → IsLawful h → IsConnected h → IsAllowed h e →
+pub waits_after : (base : Kept) → (h : List Event) (e : Event) → IsLawful base h → IsConnected h → IsAllowed base h e →
     MayWait (h ++ e ∷ []) (option_map_or (λ g. 1) (hub_subscribed e) 0)
-waits_after h (Open place (Sub g)) law none a = one_waits {g = g} (kept_subscribed h place g law none)
-waits_after h (Open place Leaf) law none a = none_waits (kept_unsubscribed h (Open place Leaf) law none refl refl)
-waits_after h (Open place Pass) law none a = none_waits (kept_unsubscribed h (Open place Pass) law none refl refl)
-waits_after h (Open place Flat) law none a = none_waits (kept_unsubscribed h (Open place Flat) law none refl refl)
-waits_after h (Open place Switch) law none a = none_waits (kept_unsubscribed h (Open place Switch) law none refl refl)
-waits_after h (Open place Until) law none a = none_waits (kept_unsubscribed h (Open place Until) law none refl refl)
-waits_after h (Hub mode) law none a = none_waits (kept_unsubscribed h (Hub mode) law none refl refl)
-waits_after h (Connect g) law none a = none_waits (kept_unsubscribed h (Connect g) law none refl refl)
-waits_after h (Accept n tag) law none a = none_waits (kept_unsubscribed h (Accept n tag) law none refl refl)
-waits_after h (Use r) law none a = none_waits (kept_unsubscribed h (Use r) law none refl refl)
-waits_after h (Remove r) law none a = none_waits (kept_unsubscribed h (Remove r) law none refl refl)
-waits_after h (Item l v) law none a = none_waits (kept_unsubscribed h (Item l v) law none refl refl)
-waits_after h (Decline f) law none a = none_waits (kept_unsubscribed h (Decline f) law none refl refl)
-waits_after h (Take r) law none a = none_waits (kept_unsubscribed h (Take r) law none refl refl)
-waits_after h (End n t) law none a = none_waits (kept_end h n t none)
-waits_after h (Close n) law none a = none_waits (kept_close_allowed h n none a)
+waits_after base h (Open place (Sub g)) law none a = one_waits {g = g} (kept_subscribed base h place g law none)
+waits_after base h (Open place Leaf) law none a = none_waits (kept_unsubscribed base h (Open place Leaf) law none refl refl)
+waits_after base h (Open place Pass) law none a = none_waits (kept_unsubscribed base h (Open place Pass) law none refl refl)
+waits_after base h (Open place Flat) law none a = none_waits (kept_unsubscribed base h (Open place Flat) law none refl refl)
+waits_after base h (Open place Switch) law none a = none_waits (kept_unsubscribed base h (Open place Switch) law none refl refl)
+waits_after base h (Open place Until) law none a = none_waits (kept_unsubscribed base h (Open place Until) law none refl refl)
+waits_after base h (Hub mode) law none a = none_waits (kept_unsubscribed base h (Hub mode) law none refl refl)
+waits_after base h (Connect g) law none a = none_waits (kept_unsubscribed base h (Connect g) law none refl refl)
+waits_after base h (Accept n tag) law none a = none_waits (kept_unsubscribed base h (Accept n tag) law none refl refl)
+waits_after base h (Use r) law none a = none_waits (kept_unsubscribed base h (Use r) law none refl refl)
+waits_after base h (Remove r) law none a = none_waits (kept_unsubscribed base h (Remove r) law none refl refl)
+waits_after base h (Item l v) law none a = none_waits (kept_unsubscribed base h (Item l v) law none refl refl)
+waits_after base h (Decline f) law none a = none_waits (kept_unsubscribed base h (Decline f) law none refl refl)
+waits_after base h (Take r) law none a = none_waits (kept_unsubscribed base h (Take r) law none refl refl)
+waits_after base h (End n t) law none a = none_waits (kept_end base h n t none)
+waits_after base h (Close n) law none a = none_waits (kept_close_allowed base h n none a)
 
 -- a settled history has no hub that waits
-pub settled_connected : (h : List Event) → IsSettled h → IsConnected h
-settled_connected h settled g d = settled.none (Connect g) (connecting d)
+pub settled_connected : (base : Kept) → (h : List Event) → IsSettled base h → IsConnected h
+settled_connected base h settled g d = settled.none (Connect g) (connecting d)
 
 -- one step ------------------------------------------------------------------------------------------
 
 -- after the connection of the one hub that waits, none waits
-pub connected_first : (h : List Event) (g : ℕ) → ((k : ℕ) → IsConnectDue h k → k ≡ g) → IsConnected (h ++ Connect g ∷ [])
-connected_first h g only k d = filter_nonempty (λ n. at (is_connect_of k) (h ++ Connect g ∷ []) n && is_open (h ++ Connect g ∷ []) n) 0 (length (h ++ Connect g ∷ [])) (length h) (omega arith) (let n = length-append h (Connect g ∷ []) in omega arith) (and_from _ _ connects (is_open_last h (Connect g) refl)) d.unconnected where
+pub connected_first : (base : Kept) → (h : List Event) (g : ℕ) → ((k : ℕ) → IsConnectDue h k → k ≡ g) → IsConnected (h ++ Connect g ∷ [])
+connected_first base h g only k d = filter_nonempty (λ n. at (is_connect_of k) (h ++ Connect g ∷ []) n && is_open (h ++ Connect g ∷ []) n) 0 (length (h ++ Connect g ∷ [])) (length h) (omega arith) (let n = length-append h (Connect g ∷ []) in omega arith) (and_from _ _ connects (is_open_last h (Connect g) refl)) d.unconnected where
   same : k ≡ g
-  same = only k (waited_before h (Connect g) k refl refl (at_before is_auto_hub h (Connect g) k refl d.auto) d)
+  same = only k (waited_before base h (Connect g) k refl refl (at_before is_auto_hub h (Connect g) k refl d.auto) d)
 
   connects : at (is_connect_of k) (h ++ Connect g ∷ []) (length h) ≡ true
   connects = rw (slice_get_last h (Connect g)) (eq-eqb g k (sym same))
@@ -273,50 +274,50 @@ record StepConnects (h k : List Event) (most : ℕ) : Type 0 where
   pub may_wait : MayWait k waiting
   pub counted : connect_count k + waiting ≤ connect_count h + most
 
-due_connects : {h : List Event} {e : Event} → IsDue h e → is_connect e ≡ false
-due_connects (mirrored o k e) = refl
-due_connects (fired o k e) = refl
-due_connects (failed o k e) = refl
-due_connects (completed o k n s e c w) = refl
-due_connects (cut o e) = refl
-due_connects (left o at_c a n) = refl
+due_connects : (base : Kept) → {h : List Event} {e : Event} → IsDue base h e → is_connect e ≡ false
+due_connects base (mirrored o k e) = refl
+due_connects base (fired o k e) = refl
+due_connects base (failed o k e) = refl
+due_connects base (completed o k n e c w) = refl
+due_connects base (cut o e) = refl
+due_connects base (left o at_c a n) = refl
 
-connects_after : (h k : List Event) (e : Event) (most : ℕ) → StepConnects h k most → IsForced k e → StepConnects h (k ++ e ∷ []) most
-connects_after h k e most s (due none d) =
+connects_after : (base : Kept) → (h k : List Event) (e : Event) (most : ℕ) → StepConnects h k most → IsForced base k e → StepConnects h (k ++ e ∷ []) most
+connects_after base h k e most s (due none d) =
     record {
       waiting = 0;
-      may_wait = none_waits (kept_due k e none d);
-      counted = let n = count_push k e in let z : cond {A = ℕ} (is_connect e) 1 0 ≡ 0 = ap (λ b. cond {A = ℕ} b 1 0) (due_connects d) in let b = s.counted in omega arith;
+      may_wait = none_waits (kept_due base k e none d);
+      counted = let n = count_push k e in let z : cond {A = ℕ} (is_connect e) 1 0 ≡ 0 = ap (λ b. cond {A = ℕ} b 1 0) (due_connects base d) in let b = s.counted in omega arith;
     }
-connects_after h k e most s (connecting {g = g} d) = by_waiting s.may_wait s.counted where
+connects_after base h k e most s (connecting {g = g} d) = by_waiting s.may_wait s.counted where
   by_waiting : {w : ℕ} → MayWait k w → connect_count k + w ≤ connect_count h + most → StepConnects h (k ++ Connect g ∷ []) most
   by_waiting (none_waits none) b = absurd (none g d)
   by_waiting (one_waits {g = j} only) b =
       record {
         waiting = 0;
-        may_wait = none_waits (connected_first k g (λ i w. only i w ∙ sym (only g d)));
+        may_wait = none_waits (connected_first base k g (λ i w. only i w ∙ sym (only g d)));
         counted = let n = count_push k (Connect g) in omega arith;
       }
 
-connects : {h k : List Event} → IsForcedOn h k → (most : ℕ) → MayWait h most → StepConnects h k most
-connects (stays {h = h}) most may = record { waiting = most; may_wait = may; counted = omega arith }
-connects (more {h = h} {k = k} {e = e} before f) most may = connects_after h k e most (connects before most may) f
+connects : (base : Kept) → {h k : List Event} → IsForcedOn base h k → (most : ℕ) → MayWait h most → StepConnects h k most
+connects base (stays {h = h}) most may = record { waiting = most; may_wait = may; counted = omega arith }
+connects base (more {h = h} {k = k} {e = e} before f) most may = connects_after base h k e most (connects base before most may) f
 
 -- what is forced connects as many hubs as may wait at most
-pub forced_connects : (h k : List Event) (most : ℕ) → MayWait h most → IsForcedOn h k → connect_count k ≤ connect_count h + most
-forced_connects h k most may f = let s = connects f most may in let b = s.counted in omega arith
+pub forced_connects : (base : Kept) → (h k : List Event) (most : ℕ) → MayWait h most → IsForcedOn base h k → connect_count k ≤ connect_count h + most
+forced_connects base h k most may f = let s = connects base f most may in let b = s.counted in omega arith
 
 -- a forced event leaves no hub that waits
-pub forced_connected : (h : List Event) (e : Event) (most : ℕ) → MayWait h most → IsForced h e → IsConnected (h ++ e ∷ [])
-forced_connected h e most may (due none d) = kept_due h e none d
-forced_connected h e most may (connecting {g = g} d) = by_waiting may where
+pub forced_connected : (base : Kept) → (h : List Event) (e : Event) (most : ℕ) → MayWait h most → IsForced base h e → IsConnected (h ++ e ∷ [])
+forced_connected base h e most may (due none d) = kept_due base h e none d
+forced_connected base h e most may (connecting {g = g} d) = by_waiting may where
   by_waiting : {w : ℕ} → MayWait h w → IsConnected (h ++ Connect g ∷ [])
   by_waiting (none_waits none) = absurd (none g d)
-  by_waiting (one_waits only) = connected_first h g (λ i w. only i w ∙ sym (only g d))
+  by_waiting (one_waits only) = connected_first base h g (λ i w. only i w ∙ sym (only g d))
 
 -- and where it connects none, it closes a node at least
-pub forced_closes : (h : List Event) (e : Event) → IsForced h e → is_connect e ≡ false → open_count (h ++ e ∷ []) + 1 ≤ open_count h
-forced_closes h (End n t) f other = open_count_falls-end h n t (may_end (forced f))
-forced_closes h (Close n) f other = open_count_falls-close h n (may_close (forced f))
-forced_closes h (Connect g) f other = absurd (false≢true (sym other))
-forced_closes h _ f other = absurd (false≢true (forced_kind f))
+pub forced_closes : (base : Kept) → (h : List Event) (e : Event) → IsForced base h e → is_connect e ≡ false → open_count (h ++ e ∷ []) + 1 ≤ open_count h
+forced_closes base h (End n t) f other = open_count_falls-end h n t (may_end base (forced f))
+forced_closes base h (Close n) f other = open_count_falls-close h n (may_close base (forced f))
+forced_closes base h (Connect g) f other = absurd (false≢true (sym other))
+forced_closes base h _ f other = absurd (false≢true (forced_kind base f))

@@ -1,6 +1,7 @@
 -- What is promised of climbs.
 use Rattle.std.specs.Prelude.{◌≡◌, ◌↔◌, ℕ, suc, ◌+◌, ◌*◌, ◌<◌, ◌≤◌, ◌==◌, if◌then◌else◌, Some, None, List, [], ◌∷◌, ◌++◌, length, slice_get, take, count_by, sum_by, IsTrue}
 use Rattle.std.specs.List.{AllByRecursion, filter_map, flat_map}
+use Rattle.rx_event.specs.Kept.{Kept}
 use Rattle.rx_event.specs.declared.event.Event.{Event}
 use Rattle.rx_event.specs.declared.event.Event.TheVariants.{Connect}
 use Rattle.rx_event.specs.Events.{is_root, is_merging, is_until, is_subscriber_of}
@@ -22,20 +23,20 @@ StopsAtOpen h (Projection f) = IsTrue (is_open h f) × IsTrue (at is_merging h f
 StopsAtOpen h (Firing u) = IsTrue (is_open h u) × IsTrue (at is_until h u)
 
 -- every climb ends, and what it reaches is open
-pub record ClimbsEnd : Type 0 where
-  pub ends : (h : List Event) → IsLawful h → (n : ℕ) → IsTrue (is_open h n) → (vs : List ℕ) × Visits h (n ∷ []) vs
+pub record ClimbsEnd (base : Kept) : Type 0 where
+  pub ends : (h : List Event) → IsLawful base h → (n : ℕ) → IsTrue (is_open h n) → (vs : List ℕ) × Visits h (n ∷ []) vs
   -- these visits alone
   pub only : (h : List Event) (ns vs ws : List ℕ) → Visits h ns vs → Visits h ns ws → vs ≡ ws
   pub opened : (h : List Event) (n : ℕ) (vs : List ℕ) → IsTrue (is_open h n) → Visits h (n ∷ []) vs →
       AllByRecursion (λ m. IsTrue (is_open h m)) vs
-  pub stopped : (h : List Event) → IsLawful h → (n : ℕ) → IsTrue (is_open h n) →
+  pub stopped : (h : List Event) → IsLawful base h → (n : ℕ) → IsTrue (is_open h n) →
       AllByRecursion (StopsAtOpen h) (stops h n)
   -- every connection above a subscriber is of a later hub than its own, so that no item goes round in a circle
-  pub later : (h : List Event) → IsLawful h → (g s a k : ℕ) → IsTrue (at (is_subscriber_of g) h s) →
+  pub later : (h : List Event) → IsLawful base h → (g s a k : ℕ) → IsTrue (at (is_subscriber_of g) h s) →
       IsTrue (is_within h a s) → slice_get h a ≡ Some (Connect k) → g < k
 
 -- the climb is the whole climb, as far as the limit lets it
-pub record ClimbsWhole : Type 0 where
+pub record ClimbsWhole (base : Kept) : Type 0 where
   -- cut off one after the limit
   pub cut_off : (h : List Event) (n : ℕ) (vs : List ℕ) → Visits h (n ∷ []) vs → climb h n ≡ take (suc most_visits) vs
   pub within : (h : List Event) (n : ℕ) (vs : List ℕ) → Visits h (n ∷ []) vs →
@@ -44,11 +45,11 @@ pub record ClimbsWhole : Type 0 where
   pub all_stops : (h : List Event) (n : ℕ) (vs : List ℕ) → Visits h (n ∷ []) vs → length vs ≤ most_visits →
       stops h n ≡ filter_map (stop_at h) vs
   -- within the limit: the node, and then the climbs of where it goes on, in order
-  pub in_order : (h : List Event) → IsLawful h → (n : ℕ) → IsTrue (is_open h n) → visits h n ≤ most_visits →
+  pub in_order : (h : List Event) → IsLawful base h → (n : ℕ) → IsTrue (is_open h n) → visits h n ≤ most_visits →
       climb h n ≡ n ∷ flat_map (climb h) (onward h n)
   -- and the stops of where it goes on, in order, where it does not stop
   pub stop : (h : List Event) (n : ℕ) (s : Stop) → stop_at h n ≡ Some s → stops h n ≡ s ∷ []
-  pub stops_in_order : (h : List Event) → IsLawful h → (n : ℕ) → IsTrue (is_open h n) → visits h n ≤ most_visits →
+  pub stops_in_order : (h : List Event) → IsLawful base h → (n : ℕ) → IsTrue (is_open h n) → visits h n ≤ most_visits →
       stop_at h n ≡ None → stops h n ≡ flat_map (stops h) (onward h n)
 
 -- how often a number is in the list

@@ -3,6 +3,7 @@
 use Rattle.std.specs.Prelude.{◌≡◌, ℕ, ◌+◌, ◌≤◌, Bool, false, ◌&&◌, Some, List, [], ◌∷◌, ◌++◌, slice_get, count_by, IsTrue}
 use Rattle.std.proofs.Math.Bool.{not}
 use Rattle.std.specs.List.{list_all}
+use Rattle.rx_event.specs.Kept.{Kept}
 use Rattle.rx_event.specs.declared.event.Event.{Event}
 use Rattle.rx_event.specs.declared.event.Event.TheVariants.{Connect, Close}
 use Rattle.rx_event.specs.Events.{makes_node, makes_hub, is_root, is_manual_hub}
@@ -36,9 +37,9 @@ pub record IsLetGo (h : List Event) : Type 0 where
   pub disconnected : (g : ℕ) → IsTrue (at is_manual_hub h g) → open_connections h g ≡ []
 
 -- then nothing is open, once nothing is forced (RefCount: it disconnects when the last observer unsubscribes)
-pub record NothingStaysOpen : Type 0 where
-  pub none : (h : List Event) → IsLawful h → IsSettled h → IsLetGo h → (n : ℕ) → is_open h n ≡ false
-  pub empty : (h : List Event) → IsLawful h → IsSettled h → IsLetGo h → open_count h ≡ 0
+pub record NothingStaysOpen (base : Kept) : Type 0 where
+  pub none : (h : List Event) → IsLawful base h → IsSettled base h → IsLetGo h → (n : ℕ) → is_open h n ≡ false
+  pub empty : (h : List Event) → IsLawful base h → IsSettled base h → IsLetGo h → open_count h ≡ 0
   pub counted : (h : List Event) → open_root_count h ≡ 0 → manual_connection_count h ≡ 0 → IsLetGo h
 
 -- neither a node nor a hub
@@ -46,28 +47,28 @@ abbrev pub makes_neither : Event → Bool
 makes_neither e = not (makes_node e) && not (makes_hub e)
 
 -- the history goes on by events that make neither, and then by all that they force
-pub record MakesNeither (old new : List Event) : Type 0 where
+pub record MakesNeither (base : Kept) (old new : List Event) : Type 0 where
   pub outside : List Event
   pub neither : IsTrue (list_all makes_neither outside)
-  pub forced : IsForcedOn (old ++ outside) new
+  pub forced : IsForcedOn base (old ++ outside) new
 
 -- this opens no root, and connects no hub that a caller connects
-pub record NothingOpensAnew : Type 0 where
-  pub roots : (h k : List Event) → MakesNeither h k → (n : ℕ) → IsTrue (is_open_root k n) → IsTrue (is_open_root h n)
-  pub connections : (h k : List Event) → MakesNeither h k → (c : ℕ) → IsTrue (is_manual_connection k c) →
+pub record NothingOpensAnew (base : Kept) : Type 0 where
+  pub roots : (h k : List Event) → MakesNeither base h k → (n : ℕ) → IsTrue (is_open_root k n) → IsTrue (is_open_root h n)
+  pub connections : (h k : List Event) → MakesNeither base h k → (c : ℕ) → IsTrue (is_manual_connection k c) →
       IsTrue (is_manual_connection h c)
-  pub root_count : (h k : List Event) → MakesNeither h k → open_root_count k ≤ open_root_count h
-  pub connection_count : (h k : List Event) → MakesNeither h k → manual_connection_count k ≤ manual_connection_count h
-  pub unconnected : (h k : List Event) → MakesNeither h k → (g : ℕ) → IsTrue (at is_manual_hub h g) →
+  pub root_count : (h k : List Event) → MakesNeither base h k → open_root_count k ≤ open_root_count h
+  pub connection_count : (h k : List Event) → MakesNeither base h k → manual_connection_count k ≤ manual_connection_count h
+  pub unconnected : (h k : List Event) → MakesNeither base h k → (g : ℕ) → IsTrue (at is_manual_hub h g) →
       open_connections h g ≡ [] → open_connections k g ≡ []
-  pub let_go : (h k : List Event) → MakesNeither h k → IsLetGo h → IsLetGo k
+  pub let_go : (h k : List Event) → MakesNeither base h k → IsLetGo h → IsLetGo k
 
 -- and where a root or such a connection is closed there is one less at least
-pub record ClosingLeavesLess : Type 0 where
-  pub root : (h k : List Event) (n : ℕ) → IsTrue (is_open_root h n) → IsForcedOn (h ++ Close n ∷ []) k →
+pub record ClosingLeavesLess (base : Kept) : Type 0 where
+  pub root : (h k : List Event) (n : ℕ) → IsTrue (is_open_root h n) → IsForcedOn base (h ++ Close n ∷ []) k →
       open_root_count k + 1 ≤ open_root_count h
   pub connection : (h k : List Event) (c : ℕ) → IsTrue (is_manual_connection h c) →
-      IsForcedOn (h ++ Close c ∷ []) k → manual_connection_count k + 1 ≤ manual_connection_count h
+      IsForcedOn base (h ++ Close c ∷ []) k → manual_connection_count k + 1 ≤ manual_connection_count h
   -- the hub is connected no more
-  pub hub : (h k : List Event) (g c : ℕ) → IsLawful h → IsTrue (at is_manual_hub h g) → IsTrue (is_open h c) →
-      slice_get h c ≡ Some (Connect g) → IsForcedOn (h ++ Close c ∷ []) k → open_connections k g ≡ []
+  pub hub : (h k : List Event) (g c : ℕ) → IsLawful base h → IsTrue (at is_manual_hub h g) → IsTrue (is_open h c) →
+      slice_get h c ≡ Some (Connect g) → IsForcedOn base (h ++ Close c ∷ []) k → open_connections k g ≡ []

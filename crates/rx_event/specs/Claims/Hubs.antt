@@ -1,5 +1,6 @@
 -- What is promised of hubs.
 use Rattle.std.specs.Prelude.{◌≡◌, ◌≢◌, ℕ, ◌≤◌, List, [], length, IsTrue}
+use Rattle.rx_event.specs.Kept.{Kept}
 use Rattle.rx_event.specs.declared.event.Event.{Event}
 use Rattle.rx_event.specs.Events.{is_auto_hub}
 use Rattle.rx_event.specs.Tree.{at, open_subscribers, open_connections}
@@ -7,10 +8,10 @@ use Rattle.rx_event.specs.Forced.{IsSettled}
 use Rattle.rx_event.specs.Lawful.{IsLawful}
 
 -- a hub has at most one open connection (Publish: all subscribers share one subscription)
-pub record ConnectsOnce : Type 0 where
-  pub at_most : (h : List Event) → IsLawful h → (g : ℕ) → length (open_connections h g) ≤ 1
+pub record ConnectsOnce (base : Kept) : Type 0 where
+  pub at_most : (h : List Event) → IsLawful base h → (g : ℕ) → length (open_connections h g) ≤ 1
   -- RefCount, once nothing is forced: one where it has an open subscriber, and none otherwise
-  pub subscribed : (h : List Event) → IsLawful h → IsSettled h → (g : ℕ) → IsTrue (at is_auto_hub h g) →
+  pub subscribed : (h : List Event) → IsLawful base h → IsSettled base h → (g : ℕ) → IsTrue (at is_auto_hub h g) →
       open_subscribers h g ≢ [] → length (open_connections h g) ≡ 1
-  pub unsubscribed : (h : List Event) → IsLawful h → IsSettled h → (g : ℕ) → IsTrue (at is_auto_hub h g) →
+  pub unsubscribed : (h : List Event) → IsLawful base h → IsSettled base h → (g : ℕ) → IsTrue (at is_auto_hub h g) →
       open_subscribers h g ≡ [] → open_connections h g ≡ []

@@ -1,6 +1,7 @@
 -- What is promised of marks.
 use Rattle.std.specs.Prelude.{◌≡◌, ℕ, ℤ, ◌<◌, true, false, Some, None, List, [], ◌∷◌, ◌++◌, length, slice_get, IsTrue}
 use Rattle.rx_note.specs.declared.note.Terminal.{Terminal}
+use Rattle.rx_event.specs.Kept.{Kept}
 use Rattle.rx_event.specs.declared.event.Place.TheVariants.{Source, Inner, Notifier}
 use Rattle.rx_event.specs.declared.event.Kind.{Kind}
 use Rattle.rx_event.specs.declared.event.Event.{Event}
@@ -13,51 +14,51 @@ use Rattle.rx_event.specs.Marks.{marks_of, blank_marks, due_at, touches, after_s
 use Rattle.rx_event.specs.Lawful.{MayFollow, IsLawful}
 
 -- what is due at an open node is what its marks say, but for what hubs force
-pub record MarksSayWhatIsDue : Type 0 where
+pub record MarksSayWhatIsDue (base : Kept) : Type 0 where
   pub due : (h : List Event) (n : ℕ) (made e : Event) → IsTrue (is_open h n) → slice_get h n ≡ Some made →
-      due_at made (marks_of h n) n ≡ Some e → IsDue h e
+      due_at made (marks_of base h n) n ≡ Some e → IsDue base h e
   -- where they say nothing, only the end of a connection ends the node
   pub none : (h : List Event) (n : ℕ) (made : Event) (t : Terminal) → slice_get h n ≡ Some made →
-      due_at made (marks_of h n) n ≡ None → IsDue h (End n t) → SourceEnded h n t
+      due_at made (marks_of base h n) n ≡ None → IsDue base h (End n t) → SourceEnded h n t
   -- all that is due to end in a lawful history ends in one way, so what is due at a node is just what its marks say
-  pub one : (h : List Event) → IsLawful h → (n m : ℕ) (t u : Terminal) → IsDue h (End n t) → IsDue h (End m u) → t ≡ u
-  pub exactly : (h : List Event) → IsLawful h → (n : ℕ) (made : Event) (t : Terminal) → IsTrue (is_open h n) →
-      slice_get h n ≡ Some made → ¬ SourceEnded h n t → IsDue h (End n t) →
-      due_at made (marks_of h n) n ≡ Some (End n t)
+  pub one : (h : List Event) → IsLawful base h → (n m : ℕ) (t u : Terminal) → IsDue base h (End n t) → IsDue base h (End m u) → t ≡ u
+  pub exactly : (h : List Event) → IsLawful base h → (n : ℕ) (made : Event) (t : Terminal) → IsTrue (is_open h n) →
+      slice_get h n ≡ Some made → ¬ SourceEnded h n t → IsDue base h (End n t) →
+      due_at made (marks_of base h n) n ≡ Some (End n t)
   -- so a history is settled where no hub's rule is left undone and no marks of an open node say anything, and only there
   pub settled : (h : List Event) → IsConnected h →
-      ((n : ℕ) (t : Terminal) → IsTrue (is_open h n) → ¬ SourceEnded h n t) → ((c : ℕ) → ¬ IsDue h (Close c)) →
-      ((n : ℕ) (made : Event) → IsTrue (is_open h n) → slice_get h n ≡ Some made → due_at made (marks_of h n) n ≡ None) →
-      IsSettled h
-  pub quiet : (h : List Event) → IsSettled h → (n : ℕ) (made : Event) → IsTrue (is_open h n) →
-      slice_get h n ≡ Some made → due_at made (marks_of h n) n ≡ None
+      ((n : ℕ) (t : Terminal) → IsTrue (is_open h n) → ¬ SourceEnded h n t) → ((c : ℕ) → ¬ IsDue base h (Close c)) →
+      ((n : ℕ) (made : Event) → IsTrue (is_open h n) → slice_get h n ≡ Some made → due_at made (marks_of base h n) n ≡ None) →
+      IsSettled base h
+  pub quiet : (h : List Event) → IsSettled base h → (n : ℕ) (made : Event) → IsTrue (is_open h n) →
+      slice_get h n ≡ Some made → due_at made (marks_of base h n) n ≡ None
 
 -- the marks after one more event
-pub record MarkChanges : Type 0 where
-  pub made : (h : List Event) (e : Event) → IsLawful h → MayFollow h e → marks_of (h ++ e ∷ []) (length h) ≡ blank_marks
+pub record MarkChanges (base : Kept) : Type 0 where
+  pub made : (h : List Event) (e : Event) → IsLawful base h → MayFollow base h e → marks_of base (h ++ e ∷ []) (length h) ≡ blank_marks
   -- of a node that stays open and is not touched they stay
-  pub untouched : (h : List Event) (e : Event) → IsLawful h → MayFollow h e → (n : ℕ) → n < length h →
-      IsTrue (is_open (h ++ e ∷ []) n) → touches h n e ≡ false → marks_of (h ++ e ∷ []) n ≡ marks_of h n
-  pub source : (h : List Event) (p : ℕ) (kind : Kind) → IsLawful h → MayFollow h (Open (Source p) kind) →
-      marks_of (h ++ Open (Source p) kind ∷ []) p ≡ after_source (marks_of h p)
-  pub notifier : (h : List Event) (p : ℕ) (kind : Kind) → IsLawful h → MayFollow h (Open (Notifier p) kind) →
-      marks_of (h ++ Open (Notifier p) kind ∷ []) p ≡ after_notifier (marks_of h p)
+  pub untouched : (h : List Event) (e : Event) → IsLawful base h → MayFollow base h e → (n : ℕ) → n < length h →
+      IsTrue (is_open (h ++ e ∷ []) n) → touches h n e ≡ false → marks_of base (h ++ e ∷ []) n ≡ marks_of base h n
+  pub source : (h : List Event) (p : ℕ) (kind : Kind) → IsLawful base h → MayFollow base h (Open (Source p) kind) →
+      marks_of base (h ++ Open (Source p) kind ∷ []) p ≡ after_source (marks_of base h p)
+  pub notifier : (h : List Event) (p : ℕ) (kind : Kind) → IsLawful base h → MayFollow base h (Open (Notifier p) kind) →
+      marks_of base (h ++ Open (Notifier p) kind ∷ []) p ≡ after_notifier (marks_of base h p)
   -- an inner observable of a FlatMap, the first of a Switch, and one in the place of another
-  pub flat_inner : (h : List Event) (f : ℕ) (kind : Kind) → IsLawful h → MayFollow h (Open (Inner f) kind) →
-      at is_switch h f ≡ false → marks_of (h ++ Open (Inner f) kind ∷ []) f ≡ after_inner false (marks_of h f)
-  pub first_inner : (h : List Event) (f : ℕ) (kind : Kind) → IsLawful h → MayFollow h (Open (Inner f) kind) →
+  pub flat_inner : (h : List Event) (f : ℕ) (kind : Kind) → IsLawful base h → MayFollow base h (Open (Inner f) kind) →
+      at is_switch h f ≡ false → marks_of base (h ++ Open (Inner f) kind ∷ []) f ≡ after_inner false (marks_of base h f)
+  pub first_inner : (h : List Event) (f : ℕ) (kind : Kind) → IsLawful base h → MayFollow base h (Open (Inner f) kind) →
       ((k : ℕ) → IsTrue (at (is_inner_of f) h k) → is_open h k ≡ false) →
-      marks_of (h ++ Open (Inner f) kind ∷ []) f ≡ after_inner false (marks_of h f)
-  pub next_inner : (h : List Event) (f old : ℕ) (kind : Kind) → IsLawful h → MayFollow h (Open (Inner f) kind) →
+      marks_of base (h ++ Open (Inner f) kind ∷ []) f ≡ after_inner false (marks_of base h f)
+  pub next_inner : (h : List Event) (f old : ℕ) (kind : Kind) → IsLawful base h → MayFollow base h (Open (Inner f) kind) →
       IsTrue (at is_switch h f) → IsTrue (at (is_inner_of f) h old) → IsTrue (is_open h old) →
-      marks_of (h ++ Open (Inner f) kind ∷ []) f ≡ after_inner true (marks_of h f)
-  pub item : (h : List Event) (leaf : ℕ) (value : ℤ) → IsLawful h → MayFollow h (Item leaf value) → (n : ℕ) →
-      n < length h → marks_of (h ++ Item leaf value ∷ []) n ≡ after_stops n (stops h leaf) (marks_of h n)
-  pub declined : (h : List Event) (f : ℕ) → IsLawful h → MayFollow h (Decline f) →
-      marks_of (h ++ Decline f ∷ []) f ≡ after_decline (marks_of h f)
-  pub ended : (h : List Event) (c p : ℕ) (made above : Event) (t : Terminal) → IsLawful h → MayFollow h (End c t) →
+      marks_of base (h ++ Open (Inner f) kind ∷ []) f ≡ after_inner true (marks_of base h f)
+  pub item : (h : List Event) (leaf : ℕ) (value : ℤ) → IsLawful base h → MayFollow base h (Item leaf value) → (n : ℕ) →
+      n < length h → marks_of base (h ++ Item leaf value ∷ []) n ≡ after_stops n (stops h leaf) (marks_of base h n)
+  pub declined : (h : List Event) (f : ℕ) → IsLawful base h → MayFollow base h (Decline f) →
+      marks_of base (h ++ Decline f ∷ []) f ≡ after_decline (marks_of base h f)
+  pub ended : (h : List Event) (c p : ℕ) (made above : Event) (t : Terminal) → IsLawful base h → MayFollow base h (End c t) →
       parent h c ≡ Some p → slice_get h c ≡ Some made → slice_get h p ≡ Some above →
-      marks_of (h ++ End c t ∷ []) p ≡ after_child (is_source_of p made) (is_merging above) t (marks_of h p)
+      marks_of base (h ++ End c t ∷ []) p ≡ after_child (is_source_of p made) (is_merging above) t (marks_of base h p)
   -- what is closed stands below nothing that stays open
-  pub closed : (h : List Event) (c : ℕ) → IsLawful h → MayFollow h (Close c) → (n : ℕ) →
-      IsTrue (is_open (h ++ Close c ∷ []) n) → marks_of (h ++ Close c ∷ []) n ≡ marks_of h n
+  pub closed : (h : List Event) (c : ℕ) → IsLawful base h → MayFollow base h (Close c) → (n : ℕ) →
+      IsTrue (is_open (h ++ Close c ∷ []) n) → marks_of base (h ++ Close c ∷ []) n ≡ marks_of base h n

@@ -2,6 +2,7 @@
 use Rattle.std.specs.Prelude.{◌≡◌, ℕ, ◌<◌, false, ◌&&◌, Some, List, [], ◌∷◌, ◌++◌, length, slice_get, IsTrue}
 use Rattle.std.proofs.Math.Bool.{not}
 use Rattle.rx_note.specs.declared.note.Terminal.{Terminal}
+use Rattle.rx_event.specs.Kept.{Kept}
 use Rattle.rx_event.specs.declared.event.Place.TheVariants.{Source, Inner, Notifier}
 use Rattle.rx_event.specs.declared.event.Kind.{Kind}
 use Rattle.rx_event.specs.declared.event.Event.{Event}
@@ -19,20 +20,20 @@ pub record ClosedStaysClosed : Type 0 where
       is_open (h ++ further) n ≡ false
 
 -- two open inners of one Switch are the same (Switch: it mirrors the latest inner alone)
-pub record OneOpenInner : Type 0 where
-  pub same : (h : List Event) → IsLawful h → (f a b : ℕ) → IsTrue (at is_switch h f) → IsTrue (at (is_inner_of f) h a) →
+pub record OneOpenInner (base : Kept) : Type 0 where
+  pub same : (h : List Event) → IsLawful base h → (f a b : ℕ) → IsTrue (at is_switch h f) → IsTrue (at (is_inner_of f) h a) →
       IsTrue (is_open h a) → IsTrue (at (is_inner_of f) h b) → IsTrue (is_open h b) → a ≡ b
 
 -- which nodes are open after one more event
-pub record NodeChanges : Type 0 where
+pub record NodeChanges (base : Kept) : Type 0 where
   -- the node that it makes, and no other new one
-  pub made : (h : List Event) (e : Event) → MayFollow h e → is_open (h ++ e ∷ []) (length h) ≡ makes_node e
+  pub made : (h : List Event) (e : Event) → MayFollow base h e → is_open (h ++ e ∷ []) (length h) ≡ makes_node e
   -- an end and a closing: not that node, and not what stands below it
   pub ended : (h : List Event) (c : ℕ) (t : Terminal) (n : ℕ) →
       is_open (h ++ End c t ∷ []) n ≡ (is_open h n && not (is_within h c n))
   pub closed : (h : List Event) (c : ℕ) (n : ℕ) → is_open (h ++ Close c ∷ []) n ≡ (is_open h n && not (is_within h c n))
   -- the opening of an inner of a Switch: not the other open inner, and not what stands below it
-  pub exchanged : (h : List Event) → IsLawful h → (f c : ℕ) (kind : Kind) → IsTrue (at is_switch h f) →
+  pub exchanged : (h : List Event) → IsLawful base h → (f c : ℕ) (kind : Kind) → IsTrue (at is_switch h f) →
       IsTrue (at (is_inner_of f) h c) → IsTrue (is_open h c) → (n : ℕ) → n < length h →
       is_open (h ++ Open (Inner f) kind ∷ []) n ≡ (is_open h n && not (is_within h c n))
   -- where no other inner is open, it closes nothing
@@ -47,15 +48,15 @@ pub record NodeChanges : Type 0 where
       is_open (h ++ e ∷ []) n ≡ is_open h n
 
 -- where nodes stand
-pub record NodesPlaced : Type 0 where
+pub record NodesPlaced (base : Kept) : Type 0 where
   -- a node is open only below a node: its parent is one
-  pub parent : (h : List Event) → IsLawful h → (n p : ℕ) → parent h n ≡ Some p → IsTrue (at makes_node h p)
+  pub parent : (h : List Event) → IsLawful base h → (n p : ℕ) → parent h n ≡ Some p → IsTrue (at makes_node h p)
   -- a source below what has a place for one, an inner observable below a FlatMap or Switch, a notifier below a TakeUntil
-  pub source : (h : List Event) → IsLawful h → (n p : ℕ) (kind : Kind) → slice_get h n ≡ Some (Open (Source p) kind) →
+  pub source : (h : List Event) → IsLawful base h → (n p : ℕ) (kind : Kind) → slice_get h n ≡ Some (Open (Source p) kind) →
       IsTrue (at has_source h p)
-  pub inner : (h : List Event) → IsLawful h → (n p : ℕ) (kind : Kind) → slice_get h n ≡ Some (Open (Inner p) kind) →
+  pub inner : (h : List Event) → IsLawful base h → (n p : ℕ) (kind : Kind) → slice_get h n ≡ Some (Open (Inner p) kind) →
       IsTrue (at is_merging h p)
-  pub notifier : (h : List Event) → IsLawful h → (n p : ℕ) (kind : Kind) →
+  pub notifier : (h : List Event) → IsLawful base h → (n p : ℕ) (kind : Kind) →
       slice_get h n ≡ Some (Open (Notifier p) kind) → IsTrue (at is_until h p)
   -- a connection topmost: whatever else a node stands below stands below the connection
   pub topmost : (h : List Event) (c g n : ℕ) → slice_get h c ≡ Some (Connect g) → IsTrue (is_within h c n) → (a : ℕ) →

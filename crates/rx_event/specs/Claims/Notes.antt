@@ -3,6 +3,7 @@ use Rattle.std.specs.Prelude.{◌≡◌, ℕ, ℤ, false, List, [], ◌∷◌, �
 use Rattle.std.specs.List.{AllByRecursion}
 use Rattle.rx_note.specs.declared.note.Note.TheVariants.{Project}
 use Rattle.rx_note.specs.Notes.{IsGrammatical}
+use Rattle.rx_event.specs.Kept.{Kept}
 use Rattle.rx_event.specs.declared.event.Event.{Event}
 use Rattle.rx_event.specs.Events.{is_root}
 use Rattle.rx_event.specs.Tree.{at, is_open}
@@ -10,11 +11,11 @@ use Rattle.rx_event.specs.Notes.{notes_to}
 use Rattle.rx_event.specs.Lawful.{MayFollow, IsLawful}
 
 -- each observer is told items, then at most one end, then nothing (Observable Contract)
-pub record NotesInOrder : Type 0 where
-  pub grammatical : (h : List Event) → IsLawful h → (n : ℕ) → IsGrammatical (notes_to h n)
+pub record NotesInOrder (base : Kept) : Type 0 where
+  pub grammatical : (h : List Event) → IsLawful base h → (n : ℕ) → IsGrammatical (notes_to h n)
   -- what is no root is told projected items alone
-  pub projected : (h : List Event) → IsLawful h → (n : ℕ) → at is_root h n ≡ false →
+  pub projected : (h : List Event) → IsLawful base h → (n : ℕ) → at is_root h n ≡ false →
       AllByRecursion (λ note. (value : ℤ) × (note ≡ Project value)) (notes_to h n)
   -- and what is not open is told nothing more
-  pub silent : (h : List Event) (e : Event) → IsLawful h → MayFollow h e → (n : ℕ) → is_open h n ≡ false →
+  pub silent : (h : List Event) (e : Event) → IsLawful base h → MayFollow base h e → (n : ℕ) → is_open h n ≡ false →
       notes_to (h ++ e ∷ []) n ≡ notes_to h n

@@ -1,6 +1,7 @@
 -- What is promised of totals.
 use Rattle.std.specs.Prelude.{◌≡◌, ℕ, ◌+◌, ◌≤◌, false, ◌&&◌, List, [], ◌∷◌, ◌++◌, length, count_by, if◌then◌else◌, IsTrue}
 use Rattle.rx_note.specs.declared.note.Terminal.{Terminal}
+use Rattle.rx_event.specs.Kept.{Kept}
 use Rattle.rx_event.specs.declared.event.Place.TheVariants.{Inner}
 use Rattle.rx_event.specs.declared.event.Kind.{Kind}
 use Rattle.rx_event.specs.declared.event.Event.{Event}
@@ -13,36 +14,36 @@ use Rattle.rx_event.specs.Totals.{item_count, accepted_count, taken_count, held_
 use Rattle.rx_event.specs.Lawful.{MayFollow, IsLawful}
 
 -- the totals after one more event
-pub record TotalChanges : Type 0 where
-  pub items : (h : List Event) (e : Event) → item_count (h ++ e ∷ []) ≡ item_count h + (if is_item e then 1 else 0)
+pub record TotalChanges (base : Kept) : Type 0 where
+  pub items : (h : List Event) (e : Event) → item_count base (h ++ e ∷ []) ≡ item_count base h + (if is_item e then 1 else 0)
   pub accepted : (h : List Event) (e : Event) →
-      accepted_count (h ++ e ∷ []) ≡ accepted_count h + (if makes_resource e then 1 else 0)
-  pub taken : (h : List Event) (e : Event) → taken_count (h ++ e ∷ []) ≡ taken_count h + (if is_take e then 1 else 0)
-  pub used : (h : List Event) (e : Event) (r : ℕ) → uses (h ++ e ∷ []) r ≡ uses h r + (if is_use_of r e then 1 else 0)
-  pub unused : (h : List Event) → IsLawful h → (r : ℕ) → length h ≤ r → uses h r ≡ 0
+      accepted_count base (h ++ e ∷ []) ≡ accepted_count base h + (if makes_resource e then 1 else 0)
+  pub taken : (h : List Event) (e : Event) → taken_count base (h ++ e ∷ []) ≡ taken_count base h + (if is_take e then 1 else 0)
+  pub used : (h : List Event) (e : Event) (r : ℕ) → uses base (h ++ e ∷ []) r ≡ uses base h r + (if is_use_of r e then 1 else 0)
+  pub unused : (h : List Event) → IsLawful base h → (r : ℕ) → length h ≤ r → uses base h r ≡ 0
   -- what a FlatMap or Switch owes: a projection adds one, an inner and a declined projection pay one
-  pub owed : (h : List Event) (e : Event) → IsLawful h → MayFollow h e → (f : ℕ) →
-      owed (h ++ e ∷ []) f + (if pays f e then 1 else 0) ≡ owed h f + count_by (is_projection_to f) (stops_of h e)
+  pub owed : (h : List Event) (e : Event) → IsLawful base h → MayFollow base h e → (f : ℕ) →
+      owed base (h ++ e ∷ []) f + (if pays f e then 1 else 0) ≡ owed base h f + count_by (is_projection_to f) (stops_of h e)
   -- an end or another closing takes resources from those that are held to those that wait, and loses none
-  pub unreleased : (h : List Event) (e : Event) → IsLawful h → MayFollow h e →
+  pub unreleased : (h : List Event) (e : Event) → IsLawful base h → MayFollow base h e →
       held_count (h ++ e ∷ []) + waiting_count (h ++ e ∷ []) + (if is_take e then 1 else 0) ≡ held_count h + waiting_count h + (if makes_resource e then 1 else 0)
-  pub held : (h : List Event) (e : Event) → IsLawful h → makes_resource e ≡ false →
+  pub held : (h : List Event) (e : Event) → IsLawful base h → makes_resource e ≡ false →
       held_count (h ++ e ∷ []) ≤ held_count h
-  pub held_more : (h : List Event) (n tag : ℕ) → IsLawful h → IsTrue (is_open h n) →
+  pub held_more : (h : List Event) (n tag : ℕ) → IsLawful base h → IsTrue (is_open h n) →
       held_count (h ++ Accept n tag ∷ []) ≡ held_count h + 1
-  pub removed : (h : List Event) (r : ℕ) → IsLawful h → MayFollow h (Remove r) →
+  pub removed : (h : List Event) (r : ℕ) → IsLawful base h → MayFollow base h (Remove r) →
       held_count (h ++ Remove r ∷ []) + 1 ≡ held_count h
-  pub waiting_more : (h : List Event) (r : ℕ) → IsLawful h → MayFollow h (Remove r) →
+  pub waiting_more : (h : List Event) (r : ℕ) → IsLawful base h → MayFollow base h (Remove r) →
       waiting_count (h ++ Remove r ∷ []) ≡ waiting_count h + 1
-  pub waiting_less : (h : List Event) (r : ℕ) → IsLawful h → MayFollow h (Take r) →
+  pub waiting_less : (h : List Event) (r : ℕ) → IsLawful base h → MayFollow base h (Take r) →
       waiting_count (h ++ Take r ∷ []) + 1 ≡ waiting_count h
   -- open nodes
-  pub opened : (h : List Event) (e : Event) → MayFollow h e → ((m : ℕ) → shuts h m e ≡ false) →
+  pub opened : (h : List Event) (e : Event) → MayFollow base h e → ((m : ℕ) → shuts h m e ≡ false) →
       open_count (h ++ e ∷ []) ≡ open_count h + (if makes_node e then 1 else 0)
   pub ended : (h : List Event) (c : ℕ) (t : Terminal) →
       open_count (h ++ End c t ∷ []) + count_by (λ n. is_open h n && is_within h c n) (places h) ≡ open_count h
   pub closed : (h : List Event) (c : ℕ) →
       open_count (h ++ Close c ∷ []) + count_by (λ n. is_open h n && is_within h c n) (places h) ≡ open_count h
-  pub exchanged : (h : List Event) (f c : ℕ) (kind : Kind) → IsLawful h → MayFollow h (Open (Inner f) kind) →
+  pub exchanged : (h : List Event) (f c : ℕ) (kind : Kind) → IsLawful base h → MayFollow base h (Open (Inner f) kind) →
       IsTrue (at is_switch h f) → IsTrue (at (is_inner_of f) h c) → IsTrue (is_open h c) →
       open_count (h ++ Open (Inner f) kind ∷ []) + count_by (λ n. is_open h n && is_within h c n) (places h) ≡ open_count h + 1

@@ -1,5 +1,6 @@
 //! Open nodes.
 
+ghost use Rattle.rx_event.specs.Kept.{Kept};
 ghost use Rattle.rx_event.specs.Claims.Nodes.{ClosedStaysClosed, NodesPlaced, OneOpenInner};
 
 /// A node below one that is not open is not open, and a node that is not open stays so under any
@@ -10,11 +11,11 @@ pub fn closed_stays_closed()
 
 /// A Switch has at most one open inner observable: the latest.
 pub fn a_switch_has_one_open_inner()
-    ensures { OneOpenInner }
+    ensures { (base : Kept) → OneOpenInner base }
 {}
 
 /// In a lawful history nodes stand below nodes: a source below what has a place for one, an inner
 /// observable below a FlatMap or a Switch, a notifier below a TakeUntil, a connection below none.
 pub fn nodes_stand_below_nodes()
-    ensures { NodesPlaced }
+    ensures { (base : Kept) → NodesPlaced base }
 {}

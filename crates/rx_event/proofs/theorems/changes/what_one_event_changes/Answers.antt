@@ -14,81 +14,81 @@ use Rattle.rx_event.proofs.Laws.MarksTouched.{marks_untouched, marks-source_at, 
 use Rattle.rx_event.proofs.theorems.changes.what_one_event_changes.Goals as goal
 
 pub returns-clause-nodes : goal.returns-clause-nodes
-returns-clause-nodes c = record {
-  made = is_open_new;
+returns-clause-nodes c = λ base. record {
+  made = is_open_new base;
   ended = is_open_outside-end;
   closed = is_open_outside-close;
-  exchanged = λ h law f c kind switch inner o. is_open-inner_switch h f c kind law switch inner o;
+  exchanged = λ h law f c kind switch inner o. is_open-inner_switch base h f c kind law switch inner o;
   first_inner = is_open-inner_first;
   flat_inner = is_open-inner_flat;
   kept = is_open_uncut;
 }
 
 pub returns-clause-resources : goal.returns-clause-resources
-returns-clause-resources c = record {
-  held = λ h e law r n tag at_r. is_held-open h e law r n (ap (option_and_then node_of_accept) at_r);
-  waiting = is_waiting-unheld;
+returns-clause-resources c = λ base. record {
+  held = λ h e law r n tag at_r. is_held-open base h e law r n (ap (option_and_then node_of_accept) at_r);
+  waiting = is_waiting-unheld base;
   taken = is_taken-push;
-  new_held = is_held_new;
-  new_waiting = is_waiting_new;
-  new_taken = is_taken_last;
-  left_by_end = λ h c t law r n tag at_r. is_held-end h c t law r n (ap (option_and_then node_of_accept) at_r);
-  wait_after_end = λ h c t law r n tag at_r. is_waiting-end h c t law r n (ap (option_and_then node_of_accept) at_r);
-  left_by_close = λ h c law r n tag at_r. is_held-close h c law r n (ap (option_and_then node_of_accept) at_r);
-  wait_after_close = λ h c law r n tag at_r. is_waiting-close h c law r n (ap (option_and_then node_of_accept) at_r);
+  new_held = is_held_new base;
+  new_waiting = is_waiting_new base;
+  new_taken = is_taken_last base;
+  left_by_end = λ h c t law r n tag at_r. is_held-end base h c t law r n (ap (option_and_then node_of_accept) at_r);
+  wait_after_end = λ h c t law r n tag at_r. is_waiting-end base h c t law r n (ap (option_and_then node_of_accept) at_r);
+  left_by_close = λ h c law r n tag at_r. is_held-close base h c law r n (ap (option_and_then node_of_accept) at_r);
+  wait_after_close = λ h c law r n tag at_r. is_waiting-close base h c law r n (ap (option_and_then node_of_accept) at_r);
 }
 
 pub returns-clause-totals : goal.returns-clause-totals
-returns-clause-totals c = record {
-  items = item_count-push;
-  accepted = accepted_count-push;
-  taken = taken_count-push;
-  used = uses-push;
-  unused = uses_past;
-  owed = owed-push;
-  unreleased = held_waiting_count-push;
-  held = held_count_no_rise;
-  held_more = held_count-accept;
-  removed = λ h r law next. held_count-remove h r law (may_remove next);
-  waiting_more = waiting_count-remove;
-  waiting_less = waiting_count-take;
-  opened = λ h e next never. open_count_uncut h e next (is_cut_never h e never);
+returns-clause-totals c = λ base. record {
+  items = item_count-push base;
+  accepted = accepted_count-push base;
+  taken = taken_count-push base;
+  used = uses-push base;
+  unused = uses_past base;
+  owed = owed-push base;
+  unreleased = held_waiting_count-push base;
+  held = held_count_no_rise base;
+  held_more = held_count-accept base;
+  removed = λ h r law next. held_count-remove base h r law (may_remove base next);
+  waiting_more = waiting_count-remove base;
+  waiting_less = waiting_count-take base;
+  opened = λ h e next never. open_count_uncut base h e next (is_cut_never h e never);
   ended = open_count-end;
   closed = open_count-close;
-  exchanged = open_count-inner_switch;
+  exchanged = open_count-inner_switch base;
 }
 
 pub returns-clause-debt : goal.returns-clause-debt
-returns-clause-debt c = record {
-  counts = debt-counts;
-  root = debt-root;
-  source = debt-source;
-  notifier = debt-notifier;
-  flat_inner = debt-inner_flat;
-  inner = debt_no_rise-inner;
-  hub = debt-hub;
-  connected = debt-connect;
-  accepted = debt-accept;
-  used = debt-use;
-  removed = debt-remove;
-  item = debt-item;
-  declined = debt-decline;
-  ended = debt_falls-end;
-  closed = debt_falls-close;
-  taken = debt-take;
+returns-clause-debt c = λ base. record {
+  counts = debt-counts base;
+  root = debt-root base;
+  source = debt-source base;
+  notifier = debt-notifier base;
+  flat_inner = debt-inner_flat base;
+  inner = debt_no_rise-inner base;
+  hub = debt-hub base;
+  connected = debt-connect base;
+  accepted = debt-accept base;
+  used = debt-use base;
+  removed = debt-remove base;
+  item = debt-item base;
+  declined = debt-decline base;
+  ended = debt_falls-end base;
+  closed = debt_falls-close base;
+  taken = debt-take base;
 }
 
 pub returns-clause-marks : goal.returns-clause-marks
-returns-clause-marks c = record {
-  made = marks-new;
-  untouched = marks_untouched;
-  source = marks-source_at;
-  notifier = marks-notifier_at;
-  flat_inner = marks-inner_at_flat;
-  first_inner = marks-inner_at_first;
-  next_inner = marks-inner_at_next;
-  item = marks-item_at;
-  declined = marks-decline_at;
-  ended = marks-end_at;
-  closed = marks_closed;
+returns-clause-marks c = λ base. record {
+  made = marks-new base;
+  untouched = marks_untouched base;
+  source = marks-source_at base;
+  notifier = marks-notifier_at base;
+  flat_inner = marks-inner_at_flat base;
+  first_inner = marks-inner_at_first base;
+  next_inner = marks-inner_at_next base;
+  item = marks-item_at base;
+  declined = marks-decline_at base;
+  ended = marks-end_at base;
+  closed = marks_closed base;
 }

@@ -4,23 +4,23 @@ use Rattle.rx_event.proofs.Laws.Climbs.{visits_end, visits_only, visits_open, cl
 use Rattle.rx_event.proofs.theorems.climbs.climbs_go_on_in_order.Goals as goal
 
 pub returns-clause-end : goal.returns-clause-end
-returns-clause-end c = record {
-  ends = visits_end;
+returns-clause-end c = λ base. record {
+  ends = visits_end base;
   only = λ h ns vs ws p q. visits_only p q;
   opened = λ h n vs o p. visits_open h p (o, tt);
-  stopped = λ h law n o. stops_open h n law o;
-  later = hubs_in_order;
+  stopped = λ h law n o. stops_open base h n law o;
+  later = hubs_in_order base;
 }
 
 pub returns-clause-whole : goal.returns-clause-whole
-returns-clause-whole c = record {
+returns-clause-whole c = λ base. record {
   cut_off = climb_cut_off;
   within = visits_within;
   whole = climb_whole;
   all_stops = stops_whole;
-  in_order = climb_in_order;
+  in_order = climb_in_order base;
   stop = stops_stop;
-  stops_in_order = stops_in_order;
+  stops_in_order = stops_in_order base;
 }
 
 pub returns-clause-counted : goal.returns-clause-counted

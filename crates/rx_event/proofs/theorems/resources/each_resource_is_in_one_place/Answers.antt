@@ -3,4 +3,4 @@ use Rattle.rx_event.proofs.Laws.Totals.{accepted_count-parts}
 use Rattle.rx_event.proofs.theorems.resources.each_resource_is_in_one_place.Goals as goal
 
 pub returns : goal.returns
-returns c = record { one = in_one_place; all = accepted_count-parts }
+returns c = λ base. record { one = in_one_place base; all = accepted_count-parts base }

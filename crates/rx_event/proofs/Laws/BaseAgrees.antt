@@ -1,0 +1,577 @@
+-- The base of a settled stored history is sound, and agrees with it.
+use Rattle.std.proofs.Common.{◌≡◌, ℕ, suc, ◌+◌, ◌-◌, ◌<◌, ◌≤◌, Bool, true, false, List, [], ◌∷◌, ◌++◌, length, cond, Option, Some, None, refl, sym, ap, ◌∙◌, arith, inl, inr, ◌⊎◌, slice_get, count_by, sum_by}
+use Rattle.std.proofs.Math.Bool.{not, ◌&&◌, ◌||◌}
+use Rattle.std.specs.List.{list_any}
+use Rattle.std.specs.Option.{option_and_then, option_map_or}
+use Rattle.std.proofs.lemmas.Bool.{cases_Bool, cases_lt, both_ways, false≢true, and_parts, eqb-true}
+use Rattle.std.proofs.lemmas.Option.{slice_get_past, none-some}
+use Rattle.std.proofs.lemmas.List.Sums.{sum_by-cons}
+use Rattle.rx_note.specs.declared.note.Terminal.{Terminal}
+use Rattle.rx_note.specs.declared.note.Terminal.TheVariants.{Completed, Error}
+use Rattle.rx_event.specs.declared.event.Place.{Place}
+use Rattle.rx_event.specs.declared.event.Kind.TheVariants.{Leaf, Pass, Flat, Switch, Until, Sub}
+use Rattle.rx_event.specs.Allowed.{IsInOrderAt, IsInOrder}
+use Rattle.rx_event.proofs.Laws.Agreed.{hub_is, in_order_too}
+use Rattle.rx_event.specs.declared.event.Place.TheVariants.{Root, Source, Inner, Notifier}
+use Rattle.rx_event.specs.declared.event.Event.{Event}
+use Rattle.rx_event.specs.declared.event.Event.TheVariants.{Open, Hub, Connect, Accept, Use, Item, End, Close, Take}
+use Rattle.rx_event.specs.Events.{has_source, is_merging, is_until, makes_node, makes_hub, makes_resource, parent_named, node_of_accept, is_source_of, is_notifier_of, is_inner_of, is_switch, is_remove_of, is_take_of, is_use_of, pays, is_item, is_take, is_making}
+use Rattle.rx_event.specs.Tree.{at, is_open}
+use Rattle.rx_event.specs.Resources.{is_held, is_taken, is_waiting, uses, accepted_by}
+use Rattle.rx_event.specs.Climb.{Stop}
+use Rattle.rx_event.specs.Moments.{Moment, moments, moments_after, is_projection_to, stops_of, projections, is_fired, projected_by, owed}
+use Rattle.rx_event.specs.Totals.{item_count, accepted_count, taken_count}
+use Rattle.rx_event.specs.Marks.{completes_source, source_completed}
+use Rattle.rx_event.specs.Forced.{IsConnected, mirrored, fired, failed, cut, connecting, due, IsSettled}
+use Rattle.rx_event.specs.declared.base.BaseResource.{BaseResource}
+use Rattle.rx_event.specs.Kept.{Kept, node_kept, hub_kept, resource_kept, resource_shown, shown}
+use Rattle.rx_event.specs.Opened.{source_opened, notifier_opened}
+use Rattle.rx_event.specs.Bases.{keep_node, keep_hub, keep_resource, accept_node, accept_tag, is_untaken, base_of, Alike, Agree}
+use Rattle.rx_event.proofs.Laws.SoundForm.{StandsWell, SubscribesWell, TwoOpenInners, Sound}
+use Rattle.rx_event.proofs.Laws.Searches.{list_any_found, list_any_holds}
+use Rattle.rx_event.proofs.Laws.Openness.{parent_open}
+use Rattle.rx_event.proofs.Laws.Stands.{open_node}
+use Rattle.rx_event.proofs.Laws.Resources.{node_of, is_held_within, is_waiting_within, held_resource, waiting_parts}
+use Rattle.rx_event.proofs.Laws.Sums.{sum_by_no_rise, count_by-places}
+use Rattle.rx_event.proofs.Laws.MarksNew.{never}
+use Rattle.rx_event.proofs.Laws.SameTree.{at_hub_alike, at_alike, alike_back, named_parent}
+use Rattle.rx_event.proofs.Laws.Bases.{found, node_of_base, hub_of_base, shown_get, length_base, base_length, is_inert, KeptAt, kept_at, kept_open, base_alike}
+use Rattle.rx_event.proofs.Laws.Sound.{count_none}
+use Rattle.rx_event.proofs.Laws.Making.{made_unremoved, made_untaken, made_unfired}
+
+pub resource_of_base : (b : Kept) (h : List Event) (r : ℕ) → resource_kept (base_of b h) r ≡ cond (is_untaken h r) (Some (keep_resource b h r)) None
+unfolding base_of
+resource_of_base b h = found (λ (k : BaseResource). k.number) (keep_resource b h) (λ r. refl) (is_untaken h) (length h) within where
+  by_tests : (r : ℕ) (x y : Bool) → is_held h r ≡ x → is_waiting h r ≡ y → (x || y) ≡ true → r < length h
+  by_tests r true y held waits some = is_held_within h r held
+  by_tests r false true held waits some = is_waiting_within h r waits
+  by_tests r false false held waits some = absurd (false≢true some)
+
+  within : (r : ℕ) → is_untaken h r ≡ true → r < length h
+  within r untaken = by_tests r (is_held h r) (is_waiting h r) refl refl untaken
+
+waiting_is : (h : List Event) (r : ℕ) → is_waiting h r ≡ ((at makes_resource h r && not (is_held h r)) && not (is_taken h r))
+unfolding is_waiting
+waiting_is h r = refl
+
+owed_is_less : (b : Kept) (h : List Event) (f : ℕ) → owed b h f ≡ projected_by b h f - count_by (pays f) h
+unfolding owed
+owed_is_less b h f = refl
+
+base_items : (b : Kept) (h : List Event) → (base_of b h).items ≡ item_count b h
+unfolding base_of
+base_items b h = refl
+
+base_accepted : (b : Kept) (h : List Event) → (base_of b h).accepted ≡ accepted_count b h
+unfolding base_of
+base_accepted b h = refl
+
+base_taken : (b : Kept) (h : List Event) → (base_of b h).taken ≡ taken_count b h
+unfolding base_of
+base_taken b h = refl
+
+uses_read : (b : Kept) (h : List Event) (r : ℕ) → uses b h r ≡ option_map_or (λ x. x.uses + count_by (is_use_of r) h) (resource_kept b r) (count_by (is_use_of r) h)
+unfolding uses
+uses_read b h r = refl
+
+completed_read : (b : Kept) (h : List Event) (n : ℕ) → source_completed b h n ≡ (option_map_or (λ x. x.source_completed) (node_kept b n) false || list_any (completes_source h n) h)
+unfolding source_completed
+completed_read b h n = refl
+
+abbrev leaf_of : Event → Option ℕ
+leaf_of (Item l v) = Some l
+leaf_of _ = None
+
+-- lists without items -------------------------------------------------------------------------------
+
+no_stops : (before : List Event) (x : Event) → leaf_of x ≡ None → stops_of before x ≡ []
+no_stops before (Item l v) none = absurd (none-some l (sym none))
+no_stops before (Open place kind) none = refl
+no_stops before _ none = refl
+
+itemless_sum : (f : List Stop → ℕ) → f [] ≡ 0 → (before xs : List Event) → ((i : ℕ) (x : Event) → slice_get xs i ≡ Some x → leaf_of x ≡ None) →
+    sum_by (λ (m : Moment). f (stops_of m.before m.event)) (moments_after before xs) ≡ 0
+itemless_sum f nothing before [] none = refl
+itemless_sum f nothing before (x ∷ xs) none =
+    let rest = itemless_sum f nothing (before ++ x ∷ []) xs (λ j y at_j. none (suc j) y at_j) in
+    let whole = sum_by-cons (λ (m : Moment). f (stops_of m.before m.event)) (record { before = before; event = x }) (moments_after (before ++ x ∷ []) xs) in
+    let first : f (stops_of before x) ≡ 0 = ap f (no_stops before x (none 0 x refl)) ∙ nothing in
+    omega arith
+
+itemless_projections : (xs : List Event) → ((i : ℕ) (x : Event) → slice_get xs i ≡ Some x → leaf_of x ≡ None) → (f : ℕ) → projections xs f ≡ 0
+unfolding projections moments
+itemless_projections xs none f = itemless_sum (count_by (is_projection_to f)) refl [] xs none
+
+-- what a base shows -----------------------------------------------------------------------------------
+
+inert_making : (m : ℕ) (x : Event) → is_inert m x ≡ true → is_making x ≡ true
+inert_making m (Hub mode) i = refl
+inert_making m (Accept n tag) i = refl
+inert_making m (Close c) i = refl
+inert_making m (Open place kind) i = absurd (false≢true i)
+inert_making m _ i = absurd (false≢true i)
+
+node_making : (x : Event) → makes_node x ≡ true → is_making x ≡ true
+node_making (Open place kind) i = refl
+node_making (Connect g) i = refl
+node_making (Hub mode) i = absurd (false≢true i)
+node_making _ i = absurd (false≢true i)
+
+module _ (b : Kept) (h : List Event) where
+  pub s_making : (i : ℕ) (x : Event) → slice_get (shown (base_of b h)) i ≡ Some x → is_making x ≡ true
+  s_making i x at_i = by_case (kept_at b h i x at_i) where
+    by_case : KeptAt h i x → is_making x ≡ true
+    by_case (inl there) = node_making x (sym (ap (λ o. option_map_or makes_node o false) there.1) ∙ open_node h i there.0)
+    by_case (inr inert) = inert_making i x inert
+
+  -- no test that only other events pass holds
+  s_none : (t : Event → Bool) → ((x : Event) → is_making x ≡ true → t x ≡ false) → list_any t (shown (base_of b h)) ≡ false
+  s_none t fails = never (list_any t (shown (base_of b h))) (λ some.
+      let place = list_any_found t (shown (base_of b h)) some in
+      both_ways _ (fails place.1 (s_making place.0 place.1 place.2)) place.3)
+
+  s_count : (t : Event → Bool) → ((x : Event) → is_making x ≡ true → t x ≡ false) → count_by t (shown (base_of b h)) ≡ 0
+  s_count t fails = count_none t (shown (base_of b h)) (λ i x at_i. fails x (s_making i x at_i))
+
+  s_itemless : (i : ℕ) (x : Event) → slice_get (shown (base_of b h)) i ≡ Some x → leaf_of x ≡ None
+  s_itemless i x at_i = by_event x (s_making i x at_i) where
+    by_event : (x : Event) → is_making x ≡ true → leaf_of x ≡ None
+    by_event (Item l v) making = absurd (false≢true making)
+    by_event (Open place kind) making = refl
+    by_event _ making = refl
+
+  -- the place of a resource: what accepted it where it is held, an acceptance at no node where it waits, and else none
+  s_resource : (r : ℕ) → r < length h → is_open h r ≡ false → at makes_hub h r ≡ false →
+      slice_get (shown (base_of b h)) r ≡ Some (option_map_or (resource_shown r) (cond (is_untaken h r) (Some (keep_resource b h r)) None) (Close r))
+  s_resource r l closed no_hub =
+      shown_get (base_of b h) r (rw (base_length b h) l) ∙
+      ap (λ k. Some (option_map_or (λ x. x.made) k (option_map_or (λ x. Hub x.mode) (hub_kept (base_of b h) r) (option_map_or (resource_shown r) (resource_kept (base_of b h) r) (Close r))))) (node_of_base b h r ∙ ap (λ c. cond c (Some (keep_node b h r)) None) closed) ∙
+      ap (λ k. Some (option_map_or (λ x. Hub x.mode) k (option_map_or (resource_shown r) (resource_kept (base_of b h) r) (Close r)))) (hub_of_base b h r ∙ ap (λ c. cond c (Some (keep_hub h r)) None) no_hub) ∙
+      ap (λ k. Some (option_map_or (resource_shown r) k (Close r))) (resource_of_base b h r)
+
+  resource_closed : (r : ℕ) → at makes_resource h r ≡ true → (is_open h r ≡ false) × (at makes_hub h r ≡ false)
+  resource_closed r makes = (never (is_open h r) (λ o. clash (slice_get h r) makes (open_node h r o)), no_hub (slice_get h r) makes) where
+    both_made : (x : Event) → makes_resource x ≡ true → makes_node x ≡ true → ⊥
+    both_made (Accept n tag) is node = false≢true node
+    both_made (Open place kind) is node = false≢true is
+    both_made _ is node = false≢true is
+
+    clash : (o : Option Event) → option_map_or makes_resource o false ≡ true → option_map_or makes_node o false ≡ true → ⊥
+    clash None is node = false≢true is
+    clash (Some x) is node = both_made x is node
+
+    not_hub : (x : Event) → makes_resource x ≡ true → makes_hub x ≡ false
+    not_hub (Accept n tag) is = refl
+    not_hub (Open place kind) is = refl
+    not_hub (Hub mode) is = absurd (false≢true is)
+    not_hub _ is = refl
+
+    no_hub : (o : Option Event) → option_map_or makes_resource o false ≡ true → option_map_or makes_hub o false ≡ false
+    no_hub None is = refl
+    no_hub (Some x) is = not_hub x is
+
+  accepted_some : (r : ℕ) → at makes_resource h r ≡ true → accepted_by b h r ≡ Some (Accept (option_map_or accept_node (accepted_by b h r) 0) (option_map_or accept_tag (accepted_by b h r) 0))
+  accepted_some r makes = by_record (resource_kept b r) where
+    in_event : (x : Event) → makes_resource x ≡ true → x ≡ Accept (accept_node x) (accept_tag x)
+    in_event (Accept n tag) is = refl
+    in_event (Open place kind) is = absurd (false≢true is)
+    in_event _ is = absurd (false≢true is)
+
+    in_place : (o : Option Event) → option_map_or makes_resource o false ≡ true → o ≡ Some (Accept (option_map_or accept_node o 0) (option_map_or accept_tag o 0))
+    in_place None is = absurd (false≢true is)
+    in_place (Some x) is = ap Some (in_event x is)
+
+    by_record : (k : Option BaseResource) → option_map_or (λ x. Some (Accept x.node x.tag)) k (slice_get h r) ≡
+        Some (Accept (option_map_or accept_node (option_map_or (λ x. Some (Accept x.node x.tag)) k (slice_get h r)) 0) (option_map_or accept_tag (option_map_or (λ x. Some (Accept x.node x.tag)) k (slice_get h r)) 0))
+    by_record None = in_place (slice_get h r) makes
+    by_record (Some k) = refl
+
+  -- a held one
+  pub s_held : Sound b h → (r : ℕ) → is_held h r ≡ true → slice_get (shown (base_of b h)) r ≡ slice_get h r
+  s_held sound r held =
+      let makes = held_resource h r held in
+      let no = resource_closed r makes in
+      s_resource r (is_held_within h r held) no.0 no.1 ∙
+      ap (λ c. Some (option_map_or (resource_shown r) (cond (c || is_waiting h r) (Some (keep_resource b h r)) None) (Close r))) held ∙
+      ap (λ c. Some (cond c (Accept (keep_resource b h r).node (keep_resource b h r).tag) (Accept r (keep_resource b h r).tag))) held ∙
+      sym (accepted_some r makes) ∙ sound.accepted r held
+
+  -- one that waits
+  pub s_waiting : (r : ℕ) → is_waiting h r ≡ true → slice_get (shown (base_of b h)) r ≡ Some (Accept r (keep_resource b h r).tag)
+  s_waiting r waits =
+      let parts = waiting_parts h r waits in
+      let no = resource_closed r parts.0 in
+      s_resource r (is_waiting_within h r waits) no.0 no.1 ∙
+      (λ i. Some (option_map_or (resource_shown r) (cond (parts.1 i || waits i) (Some (keep_resource b h r)) None) (Close r))) ∙
+      ap (λ c. Some (cond c (Accept (keep_resource b h r).node (keep_resource b h r).tag) (Accept r (keep_resource b h r).tag))) parts.1
+
+  -- else none
+  pub s_no_resource : (r : ℕ) → is_untaken h r ≡ false → at makes_resource (shown (base_of b h)) r ≡ false
+  s_no_resource r none = by_place (cases_lt r (length h)) where
+    not_made : (x : Event) → makes_node x ≡ true → makes_resource x ≡ false
+    not_made (Open place kind) is = refl
+    not_made (Connect g) is = refl
+    not_made (Accept n tag) is = absurd (false≢true is)
+    not_made _ is = refl
+
+    by_event : (o : Option Event) → option_map_or makes_node o false ≡ true → option_map_or makes_resource o false ≡ false
+    by_event None is = refl
+    by_event (Some x) is = not_made x is
+
+    is_hub_there : at makes_hub h r ≡ true → is_open h r ≡ false → r < length h → at makes_resource (shown (base_of b h)) r ≡ false
+    is_hub_there hub closed l =
+        ap (λ o. option_map_or makes_resource o false)
+        (shown_get (base_of b h) r (rw (base_length b h) l) ∙
+        ap (λ k. Some (option_map_or (λ x. x.made) k (option_map_or (λ x. Hub x.mode) (hub_kept (base_of b h) r) (option_map_or (resource_shown r) (resource_kept (base_of b h) r) (Close r))))) (node_of_base b h r ∙ ap (λ c. cond c (Some (keep_node b h r)) None) closed) ∙
+        ap (λ k. Some (option_map_or (λ x. Hub x.mode) k (option_map_or (resource_shown r) (resource_kept (base_of b h) r) (Close r)))) (hub_of_base b h r ∙ ap (λ c. cond c (Some (keep_hub h r)) None) hub))
+
+    by_tests : r < length h → (is_open h r ≡ true) ⊎ (is_open h r ≡ false) → (at makes_hub h r ≡ true) ⊎ (at makes_hub h r ≡ false) → at makes_resource (shown (base_of b h)) r ≡ false
+    by_tests l (inl o) hub = ap (λ x. option_map_or makes_resource x false) (kept_open b h r o) ∙ by_event (slice_get h r) (open_node h r o)
+    by_tests l (inr closed) (inl hub) = is_hub_there hub closed l
+    by_tests l (inr closed) (inr plain) =
+        ap (λ o. option_map_or makes_resource o false) (s_resource r l closed plain ∙ ap (λ c. Some (option_map_or (resource_shown r) (cond c (Some (keep_resource b h r)) None) (Close r))) none)
+
+    by_place : (r < length h) ⊎ (length h ≤ r) → at makes_resource (shown (base_of b h)) r ≡ false
+    by_place (inl l) = by_tests l (cases_Bool (is_open h r)) (cases_Bool (at makes_hub h r))
+    by_place (inr past) = ap (λ o. option_map_or makes_resource o false) (slice_get_past (shown (base_of b h)) r (rw (length_base b h) past))
+
+  pub s_fired : (u : ℕ) → is_fired (shown (base_of b h)) u ≡ false
+  s_fired u = made_unfired (shown (base_of b h)) s_making u
+
+  s_projections : (f : ℕ) → projections (shown (base_of b h)) f ≡ 0
+  s_projections f = itemless_projections (shown (base_of b h)) s_itemless f
+
+  s_completed : (n : ℕ) → list_any (completes_source (shown (base_of b h)) n) (shown (base_of b h)) ≡ false
+  s_completed n = s_none (completes_source (shown (base_of b h)) n) fails where
+    fails : (x : Event) → is_making x ≡ true → completes_source (shown (base_of b h)) n x ≡ false
+    fails (End m t) making = absurd (false≢true making)
+    fails (Open place kind) making = refl
+    fails _ making = refl
+
+  pub s_no_end : (i n : ℕ) (t : Terminal) → slice_get (shown (base_of b h)) i ≡ Some (End n t) → ⊥
+  s_no_end i n t at_i = false≢true (s_making i (End n t) at_i)
+
+  pub s_unremoved : (r : ℕ) → list_any (is_remove_of r) (shown (base_of b h)) ≡ false
+  s_unremoved r = made_unremoved (shown (base_of b h)) s_making r
+
+  pub s_untaken : (r : ℕ) → list_any (is_take_of r) (shown (base_of b h)) ≡ false
+  s_untaken r = made_untaken (shown (base_of b h)) s_making r
+
+  pub s_unused : (r : ℕ) → count_by (is_use_of r) (shown (base_of b h)) ≡ 0
+  s_unused r = s_count (is_use_of r) fails where
+    fails : (x : Event) → is_making x ≡ true → is_use_of r x ≡ false
+    fails (Use q) making = absurd (false≢true making)
+    fails (Open place kind) making = refl
+    fails _ making = refl
+
+  s_items : count_by is_item (shown (base_of b h)) ≡ 0
+  s_items = s_count is_item fails where
+    fails : (x : Event) → is_making x ≡ true → is_item x ≡ false
+    fails (Item l v) making = absurd (false≢true making)
+    fails (Open place kind) making = refl
+    fails _ making = refl
+
+  s_takes : count_by is_take (shown (base_of b h)) ≡ 0
+  s_takes = s_count is_take fails where
+    fails : (x : Event) → is_making x ≡ true → is_take x ≡ false
+    fails (Take q) making = absurd (false≢true making)
+    fails (Open place kind) making = refl
+    fails _ making = refl
+
+  s_taken : (r : ℕ) → is_taken (shown (base_of b h)) r ≡ false
+  unfolding is_taken
+  s_taken r = ap (λ c. at makes_resource (shown (base_of b h)) r && c) (s_untaken r) ∙ and_false (at makes_resource (shown (base_of b h)) r) where
+    and_false : (c : Bool) → (c && false) ≡ false
+    and_false true = refl
+    and_false false = refl
+
+  module _ (sound : Sound b h) where
+    pub base_is_alike : Alike h (shown (base_of b h))
+    base_is_alike = base_alike b h sound.one_inner
+
+    pub held_node : (r : ℕ) → is_held h r ≡ true → option_map_or (is_open h) (node_of h r) false ≡ true
+    unfolding is_held
+    held_node r held = (and_parts (option_map_or (is_open h) (node_of h r) false) _ held).0
+
+    and_true : (c : Bool) → (c && true) ≡ c
+    and_true true = refl
+    and_true false = refl
+
+    node_open_there : (o : Option Event) → option_map_or (is_open h) (option_and_then node_of_accept o) false ≡ option_map_or (is_open (shown (base_of b h))) (option_and_then node_of_accept o) false
+    node_open_there None = refl
+    node_open_there (Some (Accept n tag)) = base_is_alike.same_open n
+    node_open_there (Some (Open place kind)) = refl
+    node_open_there (Some _) = refl
+
+    pub s_is_held : (r : ℕ) → is_held h r ≡ is_held (shown (base_of b h)) r
+    unfolding is_held
+    s_is_held r = by_state (is_held h r) refl (is_waiting h r) refl ∙ sym (ap (λ c. option_map_or (is_open (shown (base_of b h))) (node_of (shown (base_of b h)) r) false && not c) (s_unremoved r) ∙ and_true (option_map_or (is_open (shown (base_of b h))) (node_of (shown (base_of b h)) r) false)) where
+      no_accept : (o : Option Event) → option_map_or makes_resource o false ≡ false → option_and_then node_of_accept o ≡ None
+      no_accept None none = refl
+      no_accept (Some (Accept n tag)) none = absurd (false≢true (sym none))
+      no_accept (Some (Open place kind)) none = refl
+      no_accept (Some _) none = refl
+
+      by_state : (x : Bool) → is_held h r ≡ x → (y : Bool) → is_waiting h r ≡ y → x ≡ option_map_or (is_open (shown (base_of b h))) (node_of (shown (base_of b h)) r) false
+      by_state true held y waits = sym (ap (λ o. option_map_or (is_open (shown (base_of b h))) (option_and_then node_of_accept o) false) (s_held sound r held) ∙ sym (node_open_there (slice_get h r)) ∙ held_node r held)
+      by_state false held true waits =
+          sym (ap (λ o. option_map_or (is_open (shown (base_of b h))) (option_and_then node_of_accept o) false) (s_waiting r waits) ∙ sym (base_is_alike.same_open r) ∙ (resource_closed r (waiting_parts h r waits).0).0)
+      by_state false held false waits = sym (ap (λ o. option_map_or (is_open (shown (base_of b h))) o false) (no_accept (slice_get (shown (base_of b h)) r) (s_no_resource r (λ i. held i || waits i))))
+
+    s_is_waiting : (r : ℕ) → is_waiting h r ≡ is_waiting (shown (base_of b h)) r
+    s_is_waiting r = by_state (is_held h r) refl (is_waiting h r) refl ∙ sym (there ∙ and_true (at makes_resource (shown (base_of b h)) r && not (is_held h r))) where
+      there : is_waiting (shown (base_of b h)) r ≡ ((at makes_resource (shown (base_of b h)) r && not (is_held h r)) && true)
+      there = is_waiting_is ∙ (λ i. (at makes_resource (shown (base_of b h)) r && not (sym (s_is_held r) i)) && not (s_taken r i)) where
+        is_waiting_is : is_waiting (shown (base_of b h)) r ≡ ((at makes_resource (shown (base_of b h)) r && not (is_held (shown (base_of b h)) r)) && not (is_taken (shown (base_of b h)) r))
+        is_waiting_is = waiting_is (shown (base_of b h)) r
+
+      and_false : (c : Bool) → (c && false) ≡ false
+      and_false true = refl
+      and_false false = refl
+
+      by_state : (x : Bool) → is_held h r ≡ x → (y : Bool) → is_waiting h r ≡ y → y ≡ (at makes_resource (shown (base_of b h)) r && not (is_held h r))
+      by_state true held true waits = absurd (both_ways _ (waiting_parts h r waits).1 held)
+      by_state true held false waits = sym (ap (λ c. at makes_resource (shown (base_of b h)) r && not c) held ∙ and_false (at makes_resource (shown (base_of b h)) r))
+      by_state false held true waits = sym (λ i. option_map_or makes_resource (s_waiting r waits i) false && not (held i))
+      by_state false held false waits = sym (λ i. s_no_resource r (λ j. held j || waits j) i && not (held i))
+
+    s_kept : (r : ℕ) → is_untaken h r ≡ true → resource_kept (base_of b h) r ≡ Some (keep_resource b h r)
+    s_kept r untaken = resource_of_base b h r ∙ ap (λ c. cond c (Some (keep_resource b h r)) None) untaken
+
+    untaken_made : (r : ℕ) → is_untaken h r ≡ true → at makes_resource h r ≡ true
+    untaken_made r untaken = by_state (is_held h r) refl untaken where
+      by_state : (x : Bool) → is_held h r ≡ x → (x || is_waiting h r) ≡ true → at makes_resource h r ≡ true
+      by_state true held some = held_resource h r held
+      by_state false held waits = (waiting_parts h r waits).0
+
+    s_accepts : (r : ℕ) → is_untaken h r ≡ true → accepted_by b h r ≡ accepted_by (base_of b h) (shown (base_of b h)) r
+    s_accepts r untaken =
+        accepted_some r (untaken_made r untaken) ∙
+        sym (ap (λ k. option_map_or (λ x. Some (Accept x.node x.tag)) k (slice_get (shown (base_of b h)) r)) (s_kept r untaken))
+
+    s_uses : (r : ℕ) → is_untaken h r ≡ true → uses b h r ≡ uses (base_of b h) (shown (base_of b h)) r
+    s_uses r untaken =
+        sym (uses_is ∙ ap (λ k. option_map_or (λ x. x.uses + count_by (is_use_of r) (shown (base_of b h))) k (count_by (is_use_of r) (shown (base_of b h)))) (s_kept r untaken) ∙
+        (let none = s_unused r in let e : uses b h r + count_by (is_use_of r) (shown (base_of b h)) ≡ uses b h r = omega arith in e))
+      where
+        uses_is : uses (base_of b h) (shown (base_of b h)) r ≡
+            option_map_or (λ x. x.uses + count_by (is_use_of r) (shown (base_of b h))) (resource_kept (base_of b h) r) (count_by (is_use_of r) (shown (base_of b h)))
+        uses_is = uses_read (base_of b h) (shown (base_of b h)) r
+
+    -- marks of an open node
+    s_node : (n : ℕ) → is_open h n ≡ true → node_kept (base_of b h) n ≡ Some (keep_node b h n)
+    s_node n o = node_of_base b h n ∙ ap (λ c. cond c (Some (keep_node b h n)) None) o
+
+    shown_some : (t : Event → Bool) → ((m : ℕ) (x : Event) → is_inert m x ≡ true → t x ≡ false) → list_any t (shown (base_of b h)) ≡ true → list_any t h ≡ true
+    shown_some t fails some =
+        let place = list_any_found t (shown (base_of b h)) some in
+        by_case place.0 place.1 place.3 (kept_at b h place.0 place.1 place.2)
+      where
+        by_case : (i : ℕ) (x : Event) → t x ≡ true → KeptAt h i x → list_any t h ≡ true
+        by_case i x passes (inl there) = list_any_holds t h i x there.1 passes
+        by_case i x passes (inr inert) = absurd (both_ways _ (fails i x inert) passes)
+
+    or_more : (x y z : Bool) → (z ≡ true → y ≡ true) → ((x || y) || z) ≡ (x || y)
+    or_more true y z up = refl
+    or_more false true z up = refl
+    or_more false false true up = sym (up refl)
+    or_more false false false up = refl
+
+    inert_source : (n m : ℕ) (x : Event) → is_inert m x ≡ true → is_source_of n x ≡ false
+    inert_source n m (Open place kind) i = absurd (false≢true i)
+    inert_source n m (Hub mode) i = refl
+    inert_source n m _ i = refl
+
+    inert_notifier : (n m : ℕ) (x : Event) → is_inert m x ≡ true → is_notifier_of n x ≡ false
+    inert_notifier n m (Open place kind) i = absurd (false≢true i)
+    inert_notifier n m (Hub mode) i = refl
+    inert_notifier n m _ i = refl
+
+    s_sources : (n : ℕ) → is_open h n ≡ true → source_opened b h n ≡ source_opened (base_of b h) (shown (base_of b h)) n
+    s_sources n o =
+        sym (ap (λ k. option_map_or (λ x. x.source_opened) k false || list_any (is_source_of n) (shown (base_of b h))) (s_node n o) ∙
+        or_more (option_map_or (λ x. x.source_opened) (node_kept b n) false) (list_any (is_source_of n) h) (list_any (is_source_of n) (shown (base_of b h))) (shown_some (is_source_of n) (inert_source n)))
+
+    s_notifiers : (n : ℕ) → is_open h n ≡ true → notifier_opened b h n ≡ notifier_opened (base_of b h) (shown (base_of b h)) n
+    s_notifiers n o =
+        sym (ap (λ k. option_map_or (λ x. x.notifier_opened) k false || list_any (is_notifier_of n) (shown (base_of b h))) (s_node n o) ∙
+        or_more (option_map_or (λ x. x.notifier_opened) (node_kept b n) false) (list_any (is_notifier_of n) h) (list_any (is_notifier_of n) (shown (base_of b h))) (shown_some (is_notifier_of n) (inert_notifier n)))
+
+    s_completions : (n : ℕ) → is_open h n ≡ true → source_completed b h n ≡ source_completed (base_of b h) (shown (base_of b h)) n
+    s_completions n o =
+        sym (completed_read (base_of b h) (shown (base_of b h)) n ∙ (λ i. option_map_or (λ x. x.source_completed) (s_node n o i) false || s_completed n i) ∙ or_nothing (source_completed b h n))
+      where
+        or_nothing : (x : Bool) → (x || false) ≡ x
+        or_nothing true = refl
+        or_nothing false = refl
+
+    s_debts : (n : ℕ) → is_open h n ≡ true → owed b h n ≡ owed (base_of b h) (shown (base_of b h)) n
+    s_debts n o = sym (owed_is ∙ ap (λ k. option_map_or (λ x. x.owed + count_by (pays n) (shown (base_of b h)) + projections (shown (base_of b h)) n) k (projections (shown (base_of b h)) n) - count_by (pays n) (shown (base_of b h))) (s_node n o) ∙ (let none = s_projections n in let e : owed b h n + count_by (pays n) (shown (base_of b h)) + projections (shown (base_of b h)) n - count_by (pays n) (shown (base_of b h)) ≡ owed b h n = omega arith in e)) where
+      owed_is : owed (base_of b h) (shown (base_of b h)) n ≡ projected_by (base_of b h) (shown (base_of b h)) n - count_by (pays n) (shown (base_of b h))
+      owed_is = owed_is_less (base_of b h) (shown (base_of b h)) n
+
+    -- a base is sound ---------------------------------------------------------------------------------
+
+    s_below : (n m : ℕ) (e : Event) → slice_get (shown (base_of b h)) n ≡ Some e → parent_named e ≡ Some m → m < n
+    s_below n m e at_n named = by_case (kept_at b h n e at_n) where
+      inert : (x : Event) → is_inert n x ≡ true → parent_named x ≡ Some m → m < n
+      inert (Open place kind) i named = absurd (false≢true i)
+      inert (Hub mode) i named = absurd (none-some m named)
+      inert _ i named = absurd (none-some m named)
+
+      by_case : KeptAt h n e → m < n
+      by_case (inl there) = sound.below n m e there.1 named
+      by_case (inr i) = inert e i named
+
+    pub s_one_inner : (f x y : ℕ) → TwoOpenInners (shown (base_of b h)) f x y → x ≡ y
+    s_one_inner f x y two =
+        let a = base_is_alike in
+        let back = alike_back h (shown (base_of b h)) a in
+        let x_open : is_open h x ≡ true = a.same_open x ∙ two.one_open in
+        let y_open : is_open h y ≡ true = a.same_open y ∙ two.other_open in
+        let one : at (is_inner_of f) h x ≡ true = at_alike h (shown (base_of b h)) a (is_inner_of f) x x_open ∙ two.one in
+        let f_open : is_open h f ≡ true = inner_open f x x_open one in
+        sound.one_inner f x y (record { switch = at_alike h (shown (base_of b h)) a is_switch f f_open ∙ two.switch; one = one; one_open = x_open; other = at_alike h (shown (base_of b h)) a (is_inner_of f) y y_open ∙ two.other; other_open = y_open })
+      where
+        names : (f : ℕ) (o : Option Event) → option_map_or (is_inner_of f) o false ≡ true → (e : Event) × (o ≡ Some e) × (parent_named e ≡ Some f)
+        names f None inner = absurd (false≢true inner)
+        names f (Some (Open (Inner g) kind)) inner = (Open (Inner g) kind, refl, ap Some (eqb-true g f inner))
+        names f (Some (Open Root kind)) inner = absurd (false≢true inner)
+        names f (Some (Open (Source g) kind)) inner = absurd (false≢true inner)
+        names f (Some (Open (Notifier g) kind)) inner = absurd (false≢true inner)
+        names f (Some _) inner = absurd (false≢true inner)
+
+        inner_open : (f x : ℕ) → is_open h x ≡ true → at (is_inner_of f) h x ≡ true → is_open h f ≡ true
+        inner_open f x o inner =
+            let named = names f (slice_get h x) inner in
+            parent_open h x f o (named_parent h x f named.0 named.1 named.2 (sound.below x f named.0 named.1 named.2))
+
+    pub s_paid : (f : ℕ) → is_open h f ≡ true → count_by (pays f) (shown (base_of b h)) ≤ projected_by (base_of b h) (shown (base_of b h)) f
+    s_paid f o =
+        let known : projected_by (base_of b h) (shown (base_of b h)) f ≡ owed b h f + count_by (pays f) (shown (base_of b h)) + projections (shown (base_of b h)) f =
+        ap (λ k. option_map_or (λ x. x.owed + count_by (pays f) (shown (base_of b h)) + projections (shown (base_of b h)) f) k (projections (shown (base_of b h)) f)) (s_node f o) in
+        omega arith
+
+    pub base_sound : Sound (base_of b h) (shown (base_of b h))
+    base_sound =
+        record {
+          below = s_below;
+          stands = λ n x at_n. stands_there n x at_n (kept_at b h n x at_n);
+          subscribes = λ n x at_n. subscribes_there n x (kept_at b h n x at_n);
+          one_inner = s_one_inner;
+          accepted = λ r held. accepted_there r (s_is_held r ∙ held);
+        }
+      where
+        -- the parent of an open node is open
+        above : (n p : ℕ) (x : Event) → is_open h n ≡ true → slice_get h n ≡ Some x → parent_named x ≡ Some p → is_open h p ≡ true
+        above n p x o at_n named = parent_open h n p o (named_parent h n p x at_n named (sound.below n p x at_n named))
+
+        at_there : (q : Event → Bool) (p : ℕ) → is_open h p ≡ true → at q h p ≡ true → at q (shown (base_of b h)) p ≡ true
+        at_there q p o passes = sym (at_alike h (shown (base_of b h)) base_is_alike q p o) ∙ passes
+
+        hub_there : (g : ℕ) → at makes_hub h g ≡ true → at makes_hub (shown (base_of b h)) g ≡ true
+        hub_there g hub = at_hub_alike h (shown (base_of b h)) base_is_alike makes_hub hub_is g hub
+
+        inert_stands : (n : ℕ) (x : Event) → is_inert n x ≡ true → StandsWell (shown (base_of b h)) x
+        inert_stands n (Hub mode) i = tt
+        inert_stands n (Accept m tag) i = tt
+        inert_stands n (Close c) i = tt
+        inert_stands n (Open place kind) i = absurd (false≢true i)
+        inert_stands n _ i = absurd (false≢true i)
+
+        open_stands : (n : ℕ) (x : Event) → is_open h n ≡ true → slice_get h n ≡ Some x → StandsWell h x → StandsWell (shown (base_of b h)) x
+        open_stands n (Open (Source p) kind) o at_n well = at_there has_source p (above n p (Open (Source p) kind) o at_n refl) well
+        open_stands n (Open (Inner p) kind) o at_n well = at_there is_merging p (above n p (Open (Inner p) kind) o at_n refl) well
+        open_stands n (Open (Notifier p) kind) o at_n well = at_there is_until p (above n p (Open (Notifier p) kind) o at_n refl) well
+        open_stands n (Open Root kind) o at_n well = tt
+        open_stands n (Connect g) o at_n well = hub_there g well
+        open_stands n (Hub mode) o at_n well = tt
+        open_stands n _ o at_n well = tt
+
+        stands_there : (n : ℕ) (x : Event) → slice_get (shown (base_of b h)) n ≡ Some x → KeptAt h n x → StandsWell (shown (base_of b h)) x
+        stands_there n x at_n (inl there) = open_stands n x there.0 there.1 (sound.stands n x there.1)
+        stands_there n x at_n (inr inert) = inert_stands n x inert
+
+        open_subscribes : (n : ℕ) (x : Event) → is_open h n ≡ true → slice_get h n ≡ Some x → SubscribesWell h x → SubscribesWell (shown (base_of b h)) x
+        open_subscribes n (Open place (Sub g)) o at_n well = (hub_there g well.0, in_order place at_n well.1) where
+          ordered : (p : ℕ) → is_open h p ≡ true → IsInOrderAt h g p → IsInOrderAt (shown (base_of b h)) g p
+          ordered p p_open order = in_order_too h (shown (base_of b h)) base_is_alike g p p_open order
+
+          in_order : (place : Place) → slice_get h n ≡ Some (Open place (Sub g)) → IsInOrder h g place → IsInOrder (shown (base_of b h)) g place
+          in_order Root at_n order = tt
+          in_order (Source p) at_n order = ordered p (above n p (Open (Source p) (Sub g)) o at_n refl) order
+          in_order (Inner p) at_n order = ordered p (above n p (Open (Inner p) (Sub g)) o at_n refl) order
+          in_order (Notifier p) at_n order = ordered p (above n p (Open (Notifier p) (Sub g)) o at_n refl) order
+        open_subscribes n (Open place Leaf) o at_n well = tt
+        open_subscribes n (Open place Pass) o at_n well = tt
+        open_subscribes n (Open place Flat) o at_n well = tt
+        open_subscribes n (Open place Switch) o at_n well = tt
+        open_subscribes n (Open place Until) o at_n well = tt
+        open_subscribes n (Hub mode) o at_n well = tt
+        open_subscribes n _ o at_n well = tt
+
+        inert_subscribes : (n : ℕ) (x : Event) → is_inert n x ≡ true → SubscribesWell (shown (base_of b h)) x
+        inert_subscribes n (Hub mode) i = tt
+        inert_subscribes n (Accept m tag) i = tt
+        inert_subscribes n (Close c) i = tt
+        inert_subscribes n (Open place kind) i = absurd (false≢true i)
+        inert_subscribes n _ i = absurd (false≢true i)
+
+        subscribes_there : (n : ℕ) (x : Event) → KeptAt h n x → SubscribesWell (shown (base_of b h)) x
+        subscribes_there n x (inl there) = open_subscribes n x there.0 there.1 (sound.subscribes n x there.1)
+        subscribes_there n x (inr inert) = inert_subscribes n x inert
+
+        accepted_there : (r : ℕ) → is_held h r ≡ true → accepted_by (base_of b h) (shown (base_of b h)) r ≡ slice_get (shown (base_of b h)) r
+        accepted_there r held = sym (s_accepts r (λ i. held i || is_waiting h r)) ∙ sound.accepted r held ∙ sym (s_held sound r held)
+
+    -- and agrees ---------------------------------------------------------------------------------------
+
+    s_accepted_less : count_by makes_resource (shown (base_of b h)) ≤ count_by makes_resource h
+    s_accepted_less =
+        let one = count_by-places makes_resource (shown (base_of b h)) in
+        let two = count_by-places makes_resource h in
+        let less = sum_by_no_rise (λ n. cond (at makes_resource h n) 1 0) (λ n. cond (at makes_resource (shown (base_of b h)) n) 1 0) (length h) (λ n l. bit_le (at makes_resource (shown (base_of b h)) n) (at makes_resource h n) (made n)) in
+        rw (one, two, length_base b h) less
+      where
+        bit_le : (x y : Bool) → (x ≡ true → y ≡ true) → cond {A = ℕ} x 1 0 ≤ cond {A = ℕ} y 1 0
+        bit_le true true up = omega arith
+        bit_le true false up = absurd (false≢true (up refl))
+        bit_le false y up = omega arith
+
+        made : (n : ℕ) → at makes_resource (shown (base_of b h)) n ≡ true → at makes_resource h n ≡ true
+        made n there = by_test (cases_Bool (is_untaken h n)) where
+          by_test : (is_untaken h n ≡ true) ⊎ (is_untaken h n ≡ false) → at makes_resource h n ≡ true
+          by_test (inl untaken) = untaken_made n untaken
+          by_test (inr none) = absurd (both_ways _ (s_no_resource n none) there)
+
+    settled_connected : IsSettled b h → IsConnected h
+    settled_connected settled g d = settled.none (Connect g) (connecting d)
+
+    pub base_agrees : IsSettled b h → Agree b h (base_of b h) (shown (base_of b h))
+    base_agrees settled =
+        record {
+          alike = base_is_alike;
+          sources = s_sources;
+          notifiers = s_notifiers;
+          completions = s_completions;
+          debts = s_debts;
+          held = s_is_held;
+          waiting = s_is_waiting;
+          accepts = s_accepts;
+          used = s_uses;
+          item_total = let none = s_items in let sum = base_items b h in omega arith;
+          accepted_total = let less = s_accepted_less in let sum = base_accepted b h in omega arith;
+          taken_total = let none = s_takes in let sum = base_taken b h in omega arith;
+          gives = record {
+            mirrors = λ p t m. absurd (settled.none (End p t) (due (settled_connected settled) (mirrored m.0 m.1 m.2)));
+            fires = λ u m. absurd (settled.none (End u Completed) (due (settled_connected settled) (fired m.0 m.1 m.2)));
+            fails = λ f c m. absurd (settled.none (End f (Error c)) (due (settled_connected settled) (failed m.0 m.1 m.2)));
+            cuts = λ s t m. absurd (settled.none (End s t) (due (settled_connected settled) (cut m.0 m.1)));
+          };
+          gives_back = record {
+            mirrors = λ p t m. absurd (s_no_end m.2.ended.place m.2.child t m.2.ended.found);
+            fires = λ u m. absurd (both_ways _ (s_fired u) m.2);
+            fails = λ f c m. absurd (s_no_end m.2.ended.place m.2.child (Error c) m.2.ended.found);
+            cuts = λ s t m. absurd (s_no_end m.1.place m.1.connection t m.1.ended);
+          };
+        }

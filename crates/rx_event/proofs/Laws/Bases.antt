@@ -1,0 +1,331 @@
+-- The base of a history reads as a list of events with the same hubs and open nodes.
+use Rattle.std.proofs.Common.{◌≡◌, ℕ, zero, suc, ◌+◌, ◌<◌, ◌≤◌, Bool, true, false, List, [], ◌∷◌, length, drop, map, cond, Option, Some, None, refl, sym, ap, subst, ◌∙◌, arith, inl, inr, ◌⊎◌, nat_lt, ◌==◌, slice_get, filter}
+use Rattle.std.proofs.Math.Bool.{not, ◌&&◌}
+use Rattle.std.specs.List.{list_any, range_with_len}
+use Rattle.std.specs.Option.{option_and_then, option_map, option_map_or}
+use Rattle.std.proofs.lemmas.Bool.{cases_Bool, cases_lt, cases_order, and_parts, both_ways, eqb-true, eq-eqb, false≢true}
+use Rattle.std.proofs.lemmas.Option.{slice_get_past, slice_get_within, slice_get-map, same_Some}
+use Rattle.std.proofs.lemmas.List.FromFn.{length-map-range_with_len}
+use Rattle.rx_event.specs.declared.event.Kind.{Kind}
+use Rattle.rx_event.specs.declared.event.Mode.{Mode}
+use Rattle.rx_event.specs.declared.event.Place.TheVariants.{Root, Source, Inner, Notifier}
+use Rattle.rx_event.specs.declared.event.Event.{Event}
+use Rattle.rx_event.specs.declared.event.Event.TheVariants.{Open, Hub, Connect, Accept, End, Close}
+use Rattle.rx_event.specs.Events.{makes_node, makes_hub, parent_named, is_switch, is_inner_of}
+use Rattle.rx_event.specs.Tree.{at, parent, if_less, shuts, is_shut, is_open, is_switched_inner}
+use Rattle.rx_event.proofs.Laws.SoundForm.{TwoOpenInners}
+use Rattle.rx_event.specs.declared.base.BaseResource.{BaseResource}
+use Rattle.rx_event.specs.declared.base.BaseNode.{BaseNode}
+use Rattle.rx_event.specs.declared.base.BaseHub.{BaseHub}
+use Rattle.rx_event.specs.Kept.{Kept, find_by, node_kept, hub_kept, resource_kept, resource_shown, shown_at, shown}
+use Rattle.rx_event.specs.Bases.{event_or, keep_node, keep_hub, mode_of, base_of, Alike}
+use Rattle.rx_event.proofs.Laws.Places.{at_within}
+use Rattle.rx_event.proofs.Laws.Parents.{parent-lt}
+use Rattle.rx_event.proofs.Laws.Openness.{is_open_step, is_open_within, parent_open}
+use Rattle.rx_event.proofs.Laws.Searches.{list_any_found}
+use Rattle.rx_event.proofs.Laws.Stands.{open_node, event_at}
+
+-- records by their numbers ------------------------------------------------------------------------
+
+unequal : (a b : ℕ) → (a < b) ⊎ (b < a) → (a == b) ≡ false
+unequal a b apart = by_test (cases_Bool (a == b)) where
+  by_test : ((a == b) ≡ true) ⊎ ((a == b) ≡ false) → (a == b) ≡ false
+  by_test (inr no_same) = no_same
+  by_test (inl same) = let e = eqb-true a b same in elim apart as (λ v. (a == b) ≡ false) [ inl l ↦ absurd (omega arith) | inr l ↦ absurd (omega arith) ]
+
+module _ {X : Type 0} (number : X → ℕ) (keep : ℕ → X) (numbered : (n : ℕ) → number (keep n) ≡ n) (p : ℕ → Bool) where
+  find_apart : (s n k : ℕ) → (k < s) ⊎ (s + n ≤ k) → find_by number (map keep (filter p (range_with_len s n))) k ≡ None
+  find_apart s zero k out = refl
+  find_apart s (suc n) k out = by_test (p s) (find_apart (s + 1) n k (further out)) (first out) where
+    further : (k < s) ⊎ (s + suc n ≤ k) → (k < s + 1) ⊎ ((s + 1) + n ≤ k)
+    further (inl l) = inl (omega arith)
+    further (inr l) = inr (omega arith)
+
+    first : (k < s) ⊎ (s + suc n ≤ k) → (number (keep s) == k) ≡ false
+    first (inl l) = ap (λ m. m == k) (numbered s) ∙ unequal s k (inr l)
+    first (inr l) = ap (λ m. m == k) (numbered s) ∙ unequal s k (inl (omega arith))
+
+    by_test : (b : Bool) → find_by number (map keep (filter p (range_with_len (s + 1) n))) k ≡ None → (number (keep s) == k) ≡ false →
+        find_by number (map keep (cond b (s ∷ filter p (range_with_len (s + 1) n)) (filter p (range_with_len (s + 1) n)))) k ≡ None
+    by_test true rest no_first = ap (λ c. cond c (Some (keep s)) (find_by number (map keep (filter p (range_with_len (s + 1) n))) k)) no_first ∙ rest
+    by_test false rest no_first = rest
+
+  find_in : (s n k : ℕ) → s ≤ k → k < s + n → find_by number (map keep (filter p (range_with_len s n))) k ≡ cond (p k) (Some (keep k)) None
+  find_in s zero k above below = absurd (omega arith)
+  find_in s (suc n) k above below = by_order (cases_order s k) (λ l. find_in (s + 1) n k (omega arith) (omega arith)) where
+    rest : Option X
+    rest = find_by number (map keep (filter p (range_with_len (s + 1) n))) k
+
+    here : (b : Bool) → s ≡ k → p s ≡ b → find_by number (map keep (cond b (s ∷ filter p (range_with_len (s + 1) n)) (filter p (range_with_len (s + 1) n)))) k ≡ cond (p k) (Some (keep k)) None
+    here true same at_s =
+        ap (λ c. cond c (Some (keep s)) rest) (ap (λ m. m == k) (numbered s) ∙ eq-eqb s k same) ∙ ap (λ m. Some (keep m)) same ∙
+        ap (λ c. cond c (Some (keep k)) None) (sym at_s ∙ ap p same)
+    here false same at_s = find_apart (s + 1) n k (inl (omega arith)) ∙ ap (λ c. cond c (Some (keep k)) None) (sym at_s ∙ ap p same)
+
+    later : (b : Bool) → (s < k) ⊎ (k < s) → rest ≡ cond (p k) (Some (keep k)) None →
+        find_by number (map keep (cond b (s ∷ filter p (range_with_len (s + 1) n)) (filter p (range_with_len (s + 1) n)))) k ≡ cond (p k) (Some (keep k)) None
+    later true apart found = ap (λ c. cond c (Some (keep s)) rest) (ap (λ m. m == k) (numbered s) ∙ unequal s k apart) ∙ found
+    later false apart found = found
+
+    by_order : (s ≡ k) ⊎ ((s < k) ⊎ (k < s)) → (s < k → rest ≡ cond (p k) (Some (keep k)) None) →
+        find_by number (map keep (filter p (range_with_len s (suc n)))) k ≡ cond (p k) (Some (keep k)) None
+    by_order (inl same) further = here (p s) same refl
+    by_order (inr (inl l)) further = later (p s) (inl l) (further l)
+    by_order (inr (inr l)) further = absurd (omega arith)
+
+  -- the record of this number, where the number passes
+  pub found : (len : ℕ) → ((n : ℕ) → p n ≡ true → n < len) → (k : ℕ) → find_by number (map keep (filter p (range_with_len 0 len))) k ≡ cond (p k) (Some (keep k)) None
+  found len within k = by_order (cases_lt k len) where
+    none : (b : Bool) → p k ≡ b → len ≤ k → cond b (Some (keep k)) None ≡ None
+    none true passes past = absurd (let l = within k passes in omega arith)
+    none false passes past = refl
+
+    by_order : (k < len) ⊎ (len ≤ k) → find_by number (map keep (filter p (range_with_len 0 len))) k ≡ cond (p k) (Some (keep k)) None
+    by_order (inl l) = find_in 0 len k (omega arith) (omega arith)
+    by_order (inr past) = find_apart 0 len k (inr (omega arith)) ∙ sym (none (p k) refl past)
+
+-- what a base keeps -------------------------------------------------------------------------------
+
+pub node_of_base : (b : Kept) (h : List Event) (n : ℕ) → node_kept (base_of b h) n ≡ cond (is_open h n) (Some (keep_node b h n)) None
+unfolding base_of
+node_of_base b h = found (λ (k : BaseNode). k.number) (keep_node b h) (λ n. refl) (is_open h) (length h) (is_open_within h)
+
+pub hub_of_base : (b : Kept) (h : List Event) (n : ℕ) → hub_kept (base_of b h) n ≡ cond (at makes_hub h n) (Some (keep_hub h n)) None
+unfolding base_of
+hub_of_base b h = found (λ (k : BaseHub). k.number) (keep_hub h) (λ n. refl) (at makes_hub h) (length h) (at_within makes_hub h)
+
+range_at : (s n k : ℕ) → k < n → slice_get (range_with_len s n) k ≡ Some (s + k)
+range_at s zero k l = absurd (omega arith)
+range_at s (suc n) zero l = ap Some (let e : s ≡ s + 0 = omega arith in e)
+range_at s (suc n) (suc k) l = range_at (s + 1) n k (omega arith) ∙ ap Some (let e : (s + 1) + k ≡ s + suc k = omega arith in e)
+
+pub length-shown : (b : Kept) → length (shown b) ≡ b.at_length
+unfolding shown
+length-shown b = length-map-range_with_len (shown_at b) 0 b.at_length
+
+pub shown_get : (b : Kept) (n : ℕ) → n < b.at_length → slice_get (shown b) n ≡ Some (shown_at b n)
+unfolding shown
+shown_get b n l =
+    slice_get-map (shown_at b) (range_with_len 0 b.at_length) n ∙ ap (option_map (shown_at b)) (range_at 0 b.at_length n l) ∙
+    ap (λ m. Some (shown_at b m)) (let e : 0 + n ≡ n = omega arith in e)
+
+-- what a place of a base's list is: an open node's event, or nothing that makes or shuts a node
+abbrev pub is_inert : ℕ → Event → Bool
+is_inert m (Hub mode) = true
+is_inert m (Accept node tag) = true
+is_inert m (Close c) = c == m
+is_inert m _ = false
+
+abbrev pub KeptAt : List Event → ℕ → Event → Type 0
+KeptAt h m x = ((is_open h m ≡ true) × (slice_get h m ≡ Some x)) ⊎ (is_inert m x ≡ true)
+
+kept_place : (b : Kept) (h : List Event) (m : ℕ) → m < length h → KeptAt h m (shown_at (base_of b h) m)
+kept_place b h m l = by_node (is_open h m) refl (node_of_base b h m) where
+  self : (m == m) ≡ true
+  self = eq-eqb m m refl
+
+  by_resource : (o : Option BaseResource) → is_inert m (option_map_or (resource_shown m) o (Close m)) ≡ true
+  by_resource None = self
+  by_resource (Some k) = by_owned k.owned where
+    by_owned : (c : Bool) → is_inert m (cond c (Accept k.node k.tag) (Accept m k.tag)) ≡ true
+    by_owned true = refl
+    by_owned false = refl
+
+  by_hub : (o : Option BaseHub) → is_inert m (option_map_or (λ k. Hub k.mode) o (option_map_or (resource_shown m) (resource_kept (base_of b h) m) (Close m))) ≡ true
+  by_hub None = by_resource (resource_kept (base_of b h) m)
+  by_hub (Some k) = refl
+
+  there : (e : Event) × (slice_get h m ≡ Some e)
+  there = event_at h m l
+
+  by_node : (o : Bool) → is_open h m ≡ o → node_kept (base_of b h) m ≡ cond o (Some (keep_node b h m)) None → KeptAt h m (shown_at (base_of b h) m)
+  by_node true o kept =
+      inl (o, there.1 ∙ ap Some (sym (ap (λ k. option_map_or (λ r. r.made) k (option_map_or (λ r. Hub r.mode) (hub_kept (base_of b h) m) (option_map_or (resource_shown m) (resource_kept (base_of b h) m) (Close m)))) kept ∙ ap (λ x. option_map_or (λ e. e) x (Close m)) there.1)))
+  by_node false o kept =
+      inr (ap (λ k. is_inert m (option_map_or (λ r. r.made) k (option_map_or (λ r. Hub r.mode) (hub_kept (base_of b h) m) (option_map_or (resource_shown m) (resource_kept (base_of b h) m) (Close m))))) kept ∙ by_hub (hub_kept (base_of b h) m))
+
+pub base_length : (b : Kept) (h : List Event) → (base_of b h).at_length ≡ length h
+unfolding base_of
+base_length b h = refl
+
+pub length_base : (b : Kept) (h : List Event) → length (shown (base_of b h)) ≡ length h
+length_base b h = length-shown (base_of b h) ∙ base_length b h
+
+-- what stands at a place of the base's list
+pub kept_at : (b : Kept) (h : List Event) (m : ℕ) (x : Event) → slice_get (shown (base_of b h)) m ≡ Some x → KeptAt h m x
+kept_at b h m x at_m =
+    let l : m < length h = rw (← length_base b h) (slice_get_within (shown (base_of b h)) m x at_m) in
+    let same : shown_at (base_of b h) m ≡ x = same_Some (shown_at (base_of b h) m) x (sym (shown_get (base_of b h) m (rw (base_length b h) l)) ∙ at_m) in
+    subst (λ (y : Event). KeptAt h m y) same (kept_place b h m l)
+
+-- an open node's event is there
+pub kept_open : (b : Kept) (h : List Event) (n : ℕ) → is_open h n ≡ true → slice_get (shown (base_of b h)) n ≡ slice_get h n
+kept_open b h n o =
+    let l : n < length h = is_open_within h n o in
+    let there = event_at h n l in
+    shown_get (base_of b h) n (rw (base_length b h) l) ∙
+    ap (λ k. Some (option_map_or (λ r. r.made) k (option_map_or (λ r. Hub r.mode) (hub_kept (base_of b h) n) (option_map_or (resource_shown n) (resource_kept (base_of b h) n) (Close n))))) (node_of_base b h n ∙ ap (λ c. cond c (Some (keep_node b h n)) None) o) ∙
+    ap (λ x. Some (option_map_or (λ e. e) x (Close n))) there.1 ∙ sym there.1
+
+pub closed_here : (b : Kept) (h : List Event) (n : ℕ) → is_open h n ≡ false → at makes_node (shown (base_of b h)) n ≡ false
+closed_here b h n closed = by_event (slice_get (shown (base_of b h)) n) refl where
+  inert : (x : Event) → is_inert n x ≡ true → makes_node x ≡ false
+  inert (Open place kind) i = absurd (false≢true i)
+  inert (Connect g) i = absurd (false≢true i)
+  inert (Hub mode) i = refl
+  inert _ i = refl
+
+  by_case : (x : Event) → KeptAt h n x → makes_node x ≡ false
+  by_case x (inl there) = absurd (both_ways _ closed there.0)
+  by_case x (inr i) = inert x i
+
+  by_event : (o : Option Event) → slice_get (shown (base_of b h)) n ≡ o → option_map_or makes_node o false ≡ false
+  by_event None at_n = refl
+  by_event (Some x) at_n = by_case x (kept_at b h n x at_n)
+
+pub slice_get-drop : {X : Type 0} (k : ℕ) (xs : List X) (i : ℕ) → slice_get (drop k xs) i ≡ slice_get xs (k + i)
+slice_get-drop zero xs i = ap (slice_get xs) (let e : i ≡ zero + i = omega arith in e)
+slice_get-drop (suc k) [] i = sym (slice_get_past [] (suc k + i) (omega arith))
+slice_get-drop (suc k) (x ∷ xs) i = slice_get-drop k xs i ∙ ap (slice_get (x ∷ xs)) (let e : suc (k + i) ≡ suc k + i = omega arith in e)
+
+inner_parent : (h : List Event) (f n : ℕ) → nat_lt f n ≡ true → at (is_inner_of f) h n ≡ true → parent h n ≡ Some f
+unfolding parent
+inner_parent h f n less inner = ap (option_and_then (if_less n)) (names (slice_get h n) inner) ∙ ap (λ b. cond b (Some f) None) less where
+  names : (x : Option Event) → option_map_or (is_inner_of f) x false ≡ true → option_and_then parent_named x ≡ Some f
+  names None inner = absurd (false≢true inner)
+  names (Some (Open (Inner g) kind)) inner = ap Some (eqb-true g f inner)
+  names (Some (Open Root kind)) inner = absurd (false≢true inner)
+  names (Some (Open (Source g) kind)) inner = absurd (false≢true inner)
+  names (Some (Open (Notifier g) kind)) inner = absurd (false≢true inner)
+  names (Some _) inner = absurd (false≢true inner)
+
+-- no later place of the base's list shuts an open node
+not_shut_later : (b : Kept) (h : List Event) → ((f x y : ℕ) → TwoOpenInners h f x y → x ≡ y) → (n m : ℕ) (x : Event) → is_open h n ≡ true → n < m → slice_get (shown (base_of b h)) m ≡ Some x →
+    shuts (shown (base_of b h)) n x ≡ true → ⊥
+not_shut_later b h law n m x o later at_m shut = by_event x (kept_at b h m x at_m) shut where
+  s : List Event
+  s = shown (base_of b h)
+
+  same_at : (t : Event → Bool) (k : ℕ) → is_open h k ≡ true → at t s k ≡ at t h k
+  same_at t k k_open = ap (λ e. option_map_or t e false) (kept_open b h k k_open)
+
+  exchanged : (f : ℕ) (kind : Kind) → is_open h m ≡ true → slice_get h m ≡ Some (Open (Inner f) kind) → is_switched_inner s f n ≡ true → ⊥
+  exchanged f kind m_open at_m switched =
+      let parts = and_parts (nat_lt f n && at is_switch s f) (at (is_inner_of f) s n) switched in
+      let front = and_parts (nat_lt f n) (at is_switch s f) parts.0 in
+      let inner : at (is_inner_of f) h n ≡ true = sym (same_at (is_inner_of f) n o) ∙ parts.1 in
+      let f_open : is_open h f ≡ true = parent_open h n f o (inner_parent h f n front.0 inner) in
+      let same = law f n m (record { switch = sym (same_at is_switch f f_open) ∙ front.1; one = inner; one_open = o; other = ap (λ e. option_map_or (is_inner_of f) e false) at_m ∙ eq-eqb f f refl; other_open = m_open }) in
+      absurd (omega arith)
+
+  by_event : (x : Event) → KeptAt h m x → shuts s n x ≡ true → ⊥
+  by_event (End c t) (inl there) shut = both_ways _ (ap (λ e. option_map_or makes_node e false) there.1) (open_node h m there.0)
+  by_event (End c t) (inr i) shut = false≢true i
+  by_event (Close c) (inl there) shut = both_ways _ (ap (λ e. option_map_or makes_node e false) there.1) (open_node h m there.0)
+  by_event (Close c) (inr i) shut = let e = eqb-true c m i in let f = eqb-true c n shut in absurd (omega arith)
+  by_event (Open (Inner f) kind) (inl there) shut = exchanged f kind there.0 there.1 shut
+  by_event (Open (Inner f) kind) (inr i) shut = false≢true i
+  by_event (Open Root kind) k shut = false≢true shut
+  by_event (Open (Source f) kind) k shut = false≢true shut
+  by_event (Open (Notifier f) kind) k shut = false≢true shut
+  by_event (Hub mode) k shut = false≢true shut
+  by_event _ k shut = false≢true shut
+
+not_shut_here : (b : Kept) (h : List Event) → ((f x y : ℕ) → TwoOpenInners h f x y → x ≡ y) → (n : ℕ) → is_open h n ≡ true → is_shut (shown (base_of b h)) n ≡ false
+unfolding is_shut
+not_shut_here b h law n o = by_test (cases_Bool (list_any (shuts (shown (base_of b h)) n) (drop (suc n) (shown (base_of b h))))) where
+  by_test : (list_any (shuts (shown (base_of b h)) n) (drop (suc n) (shown (base_of b h))) ≡ true) ⊎ (list_any (shuts (shown (base_of b h)) n) (drop (suc n) (shown (base_of b h))) ≡ false) →
+      list_any (shuts (shown (base_of b h)) n) (drop (suc n) (shown (base_of b h))) ≡ false
+  by_test (inr none) = none
+  by_test (inl some) =
+      let place = list_any_found (shuts (shown (base_of b h)) n) (drop (suc n) (shown (base_of b h))) some in
+      absurd (not_shut_later b h law n (suc n + place.0) place.1 o (omega arith) (sym (slice_get-drop (suc n) (shown (base_of b h)) place.0) ∙ place.2) place.3)
+
+parent_of_event : (s h : List Event) (n : ℕ) → slice_get s n ≡ slice_get h n → parent s n ≡ parent h n
+unfolding parent
+parent_of_event s h n same = ap (λ x. option_and_then (if_less n) (option_and_then parent_named x)) same
+
+open_within_base : (k : ℕ) (b : Kept) (h : List Event) → ((f x y : ℕ) → TwoOpenInners h f x y → x ≡ y) → (n : ℕ) → n < k → is_open (shown (base_of b h)) n ≡ is_open h n
+open_within_base zero b h law n l = absurd (omega arith)
+open_within_base (suc k) b h law n l = by_test (is_open h n) refl (λ m less. open_within_base k b h law m (omega arith)) where
+  s : List Event
+  s = shown (base_of b h)
+
+  same_parent : is_open h n ≡ true → parent s n ≡ parent h n
+  same_parent o = parent_of_event s h n (kept_open b h n o)
+
+  above : ((m : ℕ) → m < n → is_open s m ≡ is_open h m) → is_open h n ≡ true → (x : Option ℕ) → parent h n ≡ x → option_map_or (is_open s) x true ≡ true
+  above further o None below = refl
+  above further o (Some m) below = further m (parent-lt h n m below) ∙ parent_open h n m o below
+
+  by_test : (o : Bool) → is_open h n ≡ o → ((m : ℕ) → m < n → is_open s m ≡ is_open h m) → is_open s n ≡ o
+  by_test true o further =
+      let stands : at makes_node s n ≡ true = ap (λ e. option_map_or makes_node e false) (kept_open b h n o) ∙ open_node h n o in
+      let open_above : option_map_or (is_open s) (parent s n) true ≡ true = ap (λ x. option_map_or (is_open s) x true) (same_parent o) ∙ above further o (parent h n) refl in
+      is_open_step s n ∙ (λ i. (stands i && not (not_shut_here b h law n o i)) && open_above i)
+  by_test false closed further = is_open_step s n ∙ (λ i. (closed_here b h n closed i && not (is_shut s n)) && option_map_or (is_open s) (parent s n) true)
+
+-- the base of a lawful history has the same hubs and open nodes
+pub base_alike : (b : Kept) (h : List Event) → ((f x y : ℕ) → TwoOpenInners h f x y → x ≡ y) → Alike h (shown (base_of b h))
+base_alike b h law =
+    record {
+      same_length = sym (length_base b h);
+      same_open = λ n. sym (open_within_base (suc n) b h law n (omega arith));
+      same_made = λ n o. sym (kept_open b h n o);
+      same_hub = λ n mode at_n. hub_here n mode at_n;
+      same_hub_back = λ n mode at_n. hub_there n mode (kept_at b h n (Hub mode) at_n) at_n;
+    }
+  where
+    hub_here : (n : ℕ) (mode : Mode) → slice_get h n ≡ Some (Hub mode) → slice_get (shown (base_of b h)) n ≡ Some (Hub mode)
+    hub_here n mode at_n =
+        let closed : is_open h n ≡ false = no_node n mode at_n (cases_Bool (is_open h n)) in
+        let l : n < length h = slice_get_within h n (Hub mode) at_n in
+        shown_get (base_of b h) n (rw (base_length b h) l) ∙
+        ap Some (shown_hub n mode at_n closed)
+      where
+        no_node : (n : ℕ) (mode : Mode) → slice_get h n ≡ Some (Hub mode) → (is_open h n ≡ true) ⊎ (is_open h n ≡ false) → is_open h n ≡ false
+        no_node n mode at_n (inr closed) = closed
+        no_node n mode at_n (inl o) = absurd (both_ways _ (ap (λ e. option_map_or makes_node e false) at_n) (open_node h n o))
+
+        shown_hub : (n : ℕ) (mode : Mode) → slice_get h n ≡ Some (Hub mode) → is_open h n ≡ false → shown_at (base_of b h) n ≡ Hub mode
+        shown_hub n mode at_n closed =
+            ap (λ k. option_map_or (λ r. r.made) k (option_map_or (λ r. Hub r.mode) (hub_kept (base_of b h) n) (option_map_or (resource_shown n) (resource_kept (base_of b h) n) (Close n)))) (node_of_base b h n ∙ ap (λ c. cond c (Some (keep_node b h n)) None) closed) ∙
+            ap (λ k. option_map_or (λ r. Hub r.mode) k (option_map_or (resource_shown n) (resource_kept (base_of b h) n) (Close n))) (hub_of_base b h n ∙ ap (λ e. cond (option_map_or makes_hub e false) (Some (keep_hub h n)) None) at_n) ∙
+            ap (λ e. Hub (mode_of (option_map_or (λ x. x) e (Close n)))) at_n
+
+    hub_there : (n : ℕ) (mode : Mode) → KeptAt h n (Hub mode) → slice_get (shown (base_of b h)) n ≡ Some (Hub mode) → slice_get h n ≡ Some (Hub mode)
+    hub_there n mode (inl there) at_n = there.1
+    hub_there n mode (inr i) at_n = by_tests (cases_Bool (is_open h n)) (cases_Bool (at makes_hub h n)) where
+      l : n < length h
+      l = rw (← length_base b h) (slice_get_within (shown (base_of b h)) n (Hub mode) at_n)
+
+      made : shown_at (base_of b h) n ≡ Hub mode
+      made = same_Some (shown_at (base_of b h) n) (Hub mode) (sym (shown_get (base_of b h) n (rw (base_length b h) l)) ∙ at_n)
+
+      hub_event : (e : Event) → makes_hub e ≡ true → e ≡ Hub (mode_of e)
+      hub_event (Hub m) is = refl
+      hub_event (Open place kind) is = absurd (false≢true is)
+      hub_event _ is = absurd (false≢true is)
+
+      in_event : (o : Option Event) → option_map_or makes_hub o false ≡ true → o ≡ Some (Hub (mode_of (option_map_or (λ x. x) o (Close n))))
+      in_event None is = absurd (false≢true is)
+      in_event (Some e) is = ap Some (hub_event e is)
+
+      -- a resource's record shows no hub
+      no_hub : (k : Option BaseResource) → option_map_or (resource_shown n) k (Close n) ≡ Hub mode → ⊥
+      no_hub None same = both_ways (makes_hub (Close n)) refl (ap makes_hub same)
+      no_hub (Some k) same = by_owned k.owned same where
+        by_owned : (c : Bool) → cond c (Accept k.node k.tag) (Accept n k.tag) ≡ Hub mode → ⊥
+        by_owned true same = both_ways (makes_hub (Accept k.node k.tag)) refl (ap makes_hub same)
+        by_owned false same = both_ways (makes_hub (Accept n k.tag)) refl (ap makes_hub same)
+
+      past_node : is_open h n ≡ false → shown_at (base_of b h) n ≡ option_map_or (λ r. Hub r.mode) (hub_kept (base_of b h) n) (option_map_or (resource_shown n) (resource_kept (base_of b h) n) (Close n))
+      past_node closed = ap (λ k. option_map_or (λ r. r.made) k (option_map_or (λ r. Hub r.mode) (hub_kept (base_of b h) n) (option_map_or (resource_shown n) (resource_kept (base_of b h) n) (Close n)))) (node_of_base b h n ∙ ap (λ c. cond c (Some (keep_node b h n)) None) closed)
+
+      by_tests : (is_open h n ≡ true) ⊎ (is_open h n ≡ false) → (at makes_hub h n ≡ true) ⊎ (at makes_hub h n ≡ false) → slice_get h n ≡ Some (Hub mode)
+      by_tests (inl o) hub = sym (kept_open b h n o) ∙ at_n
+      by_tests (inr closed) (inl hub) =
+          let shows : shown_at (base_of b h) n ≡ Hub (mode_of (event_or h n)) = past_node closed ∙ ap (λ k. option_map_or (λ r. Hub r.mode) k (option_map_or (resource_shown n) (resource_kept (base_of b h) n) (Close n))) (hub_of_base b h n ∙ ap (λ c. cond c (Some (keep_hub h n)) None) hub) in
+          in_event (slice_get h n) hub ∙ ap Some (sym shows ∙ made)
+      by_tests (inr closed) (inr other) =
+          absurd (no_hub (resource_kept (base_of b h) n) (sym (past_node closed ∙ ap (λ k. option_map_or (λ r. Hub r.mode) k (option_map_or (resource_shown n) (resource_kept (base_of b h) n) (Close n))) (hub_of_base b h n ∙ ap (λ c. cond c (Some (keep_hub h n)) None) other)) ∙ made))

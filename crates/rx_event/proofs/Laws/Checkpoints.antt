@@ -1,0 +1,205 @@
+-- Checkpoints: a stored history and its base agree, and go on by the same events.
+use Rattle.std.proofs.Common.{◌≡◌, ℕ, ◌+◌, length, Bool, true, false, List, [], ◌∷◌, ◌++◌, map, cond, Option, Some, None, refl, sym, ap, subst, ◌∙◌, slice_get, sum_by, filter, append_assoc, append-nil, drop}
+use Rattle.std.proofs.Math.Bool.{◌||◌, ◌&&◌}
+use Rattle.std.specs.List.{AllByRecursion, range_with_len, filter_map}
+use Rattle.std.specs.Option.{option_map_or}
+use Rattle.std.proofs.lemmas.Bool.{false≢true}
+use Rattle.rx_event.specs.declared.event.Event.{Event}
+use Rattle.rx_event.specs.declared.event.Event.TheVariants.{Open, Hub, Item, End, Close}
+use Rattle.rx_event.specs.Events.{is_merging, makes_hub, is_root}
+use Rattle.rx_event.specs.Resources.{is_held, is_waiting}
+use Rattle.rx_event.specs.Tree.{at, hubs, places, open_nodes, is_open}
+use Rattle.rx_event.specs.Moments.{Moment, moments_after, owed}
+use Rattle.rx_event.specs.Notes.{told, mail_of}
+use Rattle.rx_event.specs.Forced.{IsSettled}
+use Rattle.rx_event.specs.Lawful.{MayFollow, IsLawful}
+use Rattle.rx_event.specs.Kept.{Kept, shown}
+use Rattle.rx_event.specs.Bases.{keep_node, keep_hub, keep_resource, mode_of, accept_node, accept_tag, is_untaken, base_of, Agree}
+use Rattle.rx_event.specs.Totals.{debt_of, debt}
+use Rattle.rx_event.specs.Claims.Checkpoints.{EachRule, AgreeingGoOn, CheckpointsAgree}
+use Rattle.rx_event.proofs.Laws.Lawful.{IsLawful-push, IsLawful_empty, may_end}
+use Rattle.rx_event.proofs.Laws.Sums.{sum_by-same}
+use Rattle.rx_event.proofs.Laws.SameTree.{at_alike, open_nodes_alike}
+use Rattle.rx_event.proofs.Laws.Sound.{sound_of}
+use Rattle.rx_event.proofs.Laws.Gives.{stops_of_alike}
+use Rattle.rx_event.proofs.Laws.Agreed.{agree_back, completes_too, leaves_too, connects_too, forced_too, allowed_too, follows_too, hubs_alike, hub_is}
+use Rattle.rx_event.proofs.Laws.Followed.{emits, agree-push}
+use Rattle.rx_event.proofs.Laws.BaseAgrees.{base_agrees}
+use Rattle.rx_event.proofs.Laws.BaseStarted.{base_started}
+use Rattle.rx_event.proofs.Laws.Begin.{empty_base}
+use Rattle.std.proofs.Math.Seq.{drop-append_seam}
+
+agree_self : (b : Kept) (h : List Event) → Agree b h b h
+agree_self b h =
+    record {
+      alike = Rattle.rx_event.proofs.Laws.SameTree.alike_self h;
+      sources = λ n o. refl;
+      notifiers = λ n o. refl;
+      completions = λ n o. refl;
+      debts = λ n o. refl;
+      held = λ r. refl;
+      waiting = λ r. refl;
+      accepts = λ r i. refl;
+      used = λ r i. refl;
+      item_total = refl;
+      accepted_total = refl;
+      taken_total = refl;
+      gives = record { mirrors = λ p t g. g; fires = λ u g. g; fails = λ f c g. g; cuts = λ s t g. g };
+      gives_back = record { mirrors = λ p t g. g; fires = λ u g. g; fails = λ f c g. g; cuts = λ s t g. g };
+    }
+
+-- these events may follow one after the other
+abbrev Continues : Kept → List Event → List Event → Type 0
+Continues b h es = AllByRecursion (λ (m : Moment). MayFollow b m.before m.event) (moments_after h es)
+
+-- going on ------------------------------------------------------------------------------------------
+
+pub record GoesOn (b : Kept) (h : List Event) (c : Kept) (k es : List Event) : Type 0 where
+  pub continues : Continues c k es
+  pub agree : Agree b (h ++ es) c (k ++ es)
+
+pub goes_on : (b : Kept) (h : List Event) (c : Kept) (k es : List Event) → IsLawful b h → IsLawful c k → Agree b h c k → Continues b h es → GoesOn b h c k es
+goes_on b h c k [] law law_k a each = record { continues = tt; agree = rw (append-nil h, append-nil k) a }
+goes_on b h c k (e ∷ es) law law_k a each =
+    let next : MayFollow c k e = follows_too b h c k a law law_k each.0 in
+    let further : GoesOn b (h ++ e ∷ []) c (k ++ e ∷ []) es = goes_on b (h ++ e ∷ []) c (k ++ e ∷ []) es (IsLawful-push b h e law each.0) (IsLawful-push c k e law_k next) (agree-push b h c k e law law_k each.0 next a) each.1 in
+    record { continues = (next, further.continues); agree = rw (← append_assoc h (e ∷ []) es, ← append_assoc k (e ∷ []) es) further.agree }
+
+mail_alike : (b : Kept) (h : List Event) (c : Kept) (k : List Event) → Agree b h c k → IsLawful b h → (e : Event) → MayFollow b h e → mail_of h e ≡ mail_of k e
+mail_alike b h c k a law (Item l v) f = (λ i. filter_map (told (a.alike.same_length i) v) (stops_of_alike b h k (Item l v) law (emits b h (Item l v) f) a.alike i))
+mail_alike b h c k a law (End n t) f =
+    (λ i. cond (at_alike h k a.alike is_root n (may_end b f) i) ((record { place = a.alike.same_length i; to = n; note = Rattle.rx_note.specs.declared.note.Note.TheVariants.End t }) ∷ []) [])
+mail_alike b h c k a law (Open place kind) f = refl
+mail_alike b h c k a law _ f = refl
+
+agreeing : (b : Kept) (h : List Event) (c : Kept) (k : List Event) → IsLawful b h → IsLawful c k → Agree b h c k → (e : Event) → AgreeingGoOn b h c k e
+agreeing b h c k law law_c a e =
+    record {
+      forced = (forced_too b h c k a, forced_too c k b h back);
+      allowed = (allowed_too b h c k a law law_c, allowed_too c k b h back law_c law);
+      follows = (follows_too b h c k a law law_c, follows_too c k b h back law_c law);
+      stops = λ next. stops_of_alike b h k e law (emits b h e next) a.alike;
+      notes = λ next. mail_alike b h c k a law e next;
+      agree = λ next. agree-push b h c k e law law_c next (follows_too b h c k a law law_c next) a;
+    }
+  where
+    back : Agree c k b h
+    back = agree_back b h c k a
+
+-- bases of histories that agree -----------------------------------------------------------------------
+
+map_filter_same : {X : Type 0} (f g : ℕ → X) (p : ℕ → Bool) → ((n : ℕ) → p n ≡ true → f n ≡ g n) → (ns : List ℕ) → map f (filter p ns) ≡ map g (filter p ns)
+map_filter_same f g p same [] = refl
+map_filter_same {X = X} f g p same (n ∷ ns) = by_test (p n) refl (map_filter_same f g p same ns) where
+  by_test : (c : Bool) → p n ≡ c → map f (filter p ns) ≡ map g (filter p ns) → map f (cond c (n ∷ filter p ns) (filter p ns)) ≡ map g (cond c (n ∷ filter p ns) (filter p ns))
+  by_test true passes rest = (λ i. same n passes i ∷ rest i)
+  by_test false fails rest = rest
+
+module _ (b : Kept) (h : List Event) (c : Kept) (k : List Event) (a : Agree b h c k) where
+  same_nodes : map (keep_node b h) (open_nodes h) ≡ map (keep_node c k) (open_nodes k)
+  same_nodes = map_filter_same (keep_node b h) (keep_node c k) (is_open h) same (places h) ∙ ap (map (keep_node c k)) (open_nodes_alike h k a.alike) where
+    same : (n : ℕ) → is_open h n ≡ true → keep_node b h n ≡ keep_node c k n
+    same n o = (λ i. record { number = n; made = option_map_or (λ e. e) (a.alike.same_made n o i) (Close n); source_opened = a.sources n o i; notifier_opened = a.notifiers n o i; source_completed = a.completions n o i; owed = a.debts n o i })
+
+  same_hubs : map (keep_hub h) (hubs h) ≡ map (keep_hub k) (hubs k)
+  same_hubs = map_filter_same (keep_hub h) (keep_hub k) (at makes_hub h) same (places h) ∙ ap (map (keep_hub k)) (hubs_alike h k a.alike) where
+    by_event : (n : ℕ) (o : Option Event) → slice_get h n ≡ o → option_map_or makes_hub o false ≡ true → slice_get h n ≡ slice_get k n
+    by_event n None at_n fails = absurd (false≢true fails)
+    by_event n (Some e) at_n passes =
+        let hub = hub_is e passes in
+        let here : slice_get h n ≡ Some (Hub hub.0) = at_n ∙ ap Some hub.1 in
+        here ∙ sym (a.alike.same_hub n hub.0 here)
+
+    same : (n : ℕ) → at makes_hub h n ≡ true → keep_hub h n ≡ keep_hub k n
+    same n makes = ap (λ o. record { number = n; mode = mode_of (option_map_or (λ e. e) o (Close n)) }) (by_event n (slice_get h n) refl makes)
+
+  same_resources : map (keep_resource b h) (filter (is_untaken h) (places h)) ≡ map (keep_resource c k) (filter (is_untaken k) (places k))
+  same_resources =
+      map_filter_same (keep_resource b h) (keep_resource c k) (is_untaken h) same (places h) ∙
+      (λ i. map (keep_resource c k) (filter (λ r. a.held r i || a.waiting r i) (range_with_len 0 (a.alike.same_length i))))
+    where
+      same : (r : ℕ) → is_untaken h r ≡ true → keep_resource b h r ≡ keep_resource c k r
+      same r u = (λ i. record { number = r; node = option_map_or accept_node (a.accepts r u i) 0; tag = option_map_or accept_tag (a.accepts r u i) 0; uses = a.used r u i; owned = a.held r i })
+
+  -- are the same
+  pub same_base : base_of b h ≡ base_of c k
+  unfolding base_of
+  same_base = (λ i. record { at_length = a.alike.same_length i; items = a.item_total i; accepted = a.accepted_total i; taken = a.taken_total i; hubs = same_hubs i; nodes = same_nodes i; resources = same_resources i })
+
+same_debt : (b : Kept) (h : List Event) (c : Kept) (k : List Event) → Agree b h c k → debt b h ≡ debt c k
+unfolding debt
+same_debt b h c k a =
+    sum_by-same (debt_of c k) (debt_of b h) (length h) (λ n l. each n (is_open h n) refl) ∙
+    ap (λ m. sum_by (debt_of c k) (range_with_len 0 m)) a.alike.same_length
+  where
+    each : (n : ℕ) (o : Bool) → is_open h n ≡ o → debt_of b h n ≡ debt_of c k n
+    each n true o =
+        (λ i. cond (a.alike.same_open n i) 1 0 + cond (a.held n i) 2 0 + cond (a.waiting n i) 1 0 +
+        cond (a.alike.same_open n i && at_alike h k a.alike is_merging n o i) (a.debts n o i) 0)
+    each n false o =
+        let closed : is_open k n ≡ false = sym (a.alike.same_open n) ∙ o in
+        (λ i. cond (o i) 1 0 + cond (a.held n i) 2 0 + cond (a.waiting n i) 1 0 + cond (o i && at is_merging h n) (owed b h n) 0) ∙
+        sym (λ i. cond (closed i) 1 0 + cond (is_held k n) 2 0 + cond (is_waiting k n) 1 0 + cond (closed i && at is_merging k n) (owed c k n) 0)
+
+lawful_on : (b : Kept) (h es : List Event) → IsLawful b h → Continues b h es → IsLawful b (h ++ es)
+lawful_on b h [] law each = rw (append-nil h) law
+lawful_on b h (e ∷ es) law each = rw (← append_assoc h (e ∷ []) es) (lawful_on b (h ++ e ∷ []) es (IsLawful-push b h e law each.0) each.1)
+
+continues_list : (b : Kept) (before h es : List Event) → Continues b before (h ++ es) → Continues b (before ++ h) es
+continues_list b before [] es each = rw (append-nil before) each
+continues_list b before (x ∷ h) es each = rw (← append_assoc before (x ∷ []) h) (continues_list b (before ++ x ∷ []) h es each.1)
+
+same_rest : (xs ys zs : List Event) → xs ++ ys ≡ xs ++ zs → ys ≡ zs
+same_rest xs ys zs same = sym (drop-append_seam xs ys) ∙ ap (drop (length xs)) same ∙ drop-append_seam xs zs
+
+list_continues : (b : Kept) (h es : List Event) → IsLawful b h → IsLawful b (h ++ es) → Continues b h es
+list_continues b h es law longer =
+    let whole : shown b ++ longer.since ≡ shown b ++ (law.since ++ es) = sym longer.reads ∙ ap (λ k. k ++ es) law.reads ∙ append_assoc (shown b) law.since es in
+    let since : longer.since ≡ law.since ++ es = same_rest (shown b) longer.since (law.since ++ es) whole in
+    subst (λ k. Continues b k es) (sym law.reads) (continues_list b (shown b) law.since es (subst (λ k. Continues b (shown b) k) since longer.each))
+
+kept_agrees : (b : Kept) (h : List Event) → IsLawful b h → IsSettled b h → Agree b h (base_of b h) (shown (base_of b h))
+kept_agrees b h law settled = base_agrees b h (sound_of b h law) settled
+
+base_lawful : (b : Kept) (h : List Event) → IsLawful b h → IsSettled b h → IsLawful (base_of b h) (shown (base_of b h))
+base_lawful b h law settled = IsLawful_empty (base_of b h) (base_started b h law settled)
+
+after_base : (b : Kept) (h es : List Event) → IsLawful b h → IsSettled b h → IsLawful b (h ++ es) → GoesOn b h (base_of b h) (shown (base_of b h)) es
+after_base b h es law settled longer =
+    goes_on b h (base_of b h) (shown (base_of b h)) es law (base_lawful b h law settled) (kept_agrees b h law settled) (list_continues b h es law longer)
+
+before_base : (b : Kept) (h es : List Event) → IsLawful b h → IsSettled b h → IsLawful (base_of b h) (shown (base_of b h) ++ es) → IsLawful b (h ++ es)
+before_base b h es law settled longer =
+    let based = base_lawful b h law settled in
+    lawful_on b h es law (goes_on (base_of b h) (shown (base_of b h)) b h es based law
+    (agree_back b h (base_of b h) (shown (base_of b h)) (kept_agrees b h law settled)) (list_continues (base_of b h) (shown (base_of b h)) es based longer)).continues
+
+each_rule : (b : Kept) (h : List Event) (c : Kept) (k : List Event) → Agree b h c k → EachRule b h c k
+each_rule b h c k a =
+    let back : Agree c k b h = agree_back b h c k a in
+    record {
+      mirrors = λ p t. (a.gives.mirrors p t, a.gives_back.mirrors p t);
+      fires = λ u. (a.gives.fires u, a.gives_back.fires u);
+      fails = λ f code. (a.gives.fails f code, a.gives_back.fails f code);
+      completes = λ f. (completes_too b h c k a f, completes_too c k b h back f);
+      cuts = λ s t. (a.gives.cuts s t, a.gives_back.cuts s t);
+      leaves = λ n. (leaves_too b h c k a n, leaves_too c k b h back n);
+      connects = λ g. (connects_too h k a.alike a.gives_back g, connects_too k h back.alike a.gives g);
+    }
+
+pub checkpoints_agree : CheckpointsAgree
+checkpoints_agree =
+    record {
+      rules = each_rule;
+      debts = same_debt;
+      one_base = same_base;
+      empty = empty_base;
+      started = base_started;
+      kept = kept_agrees;
+      alike = agreeing;
+      continued = λ b h es law settled. (
+        (λ longer. lawful_on (base_of b h) (shown (base_of b h)) es (base_lawful b h law settled) (after_base b h es law settled longer).continues),
+        before_base b h es law settled,
+      );
+      after = λ b h es law settled longer. (after_base b h es law settled longer).agree;
+    }

@@ -1,0 +1,331 @@
+-- One order of what is forced: there is always one next, where anything is forced, and so one end of a step.
+use Rattle.std.proofs.Common.{◌≡◌, ℕ, zero, suc, ◌+◌, ◌<◌, Bool, true, false, List, [], ◌∷◌, length, Option, Some, None, option_map, cond, slice_get, refl, sym, ap, subst, ◌∙◌, inl, inr, ◌⊎◌, nat_lt, arith}
+use Rattle.std.proofs.Math.Bool.{◌&&◌}
+use Rattle.std.specs.List.{list_any, range_with_len}
+use Rattle.std.specs.Option.{option_and_then, option_map_or, option_or}
+use Rattle.std.proofs.lemmas.Bool.{false≢true, and_parts, and_from, ltb-true, lt-ltb, eq-eqb}
+use Rattle.std.proofs.lemmas.Option.{cond_some, same_Some, none-some, slice_get_within}
+use Rattle.rx_note.specs.declared.note.Terminal.{Terminal}
+use Rattle.rx_note.specs.declared.note.Terminal.TheVariants.{Completed}
+use Rattle.rx_event.specs.Kept.{Kept}
+use Rattle.rx_event.specs.declared.event.Kind.TheVariants.{Leaf, Pass, Flat, Switch, Until, Sub}
+use Rattle.rx_event.specs.declared.event.Event.{Event}
+use Rattle.rx_event.specs.declared.event.Event.TheVariants.{Open, Connect, End, Close}
+use Rattle.rx_event.specs.Events.{is_mirroring, is_merging, is_until, is_auto_hub, is_connect_of, is_subscriber_of, hub_subscribed, hub_connected}
+use Rattle.rx_event.specs.Tree.{at, places, is_open, open_subscribers, open_connections}
+use Rattle.rx_event.specs.Moments.{is_fired}
+use Rattle.rx_event.specs.Forced.{mirrored, fired, cut, left, connecting, due, SourceEnded, IsDue, IsForced, IsConnectDue, IsConnected, IsSettled}
+use Rattle.rx_event.specs.Marks.{first_some, child_terminal, marks_of, is_over, completed_if, terminal_due, due_at}
+use Rattle.rx_event.specs.Canonical.{ends_connection, ends_source_at, source_end, is_nothing, is_nil, waits_at, Joining, Mirroring, Firing, Failing, Completing, Cutting, Leaving, Rule, gives, first_forced}
+use Rattle.rx_event.proofs.Laws.Openness.{is_open_within}
+use Rattle.rx_event.proofs.Laws.Places.{at_within}
+use Rattle.rx_event.proofs.Laws.Hubs.{at_connect, subscriber_found}
+use Rattle.rx_event.proofs.Laws.Searches.{first_found, first_none, list_any_found, list_any_holds}
+use Rattle.rx_event.proofs.Laws.MarksFound.{child_terminal_some}
+use Rattle.rx_event.proofs.Laws.MarksDue.{merging_due, settled_by_marks}
+
+range_get : (s n i : ℕ) → i < n → slice_get (range_with_len s n) i ≡ Some (s + i)
+range_get s zero i l = absurd (omega arith)
+range_get s (suc n) zero l = let same : s ≡ s + 0 = omega arith in ap (λ k. Some k) same
+range_get s (suc n) (suc i) l = let same : (s + 1) + i ≡ s + suc i = omega arith in range_get (s + 1) n i (omega arith) ∙ ap (λ k. Some k) same
+
+pub place_get : (h : List Event) (i : ℕ) → i < length h → slice_get (places h) i ≡ Some i
+place_get h i l = let same : 0 + i ≡ i = omega arith in range_get 0 (length h) i l ∙ ap (λ k. Some k) same
+
+-- where nothing is found, nothing is given at a place
+none_given : {Y : Type 0} (f : ℕ → Option Y) (h : List Event) → first_some f (places h) ≡ None → (n : ℕ) → n < length h → f n ≡ None
+none_given f h none n l = first_none f (places h) none n n (place_get h n l)
+
+-- a value under a test
+if_some : {Y : Type 0} (b : Bool) (o : Option Y) (y : Y) → cond b o None ≡ Some y → (b ≡ true) × (o ≡ Some y)
+if_some true o y same = (refl, same)
+if_some false o y same = absurd (none-some y same)
+
+-- how a source ended ---------------------------------------------------------------------------------------------------
+
+and_then_some : {X Y : Type 0} (f : X → Option Y) (o : Option X) (y : Y) → option_and_then f o ≡ Some y → (x : X) × (o ≡ Some x) × (f x ≡ Some y)
+and_then_some f None y found = absurd (none-some y found)
+and_then_some f (Some x) y found = (x, refl, found)
+
+connection_ends : (h : List Event) (g : ℕ) (e : Event) (t : Terminal) → ends_connection h g e ≡ Some t → (c : ℕ) × (e ≡ End c t) × (slice_get h c ≡ Some (Connect g))
+connection_ends h g (End c u) t found =
+    let w : (at (is_connect_of g) h c ≡ true) × (u ≡ t) = cond_some (at (is_connect_of g) h c) u t found in
+    (c, ap (λ v. End c v) w.1, at_connect h g c w.0)
+connection_ends h g _ t found = absurd (none-some t found)
+
+subscribed_event : (e : Event) (g : ℕ) → hub_subscribed e ≡ Some g → is_subscriber_of g e ≡ true
+subscribed_event (Open place (Sub k)) g same = eq-eqb k g (same_Some k g same)
+subscribed_event (Open place kind) g same = absurd (cc)
+subscribed_event _ g same = absurd (none-some g same)
+
+source_found : (h : List Event) (s g place c : ℕ) (x y : Event) (t : Terminal) → slice_get h s ≡ Some x → hub_subscribed x ≡ Some g → s < place →
+    slice_get h place ≡ Some y → y ≡ End c t → slice_get h c ≡ Some (Connect g) → SourceEnded h s t
+source_found h s g place c x y t at_s subscribes later at_place ends connects = record {
+  hub = g;
+  connection = c;
+  place = place;
+  subscribes = rw at_s (subscribed_event x g subscribes);
+  connects = connects;
+  later = later;
+  ended = at_place ∙ ap (λ (z : Event). Some z) ends;
+}
+
+pub source_end_some : (h : List Event) (s : ℕ) (t : Terminal) → source_end h s ≡ Some t → SourceEnded h s t
+unfolding source_end
+source_end_some h s t found =
+    let one = and_then_some (λ g. first_some (ends_source_at h s g) (places h)) (option_and_then hub_subscribed (slice_get h s)) t found in
+    let sub = and_then_some hub_subscribed (slice_get h s) one.0 one.1 in
+    let r = first_found (ends_source_at h s one.0) (places h) t one.2 in
+    let w = if_some (nat_lt s r.1) (option_and_then (ends_connection h one.0) (slice_get h r.1)) t r.3 in
+    let e = and_then_some (ends_connection h one.0) (slice_get h r.1) t w.1 in
+    let c = connection_ends h one.0 e.0 t e.2 in
+    source_found h s one.0 r.1 c.0 sub.0 e.0 t sub.1 sub.2 (ltb-true s r.1 w.0) e.1 c.1 c.2
+
+pub source_end_none : (h : List Event) (s : ℕ) (t : Terminal) → source_end h s ≡ None → ¬ SourceEnded h s t
+unfolding source_end
+source_end_none h s t none x =
+    let found = subscriber_found x.hub (slice_get h s) x.subscribes in
+    let hub : option_and_then hub_subscribed (slice_get h s) ≡ Some x.hub = ap (option_and_then hub_subscribed) found.1 in
+    let rest : first_some (ends_source_at h s x.hub) (places h) ≡ None = sym (ap (option_and_then (λ g. first_some (ends_source_at h s g) (places h))) hub) ∙ none in
+    let l : x.place < length h = slice_get_within h x.place _ x.ended in
+    let here : ends_source_at h s x.hub x.place ≡ None = none_given (ends_source_at h s x.hub) h rest x.place l in
+    let is : ends_source_at h s x.hub x.place ≡ Some t = rw (lt-ltb s x.place x.later, x.ended, x.connects, eq-eqb x.hub x.hub refl) refl in
+    none-some t (sym here ∙ is)
+
+nothing_none : {X : Type 0} (o : Option X) → is_nothing o ≡ true → o ≡ None
+nothing_none None is = refl
+nothing_none (Some x) is = absurd (false≢true is)
+
+nil_none : (xs : List ℕ) → is_nil xs ≡ true → xs ≡ []
+nil_none [] is = refl
+nil_none (x ∷ xs) is = absurd (false≢true is)
+
+-- a hub that waits ---------------------------------------------------------------------------------------------------------
+
+connecting_due : (base : Kept) → (h : List Event) (n : ℕ) (e : Event) → gives base h Joining n ≡ Some e → IsForced base h e
+connecting_due base h n e found = subst (λ (x : Event). IsForced base h x) (same_Some (Connect n) e w.1) (connecting d) where
+  w : ((at is_auto_hub h n && list_any (waits_at h n) (places h) && is_nil (open_connections h n)) ≡ true) × (Some (Connect n) ≡ Some e)
+  w = if_some (at is_auto_hub h n && list_any (waits_at h n) (places h) && is_nil (open_connections h n)) (Some (Connect n)) e found
+
+  parts : ((at is_auto_hub h n && list_any (waits_at h n) (places h)) ≡ true) × (is_nil (open_connections h n) ≡ true)
+  parts = and_parts (at is_auto_hub h n && list_any (waits_at h n) (places h)) (is_nil (open_connections h n)) w.0
+
+  first : (at is_auto_hub h n ≡ true) × (list_any (waits_at h n) (places h) ≡ true)
+  first = and_parts (at is_auto_hub h n) (list_any (waits_at h n) (places h)) parts.0
+
+  waiting : (i : ℕ) × (s : ℕ) × (slice_get (places h) i ≡ Some s) × (waits_at h n s ≡ true)
+  waiting = list_any_found (waits_at h n) (places h) first.1
+
+  each : ((at (is_subscriber_of n) h waiting.1 && is_open h waiting.1) ≡ true) × (is_nothing (source_end h waiting.1) ≡ true)
+  each = and_parts (at (is_subscriber_of n) h waiting.1 && is_open h waiting.1) (is_nothing (source_end h waiting.1)) waiting.3
+
+  both : (at (is_subscriber_of n) h waiting.1 ≡ true) × (is_open h waiting.1 ≡ true)
+  both = and_parts (at (is_subscriber_of n) h waiting.1) (is_open h waiting.1) each.0
+
+  d : IsConnectDue h n
+  d = record {
+    auto = first.0;
+    subscriber = waiting.1;
+    subscribes = both.0;
+    subscribed = both.1;
+    waits = λ t. source_end_none h waiting.1 t (nothing_none (source_end h waiting.1) each.1);
+    unconnected = nil_none (open_connections h n) parts.1;
+  }
+
+unended : (h : List Event) (s : ℕ) → ((t : Terminal) → ¬ SourceEnded h s t) → is_nothing (source_end h s) ≡ true
+unended h s none = by_end (source_end h s) refl where
+  by_end : (o : Option Terminal) → source_end h s ≡ o → is_nothing o ≡ true
+  by_end None found = refl
+  by_end (Some t) found = absurd (none t (source_end_some h s t found))
+
+pub none_connecting : (base : Kept) → (h : List Event) → first_some (gives base h Joining) (places h) ≡ None → IsConnected h
+none_connecting base h none g d =
+    let l : g < length h = at_within is_auto_hub h g d.auto in
+    let here : gives base h Joining g ≡ None = none_given (gives base h Joining) h none g l in
+    let k : d.subscriber < length h = is_open_within h d.subscriber d.subscribed in
+    let waits : waits_at h g d.subscriber ≡ true = and_from _ _ (and_from _ _ d.subscribes d.subscribed) (unended h d.subscriber d.waits) in
+    let any : list_any (waits_at h g) (places h) ≡ true = list_any_holds (waits_at h g) (places h) d.subscriber d.subscriber (place_get h d.subscriber k) waits in
+    none-some (Connect g) (sym here ∙ rw (d.auto, any, d.unconnected) refl)
+
+-- the other rules ------------------------------------------------------------------------------------------------------------
+
+ends_at : (h : List Event) (n : ℕ) (b : Bool) (o : Option Terminal) (e : Event) → cond b (option_map (λ t. End n t) o) None ≡ Some e →
+    (t : Terminal) × (b ≡ true) × (o ≡ Some t) × (End n t ≡ e)
+ends_at h n true (Some t) e found = (t, refl, refl, same_Some (End n t) e found)
+ends_at h n true None e found = absurd (none-some e found)
+ends_at h n false o e found = absurd (none-some e found)
+
+mirroring_due : (base : Kept) → (h : List Event) (n : ℕ) (e : Event) → gives base h Mirroring n ≡ Some e → IsDue base h e
+mirroring_due base h n e found =
+    let w = ends_at h n (is_open h n && at is_mirroring h n) (child_terminal h n) e found in
+    let parts = and_parts (is_open h n) (at is_mirroring h n) w.1 in
+    subst (λ (x : Event). IsDue base h x) w.3 (mirrored parts.0 parts.1 (child_terminal_some h n w.0 w.2).0)
+
+firing_due : (base : Kept) → (h : List Event) (n : ℕ) (e : Event) → gives base h Firing n ≡ Some e → IsDue base h e
+firing_due base h n e found =
+    let w = if_some (is_open h n && at is_until h n && is_fired h n) (Some (End n Completed)) e found in
+    let parts = and_parts (is_open h n && at is_until h n) (is_fired h n) w.0 in
+    let both = and_parts (is_open h n) (at is_until h n) parts.0 in
+    subst (λ (x : Event). IsDue base h x) (same_Some (End n Completed) e w.1) (fired both.0 both.1 parts.1)
+
+failing_due : (base : Kept) → (h : List Event) (n : ℕ) (e : Event) → gives base h Failing n ≡ Some e → IsDue base h e
+failing_due base h n e found =
+    let w = ends_at h n (is_open h n && at is_merging h n) (child_terminal h n) e found in
+    let parts = and_parts (is_open h n) (at is_merging h n) w.1 in
+    subst (λ (x : Event). IsDue base h x) w.3 (merging_due base h n w.0 parts.0 parts.1 (ap (λ (o : Option Terminal). option_or o (completed_if (is_over (marks_of base h n)))) w.2))
+
+completing_due : (base : Kept) → (h : List Event) (n : ℕ) (e : Event) → gives base h Completing n ≡ Some e → IsDue base h e
+completing_due base h n e found =
+    let w = if_some (is_open h n && at is_merging h n && is_nothing (child_terminal h n) && is_over (marks_of base h n)) (Some (End n Completed)) e found in
+    let parts = and_parts (is_open h n && at is_merging h n && is_nothing (child_terminal h n)) (is_over (marks_of base h n)) w.0 in
+    let three = and_parts (is_open h n && at is_merging h n) (is_nothing (child_terminal h n)) parts.0 in
+    let both = and_parts (is_open h n) (at is_merging h n) three.0 in
+    subst (λ (x : Event). IsDue base h x) (same_Some (End n Completed) e w.1)
+    (merging_due base h n Completed both.0 both.1 ((λ i. option_or (nothing_none (child_terminal h n) three.1 i) (completed_if (parts.1 i)))))
+
+cutting_due : (base : Kept) → (h : List Event) (n : ℕ) (e : Event) → gives base h Cutting n ≡ Some e → IsDue base h e
+cutting_due base h n e found =
+    let w = ends_at h n (is_open h n) (source_end h n) e found in
+    subst (λ (x : Event). IsDue base h x) w.3 (cut w.1 (source_end_some h n w.0 w.2))
+
+connection_made : (o : Option Event) (g : ℕ) → option_and_then hub_connected o ≡ Some g → o ≡ Some (Connect g)
+connection_made None g found = absurd (none-some g found)
+connection_made (Some (Connect k)) g found = ap (λ j. Some (Connect j)) (same_Some k g found)
+connection_made (Some _) g found = absurd (none-some g found)
+
+leaving_due : (base : Kept) → (h : List Event) (n : ℕ) (e : Event) → gives base h Leaving n ≡ Some e → IsDue base h e
+leaving_due base h n e found = by_hub (option_and_then hub_connected (slice_get h n)) refl parts.1 where
+  unused : Option ℕ → Bool
+  unused o = option_map_or (λ g. at is_auto_hub h g && is_nil (open_subscribers h g)) o false
+
+  w : ((is_open h n && unused (option_and_then hub_connected (slice_get h n))) ≡ true) × (Some (Close n) ≡ Some e)
+  w = if_some (is_open h n && unused (option_and_then hub_connected (slice_get h n))) (Some (Close n)) e found
+
+  parts : (is_open h n ≡ true) × (unused (option_and_then hub_connected (slice_get h n)) ≡ true)
+  parts = and_parts (is_open h n) (unused (option_and_then hub_connected (slice_get h n))) w.0
+
+  by_hub : (o : Option ℕ) → option_and_then hub_connected (slice_get h n) ≡ o → unused o ≡ true → IsDue base h e
+  by_hub None at_n is = absurd (false≢true is)
+  by_hub (Some g) at_n is =
+      let both = and_parts (at is_auto_hub h g) (is_nil (open_subscribers h g)) is in
+      subst (λ (x : Event). IsDue base h x) (same_Some (Close n) e w.1) (left parts.0 (connection_made (slice_get h n) g at_n) both.0 (nil_none (open_subscribers h g) both.1))
+
+-- what is found for a rule is due
+found_due : (base : Kept) → (h : List Event) (rule : Rule) → ((n : ℕ) (e : Event) → gives base h rule n ≡ Some e → IsDue base h e) → (e : Event) → first_some (gives base h rule) (places h) ≡ Some e → IsDue base h e
+found_due base h rule sound e found = let r = first_found (gives base h rule) (places h) e found in sound r.1 e r.3
+
+-- the first of two answers
+or_some : {Y : Type 0} (a b : Option Y) (y : Y) → option_or a b ≡ Some y → (a ≡ Some y) ⊎ ((a ≡ None) × (b ≡ Some y))
+or_some (Some x) b y found = inl found
+or_some None b y found = inr (refl, found)
+
+or_nothing_left : {Y : Type 0} (a b : Option Y) → option_or a b ≡ None → (a ≡ None) × (b ≡ None)
+or_nothing_left None b none = (refl, none)
+or_nothing_left (Some x) b none = absurd (none-some x (sym none))
+
+abbrev search_by : (base : Kept) → (h : List Event) → Rule → Option Event
+search_by base h rule = first_some (gives base h rule) (places h)
+
+-- what comes first is forced
+pub first_is_forced : (base : Kept) → (h : List Event) (e : Event) → first_forced base h ≡ Some e → IsForced base h e
+unfolding first_forced
+first_is_forced base h e found = by_connecting (or_some (first_some (gives base h Joining) (places h)) (first_some (λ rule. first_some (gives base h rule) (places h)) (Mirroring ∷ Firing ∷ Failing ∷ Completing ∷ Cutting ∷ Leaving ∷ [])) e found) where
+  by_leaving : option_or (first_some (gives base h Leaving) (places h)) None ≡ Some e → IsDue base h e
+  by_leaving rest = by_or (or_some (first_some (gives base h Leaving) (places h)) None e rest) where
+    by_or : (first_some (gives base h Leaving) (places h) ≡ Some e) ⊎ ((first_some (gives base h Leaving) (places h) ≡ None) × (None ≡ Some e)) → IsDue base h e
+    by_or (inl here) = found_due base h Leaving (leaving_due base h) e here
+    by_or (inr (none, no_more)) = absurd (none-some e no_more)
+
+  by_rule : (rule : Rule) → ((n : ℕ) (x : Event) → gives base h rule n ≡ Some x → IsDue base h x) → (rest : Option Event) → (rest ≡ Some e → IsDue base h e) →
+      option_or (first_some (gives base h rule) (places h)) rest ≡ Some e → IsDue base h e
+  by_rule rule sound rest later given = by_or (or_some (first_some (gives base h rule) (places h)) rest e given) where
+    by_or : (first_some (gives base h rule) (places h) ≡ Some e) ⊎ ((first_some (gives base h rule) (places h) ≡ None) × (rest ≡ Some e)) → IsDue base h e
+    by_or (inl here) = found_due base h rule sound e here
+    by_or (inr (none, more_here)) = later more_here
+
+  by_connecting : (first_some (gives base h Joining) (places h) ≡ Some e) ⊎ ((first_some (gives base h Joining) (places h) ≡ None) × (first_some (λ rule. first_some (gives base h rule) (places h)) (Mirroring ∷ Firing ∷ Failing ∷ Completing ∷ Cutting ∷ Leaving ∷ []) ≡ Some e)) → IsForced base h e
+  by_connecting (inl here) = let r = first_found (gives base h Joining) (places h) e here in connecting_due base h r.1 e r.3
+  by_connecting (inr (none, rest)) = due (none_connecting base h none)
+      (by_rule Mirroring (mirroring_due base h) _ (by_rule Firing (firing_due base h) _ (by_rule Failing (failing_due base h) _ (by_rule Completing (completing_due base h) _ (by_rule Cutting (cutting_due base h) _ by_leaving)))) rest)
+
+-- nothing is given, so nothing is forced -----------------------------------------------------------------------------------------
+
+no_end_at : (n : ℕ) (o : Option Terminal) → option_map (λ t. End n t) o ≡ None → o ≡ None
+no_end_at n None none = refl
+no_end_at n (Some t) none = absurd (none-some (End n t) (sym none))
+
+module _ (base : Kept) (h : List Event) (each : (rule : Rule) → first_some (gives base h rule) (places h) ≡ None) where
+  at_node : (rule : Rule) (n : ℕ) → is_open h n ≡ true → gives base h rule n ≡ None
+  at_node rule n o = none_given (gives base h rule) h (each rule) n (is_open_within h n o)
+
+  no_source : (n : ℕ) (t : Terminal) → is_open h n ≡ true → ¬ SourceEnded h n t
+  no_source n t o = source_end_none h n t (no_end_at n (source_end h n) (sym (ap (λ b. cond {A = Option Event} b (option_map (λ v. End n v) (source_end h n)) None) o) ∙ at_node Cutting n o))
+
+  no_close : (c : ℕ) → ¬ IsDue base h (Close c)
+  no_close c (left {g = g} o at_c auto none) = none-some (Close c) (sym (at_node Leaving c o) ∙ rw (o, at_c, auto, none) refl)
+
+  no_mirrored : (n : ℕ) → is_open h n ≡ true → at is_mirroring h n ≡ true → child_terminal h n ≡ None
+  no_mirrored n o m = no_end_at n (child_terminal h n) (sym (ap (λ b. cond {A = Option Event} b (option_map (λ v. End n v) (child_terminal h n)) None) (and_from _ _ o m)) ∙ at_node Mirroring n o)
+
+  no_failed : (n : ℕ) → is_open h n ≡ true → at is_merging h n ≡ true → child_terminal h n ≡ None
+  no_failed n o m = no_end_at n (child_terminal h n) (sym (ap (λ b. cond {A = Option Event} b (option_map (λ v. End n v) (child_terminal h n)) None) (and_from _ _ o m)) ∙ at_node Failing n o)
+
+  no_fired : (n : ℕ) → is_open h n ≡ true → at is_until h n ≡ true → is_fired h n ≡ false
+  no_fired n o u = by_test (is_fired h n) refl where
+    by_test : (b : Bool) → is_fired h n ≡ b → b ≡ false
+    by_test false is = refl
+    by_test true is = absurd (none-some (End n Completed) (sym (at_node Firing n o) ∙ rw (o, u, is) refl))
+
+  no_over : (n : ℕ) → is_open h n ≡ true → at is_merging h n ≡ true → is_over (marks_of base h n) ≡ false
+  no_over n o m = by_test (is_over (marks_of base h n)) refl where
+    by_test : (b : Bool) → is_over (marks_of base h n) ≡ b → b ≡ false
+    by_test false is = refl
+    by_test true is =
+        let all : (is_open h n && at is_merging h n && is_nothing (child_terminal h n) && is_over (marks_of base h n)) ≡ true = and_from _ _ (and_from _ _ (and_from _ _ o m) (ap is_nothing (no_failed n o m))) is in
+        absurd (none-some (End n Completed) (sym (at_node Completing n o) ∙ ap (λ b. cond {A = Option Event} b (Some (End n Completed)) None) all))
+
+  quiet : (n : ℕ) (made : Event) → is_open h n ≡ true → slice_get h n ≡ Some made → due_at made (marks_of base h n) n ≡ None
+  quiet n made o at_n = ap (option_map (λ t. End n t)) (by_made made at_n) where
+    by_made : (e : Event) → slice_get h n ≡ Some e → terminal_due e (marks_of base h n) ≡ None
+    by_made (Open place Pass) at_n = no_mirrored n o (rw at_n refl)
+    by_made (Connect g) at_n = no_mirrored n o (rw at_n refl)
+    by_made (Open place Until) at_n = λ i. option_or (no_mirrored n o (rw at_n refl) i) (completed_if (no_fired n o (rw at_n refl) i))
+    by_made (Open place Flat) at_n = λ i. option_or (no_failed n o (rw at_n refl) i) (completed_if (no_over n o (rw at_n refl) i))
+    by_made (Open place Switch) at_n = λ i. option_or (no_failed n o (rw at_n refl) i) (completed_if (no_over n o (rw at_n refl) i))
+    by_made (Open place Leaf) at_n = refl
+    by_made (Open place (Sub g)) at_n = refl
+    by_made _ at_n = refl
+
+  settled_none : IsSettled base h
+  settled_none = settled_by_marks base h (none_connecting base h (each Joining)) no_source no_close quiet
+
+-- so nothing comes first only in a settled history
+pub settled_by_order : (base : Kept) → (h : List Event) → first_forced base h ≡ None → IsSettled base h
+unfolding first_forced
+settled_by_order base h none = settled_none base h each where
+  one : (first_some (gives base h Joining) (places h) ≡ None) × (first_some (search_by base h) (Mirroring ∷ Firing ∷ Failing ∷ Completing ∷ Cutting ∷ Leaving ∷ []) ≡ None)
+  one = or_nothing_left (search_by base h Joining) (first_some (search_by base h) (Mirroring ∷ Firing ∷ Failing ∷ Completing ∷ Cutting ∷ Leaving ∷ [])) none
+
+  two : (search_by base h Mirroring ≡ None) × (first_some (search_by base h) (Firing ∷ Failing ∷ Completing ∷ Cutting ∷ Leaving ∷ []) ≡ None)
+  two = or_nothing_left (search_by base h Mirroring) (first_some (search_by base h) (Firing ∷ Failing ∷ Completing ∷ Cutting ∷ Leaving ∷ [])) one.1
+
+  three : (search_by base h Firing ≡ None) × (first_some (search_by base h) (Failing ∷ Completing ∷ Cutting ∷ Leaving ∷ []) ≡ None)
+  three = or_nothing_left (search_by base h Firing) (first_some (search_by base h) (Failing ∷ Completing ∷ Cutting ∷ Leaving ∷ [])) two.1
+
+  four : (search_by base h Failing ≡ None) × (first_some (search_by base h) (Completing ∷ Cutting ∷ Leaving ∷ []) ≡ None)
+  four = or_nothing_left (search_by base h Failing) (first_some (search_by base h) (Completing ∷ Cutting ∷ Leaving ∷ [])) three.1
+
+  five : (search_by base h Completing ≡ None) × (first_some (search_by base h) (Cutting ∷ Leaving ∷ []) ≡ None)
+  five = or_nothing_left (search_by base h Completing) (first_some (search_by base h) (Cutting ∷ Leaving ∷ [])) four.1
+
+  six : (search_by base h Cutting ≡ None) × (first_some (search_by base h) (Leaving ∷ []) ≡ None)
+  six = or_nothing_left (search_by base h Cutting) (first_some (search_by base h) (Leaving ∷ [])) five.1
+
+  each : (rule : Rule) → first_some (gives base h rule) (places h) ≡ None
+  each Joining = one.0
+  each Mirroring = two.0
+  each Firing = three.0
+  each Failing = four.0
+  each Completing = five.0
+  each Cutting = six.0
+  each Leaving = (or_nothing_left (search_by base h Leaving) None six.1).0

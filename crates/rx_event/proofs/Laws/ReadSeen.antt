@@ -1,0 +1,106 @@
+-- What callers see of histories that are the same but for their numbers.
+use Rattle.std.proofs.Common.{◌≡◌, ℕ, Bool, true, false, List, length, Option, Some, slice_get, refl, sym, ap, subst, ◌∙◌}
+use Rattle.std.proofs.Math.Bool.{not, ◌&&◌}
+use Rattle.std.specs.Option.{option_map_or}
+use Rattle.std.specs.Cmp.{both_ways as same_test}
+use Rattle.std.proofs.lemmas.Bool.{and_parts, and_from}
+use Rattle.std.proofs.lemmas.List.{length-map}
+use Rattle.std.proofs.lemmas.List.Sums.{length-filter}
+use Rattle.rx_event.specs.Kept.{Kept}
+use Rattle.rx_event.specs.declared.event.Mode.{Mode}
+use Rattle.rx_event.specs.declared.event.Event.{Event}
+use Rattle.rx_event.specs.declared.event.Event.TheVariants.{Hub, Accept}
+use Rattle.rx_event.specs.Events.{makes_node, makes_hub, makes_resource, has_source, is_leaf, is_until, is_root, is_auto_hub, is_manual_hub}
+use Rattle.rx_event.specs.Tree.{at, hubs, places, parent, is_open, open_nodes, is_open_child_of, has_open_child}
+use Rattle.rx_event.specs.Resources.{is_waiting}
+use Rattle.rx_event.specs.Marks.{is_child_of}
+use Rattle.rx_event.specs.Allowed.{may_abort, IsInOrderAt}
+use Rattle.rx_event.specs.Renumbered.{event_by, is_named, AreSameBy}
+use Rattle.rx_event.specs.Claims.Seen.{CallersSeeTheSame}
+use Rattle.rx_event.proofs.Laws.Openness.{is_open_within}
+use Rattle.rx_event.proofs.Laws.Searches.{list_any_found, list_any_holds}
+use Rattle.rx_event.proofs.Laws.MarksFound.{is_child_parent, parent_is_child}
+use Rattle.rx_event.proofs.Laws.InOrder.{place_get}
+use Rattle.rx_event.proofs.Laws.Reading.{parent_read, renumbered_back}
+use Rattle.rx_event.proofs.Laws.ReadOpened.{at_read, hub_made, merging_read}
+use Rattle.rx_event.proofs.Laws.ReadStops.{subscribers_read, visits_read}
+use Rattle.rx_event.proofs.Laws.ReadShown.{made_at, node_named, resource_made, root_by}
+use Rattle.rx_event.proofs.Laws.ReadAllowed.{leaf_by, sourced_by, abort_by, until_by, open_nodes_read, hubs_read, hub_read, owed_read, sourced_read, notified_read, in_order_read}
+use Rattle.rx_event.proofs.Laws.ReadSteps.{connections_read}
+
+pub same_back : (base : Kept) → {r s : ℕ → ℕ} {h c : List Event} → AreSameBy base r s h c → AreSameBy base s r c h
+same_back base a = record { numbers = renumbered_back base a.numbers; shown = a.shown_back; shown_back = a.shown }
+
+module _ (base : Kept) (r s : ℕ → ℕ) (h c : List Event) (a : AreSameBy base r s h c) where
+  -- a test of an open node that sees no number
+  test_same : (q : Event → Bool) → ((k : ℕ → ℕ) (e : Event) → q e ≡ true → q (event_by k e) ≡ true) → (n : ℕ) → is_open h n ≡ true → at q c (r n) ≡ at q h n
+  test_same q by n o = same_test (at q c (r n)) (at q h n)
+      (λ holds. ap (at q h) (sym (a.numbers.there.undone n o)) ∙ at_read base a.numbers.back q q (by s) (r n) (a.numbers.there.alive n o) holds)
+      (at_read base a.numbers.there q q (by r) n o)
+
+  open_same : (n : ℕ) → at makes_node h n ≡ true → is_open c (r n) ≡ is_open h n
+  open_same n node = same_test (is_open c (r n)) (is_open h n)
+      (λ o. ap (is_open h) (sym (a.shown.apart n (made_at makes_node is_named node_named h n node))) ∙ a.numbers.back.alive (r n) o) (a.numbers.there.alive n)
+
+  children_there : (n : ℕ) → is_open h n ≡ true → has_open_child h n ≡ true → has_open_child c (r n) ≡ true
+  children_there n o found =
+      let w = list_any_found (is_open_child_of h n) (places h) found in
+      let parts = and_parts (is_open h w.1) (is_child_of h n w.1) w.3 in
+      let alive : is_open c (r w.1) ≡ true = a.numbers.there.alive w.1 parts.0 in
+      let below : parent c (r w.1) ≡ Some (r n) = parent_read base r s h c a.numbers.law a.numbers.other_law a.numbers.there a.numbers.back w.1 n parts.0 (is_child_parent h n w.1 parts.1) in
+      list_any_holds (is_open_child_of c (r n)) (places c) (r w.1) (r w.1) (place_get c (r w.1) (is_open_within c (r w.1) alive)) (and_from _ _ alive (parent_is_child c (r n) (r w.1) below))
+
+  hub_test : (q : Event → Bool) → (g : ℕ) → at makes_hub h g ≡ true → at q c (r g) ≡ at q h g
+  hub_test q g hub =
+      let w : (mode : Mode) × (slice_get h g ≡ Some (Hub mode)) = hub_made h g hub in
+      ap (λ (x : Option Event). option_map_or q x false) (a.numbers.there.hub g w.0 w.1 ∙ sym w.1)
+
+  undone_hub : (g : ℕ) → at makes_hub h g ≡ true → s (r g) ≡ g
+  undone_hub g hub = let w = hub_made h g hub in a.numbers.there.hub_undone g w.0 w.1
+
+  waiting_same : (q : ℕ) → at makes_resource h q ≡ true → is_waiting c (r q) ≡ is_waiting h q
+  unfolding is_waiting
+  waiting_same q made =
+      let w = resource_made h q made in
+      let there : at makes_resource c (r q) ≡ at makes_resource h q = ap (λ (x : Option Event). option_map_or makes_resource x false) (a.shown.kept q (Accept w.0 w.1) refl w.2) ∙ sym made in
+      (λ i. there i && not (a.shown.held q made i) && not (a.shown.taken q made i))
+
+children_same : (base : Kept) → (r s : ℕ → ℕ) (h c : List Event) (a : AreSameBy base r s h c) (n : ℕ) → is_open h n ≡ true → has_open_child c (r n) ≡ has_open_child h n
+children_same base r s h c a n o = same_test (has_open_child c (r n)) (has_open_child h n)
+    (λ found. ap (has_open_child h) (sym (a.numbers.there.undone n o)) ∙ children_there base s r c h (same_back base a) (r n) (a.numbers.there.alive n o) found) (children_there base r s h c a n o)
+
+ordered_back : (base : Kept) → (r s : ℕ → ℕ) (h c : List Event) (a : AreSameBy base r s h c) (g p : ℕ) → at makes_hub h g ≡ true → is_open h p ≡ true → IsInOrderAt c (r g) (r p) → IsInOrderAt h g p
+ordered_back base r s h c a g p hub o ordered =
+    subst (λ (i : ℕ). IsInOrderAt h i p) (undone_hub base r s h c a g hub)
+    (subst (λ (n : ℕ). IsInOrderAt h (s (r g)) n) (a.numbers.there.undone p o)
+    (in_order_read base s r c h (same_back base a) (r g) (r p) (hub_read base r s h c a g hub) (a.numbers.there.alive p o) ordered))
+
+-- all together
+pub callers_see : (base : Kept) → (r s : ℕ → ℕ) (h c : List Event) → AreSameBy base r s h c → CallersSeeTheSame base r s h c
+callers_see base r s h c a = record {
+  same_open = open_same base r s h c a;
+  leaves = test_same base r s h c a is_leaf leaf_by;
+  sourced = test_same base r s h c a has_source sourced_by;
+  merging = merging_read base a.numbers;
+  untils = test_same base r s h c a is_until until_by;
+  aborted = test_same base r s h c a may_abort abort_by;
+  roots = test_same base r s h c a is_root root_by;
+  same_owed = owed_read base r s h c a;
+  source_taken = sourced_read base r s h c a;
+  notifier_taken = notified_read base r s h c a;
+  children = children_same base r s h c a;
+  same_visits = visits_read base r s h c a.numbers;
+  hub_there = hub_read base r s h c a;
+  autos = hub_test base r s h c a is_auto_hub;
+  manuals = hub_test base r s h c a is_manual_hub;
+  connections = λ g hub. connections_read base r s h c a g (undone_hub base r s h c a g hub);
+  subscribers = λ g hub. subscribers_read base r s h c a.numbers g (undone_hub base r s h c a g hub);
+  ordered = in_order_read base r s h c a;
+  ordered_back = ordered_back base r s h c a;
+  held = a.shown.held;
+  waiting = waiting_same base r s h c a;
+  nodes = open_nodes_read base r s h c a;
+  all_hubs = hubs_read base r s h c a;
+  open_total = sym (length-filter (is_open c) (places c)) ∙ ap length (open_nodes_read base r s h c a) ∙ length-map (open_nodes h) r ∙ length-filter (is_open h) (places h);
+  hub_total = ap length (hubs_read base r s h c a) ∙ length-map (hubs h) r;
+}

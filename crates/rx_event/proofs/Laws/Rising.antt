@@ -1,0 +1,115 @@
+-- Lists of rising numbers: two with the same members are the same.
+use Rattle.std.proofs.Common.{◌≡◌, ℕ, zero, suc, ◌+◌, ◌<◌, ◌≤◌, Bool, true, false, List, [], ◌∷◌, cond, refl, sym, ap, ◌∙◌, inl, inr, ◌⊎◌, arith, filter, map}
+use Rattle.std.specs.List.{AllByRecursion, range_with_len}
+use Rattle.std.proofs.lemmas.Bool.{cases_order}
+
+abbrev pub In : ℕ → List ℕ → Type 0
+In k [] = ⊥
+In k (x ∷ xs) = (x ≡ k) ⊎ In k xs
+
+abbrev pub Rises : List ℕ → Type 0
+Rises [] = Unit {0}
+Rises (x ∷ xs) = AllByRecursion (λ y. x < y) xs × Rises xs
+
+all_in : (P : ℕ → Type 0) (xs : List ℕ) → ((k : ℕ) → In k xs → P k) → AllByRecursion P xs
+all_in P [] each = tt
+all_in P (x ∷ xs) each = (each x (inl refl), all_in P xs (λ k i. each k (inr i)))
+
+in_all : (x k : ℕ) (xs : List ℕ) → AllByRecursion (λ y. x < y) xs → In k xs → x < k
+in_all x k [] all i = absurd i
+in_all x k (y ∷ xs) all (inl same) = let l = all.0 in omega arith
+in_all x k (y ∷ xs) all (inr i) = in_all x k xs all.1 i
+
+pub rising_same : (xs ys : List ℕ) → Rises xs → Rises ys → ((k : ℕ) → In k xs → In k ys) → ((k : ℕ) → In k ys → In k xs) → xs ≡ ys
+rising_same [] [] a b there back = refl
+rising_same [] (y ∷ ys) a b there back = absurd (back y (inl refl))
+rising_same (x ∷ xs) [] a b there back = absurd (there x (inl refl))
+rising_same (x ∷ xs) (y ∷ ys) a b there back = λ i. first i ∷ rising_same xs ys a.1 b.1 onwards backwards i where
+  first_by : (y ≡ x) ⊎ In x ys → (x ≡ y) ⊎ In y xs → x ≡ y
+  first_by (inl same) other = sym same
+  first_by (inr i) (inl same) = same
+  first_by (inr i) (inr j) = absurd (let l = in_all y x ys b.0 i in let m = in_all x y xs a.0 j in omega arith)
+
+  first : x ≡ y
+  first = first_by (there x (inl refl)) (back y (inl refl))
+
+  onwards : (k : ℕ) → In k xs → In k ys
+  onwards k i = by_place (there k (inr i)) where
+    by_place : (y ≡ k) ⊎ In k ys → In k ys
+    by_place (inr j) = j
+    by_place (inl same) = absurd (let l = in_all x k xs a.0 i in let f = first in omega arith)
+
+  backwards : (k : ℕ) → In k ys → In k xs
+  backwards k i = by_place (back k (inr i)) where
+    by_place : (x ≡ k) ⊎ In k xs → In k xs
+    by_place (inr j) = j
+    by_place (inl same) = absurd (let l = in_all y k ys b.0 i in let f = first in omega arith)
+
+-- filters --------------------------------------------------------------------------------------------------------------
+
+pub in_filter : (p : ℕ → Bool) (xs : List ℕ) (k : ℕ) → In k xs → p k ≡ true → In k (filter p xs)
+in_filter p [] k i holds = absurd i
+in_filter p (x ∷ xs) k (inl same) holds = by_test (p x) (ap p same ∙ holds) where
+  by_test : (b : Bool) → b ≡ true → In k (cond b (x ∷ filter p xs) (filter p xs))
+  by_test true yes_so = inl same
+  by_test false no_so = absurd (cc)
+in_filter p (x ∷ xs) k (inr i) holds = by_test (p x) (in_filter p xs k i holds) where
+  by_test : (b : Bool) → In k (filter p xs) → In k (cond b (x ∷ filter p xs) (filter p xs))
+  by_test true j = inr j
+  by_test false j = j
+
+pub filter_in : (p : ℕ → Bool) (xs : List ℕ) (k : ℕ) → In k (filter p xs) → In k xs × (p k ≡ true)
+filter_in p [] k i = absurd i
+filter_in p (x ∷ xs) k i = by_test (p x) refl i (filter_in p xs k) where
+  by_test : (b : Bool) → p x ≡ b → In k (cond b (x ∷ filter p xs) (filter p xs)) → (In k (filter p xs) → In k xs × (p k ≡ true)) → In k (x ∷ xs) × (p k ≡ true)
+  by_test true at_x (inl same) rest = (inl same, sym (ap p same) ∙ at_x)
+  by_test true at_x (inr j) rest = let w = rest j in (inr w.0, w.1)
+  by_test false at_x j rest = let w = rest j in (inr w.0, w.1)
+
+pub filter_rises : (p : ℕ → Bool) (xs : List ℕ) → Rises xs → Rises (filter p xs)
+filter_rises p [] a = tt
+filter_rises p (x ∷ xs) a = by_test (p x) (filter_rises p xs a.1) where
+  by_test : (b : Bool) → Rises (filter p xs) → Rises (cond b (x ∷ filter p xs) (filter p xs))
+  by_test true rest = (all_in (λ y. x < y) (filter p xs) (λ k i. in_all x k xs a.0 (filter_in p xs k i).0), rest)
+  by_test false rest = rest
+
+-- ranges ----------------------------------------------------------------------------------------------------------------
+
+pub range_in : (s n k : ℕ) → In k (range_with_len s n) → (s ≤ k) × (k < s + n)
+range_in s zero k i = absurd i
+range_in s (suc n) k (inl same) = (omega arith, omega arith)
+range_in s (suc n) k (inr i) = let w = range_in (s + 1) n k i in let l = w.0 in let m = w.1 in (omega arith, omega arith)
+
+pub in_range : (s n k : ℕ) → s ≤ k → k < s + n → In k (range_with_len s n)
+in_range s zero k l m = absurd (omega arith)
+in_range s (suc n) k l m = by_place (cases_order s k) (in_range (s + 1) n k) where
+  by_place : (s ≡ k) ⊎ ((s < k) ⊎ (k < s)) → (s + 1 ≤ k → k < (s + 1) + n → In k (range_with_len (s + 1) n)) → In k (range_with_len s (suc n))
+  by_place (inl same) rest = inl same
+  by_place (inr (inl less)) rest = inr (rest (omega arith) (omega arith))
+  by_place (inr (inr past)) rest = absurd (omega arith)
+
+pub range_rises : (s n : ℕ) → Rises (range_with_len s n)
+range_rises s zero = tt
+range_rises s (suc n) = (all_in (λ y. s < y) (range_with_len (s + 1) n) (λ k i. let w = (range_in (s + 1) n k i).0 in omega arith), range_rises (s + 1) n)
+
+-- maps ------------------------------------------------------------------------------------------------------------------
+
+pub in_map : (r : ℕ → ℕ) (xs : List ℕ) (k : ℕ) → In k xs → In (r k) (map r xs)
+in_map r [] k i = absurd i
+in_map r (x ∷ xs) k (inl same) = inl (ap r same)
+in_map r (x ∷ xs) k (inr i) = inr (in_map r xs k i)
+
+pub map_in : (r : ℕ → ℕ) (xs : List ℕ) (m : ℕ) → In m (map r xs) → (k : ℕ) × In k xs × (r k ≡ m)
+map_in r [] m i = absurd i
+map_in r (x ∷ xs) m (inl same) = (x, inl refl, same)
+map_in r (x ∷ xs) m (inr i) = let w = map_in r xs m i in (w.0, inr w.1, w.2)
+
+pub map_rises : (r : ℕ → ℕ) (xs : List ℕ) → ((a b : ℕ) → In a xs → In b xs → a < b → r a < r b) → Rises xs → Rises (map r xs)
+map_rises r [] grows a = tt
+map_rises r (x ∷ xs) grows a = (all_in (λ y. r x < y) (map r xs) less, map_rises r xs (λ c d i j. grows c d (inr i) (inr j)) a.1) where
+  less : (m : ℕ) → In m (map r xs) → r x < m
+  less m i =
+      let w : (k : ℕ) × In k xs × (r k ≡ m) = map_in r xs m i in
+      let l : r x < r w.0 = grows x w.0 (inl refl) (inr w.1) (in_all x w.0 xs a.0 w.1) in
+      let same = w.2 in
+      omega arith

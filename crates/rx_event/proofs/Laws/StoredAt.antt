@@ -1,0 +1,16 @@
+-- Places of a stored history.
+use Rattle.std.proofs.Common.{◌≡◌, ℕ, zero, suc, ◌+◌, ◌-◌, ◌≤◌, List, [], ◌∷◌, ◌++◌, length, ap, ◌∙◌, arith, slice_get, length-append}
+use Rattle.rx_event.specs.declared.event.Event.{Event}
+use Rattle.rx_event.specs.Kept.{Kept, shown}
+use Rattle.rx_event.proofs.Laws.Bases.{length-shown}
+
+pub length_stored : (b : Kept) (es : List Event) → length (shown b ++ es) ≡ b.at_length + length es
+length_stored b es = length-append (shown b) es ∙ ap (λ n. n + length es) (length-shown b)
+
+slice_get-after : {X : Type 0} (xs ys : List X) (n : ℕ) → length xs ≤ n → slice_get (xs ++ ys) n ≡ slice_get ys (n - length xs)
+slice_get-after [] ys n past = ap (slice_get ys) (let e : n ≡ n - 0 = omega arith in e)
+slice_get-after (x ∷ xs) ys zero past = absurd (omega arith)
+slice_get-after (x ∷ xs) ys (suc n) past = slice_get-after xs ys n (omega arith) ∙ ap (slice_get ys) (let e : n - length xs ≡ suc n - length (x ∷ xs) = omega arith in e)
+
+pub get_stored : (b : Kept) (es : List Event) (n : ℕ) → b.at_length ≤ n → slice_get (shown b ++ es) n ≡ slice_get es (n - b.at_length)
+get_stored b es n past = let l = length-shown b in slice_get-after (shown b) es n (omega arith) ∙ ap (λ m. slice_get es (n - m)) l

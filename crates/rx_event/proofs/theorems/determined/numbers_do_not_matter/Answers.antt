@@ -1,0 +1,16 @@
+use Rattle.rx_event.proofs.Laws.Reading.{forced_read, settled_read}
+use Rattle.rx_event.proofs.Laws.ReadWhole.{same_start, same_event_on, courses_same}
+use Rattle.rx_event.proofs.Laws.ReadAllowed.{allowed_read}
+use Rattle.rx_event.proofs.Laws.ReadSteps.{steps_same}
+use Rattle.rx_event.proofs.theorems.determined.numbers_do_not_matter.Goals as goal
+
+pub returns : goal.returns
+returns c = λ base. record {
+  start = same_start base;
+  forced = λ r s h d e a f. forced_read base a.numbers f;
+  settled = λ r s h d a settled. settled_read base a.numbers settled;
+  allowed = λ r s h d e a settled also allow. allowed_read base r s h d a settled also allow;
+  event = λ r s h d e a next other. same_event_on base a e next other;
+  courses = courses_same base;
+  steps = steps_same base;
+}

@@ -1,0 +1,143 @@
+-- The base of a stored history, and which stored histories agree. b is the base, h the list that base and events read as.
+use Rattle.std.specs.Prelude.{◌≡◌, ℕ, Bool, ◌||◌, Some, List, [], map, filter, length, slice_get, IsTrue, false}
+use Rattle.std.specs.Option.{option_map_or}
+use Rattle.rx_note.specs.declared.note.Terminal.{Terminal}
+use Rattle.rx_note.specs.declared.note.Terminal.TheVariants.{Error}
+use Rattle.rx_event.specs.declared.event.Mode.{Mode}
+use Rattle.rx_event.specs.declared.event.Event.{Event}
+use Rattle.rx_event.specs.declared.event.Event.TheVariants.{Hub, Connect, Accept, Close}
+use Rattle.rx_event.specs.declared.base.BaseHub.{BaseHub}
+use Rattle.rx_event.specs.declared.base.BaseNode.{BaseNode}
+use Rattle.rx_event.specs.declared.base.BaseResource.{BaseResource}
+use Rattle.rx_event.specs.Kept.{Kept}
+use Rattle.rx_event.specs.Events.{is_merging, is_until, is_mirroring, is_auto_hub}
+use Rattle.rx_event.specs.Tree.{at, places, hubs, parent, is_open, open_nodes, open_subscribers}
+use Rattle.rx_event.specs.Resources.{is_held, is_waiting, uses, accepted_by}
+use Rattle.rx_event.specs.Moments.{is_fired, owed}
+use Rattle.rx_event.specs.Opened.{source_opened, notifier_opened}
+use Rattle.rx_event.specs.Marks.{source_completed}
+use Rattle.rx_event.specs.Totals.{item_count, accepted_count, taken_count}
+use Rattle.rx_event.specs.Forced.{ChildEnded, SourceEnded}
+
+-- the base of a history ------------------------------------------------------------------------------
+
+abbrev pub event_or : List Event → ℕ → Event
+event_or h n = option_map_or (λ e. e) (slice_get h n) (Close n)
+
+abbrev pub keep_node : Kept → List Event → ℕ → BaseNode
+keep_node b h n =
+    record {
+      number = n;
+      made = event_or h n;
+      source_opened = source_opened b h n;
+      notifier_opened = notifier_opened b h n;
+      source_completed = source_completed b h n;
+      owed = owed b h n;
+    }
+
+abbrev pub mode_of : Event → Mode
+mode_of (Hub mode) = mode
+mode_of _ = Rattle.rx_event.specs.declared.event.Mode.TheVariants.Manual
+
+abbrev pub keep_hub : List Event → ℕ → BaseHub
+keep_hub h n = record { number = n; mode = mode_of (event_or h n) }
+
+abbrev pub accept_node : Event → ℕ
+accept_node (Accept node tag) = node
+accept_node _ = 0
+
+abbrev pub accept_tag : Event → ℕ
+accept_tag (Accept node tag) = tag
+accept_tag _ = 0
+
+abbrev pub keep_resource : Kept → List Event → ℕ → BaseResource
+keep_resource b h r =
+    record {
+      number = r;
+      node = option_map_or accept_node (accepted_by b h r) 0;
+      tag = option_map_or accept_tag (accepted_by b h r) 0;
+      uses = uses b h r;
+      owned = is_held h r;
+    }
+
+abbrev pub is_untaken : List Event → ℕ → Bool
+is_untaken h r = is_held h r || is_waiting h r
+
+-- of a stored history: each open node, each hub and each resource that is not taken, by rising number
+unfoldable pub base_of : Kept → List Event → Kept
+base_of b h =
+    record {
+      at_length = length h;
+      items = item_count b h;
+      accepted = accepted_count b h;
+      taken = taken_count b h;
+      hubs = map (keep_hub h) (hubs h);
+      nodes = map (keep_node b h) (open_nodes h);
+      resources = map (keep_resource b h) (filter (is_untaken h) (places h));
+    }
+
+-- agreement in what is open ---------------------------------------------------------------------------
+
+-- two lists of events have the same length, hubs and open nodes, each made by the same event
+pub record Alike (p q : List Event) : Type 0 where
+  pub same_length : length p ≡ length q
+  pub same_open : (n : ℕ) → is_open p n ≡ is_open q n
+  pub same_made : (n : ℕ) → IsTrue (is_open p n) → slice_get p n ≡ slice_get q n
+  pub same_hub : (n : ℕ) (mode : Mode) → slice_get p n ≡ Some (Hub mode) → slice_get q n ≡ Some (Hub mode)
+  pub same_hub_back : (n : ℕ) (mode : Mode) → slice_get q n ≡ Some (Hub mode) → slice_get p n ≡ Some (Hub mode)
+
+-- the rules, each by its own line ---------------------------------------------------------------------
+
+abbrev pub Mirrors : List Event → ℕ → Terminal → Type 0
+Mirrors h p t = IsTrue (is_open h p) × IsTrue (at is_mirroring h p) × ChildEnded h p t
+
+abbrev pub Fires : List Event → ℕ → Type 0
+Fires h u = IsTrue (is_open h u) × IsTrue (at is_until h u) × IsTrue (is_fired h u)
+
+abbrev pub Fails : List Event → ℕ → ℕ → Type 0
+Fails h f c = IsTrue (is_open h f) × IsTrue (at is_merging h f) × ChildEnded h f (Error c)
+
+-- a FlatMap or Switch completes
+pub record Completes (b : Kept) (h : List Event) (f : ℕ) : Type 0 where
+  pub alive : IsTrue (is_open h f)
+  pub merging : IsTrue (at is_merging h f)
+  pub fails_not : (c : ℕ) → ¬ Fails h f c
+  pub source : IsTrue (source_completed b h f)
+  pub childless : (c : ℕ) → parent h c ≡ Some f → is_open h c ≡ false
+  pub paid : owed b h f ≡ 0
+
+abbrev pub Cuts : List Event → ℕ → Terminal → Type 0
+Cuts h s t = IsTrue (is_open h s) × SourceEnded h s t
+
+pub record Leaves (h : List Event) (c : ℕ) : Type 0 where
+  pub hub : ℕ
+  pub alive : IsTrue (is_open h c)
+  pub connects : slice_get h c ≡ Some (Connect hub)
+  pub auto : IsTrue (at is_auto_hub h hub)
+  pub unsubscribed : open_subscribers h hub ≡ []
+
+-- agreement ---------------------------------------------------------------------------------------------
+
+-- what the rules give in h they give in k
+pub record Gives (h k : List Event) : Type 0 where
+  pub mirrors : (p : ℕ) (t : Terminal) → Mirrors h p t → Mirrors k p t
+  pub fires : (u : ℕ) → Fires h u → Fires k u
+  pub fails : (f c : ℕ) → Fails h f c → Fails k f c
+  pub cuts : (s : ℕ) (t : Terminal) → Cuts h s t → Cuts k s t
+
+-- two stored histories agree. What the three other rules give follows from the rest (`completes_too`, `leaves_too`, `connects_too`)
+pub record Agree (b : Kept) (h : List Event) (c : Kept) (k : List Event) : Type 0 where
+  pub alike : Alike h k
+  pub sources : (n : ℕ) → IsTrue (is_open h n) → source_opened b h n ≡ source_opened c k n
+  pub notifiers : (n : ℕ) → IsTrue (is_open h n) → notifier_opened b h n ≡ notifier_opened c k n
+  pub completions : (n : ℕ) → IsTrue (is_open h n) → source_completed b h n ≡ source_completed c k n
+  pub debts : (n : ℕ) → IsTrue (is_open h n) → owed b h n ≡ owed c k n
+  pub held : (r : ℕ) → is_held h r ≡ is_held k r
+  pub waiting : (r : ℕ) → is_waiting h r ≡ is_waiting k r
+  pub accepts : (r : ℕ) → IsTrue (is_untaken h r) → accepted_by b h r ≡ accepted_by c k r
+  pub used : (r : ℕ) → IsTrue (is_untaken h r) → uses b h r ≡ uses c k r
+  pub item_total : item_count b h ≡ item_count c k
+  pub accepted_total : accepted_count b h ≡ accepted_count c k
+  pub taken_total : taken_count b h ≡ taken_count c k
+  pub gives : Gives h k
+  pub gives_back : Gives k h
