@@ -1,5 +1,5 @@
 -- A register after one more event, and after a note that was handed out.
-use Rattle.std.proofs.Common.{◌≡◌, ℕ, zero, suc, ◌+◌, ◌-◌, ◌<◌, ◌≤◌, List, [], ◌∷◌, ◌++◌, length, take, drop, Option, Some, None, cond, refl, sym, ap, ◌∙◌, arith, slice_get, length-append, length-drop, take-append-drop}
+use Rattle.std.proofs.Common.{◌≡◌, ℕ, zero, suc, ◌+◌, ◌-◌, ◌<◌, ◌≤◌, Bool, true, false, List, [], ◌∷◌, ◌++◌, length, take, drop, Option, Some, None, cond, refl, sym, ap, ◌∙◌, arith, slice_get, length-append, length-drop, take-append-drop}
 use Rattle.std.specs.Option.{option_to_list}
 use Rattle.std.proofs.lemmas.List.{drop-append-le, drop_all, take_all}
 use Rattle.rx_event.specs.declared.event.Event.{Event}
@@ -7,12 +7,16 @@ use Rattle.rx_event.specs.Events.{makes_resource, is_item, is_take}
 use Rattle.rx_event.specs.declared.mail.Mail.{Mail}
 use Rattle.rx_event.specs.Notes.{notes, mail_of}
 use Rattle.rx_event.specs.Moments.{moments}
+use Rattle.rx_event.specs.Kept.{nothing_kept, shown}
+use Rattle.rx_event.specs.Totals.{debt}
 use Rattle.rx_event.specs.Lawful.{MayFollow}
 use Rattle.rx_event.proofs.Laws.Counts.{notes-push}
-use Rattle.rx_event.proofs.Laws.Lawful.{IsLawful-push, IsLawful_empty}
+use Rattle.rx_event.proofs.Laws.Begin.{shown_nothing, IsLawful_nothing}
+use Rattle.rx_event.proofs.Laws.Lawful.{IsLawful-push}
 use Rattle.rx_event.proofs.Laws.Totals.{item_count-push, accepted_count-push, taken_count-push}
 use Rattle.rx_register.specs.declared.register.Register.TheInside.{Inside}
 use Rattle.rx_register.specs.Ties.{IsTied}
+use Rattle.rx_register.proofs.Laws.Empty.{debt_empty}
 
 -- so many notes are behind those that were told
 pub told_length : (items : List Mail) (told : ℕ) (ms : List Mail) → told ≤ length items → drop told items ≡ ms → length items ≡ told + length ms
@@ -32,27 +36,43 @@ given_after ns ms told items l is = omega (arith, length-append ns ms)
 
 -- b is a after the event
 pub record IsWritten (a b : Inside) (e : Event) : Type 0 where
-  pub next : MayFollow a.history.events e
+  pub next : MayFollow a.history.base a.history.events e
   pub told : drop a.told a.mail.items ≡ mail_of a.history.events e
+  pub base : b.history.base ≡ a.history.base
   pub events : b.history.events ≡ a.history.events ++ e ∷ []
   pub limit : b.history.limit ≡ a.history.limit
   pub own_limit : b.limit ≡ a.limit
-  pub within : length b.history.events ≤ b.history.limit
+  pub within : length b.history.events ≤ b.history.base.at_length + b.history.limit
   pub items : b.item_total ≡ a.item_total + cond (is_item e) 1 0
   pub accepted : b.accepted_total ≡ a.accepted_total + cond (makes_resource e) 1 0
   pub taken : b.taken_total ≡ a.taken_total + cond (is_take e) 1 0
   pub mail : b.mail.items ≡ a.mail.items
   pub all_told : b.told ≡ length a.mail.items
 
+at_most_one : (test : Bool) → cond {A = ℕ} test 1 0 ≤ 1
+at_most_one true = omega arith
+at_most_one false = omega arith
+
 pub written : (a b : Inside) (e : Event) → IsTied a → IsWritten a b e → IsTied b
 written a b e r w = record {
-  lawful = rw w.events (IsLawful-push h e r.lawful w.next);
+  lawful = rw (w.base, w.events) (IsLawful-push a.history.base h e r.lawful w.next);
+  from_start = w.base ∙ r.from_start;
   limited = rw w.limit r.limited;
   limit = w.own_limit ∙ r.limit ∙ sym w.limit;
+  begun = rw (w.base, w.events) (let l = r.begun in omega (arith, length-append h (e ∷ [])));
+  placed = rw w.base r.placed;
+  closing = rw (w.base, w.limit) r.closing;
   within = w.within;
-  item_total = rw w.events (w.items ∙ ap (λ (n : ℕ). n + cond (is_item e) 1 0) r.item_total ∙ sym (item_count-push h e));
-  accepted_total = rw w.events (w.accepted ∙ ap (λ (n : ℕ). n + cond (makes_resource e) 1 0) r.accepted_total ∙ sym (accepted_count-push h e));
-  taken_total = rw w.events (w.taken ∙ ap (λ (n : ℕ). n + cond (is_take e) 1 0) r.taken_total ∙ sym (taken_count-push h e));
+  item_total = rw (w.base, w.events) (w.items ∙ ap (λ (n : ℕ). n + cond (is_item e) 1 0) r.item_total ∙ sym (item_count-push a.history.base h e));
+  accepted_total = rw (w.base, w.events) (w.accepted ∙ ap (λ (n : ℕ). n + cond (makes_resource e) 1 0) r.accepted_total ∙
+      sym (accepted_count-push a.history.base h e));
+  taken_total = rw (w.base, w.events) (w.taken ∙ ap (λ (n : ℕ). n + cond (is_take e) 1 0) r.taken_total ∙ sym (taken_count-push a.history.base h e));
+  few_items = rw (w.base, w.events) (let p = item_count-push a.history.base h e in let few = r.few_items in let one = at_most_one (is_item e) in
+      omega (arith, length-append h (e ∷ [])));
+  few_accepted = rw (w.base, w.events) (let p = accepted_count-push a.history.base h e in let few = r.few_accepted in
+      let one = at_most_one (makes_resource e) in omega (arith, length-append h (e ∷ [])));
+  few_taken = rw (w.base, w.events) (let p = taken_count-push a.history.base h e in let few = r.few_taken in let one = at_most_one (is_take e) in
+      omega (arith, length-append h (e ∷ [])));
   some_told = rw (w.events, w.all_told, notes-push h e) (let s = r.some_told in let n = count in omega (arith, length-append (notes h) (mail_of h e)));
   queued = rw (w.all_told, w.mail) (omega arith);
   mail = rw (w.mail, w.all_told, take_all (length a.mail.items) a.mail.items (omega arith), w.events, notes-push h e, given_after (notes h) (mail_of h e) a.told (length a.mail.items) r.some_told count) (queue_after (notes h) (mail_of h e) a.mail.items a.told r.some_told r.mail w.told);
@@ -118,27 +138,46 @@ popped_first ns items rest told None is next some l m same = absurd (let d = len
 pub popped_inside : (a b : Inside) (o : Option Mail) → IsTied a → IsPopped (notes a.history.events) a.mail.items b.mail.items a.told o → 0 < a.told → b.history ≡ a.history → b.item_total ≡ a.item_total → b.accepted_total ≡ a.accepted_total → b.taken_total ≡ a.taken_total → b.limit ≡ a.limit → b.told ≡ a.told - 1 → IsTied b
 popped_inside a b o r p some same items accepted taken own told = record {
   lawful = rw same r.lawful;
+  from_start = rw same r.from_start;
   limited = rw same r.limited;
+  begun = rw same r.begun;
+  placed = rw same r.placed;
+  closing = rw same r.closing;
   within = rw same r.within;
   limit = rw same (own ∙ r.limit);
   item_total = rw same (items ∙ r.item_total);
   accepted_total = rw same (accepted ∙ r.accepted_total);
   taken_total = rw same (taken ∙ r.taken_total);
+  few_items = rw same r.few_items;
+  few_accepted = rw same r.few_accepted;
+  few_taken = rw same r.few_taken;
   some_told = rw (same, told) (let s = r.some_told in omega arith);
   queued = rw told p.queued;
   mail = rw (same, told) p.mail;
 }
 
 -- with no events
-pub tied_empty : (a : Inside) → a.history.limit ≤ 4294967295 → a.limit ≡ a.history.limit → a.history.events ≡ [] → a.item_total ≡ 0 → a.accepted_total ≡ 0 → a.taken_total ≡ 0 → a.told ≡ 0 → IsTied a
-tied_empty a few own events i r t told = record {
-  lawful = rw events IsLawful_empty;
+debt_nothing : debt nothing_kept (shown nothing_kept) ≡ 0
+debt_nothing = ap (debt nothing_kept) shown_nothing ∙ debt_empty nothing_kept
+
+pub tied_empty : (a : Inside) → a.history.limit ≤ 4294967295 → a.limit ≡ a.history.limit → a.history.base ≡ nothing_kept → a.history.events ≡ [] →
+    a.item_total ≡ 0 → a.accepted_total ≡ 0 → a.taken_total ≡ 0 → a.told ≡ 0 → IsTied a
+unfolding shown
+tied_empty a few own base events i r t told = record {
+  lawful = rw (base, events) IsLawful_nothing;
+  from_start = base;
   limited = few;
   within = rw events (omega arith);
   limit = own;
-  item_total = rw events i;
-  accepted_total = rw events r;
-  taken_total = rw events t;
+  begun = rw base (omega arith);
+  placed = rw base (omega arith);
+  closing = rw base (let d = debt_nothing in omega arith);
+  item_total = rw (base, events) i;
+  accepted_total = rw (base, events) r;
+  taken_total = rw (base, events) t;
+  few_items = rw (base, events) (omega arith);
+  few_accepted = rw (base, events) (omega arith);
+  few_taken = rw (base, events) (omega arith);
   some_told = rw told (omega arith);
   queued = rw told (omega arith);
   mail = rw told (sym (drop_all (length (notes a.history.events) - 0) (notes a.history.events) (omega arith)));

@@ -12,7 +12,9 @@ use Rattle.rx_event.specs.declared.event.Event.{Event}
 use Rattle.rx_event.specs.declared.event.Event.TheVariants.{Connect}
 use Rattle.rx_event.specs.declared.refusal.Refusal.{Refusal}
 use Rattle.rx_event.specs.declared.refusal.Refusal.TheVariants.{Full, Gone, WrongKind, PlaceTaken, NothingOwed, NotRoot, NoHub, HubOrder, Connected, NotConnected, NotFresh, NotHeld, HasChild, TooMany}
-use Rattle.rx_event.specs.Events.{makes_hub, named_by, has_source, is_leaf, is_merging, is_until, is_root, is_auto_hub, is_manual_hub, is_source_of, is_notifier_of}
+use Rattle.rx_event.specs.Events.{makes_hub, named_by, has_source, is_leaf, is_merging, is_until, is_root, is_auto_hub, is_manual_hub}
+use Rattle.rx_event.specs.Kept.{Kept}
+use Rattle.rx_event.specs.Opened.{source_opened, notifier_opened}
 use Rattle.rx_event.specs.Tree.{at, ancestors, hubs, is_open, has_open_child, open_connections}
 use Rattle.rx_event.specs.Resources.{is_held}
 use Rattle.rx_event.specs.Climb.{stops, visits, most_visits}
@@ -61,16 +63,16 @@ is_wrong_place h (Inner p) = not (at is_merging h p)
 is_wrong_place h (Notifier p) = not (at is_until h p)
 
 -- a source or a notifier was opened there before
-abbrev pub is_taken_place : List Event → Place → Bool
-is_taken_place h Root = false
-is_taken_place h (Source p) = list_any (is_source_of p) h
-is_taken_place h (Inner p) = false
-is_taken_place h (Notifier p) = list_any (is_notifier_of p) h
+abbrev pub is_taken_place : Kept → List Event → Place → Bool
+is_taken_place base h Root = false
+is_taken_place base h (Source p) = source_opened base h p
+is_taken_place base h (Inner p) = false
+is_taken_place base h (Notifier p) = notifier_opened base h p
 
 -- no projected item waits for an inner there
-abbrev pub is_unowed_place : List Event → Place → Bool
-is_unowed_place h (Inner p) = owed h p == 0
-is_unowed_place h _ = false
+abbrev pub is_unowed_place : Kept → List Event → Place → Bool
+is_unowed_place base h (Inner p) = owed base h p == 0
+is_unowed_place base h _ = false
 
 -- limits ----------------------------------------------------------------------------------------------------------------------
 
@@ -78,9 +80,10 @@ is_unowed_place h _ = false
 abbrev pub is_crowded : List Event → ℕ → Bool
 is_crowded h more = nat_lt most_nodes (open_count h + more)
 
--- so many events and reservations more would pass the limit, with what closing everything needs counted in
-abbrev pub is_over : List Event → ℕ → ℕ → Bool
-is_over h limit more = nat_lt limit (length h + debt h + more)
+-- so many events and reservations more would pass the limit on the events since the base, with what closing everything needs
+-- counted in
+abbrev pub is_over : Kept → List Event → ℕ → ℕ → Bool
+is_over base h limit more = nat_lt (base.at_length + limit) (length h + debt base h + more)
 
 -- the nodes that an opening makes: its own, and a connection where it forces one
 abbrev pub nodes_opened : List Event → Kind → ℕ
@@ -105,48 +108,48 @@ added_by h _ = 0
 
 -- the rows --------------------------------------------------------------------------------------------------------------------
 
-abbrev pub opening_causes : List Event → ℕ → Place → Kind → Refusal → Bool
-opening_causes h limit place kind NoHub = is_without_hub h kind
-opening_causes h limit place kind Gone = is_gone h place
-opening_causes h limit place kind WrongKind = is_wrong_place h place
-opening_causes h limit place kind PlaceTaken = is_taken_place h place
-opening_causes h limit place kind NothingOwed = is_unowed_place h place
-opening_causes h limit place kind HubOrder = is_out_of_order h place kind
-opening_causes h limit place kind TooMany = is_crowded h (nodes_opened h kind)
-opening_causes h limit place kind Full = is_over h limit (added_by h (Opening place kind))
-opening_causes h limit place kind _ = false
+abbrev pub opening_causes : Kept → List Event → ℕ → Place → Kind → Refusal → Bool
+opening_causes base h limit place kind NoHub = is_without_hub h kind
+opening_causes base h limit place kind Gone = is_gone h place
+opening_causes base h limit place kind WrongKind = is_wrong_place h place
+opening_causes base h limit place kind PlaceTaken = is_taken_place base h place
+opening_causes base h limit place kind NothingOwed = is_unowed_place base h place
+opening_causes base h limit place kind HubOrder = is_out_of_order h place kind
+opening_causes base h limit place kind TooMany = is_crowded h (nodes_opened h kind)
+opening_causes base h limit place kind Full = is_over base h limit (added_by h (Opening place kind))
+opening_causes base h limit place kind _ = false
 
-abbrev pub using_causes : List Event → ℕ → Bool → Place → (tag : ℕ) → Refusal → Bool
-using_causes h limit is_fresh place tag Gone = is_gone h place
-using_causes h limit is_fresh place tag WrongKind = is_wrong_place h place
-using_causes h limit is_fresh place tag PlaceTaken = is_taken_place h place
-using_causes h limit is_fresh place tag NothingOwed = is_unowed_place h place
-using_causes h limit is_fresh place tag NotFresh = not is_fresh
-using_causes h limit is_fresh place tag TooMany = is_crowded h 1
-using_causes h limit is_fresh place tag Full = is_over h limit (added_by h (OpeningUsing place tag))
-using_causes h limit is_fresh place tag _ = false
+abbrev pub using_causes : Kept → List Event → ℕ → Bool → Place → (tag : ℕ) → Refusal → Bool
+using_causes base h limit is_fresh place tag Gone = is_gone h place
+using_causes base h limit is_fresh place tag WrongKind = is_wrong_place h place
+using_causes base h limit is_fresh place tag PlaceTaken = is_taken_place base h place
+using_causes base h limit is_fresh place tag NothingOwed = is_unowed_place base h place
+using_causes base h limit is_fresh place tag NotFresh = not is_fresh
+using_causes base h limit is_fresh place tag TooMany = is_crowded h 1
+using_causes base h limit is_fresh place tag Full = is_over base h limit (added_by h (OpeningUsing place tag))
+using_causes base h limit is_fresh place tag _ = false
 
-abbrev pub holding_causes : List Event → ℕ → Bool → (node tag : ℕ) → Refusal → Bool
-holding_causes h limit is_fresh node tag Gone = not (is_open h node)
-holding_causes h limit is_fresh node tag NotFresh = not is_fresh
-holding_causes h limit is_fresh node tag Full = is_over h limit (added_by h (Holding node tag))
-holding_causes h limit is_fresh node tag _ = false
+abbrev pub holding_causes : Kept → List Event → ℕ → Bool → (node tag : ℕ) → Refusal → Bool
+holding_causes base h limit is_fresh node tag Gone = not (is_open h node)
+holding_causes base h limit is_fresh node tag NotFresh = not is_fresh
+holding_causes base h limit is_fresh node tag Full = is_over base h limit (added_by h (Holding node tag))
+holding_causes base h limit is_fresh node tag _ = false
 
-abbrev pub applying_causes : List Event → ℕ → (resource : ℕ) → Refusal → Bool
-applying_causes h limit resource NotHeld = not (is_held h resource)
-applying_causes h limit resource Full = is_over h limit (added_by h (Applying resource))
-applying_causes h limit resource _ = false
+abbrev pub applying_causes : Kept → List Event → ℕ → (resource : ℕ) → Refusal → Bool
+applying_causes base h limit resource NotHeld = not (is_held h resource)
+applying_causes base h limit resource Full = is_over base h limit (added_by h (Applying resource))
+applying_causes base h limit resource _ = false
 
 abbrev pub removing_causes : List Event → (resource : ℕ) → Refusal → Bool
 removing_causes h resource NotHeld = not (is_held h resource)
 removing_causes h resource _ = false
 
-abbrev pub emitting_causes : List Event → ℕ → (leaf : ℕ) → ℤ → Refusal → Bool
-emitting_causes h limit leaf value Gone = not (is_open h leaf)
-emitting_causes h limit leaf value WrongKind = not (at is_leaf h leaf)
-emitting_causes h limit leaf value TooMany = nat_lt most_visits (visits h leaf)
-emitting_causes h limit leaf value Full = is_over h limit (added_by h (Emitting leaf value))
-emitting_causes h limit leaf value _ = false
+abbrev pub emitting_causes : Kept → List Event → ℕ → (leaf : ℕ) → ℤ → Refusal → Bool
+emitting_causes base h limit leaf value Gone = not (is_open h leaf)
+emitting_causes base h limit leaf value WrongKind = not (at is_leaf h leaf)
+emitting_causes base h limit leaf value TooMany = nat_lt most_visits (visits h leaf)
+emitting_causes base h limit leaf value Full = is_over base h limit (added_by h (Emitting leaf value))
+emitting_causes base h limit leaf value _ = false
 
 abbrev pub ending_causes : List Event → (leaf : ℕ) → Refusal → Bool
 ending_causes h leaf Gone = not (is_open h leaf)
@@ -161,29 +164,29 @@ aborting_causes h node HasChild = has_open_child h node
 aborting_causes h node _ = false
 
 -- declining a projected item, and failing at one
-abbrev pub projecting_causes : List Event → (merging : ℕ) → Refusal → Bool
-projecting_causes h merging Gone = not (is_open h merging)
-projecting_causes h merging WrongKind = not (at is_merging h merging)
-projecting_causes h merging NothingOwed = owed h merging == 0
-projecting_causes h merging _ = false
+abbrev pub projecting_causes : Kept → List Event → (merging : ℕ) → Refusal → Bool
+projecting_causes base h merging Gone = not (is_open h merging)
+projecting_causes base h merging WrongKind = not (at is_merging h merging)
+projecting_causes base h merging NothingOwed = owed base h merging == 0
+projecting_causes base h merging _ = false
 
 abbrev pub disposing_causes : List Event → (root : ℕ) → Refusal → Bool
 disposing_causes h root Gone = not (is_open h root)
 disposing_causes h root NotRoot = not (at is_root h root)
 disposing_causes h root _ = false
 
-abbrev pub publishing_causes : List Event → ℕ → Mode → Refusal → Bool
-publishing_causes h limit mode TooMany = nat_lt most_hubs (length (hubs h) + 1)
-publishing_causes h limit mode Full = is_over h limit (added_by h (Publishing mode))
-publishing_causes h limit mode _ = false
+abbrev pub publishing_causes : Kept → List Event → ℕ → Mode → Refusal → Bool
+publishing_causes base h limit mode TooMany = nat_lt most_hubs (length (hubs h) + 1)
+publishing_causes base h limit mode Full = is_over base h limit (added_by h (Publishing mode))
+publishing_causes base h limit mode _ = false
 
-abbrev pub connecting_causes : List Event → ℕ → (hub : ℕ) → Refusal → Bool
-connecting_causes h limit hub NoHub = not (at makes_hub h hub)
-connecting_causes h limit hub WrongKind = not (at is_manual_hub h hub)
-connecting_causes h limit hub Connected = has_connection h hub
-connecting_causes h limit hub TooMany = is_crowded h 1
-connecting_causes h limit hub Full = is_over h limit (added_by h (Connecting hub))
-connecting_causes h limit hub _ = false
+abbrev pub connecting_causes : Kept → List Event → ℕ → (hub : ℕ) → Refusal → Bool
+connecting_causes base h limit hub NoHub = not (at makes_hub h hub)
+connecting_causes base h limit hub WrongKind = not (at is_manual_hub h hub)
+connecting_causes base h limit hub Connected = has_connection h hub
+connecting_causes base h limit hub TooMany = is_crowded h 1
+connecting_causes base h limit hub Full = is_over base h limit (added_by h (Connecting hub))
+connecting_causes base h limit hub _ = false
 
 abbrev pub disconnecting_causes : List Event → (hub : ℕ) → Refusal → Bool
 disconnecting_causes h hub NoHub = not (at makes_hub h hub)
@@ -192,23 +195,23 @@ disconnecting_causes h hub NotConnected = not (has_connection h hub)
 disconnecting_causes h hub _ = false
 
 -- the causes against a call, where a resource that is handed in with it is fresh (Live, and never used) or not
-abbrev pub causes : List Event → ℕ → Bool → Call → Refusal → Bool
-causes h limit is_fresh (Opening place kind) why = opening_causes h limit place kind why
-causes h limit is_fresh (OpeningUsing place tag) why = using_causes h limit is_fresh place tag why
-causes h limit is_fresh (Holding node tag) why = holding_causes h limit is_fresh node tag why
-causes h limit is_fresh (Applying resource) why = applying_causes h limit resource why
-causes h limit is_fresh (Removing resource) why = removing_causes h resource why
-causes h limit is_fresh (Emitting leaf value) why = emitting_causes h limit leaf value why
-causes h limit is_fresh (Ending leaf t) why = ending_causes h leaf why
-causes h limit is_fresh (Aborting node code) why = aborting_causes h node why
-causes h limit is_fresh (Declining merging) why = projecting_causes h merging why
-causes h limit is_fresh (Failing merging code) why = projecting_causes h merging why
-causes h limit is_fresh (Disposing root) why = disposing_causes h root why
-causes h limit is_fresh (Publishing mode) why = publishing_causes h limit mode why
-causes h limit is_fresh (Connecting hub) why = connecting_causes h limit hub why
-causes h limit is_fresh (Disconnecting hub) why = disconnecting_causes h hub why
+abbrev pub causes : Kept → List Event → ℕ → Bool → Call → Refusal → Bool
+causes base h limit is_fresh (Opening place kind) why = opening_causes base h limit place kind why
+causes base h limit is_fresh (OpeningUsing place tag) why = using_causes base h limit is_fresh place tag why
+causes base h limit is_fresh (Holding node tag) why = holding_causes base h limit is_fresh node tag why
+causes base h limit is_fresh (Applying resource) why = applying_causes base h limit resource why
+causes base h limit is_fresh (Removing resource) why = removing_causes h resource why
+causes base h limit is_fresh (Emitting leaf value) why = emitting_causes base h limit leaf value why
+causes base h limit is_fresh (Ending leaf t) why = ending_causes h leaf why
+causes base h limit is_fresh (Aborting node code) why = aborting_causes h node why
+causes base h limit is_fresh (Declining merging) why = projecting_causes base h merging why
+causes base h limit is_fresh (Failing merging code) why = projecting_causes base h merging why
+causes base h limit is_fresh (Disposing root) why = disposing_causes h root why
+causes base h limit is_fresh (Publishing mode) why = publishing_causes base h limit mode why
+causes base h limit is_fresh (Connecting hub) why = connecting_causes base h limit hub why
+causes base h limit is_fresh (Disconnecting hub) why = disconnecting_causes h hub why
 -- one that waits is taken: none is refused
-causes h limit is_fresh (Taking resource) why = false
+causes base h limit is_fresh (Taking resource) why = false
 
 -- where a key is unknown --------------------------------------------------------------------------------------------------------
 

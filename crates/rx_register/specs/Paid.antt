@@ -1,5 +1,6 @@
 -- Room that is kept, so that what a call forces, and closing everything, need no new memory.
 use Rattle.std.specs.Prelude.{◌≡◌, ℕ, ◌+◌, ◌*◌, ◌≤◌, List, [], length}
+use Rattle.rx_event.specs.Kept.{Kept}
 use Rattle.rx_event.specs.declared.event.Event.{Event}
 use Rattle.rx_event.specs.declared.event.Event.TheVariants.{Item}
 use Rattle.rx_event.specs.Notes.{notes, mail_of}
@@ -14,7 +15,7 @@ use Rattle.rx_register.specs.State.{State}
 pub record IsPaid (s : State) : Type 0 where
   pub waits : ℕ
   pub may_wait : MayWait s.history waits
-  pub events : debt s.history + 2 * waits ≤ s.room
+  pub events : debt s.base s.history + 2 * waits ≤ s.room
   pub notes : open_count s.history + waits ≤ s.mail_room
   pub pending : s.pending ≡ []
 
@@ -28,12 +29,12 @@ notes_added h _ = 0
 
 -- there is room for the call, and for closing everything after it
 pub record HasRoomFor (s : State) (call : Call) : Type 0 where
-  pub events : debt s.history + added_by s.history call ≤ s.room
+  pub events : debt s.base s.history + added_by s.history call ≤ s.room
   pub notes : open_count s.history + notes_added s.history call ≤ s.mail_room
 
 -- what was added from h to k, with what closing everything may need, is no more than so many events and so many notes
-pub record Fits (h k : List Event) (events_added notes_more : ℕ) : Type 0 where
+pub record Fits (base : Kept) (h k : List Event) (events_added notes_more : ℕ) : Type 0 where
   pub waits : ℕ
   pub may_wait : MayWait k waits
-  pub events : length k + debt k + 2 * waits ≤ length h + debt h + events_added
+  pub events : length k + debt base k + 2 * waits ≤ length h + debt base h + events_added
   pub told : length (notes k) + open_count k + waits ≤ length (notes h) + open_count h + notes_more

@@ -2,14 +2,17 @@
 use Rattle.std.specs.Prelude.{◌≡◌, ℕ, ◌+◌, ◌≤◌, List, [], ◌++◌, length}
 use Rattle.rx_event.specs.declared.mail.Mail.{Mail}
 use Rattle.rx_event.specs.declared.event.Event.{Event}
+use Rattle.rx_event.specs.Kept.{Kept, nothing_kept, shown}
 use Rattle.rx_event.specs.Notes.{notes}
-use Rattle.rx_event.specs.Totals.{debt, open_count}
+use Rattle.rx_event.specs.Totals.{debt, open_count, item_count, accepted_count, taken_count}
 use Rattle.rx_event.specs.Lawful.{IsLawful}
 use Rattle.rx_register.specs.declared.load.Load.{Load}
 
--- what happened and how much may; for how many more events memory is there; how many notes were handed out; the notes of the
--- event that comes next, as far as they were told; and for how many more notes memory is there
+-- what a checkpoint kept of the events before it; all that happened, as one list with that, and how much may since; for how many
+-- more events memory is there; how many notes were handed out; the notes of the event that comes next, as far as they were told;
+-- and for how many more notes memory is there
 pub record State : Type 0 where
+  pub base : Kept
   pub history : List Event
   pub limit : ℕ
   pub room : ℕ
@@ -17,21 +20,31 @@ pub record State : Type 0 where
   pub pending : List Mail
   pub mail_room : ℕ
 
--- each event could follow those before it, and no limit is passed
+-- each event could follow those before it, and no limit is passed by those since the base, nor by what closing all that the base
+-- shows may need; and no total is more than the number of events
 pub record IsPromised (s : State) : Type 0 where
-  pub lawful : IsLawful s.history
+  pub lawful : IsLawful s.base s.history
+  -- nothing was put in place of events yet
+  pub from_start : s.base ≡ nothing_kept
   pub limited : s.limit ≤ 4294967295
-  pub within : length s.history ≤ s.limit
-  pub room : length s.history + s.room ≤ s.limit
+  pub begun : s.base.at_length ≤ length s.history
+  pub placed : s.base.at_length ≤ 9223372036854775807
+  pub closing : debt s.base (shown s.base) ≤ s.limit
+  pub within : length s.history ≤ s.base.at_length + s.limit
+  pub room : length s.history + s.room ≤ s.base.at_length + s.limit
   pub given : s.given ≤ length (notes s.history)
+  pub few_items : item_count s.base s.history ≤ length s.history
+  pub few_accepted : accepted_count s.base s.history ≤ length s.history
+  pub few_taken : taken_count s.base s.history ≤ length s.history
 
 -- how many nodes are open, and how many events closing everything may still need
-pub record IsLoadOf (h : List Event) (load : Load) : Type 0 where
+pub record IsLoadOf (base : Kept) (h : List Event) (load : Load) : Type 0 where
   pub open_count : load.open ≡ open_count h
-  pub debt : load.debt ≡ debt h
+  pub debt : load.debt ≡ debt base h
 
 -- new is old with these events written and their notes told: each took a place of the room, and nothing was handed out
 pub record Writes (old : State) (events : List Event) (new : State) : Type 0 where
+  pub base : new.base ≡ old.base
   pub history : new.history ≡ old.history ++ events
   pub limit : new.limit ≡ old.limit
   pub given : new.given ≡ old.given

@@ -4,7 +4,8 @@ mod limits;
 mod mail;
 mod write;
 
-ghost use Rattle.std.specs.Prelude.{◌≡◌, ◌+◌, ◌<◌, ◌≤◌, [], length, slice_get, OnOk, OnErr};
+ghost use Rattle.std.specs.Prelude.{◌≡◌, ◌+◌, ◌<◌, ◌≤◌, [], length, OnOk, OnErr};
+ghost use Rattle.rx_event.specs.Kept.{nothing_kept, event_since};
 ghost use Rattle.rx_event.specs.Totals.{item_count, accepted_count, taken_count};
 ghost use Rattle.rx_register.specs.State.{IsPromised};
 
@@ -39,9 +40,11 @@ impl Model for Register {
 }
 
 impl Register {
-    /// With no events, and of at most `limit`, which is at most 4,294,967,295. It takes no memory.
+    /// With no events, and of at most `limit` since the base, which is at most 4,294,967,295. It takes no
+    /// memory.
     pub fn new(alloc: Global, limit: u64) -> Self
         requires { limit ≤ 4294967295 }
+        ensures base { result.base ≡ nothing_kept }
         ensures history { result.history ≡ [] }
         ensures limit { result.limit ≡ limit }
         ensures room { result.room ≡ 0 }
@@ -70,7 +73,7 @@ impl Register {
     /// no memory. Refused only where there was less room and memory was refused. No event changes
     /// either way.
     pub fn reserve(&mut self, events: u64) -> Result<(), AllocError>
-        requires { length self.old.history + events ≤ self.old.limit }
+        requires { length self.old.history + events ≤ self.old.base.at_length + self.old.limit }
         ensures ok { OnOk result (events ≤ self.new.room) }
         ensures err { OnErr result (self.old.room < events) }
         ensures kept { self.new ≡ record self.old { room = self.new.room } }
@@ -83,37 +86,37 @@ impl Register {
         }
     }
 
-    /// How many events there are.
+    /// How many events there ever were.
     pub fn len(&self) -> u64
         ensures { result ≡ length self.now.history }
     {
         self.history.len()
     }
 
-    /// The event at a place, if there is one.
+    /// The event at a place, if it is one since the base.
     pub fn event(&self, place: u64) -> Option<Event>
-        ensures { result ≡ slice_get self.now.history place }
+        ensures { result ≡ event_since self.now.base self.now.history place }
     {
         self.history.get(place)
     }
 
     /// How many items were emitted.
     pub fn items(&self) -> u64
-        ensures { result ≡ item_count self.now.history }
+        ensures { result ≡ item_count self.now.base self.now.history }
     {
         self.item_total
     }
 
     /// How many resources were accepted.
     pub fn accepted(&self) -> u64
-        ensures { result ≡ accepted_count self.now.history }
+        ensures { result ≡ accepted_count self.now.base self.now.history }
     {
         self.accepted_total
     }
 
     /// How many resources were taken.
     pub fn taken(&self) -> u64
-        ensures { result ≡ taken_count self.now.history }
+        ensures { result ≡ taken_count self.now.base self.now.history }
     {
         self.taken_total
     }

@@ -3,6 +3,7 @@ use Rattle.std.proofs.Common.{◌≡◌, ℕ, Bool, true, false, List, [], ◌�
 use Rattle.std.proofs.Math.Bool.{◌&&◌}
 use Rattle.std.specs.Option.{option_map_or}
 use Rattle.std.proofs.lemmas.Bool.{cases_Bool, not_from_false, false≢true, and_parts, and_from, ltb-false}
+use Rattle.rx_event.specs.Kept.{Kept}
 use Rattle.rx_event.specs.declared.event.Place.{Place}
 use Rattle.rx_event.specs.declared.event.Place.TheVariants.{Root, Source, Inner, Notifier}
 use Rattle.rx_event.specs.declared.event.Kind.{Kind}
@@ -65,24 +66,24 @@ still_connected h place kind g none = by_test (cases_Bool (has_connection h g)) 
       absurd (filter_nonempty (λ n. at (is_connect_of g) (h ++ Open place kind ∷ []) n && is_open (h ++ Open place kind ∷ []) n) 0 (length (h ++ Open place kind ∷ [])) c (omega arith) (let n = length-append h (Open place kind ∷ []) in omega arith) (and_from _ _ later (still_open h place kind c g parts.0 parts.1)) none)
 
 -- an opening after which a hub waits is one that forces a connection
-pub opening_connects : (h : List Event) (place : Place) (kind : Kind) (g : ℕ) → IsLawful h → IsSettled h → IsHubbed h place kind → IsConnectDue (h ++ Open place kind ∷ []) g → forces_connect h kind ≡ true
-opening_connects h place (Sub k) g law settled hubbed d =
-    let same : g ≡ k = kept_subscribed h place k law (settled_connected h settled) g d in
+pub opening_connects : (base : Kept) → (h : List Event) (place : Place) (kind : Kind) (g : ℕ) → IsLawful base h → IsSettled base h → IsHubbed h place kind → IsConnectDue (h ++ Open place kind ∷ []) g → forces_connect h kind ≡ true
+opening_connects base h place (Sub k) g law settled hubbed d =
+    let same : g ≡ k = kept_subscribed base h place k law (settled_connected base h settled) g d in
     let later : at is_auto_hub (h ++ Open place (Sub k) ∷ []) k ≡ true = ap (at is_auto_hub (h ++ Open place (Sub k) ∷ [])) (sym same) ∙ d.auto in
     let auto : at is_auto_hub h k ≡ true = sym (at-append is_auto_hub h (Open place (Sub k) ∷ []) k (at_within makes_hub h k hubbed.0)) ∙ later in
     let unconnected : open_connections (h ++ Open place (Sub k) ∷ []) k ≡ [] = ap (open_connections (h ++ Open place (Sub k) ∷ [])) (sym same) ∙ d.unconnected in
     and_from _ _ auto (not_from_false (has_connection h k) (still_connected h place (Sub k) k unconnected))
-opening_connects h place Leaf g law settled hubbed d = absurd (kept_unsubscribed h (Open place Leaf) law (settled_connected h settled) refl refl g d)
-opening_connects h place Pass g law settled hubbed d = absurd (kept_unsubscribed h (Open place Pass) law (settled_connected h settled) refl refl g d)
-opening_connects h place Flat g law settled hubbed d = absurd (kept_unsubscribed h (Open place Flat) law (settled_connected h settled) refl refl g d)
-opening_connects h place Switch g law settled hubbed d = absurd (kept_unsubscribed h (Open place Switch) law (settled_connected h settled) refl refl g d)
-opening_connects h place Until g law settled hubbed d = absurd (kept_unsubscribed h (Open place Until) law (settled_connected h settled) refl refl g d)
+opening_connects base h place Leaf g law settled hubbed d = absurd (kept_unsubscribed base h (Open place Leaf) law (settled_connected base h settled) refl refl g d)
+opening_connects base h place Pass g law settled hubbed d = absurd (kept_unsubscribed base h (Open place Pass) law (settled_connected base h settled) refl refl g d)
+opening_connects base h place Flat g law settled hubbed d = absurd (kept_unsubscribed base h (Open place Flat) law (settled_connected base h settled) refl refl g d)
+opening_connects base h place Switch g law settled hubbed d = absurd (kept_unsubscribed base h (Open place Switch) law (settled_connected base h settled) refl refl g d)
+opening_connects base h place Until g law settled hubbed d = absurd (kept_unsubscribed base h (Open place Until) law (settled_connected base h settled) refl refl g d)
 
 -- so many hubs wait after an opening: one where it forces a connection, else none
-pub opening_waits : (h : List Event) (place : Place) (kind : Kind) → IsLawful h → IsSettled h → IsHubbed h place kind → MayWait (h ++ Open place kind ∷ []) (cond (forces_connect h kind) 1 0)
-opening_waits h place kind law settled hubbed = by_test (forces_connect h kind) refl where
+pub opening_waits : (base : Kept) → (h : List Event) (place : Place) (kind : Kind) → IsLawful base h → IsSettled base h → IsHubbed h place kind → MayWait (h ++ Open place kind ∷ []) (cond (forces_connect h kind) 1 0)
+opening_waits base h place kind law settled hubbed = by_test (forces_connect h kind) refl where
   only : (k g : ℕ) → kind ≡ Sub k → IsConnectDue (h ++ Open place kind ∷ []) g → g ≡ k
-  only k g is d = kept_subscribed h place k law (settled_connected h settled) g (subst (λ x. IsConnectDue (h ++ Open place x ∷ []) g) is d)
+  only k g is d = kept_subscribed base h place k law (settled_connected base h settled) g (subst (λ x. IsConnectDue (h ++ Open place x ∷ []) g) is d)
 
   one : (x : Kind) → kind ≡ x → forces_connect h x ≡ true → MayWait (h ++ Open place kind ∷ []) 1
   one (Sub k) is forced = one_waits {g = k} (λ g d. only k g is d)
@@ -94,4 +95,4 @@ opening_waits h place kind law settled hubbed = by_test (forces_connect h kind) 
 
   by_test : (b : Bool) → forces_connect h kind ≡ b → MayWait (h ++ Open place kind ∷ []) (cond b 1 0)
   by_test true forced = one kind refl forced
-  by_test false quiet = none_waits (λ g d. false≢true (sym quiet ∙ opening_connects h place kind g law settled hubbed d))
+  by_test false quiet = none_waits (λ g d. false≢true (sym quiet ∙ opening_connects base h place kind g law settled hubbed d))

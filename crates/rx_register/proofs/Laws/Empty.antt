@@ -1,6 +1,7 @@
 -- A register with no events: nothing is left undone, and nothing has to be paid.
 use Rattle.std.proofs.Common.{◌≡◌, ℕ, true, [], refl, arith}
 use Rattle.std.proofs.lemmas.Bool.{both_ways}
+use Rattle.rx_event.specs.Kept.{Kept}
 use Rattle.rx_event.specs.declared.event.Event.{Event}
 use Rattle.rx_event.specs.Tree.{is_open}
 use Rattle.rx_event.specs.Totals.{debt}
@@ -12,34 +13,34 @@ use Rattle.rx_register.specs.Paid.{IsPaid}
 none_open : (n : ℕ) → is_open [] n ≡ true → ⊥
 none_open n o = both_ways _ (is_open_past [] n (omega arith)) o
 
-none_due : {e : Event} → IsDue [] e → ⊥
-none_due (mirrored {p = n} o k e) = none_open n o
-none_due (fired {u = n} o k e) = none_open n o
-none_due (failed {f = n} o k e) = none_open n o
-none_due (completed {f = n} o k n_failed s e c w) = none_open n o
-none_due (cut {s = n} o e) = none_open n o
-none_due (left {c = n} o at_c a w) = none_open n o
+none_due : (base : Kept) → {e : Event} → IsDue base [] e → ⊥
+none_due base (mirrored {p = n} o k e) = none_open n o
+none_due base (fired {u = n} o k e) = none_open n o
+none_due base (failed {f = n} o k e) = none_open n o
+none_due base (completed {f = n} o k n_failed s c w) = none_open n o
+none_due base (cut {s = n} o e) = none_open n o
+none_due base (left {c = n} o at_c a w) = none_open n o
 
 pub connected_empty : IsConnected []
 connected_empty g d = none_open d.subscriber d.subscribed
 
-none_forced : {e : Event} → IsForced [] e → ⊥
-none_forced (connecting {g = g} d) = connected_empty g d
-none_forced (due w d) = none_due d
+none_forced : (base : Kept) → {e : Event} → IsForced base [] e → ⊥
+none_forced base (connecting {g = g} d) = connected_empty g d
+none_forced base (due w d) = none_due base d
 
-pub settled_empty : IsSettled []
-settled_empty = record { none = λ e f. none_forced f }
+pub settled_empty : (base : Kept) → IsSettled base []
+settled_empty base = record { none = λ e f. none_forced base f }
 
-pub debt_empty : debt [] ≡ 0
+pub debt_empty : (base : Kept) → debt base [] ≡ 0
 unfolding debt
-debt_empty = refl
+debt_empty base = refl
 
 -- a new register is paid for
 pub paid_empty : (s : State) → s.history ≡ [] → s.pending ≡ [] → IsPaid s
 paid_empty s empty none = record {
   waits = 0;
   may_wait = rw empty (none_waits connected_empty);
-  events = rw empty (let d = debt_empty in omega arith);
+  events = rw empty (let d = debt_empty s.base in omega arith);
   notes = rw empty (omega arith);
   pending = none;
 }

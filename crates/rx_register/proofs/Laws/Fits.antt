@@ -1,6 +1,7 @@
 -- What a call adds is what its causes have counted.
 use Rattle.std.proofs.Common.{◌≡◌, ℕ, ℤ, ◌+◌, ◌*◌, ◌≤◌, Bool, true, false, List, [], ◌∷◌, ◌++◌, length, cond, refl, sym, ap, ◌∙◌, arith, length-append, append_assoc}
 use Rattle.std.specs.List.{count_by}
+use Rattle.rx_event.specs.Kept.{Kept}
 use Rattle.rx_note.specs.declared.note.Terminal.{Terminal}
 use Rattle.rx_event.specs.declared.mail.Mail.{Mail}
 use Rattle.rx_event.specs.declared.event.Place.{Place}
@@ -32,8 +33,8 @@ use Rattle.rx_register.specs.Paid.{Fits}
 use Rattle.rx_register.proofs.Laws.Connecting.{opening_waits}
 
 -- one event after which no hub waits
-fits_one : (h : List Event) (e : Event) (events noted : ℕ) → IsConnected (h ++ e ∷ []) → debt (h ++ e ∷ []) + 1 ≤ debt h + events → open_count (h ++ e ∷ []) + length (mail_of h e) ≤ open_count h + noted → Fits h (h ++ e ∷ []) events noted
-fits_one h e events noted connected owes opens = record {
+fits_one : (base : Kept) → (h : List Event) (e : Event) (events noted : ℕ) → IsConnected (h ++ e ∷ []) → debt base (h ++ e ∷ []) + 1 ≤ debt base h + events → open_count (h ++ e ∷ []) + length (mail_of h e) ≤ open_count h + noted → Fits base h (h ++ e ∷ []) events noted
+fits_one base h e events noted connected owes opens = record {
   waits = 0;
   may_wait = none_waits connected;
   events = omega (arith, length-append h (e ∷ []));
@@ -41,38 +42,41 @@ fits_one h e events noted connected owes opens = record {
 }
 
 -- what makes no node, and ends and closes none
-stays_open : (h : List Event) (e : Event) → MayFollow h e → shuts_none e ≡ true → makes_node e ≡ false → open_count (h ++ e ∷ []) ≡ open_count h
-stays_open h e next keeps none = open_count_made h e next keeps ∙ ap (λ (b : Bool). open_count h + cond b 1 0) none ∙ omega arith
+stays_open : (base : Kept) → (h : List Event) (e : Event) → MayFollow base h e → shuts_none e ≡ true → makes_node e ≡ false →
+    open_count (h ++ e ∷ []) ≡ open_count h
+stays_open base h e next keeps none = open_count_made base h e next keeps ∙ ap (λ (b : Bool). open_count h + cond b 1 0) none ∙ omega arith
 
 -- openings ----------------------------------------------------------------------------------------
 
-debt_open : (h : List Event) (place : Place) (kind : Kind) → IsLawful h → MayFollow h (Open place kind) → debt (h ++ Open place kind ∷ []) ≤ debt h + end_at place
-debt_open h Root kind law next = let d = debt-root h kind law next in omega arith
-debt_open h (Source p) kind law next = let d = debt-source h p kind law next in omega arith
-debt_open h (Notifier p) kind law next = let d = debt-notifier h p kind law next in omega arith
-debt_open h (Inner p) kind law next = let d = debt_no_rise-inner h p kind law next in omega arith
+debt_open : (base : Kept) → (h : List Event) (place : Place) (kind : Kind) → IsLawful base h → MayFollow base h (Open place kind) → debt base (h ++ Open place kind ∷ []) ≤ debt base h + end_at place
+debt_open base h Root kind law next = let d = debt-root base h kind law next in omega arith
+debt_open base h (Source p) kind law next = let d = debt-source base h p kind law next in omega arith
+debt_open base h (Notifier p) kind law next = let d = debt-notifier base h p kind law next in omega arith
+debt_open base h (Inner p) kind law next = let d = debt_no_rise-inner base h p kind law next in omega arith
 
 -- an opening makes one node, though an inner of a Switch may close others
-opens_one : (h : List Event) (place : Place) (kind : Kind) → MayFollow h (Open place kind) → open_count (h ++ Open place kind ∷ []) ≤ open_count h + 1
-opens_one h place kind next =
+opens_one : (base : Kept) → (h : List Event) (place : Place) (kind : Kind) → MayFollow base h (Open place kind) →
+    open_count (h ++ Open place kind ∷ []) ≤ open_count h + 1
+opens_one base h place kind next =
     let all = open_count-push h (Open place kind) in
-    let new : cond {A = ℕ} (is_open (h ++ Open place kind ∷ []) (length h)) 1 0 ≡ 1 = ap (λ (b : Bool). cond {A = ℕ} b 1 0) (is_open_new h (Open place kind) next) in
+    let new : cond {A = ℕ} (is_open (h ++ Open place kind ∷ []) (length h)) 1 0 ≡ 1 = ap (λ (b : Bool). cond {A = ℕ} b 1 0) (is_open_new base h (Open place kind) next) in
     omega arith
 
-pub opening_fits : (h : List Event) (place : Place) (kind : Kind) → IsLawful h → IsSettled h → MayFollow h (Open place kind) → Fits h (h ++ Open place kind ∷ []) (1 + end_at place + 2 * cond (forces_connect h kind) 1 0) (nodes_opened h kind)
-opening_fits h place kind law settled next = record {
+pub opening_fits : (base : Kept) → (h : List Event) (place : Place) (kind : Kind) → IsLawful base h → IsSettled base h → MayFollow base h (Open place kind) → Fits base h (h ++ Open place kind ∷ []) (1 + end_at place + 2 * cond (forces_connect h kind) 1 0) (nodes_opened h kind)
+opening_fits base h place kind law settled next = record {
   waits = cond (forces_connect h kind) 1 0;
-  may_wait = opening_waits h place kind law settled (may_subscribe next);
-  events = let d = debt_open h place kind law next in omega (arith, length-append h (Open place kind ∷ []));
-  told = let o = opens_one h place kind next in let n = ap (length {A = Mail}) (notes-push h (Open place kind)) in omega (arith, length-append (notes h) []);
+  may_wait = opening_waits base h place kind law settled (may_subscribe base next);
+  events = let d = debt_open base h place kind law next in omega (arith, length-append h (Open place kind ∷ []));
+  told = let o = opens_one base h place kind next in let n = ap (length {A = Mail}) (notes-push h (Open place kind)) in
+      omega (arith, length-append (notes h) []);
 }
 
-pub using_fits : (h : List Event) (place : Place) (tag : ℕ) → IsLawful h → IsSettled h → MayFollow h (Open place Pass) → MayFollow (h ++ Open place Pass ∷ []) (Accept (length h) tag) → Fits h (h ++ Open place Pass ∷ Accept (length h) tag ∷ []) (2 + end_at place + 2) 1
-using_fits h place tag law settled next then = record {
+pub using_fits : (base : Kept) → (h : List Event) (place : Place) (tag : ℕ) → IsLawful base h → IsSettled base h → MayFollow base h (Open place Pass) → MayFollow base (h ++ Open place Pass ∷ []) (Accept (length h) tag) → Fits base h (h ++ Open place Pass ∷ Accept (length h) tag ∷ []) (2 + end_at place + 2) 1
+using_fits base h place tag law settled next then = record {
   waits = 0;
-  may_wait = none_waits (rw longer (kept_unsubscribed k (Accept (length h) tag) lawful (kept_unsubscribed h (Open place Pass) law (settled_connected h settled) refl refl) refl refl));
-  events = rw longer (let d = debt_open h place Pass law next in let a = debt-accept k (length h) tag lawful then in omega (arith, length-append k (Accept (length h) tag ∷ []), length-append h (Open place Pass ∷ [])));
-  told = rw longer (let o = opens_one h place Pass next in let s = stays_open k (Accept (length h) tag) then refl refl in let n = ap (length {A = Mail}) (notes-push k (Accept (length h) tag)) in let m = ap (length {A = Mail}) (notes-push h (Open place Pass)) in omega (arith, length-append (notes k) [], length-append (notes h) []));
+  may_wait = none_waits (rw longer (kept_unsubscribed base k (Accept (length h) tag) lawful (kept_unsubscribed base h (Open place Pass) law (settled_connected base h settled) refl refl) refl refl));
+  events = rw longer (let d = debt_open base h place Pass law next in let a = debt-accept base k (length h) tag lawful then in omega (arith, length-append k (Accept (length h) tag ∷ []), length-append h (Open place Pass ∷ [])));
+  told = rw longer (let o = opens_one base h place Pass next in let s = stays_open base k (Accept (length h) tag) then refl refl in let n = ap (length {A = Mail}) (notes-push k (Accept (length h) tag)) in let m = ap (length {A = Mail}) (notes-push h (Open place Pass)) in omega (arith, length-append (notes k) [], length-append (notes h) []));
 }
   where
     k : List Event
@@ -81,30 +85,33 @@ using_fits h place tag law settled next then = record {
     longer : h ++ Open place Pass ∷ Accept (length h) tag ∷ [] ≡ k ++ Accept (length h) tag ∷ []
     longer = sym (append_assoc h (Open place Pass ∷ []) (Accept (length h) tag ∷ []))
 
-    lawful : IsLawful k
-    lawful = IsLawful-push h (Open place Pass) law next
+    lawful : IsLawful base k
+    lawful = IsLawful-push base h (Open place Pass) law next
 
 -- resources ---------------------------------------------------------------------------------------
 
-pub holding_fits : (h : List Event) (n tag : ℕ) → IsLawful h → IsSettled h → MayFollow h (Accept n tag) → Fits h (h ++ Accept n tag ∷ []) 3 0
-holding_fits h n tag law settled next = fits_one h (Accept n tag) 3 0 (kept_unsubscribed h (Accept n tag) law (settled_connected h settled) refl refl) (let d = debt-accept h n tag law next in omega arith) (let o = stays_open h (Accept n tag) next refl refl in omega arith)
+pub holding_fits : (base : Kept) → (h : List Event) (n tag : ℕ) → IsLawful base h → IsSettled base h → MayFollow base h (Accept n tag) →
+    Fits base h (h ++ Accept n tag ∷ []) 3 0
+holding_fits base h n tag law settled next = fits_one base h (Accept n tag) 3 0 (kept_unsubscribed base h (Accept n tag) law (settled_connected base h settled) refl refl) (let d = debt-accept base h n tag law next in omega arith) (let o = stays_open base h (Accept n tag) next refl refl in omega arith)
 
-pub applying_fits : (h : List Event) (r : ℕ) → IsLawful h → IsSettled h → MayFollow h (Use r) → Fits h (h ++ Use r ∷ []) 1 0
-applying_fits h r law settled next = fits_one h (Use r) 1 0 (kept_unsubscribed h (Use r) law (settled_connected h settled) refl refl) (let d = debt-use h r law next in omega arith) (let o = stays_open h (Use r) next refl refl in omega arith)
+pub applying_fits : (base : Kept) → (h : List Event) (r : ℕ) → IsLawful base h → IsSettled base h → MayFollow base h (Use r) → Fits base h (h ++ Use r ∷ []) 1 0
+applying_fits base h r law settled next = fits_one base h (Use r) 1 0 (kept_unsubscribed base h (Use r) law (settled_connected base h settled) refl refl) (let d = debt-use base h r law next in omega arith) (let o = stays_open base h (Use r) next refl refl in omega arith)
 
-pub removing_fits : (h : List Event) (r : ℕ) → IsLawful h → IsSettled h → MayFollow h (Remove r) → Fits h (h ++ Remove r ∷ []) 0 0
-removing_fits h r law settled next = fits_one h (Remove r) 0 0 (kept_unsubscribed h (Remove r) law (settled_connected h settled) refl refl) (let d = debt-remove h r law next in omega arith) (let o = stays_open h (Remove r) next refl refl in omega arith)
+pub removing_fits : (base : Kept) → (h : List Event) (r : ℕ) → IsLawful base h → IsSettled base h → MayFollow base h (Remove r) →
+    Fits base h (h ++ Remove r ∷ []) 0 0
+removing_fits base h r law settled next = fits_one base h (Remove r) 0 0 (kept_unsubscribed base h (Remove r) law (settled_connected base h settled) refl refl) (let d = debt-remove base h r law next in omega arith) (let o = stays_open base h (Remove r) next refl refl in omega arith)
 
-pub taking_fits : (h : List Event) (r : ℕ) → IsLawful h → IsSettled h → MayFollow h (Take r) → Fits h (h ++ Take r ∷ []) 0 0
-taking_fits h r law settled next = fits_one h (Take r) 0 0 (kept_unsubscribed h (Take r) law (settled_connected h settled) refl refl) (let d = debt-take h r law next in omega arith) (let o = stays_open h (Take r) next refl refl in omega arith)
+pub taking_fits : (base : Kept) → (h : List Event) (r : ℕ) → IsLawful base h → IsSettled base h → MayFollow base h (Take r) → Fits base h (h ++ Take r ∷ []) 0 0
+taking_fits base h r law settled next = fits_one base h (Take r) 0 0 (kept_unsubscribed base h (Take r) law (settled_connected base h settled) refl refl) (let d = debt-take base h r law next in omega arith) (let o = stays_open base h (Take r) next refl refl in omega arith)
 
 -- items, ends and closings ------------------------------------------------------------------------
 
-pub emitting_fits : (h : List Event) (l : ℕ) (v : ℤ) → IsLawful h → IsSettled h → MayFollow h (Item l v) → Fits h (h ++ Item l v ∷ []) (1 + count_by is_projection (stops h l)) (length (mail_of h (Item l v)))
-emitting_fits h l v law settled next = fits_one h (Item l v) (1 + count_by is_projection (stops h l)) (length (mail_of h (Item l v))) (kept_unsubscribed h (Item l v) law (settled_connected h settled) refl refl) (let d = debt-item h l v law next in omega arith) (let o = stays_open h (Item l v) next refl refl in omega arith)
+pub emitting_fits : (base : Kept) → (h : List Event) (l : ℕ) (v : ℤ) → IsLawful base h → IsSettled base h → MayFollow base h (Item l v) → Fits base h (h ++ Item l v ∷ []) (1 + count_by is_projection (stops h l)) (length (mail_of h (Item l v)))
+emitting_fits base h l v law settled next = fits_one base h (Item l v) (1 + count_by is_projection (stops h l)) (length (mail_of h (Item l v))) (kept_unsubscribed base h (Item l v) law (settled_connected base h settled) refl refl) (let d = debt-item base h l v law next in omega arith) (let o = stays_open base h (Item l v) next refl refl in omega arith)
 
-pub declining_fits : (h : List Event) (f : ℕ) → IsLawful h → IsSettled h → MayFollow h (Decline f) → Fits h (h ++ Decline f ∷ []) 0 0
-declining_fits h f law settled next = fits_one h (Decline f) 0 0 (kept_unsubscribed h (Decline f) law (settled_connected h settled) refl refl) (let d = debt-decline h f law next in omega arith) (let o = stays_open h (Decline f) next refl refl in omega arith)
+pub declining_fits : (base : Kept) → (h : List Event) (f : ℕ) → IsLawful base h → IsSettled base h → MayFollow base h (Decline f) →
+    Fits base h (h ++ Decline f ∷ []) 0 0
+declining_fits base h f law settled next = fits_one base h (Decline f) 0 0 (kept_unsubscribed base h (Decline f) law (settled_connected base h settled) refl refl) (let d = debt-decline base h f law next in omega arith) (let o = stays_open base h (Decline f) next refl refl in omega arith)
 
 -- an end tells one note at most
 pub told_by_end : (h : List Event) (n : ℕ) (t : Terminal) → length (mail_of h (End n t)) ≤ 1
@@ -113,21 +120,25 @@ told_by_end h n t = by_test (at is_root h n) refl where
   by_test true root = rw root (omega arith)
   by_test false inner = rw inner (omega arith)
 
-pub ending_fits : (h : List Event) (n : ℕ) (t : Terminal) → IsLawful h → IsSettled h → MayFollow h (End n t) → Fits h (h ++ End n t ∷ []) 0 0
-ending_fits h n t law settled next = fits_one h (End n t) 0 0 (kept_end h n t (settled_connected h settled)) (let d = debt_falls-end h n t law next in omega arith) (let o = open_count_falls-end h n t (may_end next) in let m = told_by_end h n t in omega arith)
+pub ending_fits : (base : Kept) → (h : List Event) (n : ℕ) (t : Terminal) → IsLawful base h → IsSettled base h → MayFollow base h (End n t) →
+    Fits base h (h ++ End n t ∷ []) 0 0
+ending_fits base h n t law settled next = fits_one base h (End n t) 0 0 (kept_end base h n t (settled_connected base h settled)) (let d = debt_falls-end base h n t law next in omega arith) (let o = open_count_falls-end h n t (may_end base next) in let m = told_by_end h n t in omega arith)
 
 -- in a settled history a closing is a caller's
-allowed_close : {h : List Event} {n : ℕ} → IsSettled h → MayFollow h (Close n) → IsAllowed h (Close n)
-allowed_close settled (forced {e = e} f) = absurd (settled.none e f)
-allowed_close settled (allowed s a) = a
+allowed_close : (base : Kept) → {h : List Event} {n : ℕ} → IsSettled base h → MayFollow base h (Close n) → IsAllowed base h (Close n)
+allowed_close base settled (forced {e = e} f) = absurd (settled.none e f)
+allowed_close base settled (allowed s a) = a
 
-pub closing_fits : (h : List Event) (n : ℕ) → IsLawful h → IsSettled h → MayFollow h (Close n) → Fits h (h ++ Close n ∷ []) 0 0
-closing_fits h n law settled next = fits_one h (Close n) 0 0 (kept_close_allowed h n (settled_connected h settled) (allowed_close settled next)) (let d = debt_falls-close h n law next in omega arith) (let o = open_count_falls-close h n (may_close next) in omega arith)
+pub closing_fits : (base : Kept) → (h : List Event) (n : ℕ) → IsLawful base h → IsSettled base h → MayFollow base h (Close n) →
+    Fits base h (h ++ Close n ∷ []) 0 0
+closing_fits base h n law settled next = fits_one base h (Close n) 0 0 (kept_close_allowed base h n (settled_connected base h settled) (allowed_close base settled next)) (let d = debt_falls-close base h n law next in omega arith) (let o = open_count_falls-close h n (may_close base next) in omega arith)
 
 -- hubs --------------------------------------------------------------------------------------------
 
-pub publishing_fits : (h : List Event) (mode : Mode) → IsLawful h → IsSettled h → MayFollow h (Hub mode) → Fits h (h ++ Hub mode ∷ []) 1 0
-publishing_fits h mode law settled next = fits_one h (Hub mode) 1 0 (kept_unsubscribed h (Hub mode) law (settled_connected h settled) refl refl) (let d = debt-hub h mode law next in omega arith) (let o = stays_open h (Hub mode) next refl refl in omega arith)
+pub publishing_fits : (base : Kept) → (h : List Event) (mode : Mode) → IsLawful base h → IsSettled base h → MayFollow base h (Hub mode) →
+    Fits base h (h ++ Hub mode ∷ []) 1 0
+publishing_fits base h mode law settled next = fits_one base h (Hub mode) 1 0 (kept_unsubscribed base h (Hub mode) law (settled_connected base h settled) refl refl) (let d = debt-hub base h mode law next in omega arith) (let o = stays_open base h (Hub mode) next refl refl in omega arith)
 
-pub connecting_fits : (h : List Event) (g : ℕ) → IsLawful h → IsSettled h → MayFollow h (Connect g) → Fits h (h ++ Connect g ∷ []) 2 1
-connecting_fits h g law settled next = fits_one h (Connect g) 2 1 (kept_unsubscribed h (Connect g) law (settled_connected h settled) refl refl) (let d = debt-connect h g law next in omega arith) (let o = open_count_made h (Connect g) next refl in omega arith)
+pub connecting_fits : (base : Kept) → (h : List Event) (g : ℕ) → IsLawful base h → IsSettled base h → MayFollow base h (Connect g) →
+    Fits base h (h ++ Connect g ∷ []) 2 1
+connecting_fits base h g law settled next = fits_one base h (Connect g) 2 1 (kept_unsubscribed base h (Connect g) law (settled_connected base h settled) refl refl) (let d = debt-connect base h g law next in omega arith) (let o = open_count_made base h (Connect g) next refl in omega arith)

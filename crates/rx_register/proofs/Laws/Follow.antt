@@ -7,6 +7,7 @@ use Rattle.std.proofs.lemmas.Bool.{cases_Bool, not-false, ltb-false, ltb-true, f
 use Rattle.std.proofs.lemmas.List.Folds.{list_any_at}
 use Rattle.std.proofs.lemmas.List.FromFn.{length-range_with_len, get_or-range_with_len}
 use Rattle.std.proofs.lemmas.List.Sums.{length-filter}
+use Rattle.rx_event.specs.Kept.{Kept}
 use Rattle.rx_note.specs.declared.note.Terminal.{Terminal}
 use Rattle.rx_note.specs.declared.note.Terminal.TheVariants.{Error}
 use Rattle.rx_event.specs.declared.event.Place.{Place}
@@ -45,11 +46,11 @@ some_owed zero none = absurd (false≢true (sym none))
 some_owed (suc n) some = omega arith
 
 -- a place that is there, not taken, and owed where it is an inner's, is free
-pub free_where : (h : List Event) (place : Place) → is_gone h place ≡ false → is_wrong_place h place ≡ false → is_taken_place h place ≡ false → is_unowed_place h place ≡ false → IsFree h place
-free_where h Root gone wrong first unowed = tt
-free_where h (Source p) gone wrong first unowed = (not-false (is_open h p) gone, not-false (at has_source h p) wrong, first)
-free_where h (Inner p) gone wrong first unowed = (not-false (is_open h p) gone, not-false (at is_merging h p) wrong, some_owed (owed h p) unowed)
-free_where h (Notifier p) gone wrong first unowed = (not-false (is_open h p) gone, not-false (at is_until h p) wrong, first)
+pub free_where : (base : Kept) → (h : List Event) (place : Place) → is_gone h place ≡ false → is_wrong_place h place ≡ false → is_taken_place base h place ≡ false → is_unowed_place base h place ≡ false → IsFree base h place
+free_where base h Root gone wrong first unowed = tt
+free_where base h (Source p) gone wrong first unowed = (not-false (is_open h p) gone, not-false (at has_source h p) wrong, first)
+free_where base h (Inner p) gone wrong first unowed = (not-false (is_open h p) gone, not-false (at is_merging h p) wrong, some_owed (owed base h p) unowed)
+free_where base h (Notifier p) gone wrong first unowed = (not-false (is_open h p) gone, not-false (at is_until h p) wrong, first)
 
 -- what no element of a list has, this one of them has not
 none_has : (q : ℕ → Bool) (xs : List ℕ) (a : ℕ) → list_any (λ b. a == b) xs ≡ true → list_any q xs ≡ false → q a ≡ false
@@ -87,15 +88,15 @@ few_where h more few = ltb-false most_nodes (open_count h + more) few
 -- openings ----------------------------------------------------------------------------------------
 
 -- what is known of a place where a node may be opened
-record MayOpen (h : List Event) (place : Place) (kind : Kind) : Type 0 where
-  pub lawful : IsLawful h
-  pub settled : IsSettled h
-  pub free : IsFree h place
+record MayOpen (base : Kept) (h : List Event) (place : Place) (kind : Kind) : Type 0 where
+  pub lawful : IsLawful base h
+  pub settled : IsSettled base h
+  pub free : IsFree base h place
   pub hubbed : IsHubbed h place kind
   pub few : open_count h + nodes_opened h kind ≤ most_nodes
 
-may_open : (h : List Event) (place : Place) (kind : Kind) → MayOpen h place kind → MayFollow h (Open place kind)
-may_open h place kind m = allowed m.settled (opened m.free m.hubbed few also) where
+may_open : (base : Kept) → (h : List Event) (place : Place) (kind : Kind) → MayOpen base h place kind → MayFollow base h (Open place kind)
+may_open base h place kind m = allowed m.settled (opened m.free m.hubbed few also) where
   count : length (open_nodes h) ≡ open_count h
   count = length-filter (is_open h) (places h)
 
@@ -104,62 +105,62 @@ may_open h place kind m = allowed m.settled (opened m.free m.hubbed few also) wh
 
   also : (g : ℕ) → IsConnectDue (h ++ Open place kind ∷ []) g → length (open_nodes h) + 2 ≤ most_nodes
   also g d =
-      let made : nodes_opened h kind ≡ 2 = ap (λ (b : Bool). 1 + cond b 1 0) (opening_connects h place kind g m.lawful m.settled m.hubbed d) in
+      let made : nodes_opened h kind ≡ 2 = ap (λ (b : Bool). 1 + cond b 1 0) (opening_connects base h place kind g m.lawful m.settled m.hubbed d) in
       let f = m.few in
       omega (arith, count)
 
-pub opening_follows : (h : List Event) (limit : ℕ) (is_fresh : Bool) (place : Place) (kind : Kind) → IsLawful h → IsSettled h → first_cause (causes h limit is_fresh (Opening place kind)) ≡ None → MayFollow h (Open place kind)
-opening_follows h limit is_fresh place kind law settled none = may_open h place kind (record {
+pub opening_follows : (base : Kept) → (h : List Event) (limit : ℕ) (is_fresh : Bool) (place : Place) (kind : Kind) → IsLawful base h → IsSettled base h → first_cause (causes base h limit is_fresh (Opening place kind)) ≡ None → MayFollow base h (Open place kind)
+opening_follows base h limit is_fresh place kind law settled none = may_open base h place kind (record {
   lawful = law;
   settled = settled;
-  free = free_where h place (clear Gone) (clear WrongKind) (clear PlaceTaken) (clear NothingOwed);
+  free = free_where base h place (clear Gone) (clear WrongKind) (clear PlaceTaken) (clear NothingOwed);
   hubbed = hubbed_where h place kind (clear NoHub) (clear HubOrder);
   few = few_where h (nodes_opened h kind) (clear TooMany);
 })
   where
-    clear : (why : Refusal) → opening_causes h limit place kind why ≡ false
-    clear why = no_cause (opening_causes h limit place kind) none why
+    clear : (why : Refusal) → opening_causes base h limit place kind why ≡ false
+    clear why = no_cause (opening_causes base h limit place kind) none why
 
-pub using_follows : (h : List Event) (limit : ℕ) (is_fresh : Bool) (place : Place) (tag : ℕ) → IsLawful h → IsSettled h → first_cause (causes h limit is_fresh (OpeningUsing place tag)) ≡ None → MayFollow h (Open place Pass)
-using_follows h limit is_fresh place tag law settled none = may_open h place Pass (record {
+pub using_follows : (base : Kept) → (h : List Event) (limit : ℕ) (is_fresh : Bool) (place : Place) (tag : ℕ) → IsLawful base h → IsSettled base h → first_cause (causes base h limit is_fresh (OpeningUsing place tag)) ≡ None → MayFollow base h (Open place Pass)
+using_follows base h limit is_fresh place tag law settled none = may_open base h place Pass (record {
   lawful = law;
   settled = settled;
-  free = free_where h place (clear Gone) (clear WrongKind) (clear PlaceTaken) (clear NothingOwed);
+  free = free_where base h place (clear Gone) (clear WrongKind) (clear PlaceTaken) (clear NothingOwed);
   hubbed = tt;
   few = few_where h 1 (clear TooMany);
 })
   where
-    clear : (why : Refusal) → using_causes h limit is_fresh place tag why ≡ false
-    clear why = no_cause (using_causes h limit is_fresh place tag) none why
+    clear : (why : Refusal) → using_causes base h limit is_fresh place tag why ≡ false
+    clear why = no_cause (using_causes base h limit is_fresh place tag) none why
 
 -- and the acceptance of its resource directly after it
-pub accepting_follows : (h : List Event) (place : Place) (tag : ℕ) → MayFollow h (Open place Pass) → MayFollow (h ++ Open place Pass ∷ []) (Accept (length h) tag)
-accepting_follows h place tag next = opened_with (slice_get_last h (Open place Pass)) (length-append h (Open place Pass ∷ [])) (is_open_new h (Open place Pass) next)
+pub accepting_follows : (base : Kept) → (h : List Event) (place : Place) (tag : ℕ) → MayFollow base h (Open place Pass) → MayFollow base (h ++ Open place Pass ∷ []) (Accept (length h) tag)
+accepting_follows base h place tag next = opened_with (slice_get_last h (Open place Pass)) (length-append h (Open place Pass ∷ [])) (is_open_new base h (Open place Pass) next)
 
 -- resources ---------------------------------------------------------------------------------------
 
-pub holding_follows : (h : List Event) (limit : ℕ) (is_fresh : Bool) (node tag : ℕ) → IsSettled h → first_cause (causes h limit is_fresh (Holding node tag)) ≡ None → MayFollow h (Accept node tag)
-holding_follows h limit is_fresh node tag settled none = allowed settled (accepted (not-false _ (no_cause (causes h limit is_fresh (Holding node tag)) none Gone)))
+pub holding_follows : (base : Kept) → (h : List Event) (limit : ℕ) (is_fresh : Bool) (node tag : ℕ) → IsSettled base h → first_cause (causes base h limit is_fresh (Holding node tag)) ≡ None → MayFollow base h (Accept node tag)
+holding_follows base h limit is_fresh node tag settled none = allowed settled (accepted (not-false _ (no_cause (causes base h limit is_fresh (Holding node tag)) none Gone)))
 
-pub applying_follows : (h : List Event) (limit : ℕ) (is_fresh : Bool) (r : ℕ) → IsSettled h → first_cause (causes h limit is_fresh (Applying r)) ≡ None → MayFollow h (Use r)
-applying_follows h limit is_fresh r settled none = allowed settled (used (not-false _ (no_cause (causes h limit is_fresh (Applying r)) none NotHeld)))
+pub applying_follows : (base : Kept) → (h : List Event) (limit : ℕ) (is_fresh : Bool) (r : ℕ) → IsSettled base h → first_cause (causes base h limit is_fresh (Applying r)) ≡ None → MayFollow base h (Use r)
+applying_follows base h limit is_fresh r settled none = allowed settled (used (not-false _ (no_cause (causes base h limit is_fresh (Applying r)) none NotHeld)))
 
-pub removing_follows : (h : List Event) (limit : ℕ) (is_fresh : Bool) (r : ℕ) → IsSettled h → first_cause (causes h limit is_fresh (Removing r)) ≡ None → MayFollow h (Remove r)
-removing_follows h limit is_fresh r settled none = allowed settled (removed (not-false _ (no_cause (causes h limit is_fresh (Removing r)) none NotHeld)))
+pub removing_follows : (base : Kept) → (h : List Event) (limit : ℕ) (is_fresh : Bool) (r : ℕ) → IsSettled base h → first_cause (causes base h limit is_fresh (Removing r)) ≡ None → MayFollow base h (Remove r)
+removing_follows base h limit is_fresh r settled none = allowed settled (removed (not-false _ (no_cause (causes base h limit is_fresh (Removing r)) none NotHeld)))
 
-pub taking_follows : (h : List Event) (r : ℕ) → IsSettled h → is_waiting h r ≡ true → MayFollow h (Take r)
-taking_follows h r settled waits = allowed settled (taken waits)
+pub taking_follows : (base : Kept) → (h : List Event) (r : ℕ) → IsSettled base h → is_waiting h r ≡ true → MayFollow base h (Take r)
+taking_follows base h r settled waits = allowed settled (taken waits)
 
 -- items and ends ----------------------------------------------------------------------------------
 
-pub emitting_follows : (h : List Event) (limit : ℕ) (is_fresh : Bool) (leaf : ℕ) (value : ℤ) → IsSettled h → first_cause (causes h limit is_fresh (Emitting leaf value)) ≡ None → MayFollow h (Item leaf value)
-emitting_follows h limit is_fresh leaf value settled none =
-    let clear = no_cause (causes h limit is_fresh (Emitting leaf value)) none in
+pub emitting_follows : (base : Kept) → (h : List Event) (limit : ℕ) (is_fresh : Bool) (leaf : ℕ) (value : ℤ) → IsSettled base h → first_cause (causes base h limit is_fresh (Emitting leaf value)) ≡ None → MayFollow base h (Item leaf value)
+emitting_follows base h limit is_fresh leaf value settled none =
+    let clear = no_cause (causes base h limit is_fresh (Emitting leaf value)) none in
     allowed settled (emitted (not-false _ (clear Gone)) (not-false _ (clear WrongKind)) (ltb-false most_visits (visits h leaf) (clear TooMany)))
 
-pub ending_follows : (h : List Event) (limit : ℕ) (is_fresh : Bool) (leaf : ℕ) (t : Terminal) → IsSettled h → first_cause (causes h limit is_fresh (Ending leaf t)) ≡ None → MayFollow h (End leaf t)
-ending_follows h limit is_fresh leaf t settled none =
-    let clear = no_cause (causes h limit is_fresh (Ending leaf t)) none in
+pub ending_follows : (base : Kept) → (h : List Event) (limit : ℕ) (is_fresh : Bool) (leaf : ℕ) (t : Terminal) → IsSettled base h → first_cause (causes base h limit is_fresh (Ending leaf t)) ≡ None → MayFollow base h (End leaf t)
+ending_follows base h limit is_fresh leaf t settled none =
+    let clear = no_cause (causes base h limit is_fresh (Ending leaf t)) none in
     allowed settled (leaf_ended (not-false _ (clear Gone)) (not-false _ (clear WrongKind)))
 
 -- no child is open where none of all places is one's
@@ -173,57 +174,57 @@ no_child h n none d below = by_test (cases_Bool (is_open h d)) where
       let child : is_open_child_of h n d ≡ true = rw (alive, below) (eq-eqb n n refl) in
       absurd (both_ways _ none (list_any_at (is_open_child_of h n) (places h) d 0 (omega (arith, length-range_with_len 0 (length h))) (ap (is_open_child_of h n) here ∙ child)))
 
-pub aborting_follows : (h : List Event) (limit : ℕ) (is_fresh : Bool) (n code : ℕ) → IsSettled h → first_cause (causes h limit is_fresh (Aborting n code)) ≡ None → MayFollow h (End n (Error code))
-aborting_follows h limit is_fresh n code settled none =
-    let clear = no_cause (causes h limit is_fresh (Aborting n code)) none in
+pub aborting_follows : (base : Kept) → (h : List Event) (limit : ℕ) (is_fresh : Bool) (n code : ℕ) → IsSettled base h → first_cause (causes base h limit is_fresh (Aborting n code)) ≡ None → MayFollow base h (End n (Error code))
+aborting_follows base h limit is_fresh n code settled none =
+    let clear = no_cause (causes base h limit is_fresh (Aborting n code)) none in
     allowed settled (aborted (not-false _ (clear Gone)) (not-false _ (clear WrongKind)) (no_child h n (clear HasChild)))
 
-pub declining_follows : (h : List Event) (limit : ℕ) (is_fresh : Bool) (f : ℕ) → IsSettled h → first_cause (causes h limit is_fresh (Declining f)) ≡ None → MayFollow h (Decline f)
-declining_follows h limit is_fresh f settled none =
-    let clear = no_cause (causes h limit is_fresh (Declining f)) none in
-    allowed settled (declined (not-false _ (clear Gone)) (not-false _ (clear WrongKind)) (some_owed (owed h f) (clear NothingOwed)))
+pub declining_follows : (base : Kept) → (h : List Event) (limit : ℕ) (is_fresh : Bool) (f : ℕ) → IsSettled base h → first_cause (causes base h limit is_fresh (Declining f)) ≡ None → MayFollow base h (Decline f)
+declining_follows base h limit is_fresh f settled none =
+    let clear = no_cause (causes base h limit is_fresh (Declining f)) none in
+    allowed settled (declined (not-false _ (clear Gone)) (not-false _ (clear WrongKind)) (some_owed (owed base h f) (clear NothingOwed)))
 
-pub failing_follows : (h : List Event) (limit : ℕ) (is_fresh : Bool) (f code : ℕ) → IsSettled h → first_cause (causes h limit is_fresh (Failing f code)) ≡ None → MayFollow h (End f (Error code))
-failing_follows h limit is_fresh f code settled none =
-    let clear = no_cause (causes h limit is_fresh (Failing f code)) none in
-    allowed settled (projection_failed (not-false _ (clear Gone)) (not-false _ (clear WrongKind)) (some_owed (owed h f) (clear NothingOwed)))
+pub failing_follows : (base : Kept) → (h : List Event) (limit : ℕ) (is_fresh : Bool) (f code : ℕ) → IsSettled base h → first_cause (causes base h limit is_fresh (Failing f code)) ≡ None → MayFollow base h (End f (Error code))
+failing_follows base h limit is_fresh f code settled none =
+    let clear = no_cause (causes base h limit is_fresh (Failing f code)) none in
+    allowed settled (projection_failed (not-false _ (clear Gone)) (not-false _ (clear WrongKind)) (some_owed (owed base h f) (clear NothingOwed)))
 
-pub disposing_follows : (h : List Event) (limit : ℕ) (is_fresh : Bool) (n : ℕ) → IsSettled h → first_cause (causes h limit is_fresh (Disposing n)) ≡ None → MayFollow h (Close n)
-disposing_follows h limit is_fresh n settled none =
-    let clear = no_cause (causes h limit is_fresh (Disposing n)) none in
+pub disposing_follows : (base : Kept) → (h : List Event) (limit : ℕ) (is_fresh : Bool) (n : ℕ) → IsSettled base h → first_cause (causes base h limit is_fresh (Disposing n)) ≡ None → MayFollow base h (Close n)
+disposing_follows base h limit is_fresh n settled none =
+    let clear = no_cause (causes base h limit is_fresh (Disposing n)) none in
     allowed settled (root_closed (not-false _ (clear Gone)) (not-false _ (clear NotRoot)))
 
 -- hubs --------------------------------------------------------------------------------------------
 
-pub publishing_follows : (h : List Event) (limit : ℕ) (is_fresh : Bool) (mode : Mode) → IsSettled h → first_cause (causes h limit is_fresh (Publishing mode)) ≡ None → MayFollow h (Hub mode)
-publishing_follows h limit is_fresh mode settled none =
-    let few = ltb-false most_hubs _ (no_cause (causes h limit is_fresh (Publishing mode)) none TooMany) in
+pub publishing_follows : (base : Kept) → (h : List Event) (limit : ℕ) (is_fresh : Bool) (mode : Mode) → IsSettled base h → first_cause (causes base h limit is_fresh (Publishing mode)) ≡ None → MayFollow base h (Hub mode)
+publishing_follows base h limit is_fresh mode settled none =
+    let few = ltb-false most_hubs _ (no_cause (causes base h limit is_fresh (Publishing mode)) none TooMany) in
     allowed settled (published (omega arith))
 
-pub connecting_follows : (h : List Event) (limit : ℕ) (is_fresh : Bool) (g : ℕ) → IsSettled h → first_cause (causes h limit is_fresh (Connecting g)) ≡ None → MayFollow h (Connect g)
-connecting_follows h limit is_fresh g settled none =
-    let clear = no_cause (causes h limit is_fresh (Connecting g)) none in
+pub connecting_follows : (base : Kept) → (h : List Event) (limit : ℕ) (is_fresh : Bool) (g : ℕ) → IsSettled base h → first_cause (causes base h limit is_fresh (Connecting g)) ≡ None → MayFollow base h (Connect g)
+connecting_follows base h limit is_fresh g settled none =
+    let clear = no_cause (causes base h limit is_fresh (Connecting g)) none in
     let few = few_where h 1 (clear TooMany) in
     let count = length-filter (is_open h) (places h) in
     allowed settled (connected (not-false _ (clear WrongKind)) (connects_none h g (clear Connected)) (omega arith))
 
 -- where no cause stands, the hub has one open connection
-pub disconnecting_one : (h : List Event) (g : ℕ) → IsLawful h → first_cause (disconnecting_causes h g) ≡ None →
+pub disconnecting_one : (base : Kept) → (h : List Event) (g : ℕ) → IsLawful base h → first_cause (disconnecting_causes h g) ≡ None →
     (c : ℕ) × (open_connections h g ≡ c ∷ [])
-disconnecting_one h g law none = (one.0, one.2 ∙ ap (λ l. one.0 ∷ l) (alone one.1 few)) where
+disconnecting_one base h g law none = (one.0, one.2 ∙ ap (λ l. one.0 ∷ l) (alone one.1 few)) where
   one : (c : ℕ) × (rest : List ℕ) × (open_connections h g ≡ c ∷ rest)
   one = connects_one h g (not-false _ (no_cause (disconnecting_causes h g) none NotConnected))
 
   few : length (one.0 ∷ one.1) ≤ 1
-  few = subst (λ (l : List ℕ). length l ≤ 1) one.2 (one_open_connection h law g)
+  few = subst (λ (l : List ℕ). length l ≤ 1) one.2 (one_open_connection base h law g)
 
   alone : (rest : List ℕ) → suc (length rest) ≤ 1 → rest ≡ []
   alone [] l = refl
   alone (n ∷ ns) l = absurd (omega arith)
 
-pub disconnecting_follows : (h : List Event) (g c : ℕ) → IsSettled h → first_cause (disconnecting_causes h g) ≡ None →
-    open_connections h g ≡ c ∷ [] → MayFollow h (Close c)
-disconnecting_follows h g c settled none first =
+pub disconnecting_follows : (base : Kept) → (h : List Event) (g c : ℕ) → IsSettled base h → first_cause (disconnecting_causes h g) ≡ None →
+    open_connections h g ≡ c ∷ [] → MayFollow base h (Close c)
+disconnecting_follows base h g c settled none first =
     let found : (at (is_connect_of g) h c && is_open h c) ≡ true = first_passes (λ n. at (is_connect_of g) h n && is_open h n) (places h) c [] first in
     let parts : (at (is_connect_of g) h c ≡ true) × (is_open h c ≡ true) = and_parts _ _ found in
     allowed settled (disconnected parts.1 (at_connect h g c parts.0) (not-false _ (no_cause (disconnecting_causes h g) none WrongKind)))

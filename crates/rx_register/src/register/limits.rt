@@ -13,20 +13,21 @@ const MOST_NODES: u64 = 1_048_576;
 impl Register {
     /// Whether so many open nodes more would be too many.
     pub fn is_crowded(&self, load: Load, more: u64) -> bool
-        requires { IsLoadOf self.now.history load }
+        requires { IsLoadOf self.now.base self.now.history load }
         ensures { result ≡ is_crowded_in self.now.history more }
     {
         let _told = &self.told;
         MOST_NODES < more || MOST_NODES - more < load.open
     }
 
-    /// Whether so many events and reservations more would pass the limit, with what closing everything
-    /// needs counted in.
+    /// Whether so many events and reservations more would pass the limit on the events since the
+    /// base, with what closing everything needs counted in.
     pub fn is_over(&self, load: Load, more: u64) -> bool
-        requires { IsLoadOf self.now.history load }
-        ensures { result ≡ is_over_in self.now.history self.now.limit more }
+        requires { IsLoadOf self.now.base self.now.history load }
+        ensures { result ≡ is_over_in self.now.base self.now.history self.now.limit more }
     {
-        let left = self.limit - self.history.len();
+        let since = self.history.len() - self.history.base().at();
+        let left = self.limit - since;
         left < load.debt || left - load.debt < more
     }
 }

@@ -16,9 +16,10 @@ fn one_if(test: bool) -> u64
 impl Register {
     /// Writes an event that may come next, whose notes were told. It takes no memory.
     pub fn write(&mut self, event: Event)
-        requires next { MayFollow self.old.history event }
+        requires next { MayFollow self.old.base self.old.history event }
         requires room { 0 < self.old.room }
         requires told { self.old.pending ≡ mail_of self.old.history event }
+        ensures base { self.new.base ≡ self.old.base }
         ensures events { self.new.history ≡ self.old.history ++ event ∷ [] }
         ensures pending { self.new.pending ≡ [] }
         ensures room { self.new.room + 1 ≡ self.old.room }

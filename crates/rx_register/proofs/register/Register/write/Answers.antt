@@ -9,11 +9,12 @@ use Rattle.rx_register.proofs.register.Register.write.Goals as goal
 
 pub invariant_of-self : goal.invariant_of-self
 invariant_of-self c =
-    let next : MayFollow c.self.inside.history.events c.args.event = rw (← c.self.view_is) at c.requires.next in
+    let next : MayFollow c.self.inside.history.base c.self.inside.history.events c.args.event = rw (← c.self.view_is) at c.requires.next in
     let told : drop c.self.inside.told c.self.inside.mail.items ≡ mail_of c.self.inside.history.events c.args.event = rw (← c.self.view_is) at c.requires.told in
     written c.self.inside _ c.args.event c.self.invariant (record {
       next = next;
       told = told;
+      base = c.push_reserved.ensures.base;
       events = c.push_reserved.ensures.events;
       limit = c.push_reserved.ensures.limit;
       own_limit = refl;
