@@ -2,6 +2,7 @@
 use Rattle.std.specs.Prelude.{◌≡◌, ℕ, ◌<◌, ◌++◌, Bool, false, List, [], ◌∷◌, map, length, slice_get}
 use Rattle.std.specs.Prelude.{Option, Some, None, IsTrue, IsSome}
 use Rattle.std.specs.List.{filter_map}
+use Rattle.rx_event.specs.Kept.{Kept}
 use Rattle.rx_note.specs.declared.note.Terminal.{Terminal}
 use Rattle.rx_event.specs.declared.event.Place.{Place}
 use Rattle.rx_event.specs.declared.event.Place.TheVariants.{Inner}
@@ -34,30 +35,30 @@ use Rattle.rx_hub.specs.Route.{IsOrdered}
 use Rattle.rx_hub.specs.Walk.{IsWalk, climb_over, stops_over}
 
 -- what is due at a hub is forced; and where nothing is due at any hub nor at any record, the history is settled
-pub record HubsAreForced : Type 0 where
-  pub forced : (h : List Event) (hubs : List Hub) (d : HubDue) → AreHubsOf h hubs → IsDueIn hubs d → IsForced h (event_of d)
+pub record HubsAreForced (base : Kept) : Type 0 where
+  pub forced : (h : List Event) (hubs : List Hub) (d : HubDue) → AreHubsOf h hubs → IsDueIn hubs d → IsForced base h (event_of d)
   pub connected : (h : List Event) (hubs : List Hub) → AreHubsOf h hubs → NoneWaits hubs → IsConnected h
   pub whole : (h : List Event) (hubs : List Hub) → AreHubsOf h hubs → IsQuiet hubs → (n : ℕ) (t : Terminal) → IsTrue (is_open h n) → ¬ SourceEnded h n t
-  pub kept : (h : List Event) (hubs : List Hub) → AreHubsOf h hubs → IsQuiet hubs → (c : ℕ) → ¬ IsDue h (Close c)
-  pub settled : (h : List Event) (nodes : Slots Node) (hubs : List Hub) → AreRecordsOf h nodes → AreHubsOf h hubs → IsQuietTree nodes → IsQuiet hubs → IsSettled h
+  pub kept : (h : List Event) (hubs : List Hub) → AreHubsOf h hubs → IsQuiet hubs → (c : ℕ) → ¬ IsDue base h (Close c)
+  pub settled : (h : List Event) (nodes : Slots Node) (hubs : List Hub) → AreRecordsOf base h nodes → AreHubsOf h hubs → IsQuietTree nodes → IsQuiet hubs → IsSettled base h
 
 -- where an item goes over tree and hubs is its climb in the history, and so are its stops and visits
-pub record WalksAreClimbs : Type 0 where
-  pub climb : (h : List Event) (nodes : Slots Node) (hubs : List Hub) (key : Key) → IsWalk h nodes hubs → IsSome (find nodes key) →
+pub record WalksAreClimbs (base : Kept) : Type 0 where
+  pub climb : (h : List Event) (nodes : Slots Node) (hubs : List Hub) (key : Key) → IsWalk base h nodes hubs → IsSome (find nodes key) →
       climb h key.number ≡ numbers (climb_over nodes hubs key)
-  pub stops : (h : List Event) (nodes : Slots Node) (hubs : List Hub) (key : Key) → IsWalk h nodes hubs → IsSome (find nodes key) →
+  pub stops : (h : List Event) (nodes : Slots Node) (hubs : List Hub) (key : Key) → IsWalk base h nodes hubs → IsSome (find nodes key) →
       stops h key.number ≡ filter_map numbered (stops_over nodes hubs key)
-  pub visits : (h : List Event) (nodes : Slots Node) (hubs : List Hub) (key : Key) → IsWalk h nodes hubs → IsSome (find nodes key) →
+  pub visits : (h : List Event) (nodes : Slots Node) (hubs : List Hub) (key : Key) → IsWalk base h nodes hubs → IsSome (find nodes key) →
       visits h key.number ≡ length (climb_over nodes hubs key)
 
 -- how one more event changes the hubs of a history: those that `hubs_after` gives are the hubs of the longer history
-pub record HubsFollow : Type 0 where
-  pub follow : (h : List Event) (e : Event) (slot : ℕ) (hubs : List Hub) → IsLawful h → MayFollow h e →
+pub record HubsFollow (base : Kept) : Type 0 where
+  pub follow : (h : List Event) (e : Event) (slot : ℕ) (hubs : List Hub) → IsLawful base h → MayFollow base h e →
       AreHubsOf h hubs → AreHubsOf (h ++ e ∷ []) (hubs_after h e slot hubs)
   -- an event that closes no node, makes no hub and opens no node of one: they stay the same
   pub same : (h : List Event) (e : Event) (slot : ℕ) (hubs : List Hub) → AreHubsOf h hubs → joins_hubs e ≡ false →
       ClosesNone h e → hubs_after h e slot hubs ≡ hubs
-  pub stay : (h : List Event) (e : Event) (hubs : List Hub) → IsLawful h → MayFollow h e → AreHubsOf h hubs →
+  pub stay : (h : List Event) (e : Event) (hubs : List Hub) → IsLawful base h → MayFollow base h e → AreHubsOf h hubs →
       joins_hubs e ≡ false → ClosesNone h e → AreHubsOf (h ++ e ∷ []) hubs
   -- a hub comes last
   pub publish : (h : List Event) (mode : Mode) (slot : ℕ) (hubs : List Hub) → AreHubsOf h hubs →
@@ -75,7 +76,7 @@ pub record HubsFollow : Type 0 where
   pub close : (h : List Event) (n slot : ℕ) (hubs : List Hub) → AreHubsOf h hubs →
       hubs_after h (Close n) slot hubs ≡ map (without_gone (is_inside h n) None) hubs
   -- another inner of a Switch: what stands inside the open one goes, and then comes what is made
-  pub exchange : (h : List Event) (f c : ℕ) (kind : Kind) (slot : ℕ) (hubs : List Hub) → IsLawful h →
+  pub exchange : (h : List Event) (f c : ℕ) (kind : Kind) (slot : ℕ) (hubs : List Hub) → IsLawful base h →
       AreHubsOf h hubs → IsTrue (at is_switch h f) → IsTrue (at (is_inner_of f) h c) → IsTrue (is_open h c) →
       hubs_after h (Open (Inner f) kind) slot hubs ≡
       with_made (next_key h slot) (Open (Inner f) kind) (map (without_gone (is_inside h c) None) hubs)
@@ -85,25 +86,25 @@ pub record HubsFollow : Type 0 where
       map (without_gone one ended) hubs ≡ map (without_gone other ended) hubs
 
 -- before an event that may follow, the hubs are ready for the call that writes it
-pub record HubsReady : Type 0 where
+pub record HubsReady (base : Kept) : Type 0 where
   -- a new hub comes after all others
   pub publish : (h : List Event) (hubs : List Hub) → AreHubsOf h hubs → (i : ℕ) (hub : Hub) →
       slice_get hubs i ≡ Some hub → hub.number < length h
   -- the hub that is subscribed to is there, and a subscriber comes after all others
-  pub subscribe : (h : List Event) (place : Place) (g : ℕ) (hubs : List Hub) → MayFollow h (Open place (Sub g)) →
+  pub subscribe : (h : List Event) (place : Place) (g : ℕ) (hubs : List Hub) → MayFollow base h (Open place (Sub g)) →
       AreHubsOf h hubs → (hub : Hub) × (find_hub hubs g ≡ Some hub) × AreBelow (length h) hub.subscribers
   -- and so it is after a closing
   pub exchange : (h : List Event) (place : Place) (g : ℕ) (hubs : List Hub) (gone : Key → Bool) →
-      (ended : Option LastEnd) → MayFollow h (Open place (Sub g)) → AreHubsOf h hubs →
+      (ended : Option LastEnd) → MayFollow base h (Open place (Sub g)) → AreHubsOf h hubs →
       (hub : Hub) × (find_hub (map (without_gone gone ended) hubs) g ≡ Some hub) × AreBelow (length h) hub.subscribers
   -- the hub that is connected is there, and has no connection
-  pub connect : (h : List Event) (g : ℕ) (hubs : List Hub) → MayFollow h (Connect g) → AreHubsOf h hubs →
+  pub connect : (h : List Event) (g : ℕ) (hubs : List Hub) → MayFollow base h (Connect g) → AreHubsOf h hubs →
       (hub : Hub) × (find_hub hubs g ≡ Some hub) × (hub.connection ≡ None)
 
 -- a subscriber that stands inside a connection is of an earlier hub, so that no item goes round in a circle
-pub record HubsInOrder : Type 0 where
-  pub earlier : (h : List Event) (hubs : List Hub) → IsLawful h → AreHubsOf h hubs → (i j : ℕ) (outer inner : Hub) →
+pub record HubsInOrder (base : Kept) : Type 0 where
+  pub earlier : (h : List Event) (hubs : List Hub) → IsLawful base h → AreHubsOf h hubs → (i j : ℕ) (outer inner : Hub) →
       slice_get hubs i ≡ Some outer → slice_get hubs j ≡ Some inner → (c s : Key) → outer.connection ≡ Some c →
       IsTrue (is_on s inner.subscribers) → IsTrue (is_within h c.number s.number) → inner.number < outer.number
   -- over a tree: what climbs from a subscriber of a hub reaches connections of later hubs alone
-  pub ordered : (h : List Event) (nodes : Slots Node) (hubs : List Hub) → IsLawful h → IsWalk h nodes hubs → IsOrdered nodes hubs
+  pub ordered : (h : List Event) (nodes : Slots Node) (hubs : List Hub) → IsLawful base h → IsWalk base h nodes hubs → IsOrdered nodes hubs

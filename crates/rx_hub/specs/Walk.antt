@@ -3,6 +3,7 @@
 use Rattle.std.specs.Prelude.{◌≡◌, ℕ, zero, suc, ◌++◌, List, [], ◌∷◌, Option, Some, None, IsSome}
 use Rattle.std.specs.List.{AllByRecursion, filter_map}
 use Rattle.std.specs.Option.{option_and_then, option_map_or, option_to_list}
+use Rattle.rx_event.specs.Kept.{Kept}
 use Rattle.rx_event.specs.declared.event.Event.{Event}
 use Rattle.rx_event.specs.Events.{hub_connected}
 use Rattle.rx_event.specs.Climb.{most_visits}
@@ -60,8 +61,8 @@ abbrev pub stops_over : Slots Node → List Hub → Key → List Stop
 stops_over nodes hubs key = filter_map (arrival_at nodes) (climb_over nodes hubs key)
 
 -- a tree and hubs of one history, whose subscribers the tree has
-pub record IsWalk (h : List Event) (nodes : Slots Node) (hubs : List Hub) : Type 0 where
+pub record IsWalk (base : Kept) (h : List Event) (nodes : Slots Node) (hubs : List Hub) : Type 0 where
   pub sound : IsSound nodes
-  pub records : AreRecordsOf h nodes
+  pub records : AreRecordsOf base h nodes
   pub published : AreHubsOf h hubs
   pub found : (g : ℕ) (hub : Hub) → find_hub hubs g ≡ Some hub → AllByRecursion (λ key. IsSome (find nodes key)) hub.subscribers

@@ -1,17 +1,18 @@
 //! What the gate has proved of what hubs have to do.
 
+ghost use Rattle.rx_event.specs.Kept.{Kept};
 ghost use Rattle.rx_hub.specs.Claims.{HubsAreForced, WalksAreClimbs, HubsReady, HubsFollow, HubsInOrder};
 
 /// For every history whose hubs these are: what is due at a hub is forced in it; and where nothing is
 /// due at any hub nor, by `rx_flow`, at any record of its tree, the history is settled.
 pub fn hubs_are_forced()
-    ensures { HubsAreForced }
+    ensures { (base : Kept) → HubsAreForced base }
 {}
 
 /// For every history whose records and hubs these are: where an item goes over the tree and the hubs is
 /// its climb in the history, with the same stops in the same order and as many visits.
 pub fn walks_are_climbs()
-    ensures { WalksAreClimbs }
+    ensures { (base : Kept) → WalksAreClimbs base }
 {}
 
 /// How one more event changes the hubs of a history: what it closes leaves them, what it makes joins
@@ -19,13 +20,13 @@ pub fn walks_are_climbs()
 /// each event that it writes keeps them those of the history. The event is one that may follow, and so
 /// the hub is there that it subscribes to or connects.
 pub fn hubs_follow_events()
-    ensures ready { HubsReady }
-    ensures follow { HubsFollow }
+    ensures ready { (base : Kept) → HubsReady base }
+    ensures follow { (base : Kept) → HubsFollow base }
 {}
 
 /// In every lawful history a subscriber that stands inside the connection of a hub is of an earlier
 /// hub, and what climbs from it reaches connections of later hubs alone. So an item's way to one stop
 /// goes through each hub once at most.
 pub fn hubs_are_in_order()
-    ensures { HubsInOrder }
+    ensures { (base : Kept) → HubsInOrder base }
 {}

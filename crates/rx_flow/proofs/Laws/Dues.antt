@@ -3,6 +3,7 @@ use Rattle.std.proofs.Common.{◌≡◌, ℕ, true, false, List, Option, Some, N
 use Rattle.std.specs.List.{list_any}
 use Rattle.std.specs.Option.{option_and_then}
 use Rattle.std.proofs.lemmas.Option.{same_Some, none-some}
+use Rattle.rx_event.specs.Kept.{Kept}
 use Rattle.rx_note.specs.declared.note.Terminal.{Terminal}
 use Rattle.rx_event.specs.declared.event.Event.{Event}
 use Rattle.rx_event.specs.declared.event.Event.TheVariants.{Close}
@@ -18,40 +19,43 @@ use Rattle.rx_flow.specs.Due.{IsDueIn, IsQuiet}
 use Rattle.rx_flow.specs.Records.{IsRecordOf, HasRecord, AreRecordsOf}
 
 -- what is due at a record is forced, where no hub waits
-pub due_forced : (h : List Event) (nodes : Slots Node) (e : Event) → AreRecordsOf h nodes → IsConnected h → IsDueIn nodes e → IsForced h e
-due_forced h nodes e records connected due_in = by_node (find nodes due_in.key) refl due_in.gives where
-  by_node : (o : Option Node) → find nodes due_in.key ≡ o → option_and_then (λ node. due_at node.made node.marks due_in.key.number) o ≡ Some e → IsForced h e
+pub due_forced : (base : Kept) → (h : List Event) (nodes : Slots Node) (e : Event) → AreRecordsOf base h nodes → IsConnected h → IsDueIn nodes e →
+    IsForced base h e
+due_forced base h nodes e records connected due_in = by_node (find nodes due_in.key) refl due_in.gives where
+  by_node : (o : Option Node) → find nodes due_in.key ≡ o → option_and_then (λ node. due_at node.made node.marks due_in.key.number) o ≡ Some e →
+      IsForced base h e
   by_node None found gives = absurd (none-some e gives)
   by_node (Some node) found gives =
       let r = records.each due_in.key node found in
-      due_at_forced h due_in.key.number node.made e connected r.alive r.made (ap (λ m. due_at node.made m due_in.key.number) (sym r.marks) ∙ gives)
+      due_at_forced base h due_in.key.number node.made e connected r.alive r.made (ap (λ m. due_at node.made m due_in.key.number) (sym r.marks) ∙ gives)
 
 -- where nothing is due at any record, no marks of an open node give an event
-quiet_marks : (h : List Event) (nodes : Slots Node) → AreRecordsOf h nodes → IsQuiet nodes → (n : ℕ) (made : Event) → is_open h n ≡ true →
-    slice_get h n ≡ Some made → due_at made (marks_of h n) n ≡ None
-quiet_marks h nodes records quiet n made o at_n =
+quiet_marks : (base : Kept) → (h : List Event) (nodes : Slots Node) → AreRecordsOf base h nodes → IsQuiet nodes → (n : ℕ) (made : Event) → is_open h n ≡ true →
+    slice_get h n ≡ Some made → due_at made (marks_of base h n) n ≡ None
+quiet_marks base h nodes records quiet n made o at_n =
     let own : HasRecord nodes n = records.every n o in
-    let r : IsRecordOf h own.key.number own.node = records.each own.key own.node own.found in
+    let r : IsRecordOf base h own.key.number own.node = records.each own.key own.node own.found in
     let same : made ≡ own.node.made = same_Some made own.node.made (sym (ap (slice_get h) own.numbered ∙ at_n) ∙ r.made) in
     let none : due_at own.node.made own.node.marks own.key.number ≡ None =
     sym (ap (option_and_then (λ node. due_at node.made node.marks own.key.number)) own.found) ∙ quiet own.key in
-    ap (λ k. due_at made (marks_of h k) k) (sym own.numbered) ∙ ap (λ m. due_at made m own.key.number) (sym r.marks) ∙
+    ap (λ k. due_at made (marks_of base h k) k) (sym own.numbered) ∙ ap (λ m. due_at made m own.key.number) (sym r.marks) ∙
     ap (λ e. due_at e own.node.marks own.key.number) same ∙ none
 
 -- so it is settled, but for what hubs force
-pub quiet_settled : (h : List Event) (nodes : Slots Node) → AreRecordsOf h nodes → IsQuiet nodes → IsConnected h →
-    ((n : ℕ) (t : Terminal) → is_open h n ≡ true → ¬ SourceEnded h n t) → ((c : ℕ) → ¬ IsDue h (Close c)) → IsSettled h
-quiet_settled h nodes records quiet connected whole kept = settled_by_marks h connected whole kept (quiet_marks h nodes records quiet)
+pub quiet_settled : (base : Kept) → (h : List Event) (nodes : Slots Node) → AreRecordsOf base h nodes → IsQuiet nodes → IsConnected h →
+    ((n : ℕ) (t : Terminal) → is_open h n ≡ true → ¬ SourceEnded h n t) → ((c : ℕ) → ¬ IsDue base h (Close c)) → IsSettled base h
+quiet_settled base h nodes records quiet connected whole kept = settled_by_marks base h connected whole kept (quiet_marks base h nodes records quiet)
 
-pub quiet_settled_hubless : (h : List Event) (nodes : Slots Node) → IsLawful h → AreRecordsOf h nodes → IsQuiet nodes → list_any makes_hub h ≡ false →
-    IsSettled h
-quiet_settled_hubless h nodes law records quiet hubless = settled_hubless h law hubless (quiet_marks h nodes records quiet)
+pub quiet_settled_hubless : (base : Kept) → (h : List Event) (nodes : Slots Node) → IsLawful base h → AreRecordsOf base h nodes → IsQuiet nodes →
+    list_any makes_hub h ≡ false →
+    IsSettled base h
+quiet_settled_hubless base h nodes law records quiet hubless = settled_hubless base h law hubless (quiet_marks base h nodes records quiet)
 
 -- in a settled history nothing is due at any record
-pub settled_quiet_records : (h : List Event) (nodes : Slots Node) → AreRecordsOf h nodes → IsSettled h → IsQuiet nodes
-settled_quiet_records h nodes records settled key = by_node (find nodes key) refl where
+pub settled_quiet_records : (base : Kept) → (h : List Event) (nodes : Slots Node) → AreRecordsOf base h nodes → IsSettled base h → IsQuiet nodes
+settled_quiet_records base h nodes records settled key = by_node (find nodes key) refl where
   by_node : (o : Option Node) → find nodes key ≡ o → option_and_then (λ node. due_at node.made node.marks key.number) o ≡ None
   by_node None found = refl
   by_node (Some node) found =
       let r = records.each key node found in
-      ap (λ m. due_at node.made m key.number) r.marks ∙ settled_quiet h settled key.number node.made r.alive r.made
+      ap (λ m. due_at node.made m key.number) r.marks ∙ settled_quiet base h settled key.number node.made r.alive r.made

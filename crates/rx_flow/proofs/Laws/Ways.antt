@@ -7,6 +7,7 @@ use Rattle.std.specs.Option.{option_and_then, option_map_or, option_or, option_t
 use Rattle.std.proofs.lemmas.Bool.{false≢true}
 use Rattle.std.proofs.lemmas.List.Elements.{filter_map-append}
 use Rattle.std.proofs.lemmas.Option.{same_Some, none-some}
+use Rattle.rx_event.specs.Kept.{Kept}
 use Rattle.rx_event.specs.declared.event.Place.TheVariants.{Root, Source, Inner, Notifier}
 use Rattle.rx_event.specs.declared.event.Event.{Event}
 use Rattle.rx_event.specs.declared.event.Event.TheVariants.{Open, Connect}
@@ -29,37 +30,37 @@ use Rattle.rx_flow.specs.Claims.{IsWay, numbers, numbered}
 -- one node ------------------------------------------------------------------------------------------
 
 -- a tree whose records are those of the history
-pub record IsTold (h : List Event) (nodes : Slots Node) : Type 0 where
+pub record IsTold (base : Kept) (h : List Event) (nodes : Slots Node) : Type 0 where
   pub sound : IsSound nodes
-  pub records : AreRecordsOf h nodes
+  pub records : AreRecordsOf base h nodes
 
-merging_told : (h : List Event) (nodes : Slots Node) → IsTold h nodes → (up : Key) → IsSome (find nodes up) →
+merging_told : (base : Kept) → (h : List Event) (nodes : Slots Node) → IsTold base h nodes → (up : Key) → IsSome (find nodes up) →
     at is_merging h up.number ≡ option_map_or is_merging (made_of nodes up) false
-merging_told h nodes t up found =
+merging_told base h nodes t up found =
     let n = some_of (find nodes up) found in
     ap (λ (o : Option Event). option_map_or is_merging o false) (t.records.each up n.0 n.1).made ∙
     sym (ap (λ (o : Option Node). option_map_or is_merging (option_map (λ node. node.made) o) false) n.1)
 
 -- the stop at a node by its record is that of the history
-stop_told : (h : List Event) (nodes : Slots Node) → IsTold h nodes → (key : Key) (above : Option Key) (made : Event) →
+stop_told : (base : Kept) → (h : List Event) (nodes : Slots Node) → IsTold base h nodes → (key : Key) (above : Option Key) (made : Event) →
     parent_named made ≡ option_map (λ k. k.number) above → IfSome above (λ k. IsSome (find nodes k)) →
     stop_made_in h key.number made ≡ option_and_then numbered (stop_made nodes key above made)
-stop_told h nodes t key above (Open Root kind) named there = refl
-stop_told h nodes t key None (Open (Source f) kind) named there = absurd (none-some f (sym named))
-stop_told h nodes t key (Some up) (Open (Source f) kind) named there =
+stop_told base h nodes t key above (Open Root kind) named there = refl
+stop_told base h nodes t key None (Open (Source f) kind) named there = absurd (none-some f (sym named))
+stop_told base h nodes t key (Some up) (Open (Source f) kind) named there =
     ap (λ q. if at is_merging h q then Some (ProjectionTo q) else None) (same_Some f up.number named) ∙
-    ap (λ b. if b then Some (ProjectionTo up.number) else None) (merging_told h nodes t up there) ∙
+    ap (λ b. if b then Some (ProjectionTo up.number) else None) (merging_told base h nodes t up there) ∙
     shape (option_map_or is_merging (made_of nodes up) false)
   where
     shape : (b : Bool) →
         (if b then Some (ProjectionTo up.number) else None) ≡ option_and_then numbered (option_map (λ k. Projection k) (if b then Some up else None))
     shape true = refl
     shape false = refl
-stop_told h nodes t key None (Open (Notifier u) kind) named there = absurd (none-some u (sym named))
-stop_told h nodes t key (Some up) (Open (Notifier u) kind) named there = ap (λ q. Some (FiringOf q)) (same_Some u up.number named)
-stop_told h nodes t key above (Open (Inner f) kind) named there = refl
-stop_told h nodes t key above (Connect g) named there = refl
-stop_told h nodes t key above _ named there = refl
+stop_told base h nodes t key None (Open (Notifier u) kind) named there = absurd (none-some u (sym named))
+stop_told base h nodes t key (Some up) (Open (Notifier u) kind) named there = ap (λ q. Some (FiringOf q)) (same_Some u up.number named)
+stop_told base h nodes t key above (Open (Inner f) kind) named there = refl
+stop_told base h nodes t key above (Connect g) named there = refl
+stop_told base h nodes t key above _ named there = refl
 
 -- of a node that is found
 pub stop_of-found : (nodes : Slots Node) (key : Key) (node : Node) → find nodes key ≡ Some node →
@@ -67,19 +68,19 @@ pub stop_of-found : (nodes : Slots Node) (key : Key) (node : Node) → find node
 stop_of-found nodes key node found =
     ap (λ (o : Option Node). option_and_then (stop_made nodes key (option_and_then (λ n. n.above) o)) (option_map (λ n. n.made) o)) found
 
-pub stop_seen : (h : List Event) (nodes : Slots Node) → IsTold h nodes → (key : Key) (node : Node) → find nodes key ≡ Some node →
+pub stop_seen : (base : Kept) → (h : List Event) (nodes : Slots Node) → IsTold base h nodes → (key : Key) (node : Node) → find nodes key ≡ Some node →
     stop_at h key.number ≡ option_and_then numbered (stop_of nodes key)
-stop_seen h nodes t key node found =
+stop_seen base h nodes t key node found =
     let placed = t.sound.placed key node found in
     ap (option_and_then (stop_made_in h key.number)) (t.records.each key node found).made ∙
-    stop_told h nodes t key node.above node.made placed.named placed.there ∙
+    stop_told base h nodes t key node.above node.made placed.named placed.there ∙
     sym (ap (option_and_then numbered) (stop_of-found nodes key node found))
 
 -- the parent of a node is that above its record
-parent_seen : (h : List Event) (nodes : Slots Node) → IsTold h nodes → (key : Key) (node : Node) → find nodes key ≡ Some node →
+parent_seen : (base : Kept) → (h : List Event) (nodes : Slots Node) → IsTold base h nodes → (key : Key) (node : Node) → find nodes key ≡ Some node →
     parent h key.number ≡ option_map (λ k. k.number) node.above
 unfolding parent
-parent_seen h nodes t key node found =
+parent_seen base h nodes t key node found =
     ap (λ (o : Option Event). option_and_then (if_less key.number) (option_and_then parent_named o)) (t.records.each key node found).made ∙
     sym (ap (option_and_then (named_above key.number)) found) ∙ sym (named_parent nodes key node found t.sound)
 
@@ -126,20 +127,22 @@ goes_to_parent h nodes key above (Open place kind) n free = refl
 goes_to_parent h nodes key above _ n free = refl
 
 -- where a climb goes on, by the stop
-pub onward_at : (h : List Event) (nodes : Slots Node) → IsTold h nodes → (key : Key) (node : Node) → find nodes key ≡ Some node → (s : Option Stop) →
+pub onward_at : (base : Kept) → (h : List Event) (nodes : Slots Node) → IsTold base h nodes → (key : Key) (node : Node) → find nodes key ≡ Some node →
+    (s : Option Stop) →
     stop_of nodes key ≡ s →
     onward h key.number ≡ onward_unless (option_and_then numbered s) (option_map_or (onward_from h key.number) (slice_get h key.number) [])
-onward_at h nodes t key node found s stop =
+onward_at base h nodes t key node found s stop =
     ap (λ (x : Option NumberedStop). onward_unless x (option_map_or (onward_from h key.number) (slice_get h key.number) []))
-    (stop_seen h nodes t key node found ∙ ap (option_and_then numbered) stop)
+    (stop_seen base h nodes t key node found ∙ ap (option_and_then numbered) stop)
 
-pub onward_seen : (h : List Event) (nodes : Slots Node) → IsTold h nodes → (key : Key) (node : Node) → find nodes key ≡ Some node → stop_of nodes key ≡ None →
+pub onward_seen : (base : Kept) → (h : List Event) (nodes : Slots Node) → IsTold base h nodes → (key : Key) (node : Node) → find nodes key ≡ Some node →
+    stop_of nodes key ≡ None →
     onward h key.number ≡ option_to_list (option_map (λ k. k.number) node.above)
-onward_seen h nodes t key node found free =
+onward_seen base h nodes t key node found free =
     let stop : stop_made nodes key node.above node.made ≡ None = sym (stop_of-found nodes key node found) ∙ free in
-    onward_at h nodes t key node found None free ∙
+    onward_at base h nodes t key node found None free ∙
     ap (λ (o : Option Event). option_map_or (onward_from h key.number) o []) (t.records.each key node found).made ∙
-    goes_to_parent h nodes key node.above node.made key.number stop ∙ ap option_to_list (parent_seen h nodes t key node found)
+    goes_to_parent h nodes key node.above node.made key.number stop ∙ ap option_to_list (parent_seen base h nodes t key node found)
 
 above_seen : (nodes : Slots Node) (key : Key) (node : Node) → find nodes key ≡ Some node → above_of nodes key ≡ node.above
 above_seen nodes key node found = ap (option_and_then (λ n. n.above)) found
@@ -161,27 +164,28 @@ above_found nodes key up sound above = by_node (find nodes key) refl above where
   by_node None found same = absurd (none-some up same)
   by_node (Some node) found same = by_above node.above same (sound.placed key node found).there
 
-onward_up : (h : List Event) (nodes : Slots Node) → IsTold h nodes → (key : Key) (node : Node) (up : Key) → find nodes key ≡ Some node →
+onward_up : (base : Kept) → (h : List Event) (nodes : Slots Node) → IsTold base h nodes → (key : Key) (node : Node) (up : Key) → find nodes key ≡ Some node →
     stop_of nodes key ≡ None → above_of nodes key ≡ Some up → onward h key.number ≡ up.number ∷ []
-onward_up h nodes t key node up found free above =
-    onward_seen h nodes t key node found free ∙
+onward_up base h nodes t key node up found free above =
+    onward_seen base h nodes t key node found free ∙
     ap (λ (o : Option Key). option_to_list (option_map (λ k. k.number) o)) (sym (above_seen nodes key node found) ∙ above)
 
 -- from the end of a way
-onward_ended : (h : List Event) (nodes : Slots Node) → IsTold h nodes → (key : Key) (node : Node) → find nodes key ≡ Some node → (s : Option Stop) →
+onward_ended : (base : Kept) → (h : List Event) (nodes : Slots Node) → IsTold base h nodes → (key : Key) (node : Node) → find nodes key ≡ Some node →
+    (s : Option Stop) →
     stop_of nodes key ≡ s → onward_of nodes key ≡ None → onward h key.number ≡ beyond h nodes s
-onward_ended h nodes t key node found None free ended =
+onward_ended base h nodes t key node found None free ended =
     let top : node.above ≡ None = sym (above_seen nodes key node found) ∙ sym (ap (λ (s : Option Stop). if is_some s then None else above_of nodes key) free) ∙
     ended in
-    onward_seen h nodes t key node found free ∙ ap (λ (o : Option Key). option_to_list (option_map (λ k. k.number) o)) top
-onward_ended h nodes t key node found (Some (Delivery c)) stop ended = onward_at h nodes t key node found (Some (Delivery c)) stop
-onward_ended h nodes t key node found (Some (Projection c)) stop ended = onward_at h nodes t key node found (Some (Projection c)) stop
-onward_ended h nodes t key node found (Some (Firing c)) stop ended = onward_at h nodes t key node found (Some (Firing c)) stop
-onward_ended h nodes t key node found (Some (Connection c)) stop ended =
+    onward_seen base h nodes t key node found free ∙ ap (λ (o : Option Key). option_to_list (option_map (λ k. k.number) o)) top
+onward_ended base h nodes t key node found (Some (Delivery c)) stop ended = onward_at base h nodes t key node found (Some (Delivery c)) stop
+onward_ended base h nodes t key node found (Some (Projection c)) stop ended = onward_at base h nodes t key node found (Some (Projection c)) stop
+onward_ended base h nodes t key node found (Some (Firing c)) stop ended = onward_at base h nodes t key node found (Some (Firing c)) stop
+onward_ended base h nodes t key node found (Some (Connection c)) stop ended =
     let here : stop_made nodes key node.above node.made ≡ Some (Connection c) = sym (stop_of-found nodes key node found) ∙ stop in
     let c_is = connection_made nodes key c node.above node.made here in
     let made_is = ap (made_of nodes) (sym c_is.2) ∙ ap (option_map (λ (n : Node). n.made)) found ∙ ap (λ e. Some e) c_is.1 in
-    onward_at h nodes t key node found (Some (Connection c)) stop ∙
+    onward_at base h nodes t key node found (Some (Connection c)) stop ∙
     ap (λ (o : Option Event). option_map_or (onward_from h key.number) o []) ((t.records.each key node found).made ∙ ap (λ e. Some e) c_is.1) ∙
     sym (ap (λ (o : Option Event). option_map_or (open_subscribers h) (option_and_then hub_connected o) []) made_is)
 
@@ -206,10 +210,10 @@ abbrev after : List Event → Slots Node → ℕ → List Key → List ℕ
 after h nodes left keys = visited (left - length keys) h (beyond h nodes (end_of nodes keys))
 
 -- the climb is the way, and then what is beyond its end
-visited_way : (h : List Event) (nodes : Slots Node) → IsTold h nodes → (left : ℕ) (key : Key) → IsSome (find nodes key) →
+visited_way : (base : Kept) → (h : List Event) (nodes : Slots Node) → IsTold base h nodes → (left : ℕ) (key : Key) → IsSome (find nodes key) →
     visited left h (key.number ∷ []) ≡ numbers (way_within left nodes key) ++ after h nodes left (way_within left nodes key)
-visited_way h nodes t zero key there = refl
-visited_way h nodes t (suc left) key there = by_onward (onward_of nodes key) refl (λ up found. visited_way h nodes t left up found) where
+visited_way base h nodes t zero key there = refl
+visited_way base h nodes t (suc left) key there = by_onward (onward_of nodes key) refl (λ up found. visited_way base h nodes t left up found) where
   node : (x : Node) × (find nodes key ≡ Some x)
   node = some_of (find nodes key) there
 
@@ -221,23 +225,23 @@ visited_way h nodes t (suc left) key there = by_onward (onward_of nodes key) ref
       visited left h (up.number ∷ []) ≡ numbers (way_within left nodes up) ++ after h nodes left (way_within left nodes up)) →
       goal (key ∷ option_map_or (way_within left nodes) o [])
   by_onward None ended rest =
-      let goes = onward_ended h nodes t key node.0 node.1 (stop_of nodes key) refl ended ∙ ap (beyond h nodes) (sym (or_none (stop_of nodes key))) in
+      let goes = onward_ended base h nodes t key node.0 node.1 (stop_of nodes key) refl ended ∙ ap (beyond h nodes) (sym (or_none (stop_of nodes key))) in
       ap (λ (ns : List ℕ). key.number ∷ visited left h ns) (append-nil (onward h key.number) ∙ goes) ∙
       ap (λ k. key.number ∷ visited k h (beyond h nodes (option_or (stop_of nodes key) None))) (sym (one_less left))
   by_onward (Some up) on rest =
       let goes = onward_some nodes key up on in
       let keys : List Key = way_within left nodes up in
       let free = ap (λ (s : Option Stop). numbers keys ++ visited (left - length keys) h (beyond h nodes (option_or s (end_of nodes keys)))) (sym goes.0) in
-      ap (λ (ns : List ℕ). key.number ∷ visited left h (ns ++ [])) (onward_up h nodes t key node.0 up node.1 goes.0 goes.1) ∙
+      ap (λ (ns : List ℕ). key.number ∷ visited left h (ns ++ [])) (onward_up base h nodes t key node.0 up node.1 goes.0 goes.1) ∙
       ap (λ (ns : List ℕ). key.number ∷ ns) (rest up (above_found nodes key up t.sound goes.1) ∙ free) ∙
       ap (λ k. key.number ∷ (numbers keys ++ visited k h (beyond h nodes (option_or (stop_of nodes key) (end_of nodes keys)))))
       (sym (both_less left (length keys)))
 
 -- the way has one stop at most, its last
-stops_way : (h : List Event) (nodes : Slots Node) → IsTold h nodes → (left : ℕ) (key : Key) → IsSome (find nodes key) →
+stops_way : (base : Kept) → (h : List Event) (nodes : Slots Node) → IsTold base h nodes → (left : ℕ) (key : Key) → IsSome (find nodes key) →
     filter_map (stop_at h) (numbers (way_within left nodes key)) ≡ option_to_list (option_and_then numbered (end_of nodes (way_within left nodes key)))
-stops_way h nodes t zero key there = refl
-stops_way h nodes t (suc left) key there = by_stop (stop_of nodes key) refl (onward_of nodes key) refl (λ up found. stops_way h nodes t left up found) where
+stops_way base h nodes t zero key there = refl
+stops_way base h nodes t (suc left) key there = by_stop (stop_of nodes key) refl (onward_of nodes key) refl (λ up found. stops_way base h nodes t left up found) where
   node : (x : Node) × (find nodes key ≡ Some x)
   node = some_of (find nodes key) there
 
@@ -245,7 +249,7 @@ stops_way h nodes t (suc left) key there = by_stop (stop_of nodes key) refl (onw
   goal s keys = filter_map (stop_at h) (key.number ∷ numbers keys) ≡ option_to_list (option_and_then numbered (option_or s (end_of nodes keys)))
 
   here : (s : Option Stop) → stop_of nodes key ≡ s → stop_at h key.number ≡ option_and_then numbered s
-  here s stop = stop_seen h nodes t key node.0 node.1 ∙ ap (option_and_then numbered) stop
+  here s stop = stop_seen base h nodes t key node.0 node.1 ∙ ap (option_and_then numbered) stop
 
   one : (o : Option NumberedStop) → stop_at h key.number ≡ o → filter_map (stop_at h) (key.number ∷ []) ≡ option_to_list o
   one None stop = rw stop refl
@@ -262,14 +266,14 @@ stops_way h nodes t (suc left) key there = by_stop (stop_of nodes key) refl (onw
 
 -- in the history ------------------------------------------------------------------------------------
 
-told : {h : List Event} {nodes : Slots Node} {key : Key} → IsWay h nodes key → IsTold h nodes
-told w = record { sound = w.sound; records = w.records }
+told : (base : Kept) → {h : List Event} {nodes : Slots Node} {key : Key} → IsWay base h nodes key → IsTold base h nodes
+told base w = record { sound = w.sound; records = w.records }
 
 -- the climb begins with the way
-climb_way : (h : List Event) (nodes : Slots Node) (key : Key) → IsWay h nodes key →
+climb_way : (base : Kept) → (h : List Event) (nodes : Slots Node) (key : Key) → IsWay base h nodes key →
     climb h key.number ≡ numbers (way nodes key) ++ visited (suc most_visits - length (way nodes key)) h (beyond h nodes (end_of nodes (way nodes key)))
 unfolding climb
-climb_way h nodes key w = visited_way h nodes (told w) (suc most_visits) key w.found
+climb_way base h nodes key w = visited_way base h nodes (told base w) (suc most_visits) key w.found
 
 nothing_beyond : (h : List Event) (nodes : Slots Node) (s : Option Stop) → ((c : Key) → ¬ (s ≡ Some (Connection c))) → beyond h nodes s ≡ []
 nothing_beyond h nodes None none = refl
@@ -279,21 +283,22 @@ nothing_beyond h nodes (Some (Firing c)) none = refl
 nothing_beyond h nodes (Some (Connection c)) none = absurd (none c refl)
 
 -- where it reaches no connection, it is the climb
-pub climb_whole_way : (h : List Event) (nodes : Slots Node) (key : Key) → IsWay h nodes key →
+pub climb_whole_way : (base : Kept) → (h : List Event) (nodes : Slots Node) (key : Key) → IsWay base h nodes key →
     ((c : Key) → ¬ (end_of nodes (way nodes key) ≡ Some (Connection c))) → climb h key.number ≡ numbers (way nodes key)
-climb_whole_way h nodes key w none =
-    climb_way h nodes key w ∙
+climb_whole_way base h nodes key w none =
+    climb_way base h nodes key w ∙
     ap (λ (ns : List ℕ). numbers (way nodes key) ++ visited (suc most_visits - length (way nodes key)) h ns)
     (nothing_beyond h nodes (end_of nodes (way nodes key)) none) ∙
     ap (λ (ns : List ℕ). numbers (way nodes key) ++ ns) (visited_nothing (suc most_visits - length (way nodes key)) h) ∙
     append-nil (numbers (way nodes key))
 
 -- and its stop the only one
-pub stops_whole_way : (h : List Event) (nodes : Slots Node) (key : Key) → IsWay h nodes key →
+pub stops_whole_way : (base : Kept) → (h : List Event) (nodes : Slots Node) (key : Key) → IsWay base h nodes key →
     ((c : Key) → ¬ (end_of nodes (way nodes key) ≡ Some (Connection c))) →
     stops h key.number ≡ option_to_list (option_and_then numbered (end_of nodes (way nodes key)))
 unfolding stops
-stops_whole_way h nodes key w none = ap (filter_map (stop_at h)) (climb_whole_way h nodes key w none) ∙ stops_way h nodes (told w) (suc most_visits) key w.found
+stops_whole_way base h nodes key w none = ap (filter_map (stop_at h)) (climb_whole_way base h nodes key w none) ∙
+    stops_way base h nodes (told base w) (suc most_visits) key w.found
 
 beyond_hub : (h : List Event) (nodes : Slots Node) (s : Option Stop) (c : Key) (g : ℕ) → s ≡ Some (Connection c) → made_of nodes c ≡ Some (Connect g) →
     beyond h nodes s ≡ open_subscribers h g
@@ -301,21 +306,23 @@ beyond_hub h nodes s c g stop made = ap (beyond h nodes) stop ∙
     ap (λ (o : Option Event). option_map_or (open_subscribers h) (option_and_then hub_connected o) []) made
 
 -- from a connection the climb goes on to the open subscribers of its hub
-pub climb_connected_way : (h : List Event) (nodes : Slots Node) (key c : Key) (g : ℕ) → IsWay h nodes key → end_of nodes (way nodes key) ≡ Some (Connection c) →
+pub climb_connected_way : (base : Kept) → (h : List Event) (nodes : Slots Node) (key c : Key) (g : ℕ) → IsWay base h nodes key →
+    end_of nodes (way nodes key) ≡ Some (Connection c) →
     made_of nodes c ≡ Some (Connect g) →
     climb h key.number ≡ numbers (way nodes key) ++ visited (suc most_visits - length (way nodes key)) h (open_subscribers h g)
-climb_connected_way h nodes key c g w stop made =
-    climb_way h nodes key w ∙
+climb_connected_way base h nodes key c g w stop made =
+    climb_way base h nodes key w ∙
     ap (λ (ns : List ℕ). numbers (way nodes key) ++ visited (suc most_visits - length (way nodes key)) h ns)
     (beyond_hub h nodes (end_of nodes (way nodes key)) c g stop made)
 
 -- and so do the stops
-pub stops_connected_way : (h : List Event) (nodes : Slots Node) (key c : Key) (g : ℕ) → IsWay h nodes key → end_of nodes (way nodes key) ≡ Some (Connection c) →
+pub stops_connected_way : (base : Kept) → (h : List Event) (nodes : Slots Node) (key c : Key) (g : ℕ) → IsWay base h nodes key →
+    end_of nodes (way nodes key) ≡ Some (Connection c) →
     made_of nodes c ≡ Some (Connect g) →
     stops h key.number ≡ filter_map (stop_at h) (visited (suc most_visits - length (way nodes key)) h (open_subscribers h g))
 unfolding stops
-stops_connected_way h nodes key c g w stop made =
+stops_connected_way base h nodes key c g w stop made =
     let rest = visited (suc most_visits - length (way nodes key)) h (open_subscribers h g) in
-    ap (filter_map (stop_at h)) (climb_connected_way h nodes key c g w stop made) ∙ filter_map-append (stop_at h) (numbers (way nodes key)) rest ∙
+    ap (filter_map (stop_at h)) (climb_connected_way base h nodes key c g w stop made) ∙ filter_map-append (stop_at h) (numbers (way nodes key)) rest ∙
     ap (λ (ss : List NumberedStop). ss ++ filter_map (stop_at h) rest)
-    (stops_way h nodes (told w) (suc most_visits) key w.found ∙ ap (λ (s : Option Stop). option_to_list (option_and_then numbered s)) stop)
+    (stops_way base h nodes (told base w) (suc most_visits) key w.found ∙ ap (λ (s : Option Stop). option_to_list (option_and_then numbered s)) stop)

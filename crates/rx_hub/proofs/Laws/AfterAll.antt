@@ -3,6 +3,7 @@ use Rattle.std.proofs.Common.{◌≡◌, ℕ, zero, suc, ◌<◌, ◌==◌, ◌&
 use Rattle.std.proofs.Common.{refl, sym, ap, subst, ◌∙◌, inl, inr, ◌⊎◌, arith, option_map, length-append}
 use Rattle.std.proofs.lemmas.Bool.{cases_order, false≢true, and_parts, both_ways, eq-eqb, eqb-true}
 use Rattle.std.proofs.lemmas.Option.{same_Some, none-some, slice_get-map, slice_get_within}
+use Rattle.rx_event.specs.Kept.{Kept}
 use Rattle.rx_event.specs.declared.event.Kind.TheVariants.{Leaf, Pass, Flat, Switch, Until, Sub}
 use Rattle.rx_event.specs.declared.event.Mode.{Mode}
 use Rattle.rx_event.specs.declared.event.Event.{Event}
@@ -87,9 +88,9 @@ all_left h e hubs = map (hub_left h e) hubs
 
 -- an event that makes no hub, subscribes to none and connects none -------------------------------
 
-nothing_made : (h : List Event) (e : Event) (hubs : List Hub) → IsLawful h → MayFollow h e → AreHubsOf h hubs → makes_hub e ≡ false →
+nothing_made : (base : Kept) → (h : List Event) (e : Event) (hubs : List Hub) → IsLawful base h → MayFollow base h e → AreHubsOf h hubs → makes_hub e ≡ false →
     ((g : ℕ) → is_subscriber_of g e ≡ false) → ((g : ℕ) → is_connect_of g e ≡ false) → AreHubsOf (h ++ e ∷ []) (all_left h e hubs)
-nothing_made h e hubs law next are no_hub no_subscriber no_connection = record {
+nothing_made base h e hubs law next are no_hub no_subscriber no_connection = record {
   each = each;
   every = λ g made. has_mapped (hub_left h e) (λ hub. refl) hubs g (there.made g made);
   subscribed = λ g s joins. has_mapped (hub_left h e) (λ hub. refl) hubs g (there.joined g s joins);
@@ -101,16 +102,17 @@ nothing_made h e hubs law next are no_hub no_subscriber no_connection = record {
   each i hub at_i =
       let from = mapped_from (hub_left h e) hubs i hub at_i in
       subst (λ (x : Hub). IsHubOf (h ++ e ∷ []) x) from.2
-      (hub_kept h e from.0 law next (are.each i from.0 from.1) (no_subscriber from.0.number) (no_connection from.0.number))
+      (hub_kept base h e from.0 law next (are.each i from.0 from.1) (no_subscriber from.0.number) (no_connection from.0.number))
 
 -- an event that changes one hub -------------------------------------------------------------------
 
-one_changed : (h : List Event) (e : Event) (hubs : List Hub) (g : ℕ) (change : Hub → Hub) → IsLawful h → MayFollow h e → AreHubsOf h hubs →
+one_changed : (base : Kept) → (h : List Event) (e : Event) (hubs : List Hub) (g : ℕ) (change : Hub → Hub) → IsLawful base h → MayFollow base h e →
+    AreHubsOf h hubs →
     ((hub : Hub) → (change hub).number ≡ hub.number) → makes_hub e ≡ false → ((k : ℕ) → is_subscriber_of k e ≡ true → HasHub hubs k) →
     ((n : ℕ) → (n == g) ≡ false → is_subscriber_of n e ≡ false) → ((n : ℕ) → (n == g) ≡ false → is_connect_of n e ≡ false) →
     ((hub : Hub) → IsHubOf h hub → hub.number ≡ g → IsHubOf (h ++ e ∷ []) (change (hub_left h e hub))) →
     AreHubsOf (h ++ e ∷ []) (at_hub g change (all_left h e hubs))
-one_changed h e hubs g change law next are same no_hub joins no_subscriber no_connection changes = record {
+one_changed base h e hubs g change law next are same no_hub joins no_subscriber no_connection changes = record {
   each = each;
   every = λ k made. has k (there.made k made);
   subscribed = λ k s passes. has k (there.joined k s passes);
@@ -126,7 +128,7 @@ one_changed h e hubs g change law next are same no_hub joins no_subscriber no_co
 
   by_test : (hub : Hub) → IsHubOf h hub → (b : Bool) → (hub.number == g) ≡ b → IsHubOf (h ++ e ∷ []) (cond b (change (hub_left h e hub)) (hub_left h e hub))
   by_test hub is true named = changes hub is (eqb-true hub.number g named)
-  by_test hub is false other = hub_kept h e hub law next is (no_subscriber hub.number other) (no_connection hub.number other)
+  by_test hub is false other = hub_kept base h e hub law next is (no_subscriber hub.number other) (no_connection hub.number other)
 
   each : (i : ℕ) (hub : Hub) → slice_get (at_hub g change (all_left h e hubs)) i ≡ Some hub → IsHubOf (h ++ e ∷ []) hub
   each i hub at_i =
@@ -150,8 +152,8 @@ no_open sort h none = by_list (open_of sort h) refl where
       absurd (none n (and_parts (at sort h n) (is_open h n) (first_passes (λ m. at sort h m && is_open h m) (places h) n ns e)).0)
 
 -- nobody has subscribed to a new hub, nor connected it
-hub_made : (h : List Event) (mode : Mode) → IsLawful h → IsHubOf (h ++ Publish mode ∷ []) (new_hub (length h) mode)
-hub_made h mode law = record {
+hub_made : (base : Kept) → (h : List Event) (mode : Mode) → IsLawful base h → IsHubOf (h ++ Publish mode ∷ []) (new_hub (length h) mode)
+hub_made base h mode law = record {
   made = slice_get_last h (Publish mode);
   subscribers = sym (no_open (is_subscriber_of (length h)) (h ++ Publish mode ∷ []) no_subscriber);
   connection = sym (no_open (is_connect_of (length h)) (h ++ Publish mode ∷ []) no_connection);
@@ -159,7 +161,7 @@ hub_made h mode law = record {
   latest = λ c place t connects ended. absurd (none_connects c (cases_push h (Publish mode) (Connect (length h)) c connects));
 } where
   by_subscriber : (s : ℕ) → (at (is_subscriber_of (length h)) h s ≡ true) ⊎ (false ≡ true) → ⊥
-  by_subscriber s (inl old) = let l = subscriber_hub h law (length h) s old in absurd (omega (arith, l))
+  by_subscriber s (inl old) = let l = subscriber_hub base h law (length h) s old in absurd (omega (arith, l))
   by_subscriber s (inr new) = false≢true new
 
   no_subscriber : (s : ℕ) → at (is_subscriber_of (length h)) (h ++ Publish mode ∷ []) s ≡ true → ⊥
@@ -167,7 +169,7 @@ hub_made h mode law = record {
 
   none_connects : (c : ℕ) → (slice_get h c ≡ Some (Connect (length h))) ⊎ (Publish mode ≡ Connect (length h)) → ⊥
   none_connects c (inl old) =
-      let above = connection_hub h law (length h) c old in
+      let above = connection_hub base h law (length h) c old in
       let within = slice_get_within h c (Connect (length h)) old in
       absurd (omega (arith, above, within))
   none_connects c (inr new) = false≢true (ap is_connect new)
@@ -176,9 +178,9 @@ hub_made h mode law = record {
   no_connection c passes =
       none_connects c (cases_push h (Publish mode) (Connect (length h)) c (at_connect (h ++ Publish mode ∷ []) (length h) c passes))
 
-published : (h : List Event) (mode : Mode) (hubs : List Hub) → IsLawful h → MayFollow h (Publish mode) → AreHubsOf h hubs →
+published : (base : Kept) → (h : List Event) (mode : Mode) (hubs : List Hub) → IsLawful base h → MayFollow base h (Publish mode) → AreHubsOf h hubs →
     AreHubsOf (h ++ Publish mode ∷ []) (all_left h (Publish mode) hubs ++ new_hub (length h) mode ∷ [])
-published h mode hubs law next are = record { each = each; every = every; subscribed = subscribes } where
+published base h mode hubs law next are = record { each = each; every = every; subscribed = subscribes } where
   e : Event
   e = Publish mode
 
@@ -188,8 +190,8 @@ published h mode hubs law next are = record { each = each; every = every; subscr
   by_hub : (hub : Hub) (i : ℕ) → (slice_get (all_left h e hubs) i ≡ Some hub) ⊎ (new_hub (length h) mode ≡ hub) → IsHubOf (h ++ e ∷ []) hub
   by_hub hub i (inl old) =
       let from = mapped_from (hub_left h e) hubs i hub old in
-      subst (λ (x : Hub). IsHubOf (h ++ e ∷ []) x) from.2 (hub_kept h e from.0 law next (are.each i from.0 from.1) refl refl)
-  by_hub hub i (inr new) = subst (λ (x : Hub). IsHubOf (h ++ e ∷ []) x) new (hub_made h mode law)
+      subst (λ (x : Hub). IsHubOf (h ++ e ∷ []) x) from.2 (hub_kept base h e from.0 law next (are.each i from.0 from.1) refl refl)
+  by_hub hub i (inr new) = subst (λ (x : Hub). IsHubOf (h ++ e ∷ []) x) new (hub_made base h mode law)
 
   each : (i : ℕ) (hub : Hub) → slice_get (all_left h e hubs ++ new_hub (length h) mode ∷ []) i ≡ Some hub → IsHubOf (h ++ e ∷ []) hub
   each i hub at_i = by_hub hub i (pushed_from (all_left h e hubs) (new_hub (length h) mode) hub i at_i)
@@ -218,39 +220,39 @@ published h mode hubs law next are = record { each = each; every = every; subscr
 
 -- each event --------------------------------------------------------------------------------------
 
-left_follow : (h : List Event) (e : Event) (slot : ℕ) (hubs : List Hub) → IsLawful h → MayFollow h e → AreHubsOf h hubs →
+left_follow : (base : Kept) → (h : List Event) (e : Event) (slot : ℕ) (hubs : List Hub) → IsLawful base h → MayFollow base h e → AreHubsOf h hubs →
     AreHubsOf (h ++ e ∷ []) (with_made (next_key h slot) e (all_left h e hubs))
-left_follow h (Publish mode) slot hubs law next are = published h mode hubs law next are
-left_follow h (Open place (Sub g)) slot hubs law next are =
-    one_changed h (Open place (Sub g)) hubs g (subscribed (next_key h slot)) law next are (λ hub. refl) refl
-    (λ k joins. are.every k (subst (λ m. at makes_hub h m ≡ true) (eqb-true g k joins) (may_subscribe next).0))
+left_follow base h (Publish mode) slot hubs law next are = published base h mode hubs law next are
+left_follow base h (Open place (Sub g)) slot hubs law next are =
+    one_changed base h (Open place (Sub g)) hubs g (subscribed (next_key h slot)) law next are (λ hub. refl) refl
+    (λ k joins. are.every k (subst (λ m. at makes_hub h m ≡ true) (eqb-true g k joins) (may_subscribe base next).0))
     (λ n other. other_number n g other) (λ n other. refl)
-    (λ hub is named. hub_with_subscriber h place g slot hub law next is named)
-left_follow h (Connect g) slot hubs law next are =
-    one_changed h (Connect g) hubs g (connected (next_key h slot)) law next are (λ hub. refl) refl
+    (λ hub is named. hub_with_subscriber base h place g slot hub law next is named)
+left_follow base h (Connect g) slot hubs law next are =
+    one_changed base h (Connect g) hubs g (connected (next_key h slot)) law next are (λ hub. refl) refl
     (λ k joins. absurd (false≢true joins)) (λ n other. refl) (λ n other. other_number n g other)
-    (λ hub is named. hub_with_connection h g slot hub law next is named)
-left_follow h (Open place Leaf) slot hubs law next are = nothing_made h (Open place Leaf) hubs law next are refl (λ g. refl) (λ g. refl)
-left_follow h (Open place Pass) slot hubs law next are = nothing_made h (Open place Pass) hubs law next are refl (λ g. refl) (λ g. refl)
-left_follow h (Open place Flat) slot hubs law next are = nothing_made h (Open place Flat) hubs law next are refl (λ g. refl) (λ g. refl)
-left_follow h (Open place Switch) slot hubs law next are = nothing_made h (Open place Switch) hubs law next are refl (λ g. refl) (λ g. refl)
-left_follow h (Open place Until) slot hubs law next are = nothing_made h (Open place Until) hubs law next are refl (λ g. refl) (λ g. refl)
-left_follow h (Accept n tag) slot hubs law next are = nothing_made h (Accept n tag) hubs law next are refl (λ g. refl) (λ g. refl)
-left_follow h (Use r) slot hubs law next are = nothing_made h (Use r) hubs law next are refl (λ g. refl) (λ g. refl)
-left_follow h (Remove r) slot hubs law next are = nothing_made h (Remove r) hubs law next are refl (λ g. refl) (λ g. refl)
-left_follow h (Item l v) slot hubs law next are = nothing_made h (Item l v) hubs law next are refl (λ g. refl) (λ g. refl)
-left_follow h (Decline f) slot hubs law next are = nothing_made h (Decline f) hubs law next are refl (λ g. refl) (λ g. refl)
-left_follow h (End n t) slot hubs law next are = nothing_made h (End n t) hubs law next are refl (λ g. refl) (λ g. refl)
-left_follow h (Close n) slot hubs law next are = nothing_made h (Close n) hubs law next are refl (λ g. refl) (λ g. refl)
-left_follow h (Take r) slot hubs law next are = nothing_made h (Take r) hubs law next are refl (λ g. refl) (λ g. refl)
+    (λ hub is named. hub_with_connection base h g slot hub law next is named)
+left_follow base h (Open place Leaf) slot hubs law next are = nothing_made base h (Open place Leaf) hubs law next are refl (λ g. refl) (λ g. refl)
+left_follow base h (Open place Pass) slot hubs law next are = nothing_made base h (Open place Pass) hubs law next are refl (λ g. refl) (λ g. refl)
+left_follow base h (Open place Flat) slot hubs law next are = nothing_made base h (Open place Flat) hubs law next are refl (λ g. refl) (λ g. refl)
+left_follow base h (Open place Switch) slot hubs law next are = nothing_made base h (Open place Switch) hubs law next are refl (λ g. refl) (λ g. refl)
+left_follow base h (Open place Until) slot hubs law next are = nothing_made base h (Open place Until) hubs law next are refl (λ g. refl) (λ g. refl)
+left_follow base h (Accept n tag) slot hubs law next are = nothing_made base h (Accept n tag) hubs law next are refl (λ g. refl) (λ g. refl)
+left_follow base h (Use r) slot hubs law next are = nothing_made base h (Use r) hubs law next are refl (λ g. refl) (λ g. refl)
+left_follow base h (Remove r) slot hubs law next are = nothing_made base h (Remove r) hubs law next are refl (λ g. refl) (λ g. refl)
+left_follow base h (Item l v) slot hubs law next are = nothing_made base h (Item l v) hubs law next are refl (λ g. refl) (λ g. refl)
+left_follow base h (Decline f) slot hubs law next are = nothing_made base h (Decline f) hubs law next are refl (λ g. refl) (λ g. refl)
+left_follow base h (End n t) slot hubs law next are = nothing_made base h (End n t) hubs law next are refl (λ g. refl) (λ g. refl)
+left_follow base h (Close n) slot hubs law next are = nothing_made base h (Close n) hubs law next are refl (λ g. refl) (λ g. refl)
+left_follow base h (Take r) slot hubs law next are = nothing_made base h (Take r) hubs law next are refl (λ g. refl) (λ g. refl)
 
 pub map_agrees : (f g : Hub → Hub) (hubs : List Hub) → ((i : ℕ) (hub : Hub) → slice_get hubs i ≡ Some hub → f hub ≡ g hub) → map f hubs ≡ map g hubs
 map_agrees f g [] same = refl
 map_agrees f g (hub ∷ hubs) same = let rest = map_agrees f g hubs (λ i x at_i. same (suc i) x at_i) in (λ i. same 0 hub refl i ∷ rest i)
 
 -- the hubs after one more event are those of the longer history
-pub hubs_follow : (h : List Event) (e : Event) (slot : ℕ) (hubs : List Hub) → IsLawful h → MayFollow h e → AreHubsOf h hubs →
+pub hubs_follow : (base : Kept) → (h : List Event) (e : Event) (slot : ℕ) (hubs : List Hub) → IsLawful base h → MayFollow base h e → AreHubsOf h hubs →
     AreHubsOf (h ++ e ∷ []) (hubs_after h e slot hubs)
-hubs_follow h e slot hubs law next are =
+hubs_follow base h e slot hubs law next are =
     let same = map_agrees (without_gone (is_gone_after h e) (end_by (length h) e)) (hub_left h e) hubs (λ i hub at_i. without_closed h e hub) in
-    subst (λ (hs : List Hub). AreHubsOf (h ++ e ∷ []) (with_made (next_key h slot) e hs)) (sym same) (left_follow h e slot hubs law next are)
+    subst (λ (hs : List Hub). AreHubsOf (h ++ e ∷ []) (with_made (next_key h slot) e hs)) (sym same) (left_follow base h e slot hubs law next are)

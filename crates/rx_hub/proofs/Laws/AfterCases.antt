@@ -5,6 +5,7 @@ use Rattle.std.specs.List.{AllByRecursion}
 use Rattle.std.specs.Option.{option_map_or, option_to_list}
 use Rattle.std.proofs.Math.Bool.{not}
 use Rattle.std.proofs.lemmas.Bool.{false≢true, and_parts}
+use Rattle.rx_event.specs.Kept.{Kept}
 use Rattle.rx_note.specs.declared.note.Terminal.{Terminal}
 use Rattle.rx_event.specs.declared.event.Place.{Place}
 use Rattle.rx_event.specs.declared.event.Place.TheVariants.{Inner}
@@ -156,10 +157,11 @@ pub hubs_same : (h : List Event) (e : Event) (slot : ℕ) (hubs : List Hub) → 
 hubs_same h e slot hubs are joins none = hubs_with_made h e slot hubs are none ∙ joins_none (next_key h slot) e hubs joins
 
 -- and so they are the hubs of the longer history
-pub hubs_stay : (h : List Event) (e : Event) (hubs : List Hub) → IsLawful h → MayFollow h e → AreHubsOf h hubs → joins_hubs e ≡ false → ClosesNone h e →
+pub hubs_stay : (base : Kept) → (h : List Event) (e : Event) (hubs : List Hub) → IsLawful base h → MayFollow base h e → AreHubsOf h hubs →
+    joins_hubs e ≡ false → ClosesNone h e →
     AreHubsOf (h ++ e ∷ []) hubs
-hubs_stay h e hubs law next are joins none =
-    subst (λ (hs : List Hub). AreHubsOf (h ++ e ∷ []) hs) (hubs_same h e 0 hubs are joins none) (hubs_follow h e 0 hubs law next are)
+hubs_stay base h e hubs law next are joins none =
+    subst (λ (hs : List Hub). AreHubsOf (h ++ e ∷ []) hs) (hubs_same h e 0 hubs are joins none) (hubs_follow base h e 0 hubs law next are)
 
 pub hubs_published : (h : List Event) (mode : Mode) (slot : ℕ) (hubs : List Hub) → AreHubsOf h hubs →
     hubs_after h (Publish mode) slot hubs ≡ hubs ++ new_hub (length h) mode ∷ []
@@ -192,12 +194,13 @@ hubs_closed h n slot hubs are =
     (λ key o. gone_inside (is_within h n key.number) (is_open_outside-close h n key.number ∙ ap (λ b. b && not (is_within h n key.number)) o))
 
 -- another inner of a Switch comes in place of the open one
-pub hubs_exchanged : (h : List Event) (f c : ℕ) (kind : Kind) (slot : ℕ) (hubs : List Hub) → IsLawful h → AreHubsOf h hubs → at is_switch h f ≡ true →
+pub hubs_exchanged : (base : Kept) → (h : List Event) (f c : ℕ) (kind : Kind) (slot : ℕ) (hubs : List Hub) → IsLawful base h → AreHubsOf h hubs →
+    at is_switch h f ≡ true →
     at (is_inner_of f) h c ≡ true → is_open h c ≡ true → hubs_after h (Open (Inner f) kind) slot hubs ≡
     with_made (next_key h slot) (Open (Inner f) kind) (map (without_gone (is_inside h c) None) hubs)
-hubs_exchanged h f c kind slot hubs law are switch inner o =
+hubs_exchanged base h f c kind slot hubs law are switch inner o =
     ap (with_made (next_key h slot) (Open (Inner f) kind))
     (open_agree h hubs (is_gone_after h (Open (Inner f) kind)) (is_inside h c) None are
     (λ key there. gone_inside (is_within h c key.number)
-    (is_open-inner_switch h f c kind law switch inner o key.number (is_open_within h key.number there) ∙
+    (is_open-inner_switch base h f c kind law switch inner o key.number (is_open_within h key.number there) ∙
     ap (λ b. b && not (is_within h c key.number)) there)))

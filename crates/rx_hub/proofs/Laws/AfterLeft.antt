@@ -7,6 +7,7 @@ use Rattle.std.specs.Option.{option_map_or, option_or, option_to_list}
 use Rattle.std.proofs.Math.Bool.{not}
 use Rattle.std.proofs.lemmas.Bool.{false≢true, and_parts, and_from, both_ways}
 use Rattle.std.proofs.lemmas.Option.{none-some, slice_get_within}
+use Rattle.rx_event.specs.Kept.{Kept}
 use Rattle.rx_note.specs.declared.note.Terminal.{Terminal}
 use Rattle.rx_event.specs.declared.event.Event.{Event}
 use Rattle.rx_event.specs.declared.event.Event.TheVariants.{Connect, End}
@@ -145,9 +146,10 @@ own_connection h hub is key own =
     (sym is.connection ∙ ap (λ (o : Option Key). numbers (option_to_list o)) own))
 
 -- and each open one is that
-pub named_connection : (h : List Event) (hub : Hub) → IsLawful h → IsHubOf h hub → (c : ℕ) → at (is_connect_of hub.number) h c ≡ true → is_open h c ≡ true →
+pub named_connection : (base : Kept) → (h : List Event) (hub : Hub) → IsLawful base h → IsHubOf h hub → (c : ℕ) → at (is_connect_of hub.number) h c ≡ true →
+    is_open h c ≡ true →
     (key : Key) × (hub.connection ≡ Some key) × (key.number ≡ c)
-named_connection h hub law is c connects o = by_record hub.connection refl where
+named_connection base h hub law is c connects o = by_record hub.connection refl where
   by_record : (own : Option Key) → hub.connection ≡ own → (key : Key) × (hub.connection ≡ Some key) × (key.number ≡ c)
   by_record None own =
       let inside = is_open_within h c o in
@@ -156,7 +158,7 @@ named_connection h hub law is c connects o = by_record hub.connection refl where
   by_record (Some key) own =
       let parts = own_connection h hub is key own in
       let two : TwoConnections h hub.number key.number c = record { one = parts.0; one_open = parts.1; other = connects; other_open = o } in
-      (key, own, one_connection h law hub.number key.number c two)
+      (key, own, one_connection base h law hub.number key.number c two)
 
 -- a connection that goes by an end is what ended
 pub connection_ended : (h : List Event) (n c g : ℕ) (t : Terminal) → slice_get h c ≡ Some (Connect g) → is_open h c ≡ true →

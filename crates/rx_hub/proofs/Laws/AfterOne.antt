@@ -7,6 +7,7 @@ use Rattle.std.proofs.Math.Bool.{not}
 use Rattle.std.proofs.lemmas.Bool.{false≢true, eq-eqb}
 use Rattle.std.proofs.lemmas.List.{map-append}
 use Rattle.std.proofs.lemmas.Option.{slice_get_within}
+use Rattle.rx_event.specs.Kept.{Kept}
 use Rattle.rx_note.specs.declared.note.Terminal.{Terminal}
 use Rattle.rx_event.specs.declared.event.Place.{Place}
 use Rattle.rx_event.specs.declared.event.Kind.TheVariants.{Sub}
@@ -83,9 +84,9 @@ later_end h e stays (Some key) before place l up = by_test (stays key) where
   by_test false = by_event e
 
 -- and no end in the history is later
-latest_left : (h : List Event) (e : Event) (hub : Hub) → IsLawful h → MayFollow h e → IsHubOf h hub → (c place : ℕ) (t : Terminal) →
+latest_left : (base : Kept) → (h : List Event) (e : Event) (hub : Hub) → IsLawful base h → MayFollow base h e → IsHubOf h hub → (c place : ℕ) (t : Terminal) →
     slice_get (h ++ e ∷ []) c ≡ Some (Connect hub.number) → slice_get (h ++ e ∷ []) place ≡ Some (End c t) → IsUpTo place (hub_left h e hub).last_end
-latest_left h e hub law next is c place t connects ended = by_place (cases_push h e (End c t) place ended) where
+latest_left base h e hub law next is c place t connects ended = by_place (cases_push h e (End c t) place ended) where
   l : place ≤ length h
   l = within_push h e (End c t) place ended
 
@@ -108,14 +109,14 @@ latest_left h e hub law next is c place t connects ended = by_place (cases_push 
 
   by_place : (slice_get h place ≡ Some (End c t)) ⊎ (e ≡ End c t) → IsUpTo place (hub_left h e hub).last_end
   by_place (inl old) =
-      let after_it = ended_after h law place c t old in
+      let after_it = ended_after base h law place c t old in
       let inside : c < length h = let m = slice_get_within h place (End c t) old in omega (arith, m, after_it) in
       later_end h e (is_open_after h e) hub.connection hub.last_end place l (is.latest c place t (older inside) old)
   by_place (inr same) =
-      let o : is_open h c ≡ true = may_end (subst (λ (x : Event). MayFollow h x) same next) in
+      let o : is_open h c ≡ true = may_end base (subst (λ (x : Event). MayFollow base h x) same next) in
       let is_connect : at (is_connect_of hub.number) h c ≡ true =
       ap (λ (x : Option Event). option_map_or (is_connect_of hub.number) x false) (older (is_open_within h c o)) ∙ eq-eqb hub.number hub.number refl in
-      by_record e same (named_connection h hub law is c is_connect o)
+      by_record e same (named_connection base h hub law is c is_connect o)
 
 -- its nodes ---------------------------------------------------------------------------------------
 
@@ -128,65 +129,66 @@ makes_subscriber g (Open place (Sub k)) subscribes = refl
 makes_subscriber g _ subscribes = absurd (false≢true subscribes)
 
 -- what stays of a hub's subscribers, and the event's after them
-subscribers_after : (h : List Event) (e : Event) (hub : Hub) → MayFollow h e → IsHubOf h hub →
+subscribers_after : (base : Kept) → (h : List Event) (e : Event) (hub : Hub) → MayFollow base h e → IsHubOf h hub →
     open_subscribers (h ++ e ∷ []) hub.number ≡ numbers (hub_left h e hub).subscribers ++ cond (is_subscriber_of hub.number e) (length h ∷ []) []
-subscribers_after h e hub next is =
-    open_of-push (is_subscriber_of hub.number) h e next (makes_subscriber hub.number e) ∙
+subscribers_after base h e hub next is =
+    open_of-push base (is_subscriber_of hub.number) h e next (makes_subscriber hub.number e) ∙
     ap (λ (ns : List ℕ). ns ++ cond (is_subscriber_of hub.number e) (length h ∷ []) [])
     (ap (filter (is_open (h ++ e ∷ []))) (sym is.subscribers) ∙ sym (numbers_filter (is_open (h ++ e ∷ [])) hub.subscribers))
 
 -- and so its connection
-connections_after : (h : List Event) (e : Event) (hub : Hub) → MayFollow h e → IsHubOf h hub →
+connections_after : (base : Kept) → (h : List Event) (e : Event) (hub : Hub) → MayFollow base h e → IsHubOf h hub →
     open_connections (h ++ e ∷ []) hub.number ≡
     numbers (option_to_list (hub_left h e hub).connection) ++ cond (is_connect_of hub.number e) (length h ∷ []) []
-connections_after h e hub next is =
-    open_of-push (is_connect_of hub.number) h e next (makes_connection hub.number e) ∙
+connections_after base h e hub next is =
+    open_of-push base (is_connect_of hub.number) h e next (makes_connection hub.number e) ∙
     ap (λ (ns : List ℕ). ns ++ cond (is_connect_of hub.number e) (length h ∷ []) [])
     (ap (filter (is_open (h ++ e ∷ []))) (sym is.connection) ∙ sym (numbers_left (is_open (h ++ e ∷ [])) hub.connection))
 
 -- a hub to which the event adds nothing
-pub hub_kept : (h : List Event) (e : Event) (hub : Hub) → IsLawful h → MayFollow h e → IsHubOf h hub →
+pub hub_kept : (base : Kept) → (h : List Event) (e : Event) (hub : Hub) → IsLawful base h → MayFollow base h e → IsHubOf h hub →
     is_subscriber_of hub.number e ≡ false → is_connect_of hub.number e ≡ false → IsHubOf (h ++ e ∷ []) (hub_left h e hub)
-hub_kept h e hub law next is no_subscriber no_connection = record {
+hub_kept base h e hub law next is no_subscriber no_connection = record {
   made = still_at h (e ∷ []) hub.number _ is.made;
-  subscribers = sym (subscribers_after h e hub next is ∙ ap (λ b. numbers (hub_left h e hub).subscribers ++ cond b (length h ∷ []) []) no_subscriber ∙
+  subscribers = sym (subscribers_after base h e hub next is ∙ ap (λ b. numbers (hub_left h e hub).subscribers ++ cond b (length h ∷ []) []) no_subscriber ∙
       append-nil (numbers (hub_left h e hub).subscribers));
-  connection = sym (connections_after h e hub next is ∙
+  connection = sym (connections_after base h e hub next is ∙
       ap (λ b. numbers (option_to_list (hub_left h e hub).connection) ++ cond b (length h ∷ []) []) no_connection ∙
       append-nil (numbers (option_to_list (hub_left h e hub).connection)));
   ended = ended_left h e hub is;
-  latest = latest_left h e hub law next is;
+  latest = latest_left base h e hub law next is;
 }
 
 -- a hub that the event subscribes to
-pub hub_with_subscriber : (h : List Event) (place : Place) (g slot : ℕ) (hub : Hub) → IsLawful h → MayFollow h (Open place (Sub g)) →
+pub hub_with_subscriber : (base : Kept) → (h : List Event) (place : Place) (g slot : ℕ) (hub : Hub) → IsLawful base h → MayFollow base h (Open place (Sub g)) →
     IsHubOf h hub → hub.number ≡ g → IsHubOf (h ++ Open place (Sub g) ∷ []) (subscribed (next_key h slot) (hub_left h (Open place (Sub g)) hub))
-hub_with_subscriber h place g slot hub law next is named =
+hub_with_subscriber base h place g slot hub law next is named =
     let e : Event = Open place (Sub g) in
     let key = next_key h slot in
     let own : is_subscriber_of hub.number e ≡ true = eq-eqb g hub.number (sym named) in
     record {
       made = still_at h (e ∷ []) hub.number _ is.made;
       subscribers = map-append (λ (k : Key). k.number) (hub_left h e hub).subscribers (key ∷ []) ∙
-          sym (subscribers_after h e hub next is ∙ ap (λ b. numbers (hub_left h e hub).subscribers ++ cond b (length h ∷ []) []) own);
-      connection = sym (connections_after h e hub next is ∙ append-nil (numbers (option_to_list (hub_left h e hub).connection)));
+          sym (subscribers_after base h e hub next is ∙ ap (λ b. numbers (hub_left h e hub).subscribers ++ cond b (length h ∷ []) []) own);
+      connection = sym (connections_after base h e hub next is ∙ append-nil (numbers (option_to_list (hub_left h e hub).connection)));
       ended = ended_left h e hub is;
-      latest = latest_left h e hub law next is;
+      latest = latest_left base h e hub law next is;
     }
 
 -- a hub that the event connects
-pub hub_with_connection : (h : List Event) (g slot : ℕ) (hub : Hub) → IsLawful h → MayFollow h (Connect g) → IsHubOf h hub → hub.number ≡ g →
+pub hub_with_connection : (base : Kept) → (h : List Event) (g slot : ℕ) (hub : Hub) → IsLawful base h → MayFollow base h (Connect g) → IsHubOf h hub →
+    hub.number ≡ g →
     IsHubOf (h ++ Connect g ∷ []) (connected (next_key h slot) (hub_left h (Connect g) hub))
-hub_with_connection h g slot hub law next is named =
+hub_with_connection base h g slot hub law next is named =
     let e : Event = Connect g in
     let own : is_connect_of hub.number e ≡ true = eq-eqb g hub.number (sym named) in
-    let none : open_connections h hub.number ≡ [] = ap (open_connections h) named ∙ may_connect next in
+    let none : open_connections h hub.number ≡ [] = ap (open_connections h) named ∙ may_connect base next in
     let gone : numbers (option_to_list (hub_left h e hub).connection) ≡ [] =
     numbers_left (is_open (h ++ e ∷ [])) hub.connection ∙ ap (filter (is_open (h ++ e ∷ []))) (is.connection ∙ none) in
     record {
       made = still_at h (e ∷ []) hub.number _ is.made;
-      subscribers = sym (subscribers_after h e hub next is ∙ append-nil (numbers (hub_left h e hub).subscribers));
-      connection = sym (connections_after h e hub next is ∙ (λ i. gone i ++ cond (own i) (length h ∷ []) []));
+      subscribers = sym (subscribers_after base h e hub next is ∙ append-nil (numbers (hub_left h e hub).subscribers));
+      connection = sym (connections_after base h e hub next is ∙ (λ i. gone i ++ cond (own i) (length h ∷ []) []));
       ended = ended_left h e hub is;
-      latest = latest_left h e hub law next is;
+      latest = latest_left base h e hub law next is;
     }

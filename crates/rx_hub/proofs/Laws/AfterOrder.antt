@@ -3,6 +3,7 @@ use Rattle.std.proofs.Common.{◌≡◌, ℕ, ◌<◌, ◌==◌, true, List, [],
 use Rattle.std.proofs.Common.{sym, subst, inl, inr, ◌⊎◌}
 use Rattle.std.specs.List.{AllByRecursion}
 use Rattle.std.proofs.lemmas.Bool.{false≢true, and_parts, or_cases, eqb-true}
+use Rattle.rx_event.specs.Kept.{Kept}
 use Rattle.rx_event.specs.declared.event.Event.{Event}
 use Rattle.rx_event.specs.Events.{is_subscriber_of}
 use Rattle.rx_event.specs.Lawful.{IsLawful}
@@ -25,11 +26,11 @@ all_on P key (k ∷ keys) all on = by_place (all_on P key keys all.1) (or_cases 
   by_place rest (inr later) = rest later
 
 -- a subscriber inside a connection is of an earlier hub than that, so that no item goes round in a circle
-pub subscribers_earlier : (h : List Event) (hubs : List Hub) → IsLawful h → AreHubsOf h hubs → (i j : ℕ) (outer inner : Hub) →
+pub subscribers_earlier : (base : Kept) → (h : List Event) (hubs : List Hub) → IsLawful base h → AreHubsOf h hubs → (i j : ℕ) (outer inner : Hub) →
     slice_get hubs i ≡ Some outer → slice_get hubs j ≡ Some inner → (c s : Key) → outer.connection ≡ Some c → is_on s inner.subscribers ≡ true →
     is_within h c.number s.number ≡ true → inner.number < outer.number
-subscribers_earlier h hubs law are i j outer inner at_i at_j c s connection on inside =
+subscribers_earlier base h hubs law are i j outer inner at_i at_j c s connection on inside =
     let connects = at_connect h outer.number c.number (own_connection h outer (are.each i outer at_i) c connection).0 in
     let both = all_on (IsOpenAt h inner.number) s inner.subscribers (subscribers_open h inner (are.each j inner at_j)) on in
     let subscribes = (and_parts (at (is_subscriber_of inner.number) h s.number) (is_open h s.number) both).0 in
-    hubs_in_order h law inner.number s.number c.number outer.number subscribes inside connects
+    hubs_in_order base h law inner.number s.number c.number outer.number subscribes inside connects

@@ -6,6 +6,7 @@ use Rattle.std.specs.Option.{option_map_or, option_to_list}
 use Rattle.std.proofs.Math.Bool.{not}
 use Rattle.std.proofs.lemmas.Bool.{and_parts, eq-eqb}
 use Rattle.std.proofs.lemmas.Option.{same_Some, none-some, slice_get_within}
+use Rattle.rx_event.specs.Kept.{Kept}
 use Rattle.rx_event.specs.declared.event.Place.{Place}
 use Rattle.rx_event.specs.declared.event.Kind.TheVariants.{Sub}
 use Rattle.rx_event.specs.declared.event.Event.{Event}
@@ -51,17 +52,17 @@ there_found h hubs g are has =
     let own = found_hub hubs g some.0 some.1 in
     (some.0, some.1, are.each own.0 some.0 own.1.0, own.1.1)
 
-pub ready_to_subscribe : (h : List Event) (place : Place) (g : ℕ) (hubs : List Hub) → MayFollow h (Open place (Sub g)) → AreHubsOf h hubs →
+pub ready_to_subscribe : (base : Kept) → (h : List Event) (place : Place) (g : ℕ) (hubs : List Hub) → MayFollow base h (Open place (Sub g)) → AreHubsOf h hubs →
     (hub : Hub) × (find_hub hubs g ≡ Some hub) × AreBelow (length h) hub.subscribers
-ready_to_subscribe h place g hubs next are =
-    let own = there_found h hubs g are (are.every g (may_subscribe next).0) in
+ready_to_subscribe base h place g hubs next are =
+    let own = there_found h hubs g are (are.every g (may_subscribe base next).0) in
     (own.0, own.1, below_next h own.0.number own.0.subscribers (subscribers_open h own.0 own.2))
 
-pub ready_to_connect : (h : List Event) (g : ℕ) (hubs : List Hub) → MayFollow h (Connect g) → AreHubsOf h hubs →
+pub ready_to_connect : (base : Kept) → (h : List Event) (g : ℕ) (hubs : List Hub) → MayFollow base h (Connect g) → AreHubsOf h hubs →
     (hub : Hub) × (find_hub hubs g ≡ Some hub) × (hub.connection ≡ None)
-ready_to_connect h g hubs next are =
-    let own = there_found h hubs g are (are.every g (may_connect_hub next)) in
-    (own.0, own.1, unconnected own.0.connection (own.2.connection ∙ ap (open_connections h) own.3 ∙ may_connect next)) where
+ready_to_connect base h g hubs next are =
+    let own = there_found h hubs g are (are.every g (may_connect_hub base next)) in
+    (own.0, own.1, unconnected own.0.connection (own.2.connection ∙ ap (open_connections h) own.3 ∙ may_connect base next)) where
       unconnected : (o : Option Key) → numbers (option_to_list o) ≡ [] → o ≡ None
       unconnected None e = refl
       unconnected (Some key) e = absurd (let long : 1 ≡ 0 = ap length e in omega (arith, long))
@@ -92,11 +93,11 @@ below_filtered n p (key ∷ keys) all = by_test (p key) (below_filtered n p keys
   by_test false rest = rest
 
 -- where an exchange closes nodes first, the hub is still there
-pub ready_to_exchange : (h : List Event) (place : Place) (g : ℕ) (hubs : List Hub) (gone : Key → Bool) (ended : Option LastEnd) →
-    MayFollow h (Open place (Sub g)) → AreHubsOf h hubs →
+pub ready_to_exchange : (base : Kept) → (h : List Event) (place : Place) (g : ℕ) (hubs : List Hub) (gone : Key → Bool) (ended : Option LastEnd) →
+    MayFollow base h (Open place (Sub g)) → AreHubsOf h hubs →
     (hub : Hub) × (find_hub (map (without_gone gone ended) hubs) g ≡ Some hub) × AreBelow (length h) hub.subscribers
-ready_to_exchange h place g hubs gone ended next are =
-    let own = ready_to_subscribe h place g hubs next are in
+ready_to_exchange base h place g hubs gone ended next are =
+    let own = ready_to_subscribe base h place g hubs next are in
     let found = find_mapped (without_gone gone ended) (without_number gone ended) hubs g own.0 own.1 in
     (without_gone gone ended own.0, found, by_test own.0 own.2 (option_map_or gone own.0.connection false)) where
       by_test : (hub : Hub) → AreBelow (length h) hub.subscribers → (b : Bool) →

@@ -8,6 +8,7 @@ use Rattle.std.proofs.Math.Bool.{not}
 use Rattle.std.proofs.lemmas.Bool.{cases_order, false≢true, or_right}
 use Rattle.std.proofs.lemmas.Bool.Decides.{nat_tests}
 use Rattle.std.proofs.lemmas.Option.{same_Some, none-some}
+use Rattle.rx_event.specs.Kept.{Kept}
 use Rattle.rx_note.specs.declared.note.Terminal.{Terminal}
 use Rattle.rx_event.specs.declared.event.Kind.TheVariants.{Sub}
 use Rattle.rx_event.specs.declared.event.Mode.{Mode}
@@ -218,19 +219,19 @@ connect_due h hub is waiting =
       none_connected None e = refl
       none_connected (Some c) e = absurd (false≢true e)
 
-hub_due : (h : List Event) (hub : Hub) → IsHubOf h hub → (d : HubDue) → due_of hub ≡ Some d → IsDue h (event_of d)
-hub_due h hub is d gives = by_lists hub.subscribers refl hub.last_end refl gives where
-  by_left : (auto : Bool) → is_auto hub.mode ≡ auto → (c : Option Key) → hub.connection ≡ c → numbers hub.subscribers ≡ [] → left_of auto c [] ≡ Some d → IsDue h (event_of d)
+hub_due : (base : Kept) → (h : List Event) (hub : Hub) → IsHubOf h hub → (d : HubDue) → due_of hub ≡ Some d → IsDue base h (event_of d)
+hub_due base h hub is d gives = by_lists hub.subscribers refl hub.last_end refl gives where
+  by_left : (auto : Bool) → is_auto hub.mode ≡ auto → (c : Option Key) → hub.connection ≡ c → numbers hub.subscribers ≡ [] → left_of auto c [] ≡ Some d → IsDue base h (event_of d)
   by_left true auto (Some c) has empty is_due =
       let listed : open_connections h hub.number ≡ c.number ∷ [] = sym is.connection ∙ ap (λ (o : Option Key). numbers (option_to_list o)) has in
       let first = first_passes (λ n. at (is_connect_of hub.number) h n && is_open h n) (places h) c.number [] listed in
       let parts = both_parts (at (is_connect_of hub.number) h c.number) (is_open h c.number) first in
-      subst (λ x. IsDue h (event_of x)) (same_Some (CloseDue c) d is_due)
+      subst (λ x. IsDue base h (event_of x)) (same_Some (CloseDue c) d is_due)
       (left parts.1 (at_connect h hub.number c.number parts.0) (auto_same h hub is ∙ auto) (sym is.subscribers ∙ empty))
   by_left true auto None has empty is_due = absurd (none-some d is_due)
   by_left false auto c has empty is_due = absurd (none-some d is_due)
 
-  by_lists : (ks : List Key) → hub.subscribers ≡ ks → (last : Option LastEnd) → hub.last_end ≡ last → option_or (cut_of last ks) (left_of (is_auto hub.mode) hub.connection ks) ≡ Some d → IsDue h (event_of d)
+  by_lists : (ks : List Key) → hub.subscribers ≡ ks → (last : Option LastEnd) → hub.last_end ≡ last → option_or (cut_of last ks) (left_of (is_auto hub.mode) hub.connection ks) ≡ Some d → IsDue base h (event_of d)
   by_lists [] empty None l is_due = by_left (is_auto hub.mode) refl hub.connection refl (ap numbers empty) is_due
   by_lists [] empty (Some x) l is_due = by_left (is_auto hub.mode) refl hub.connection refl (ap numbers empty) is_due
   by_lists (k ∷ ks) some None l is_due = absurd (none-some d is_due)
@@ -238,13 +239,13 @@ hub_due h hub is d gives = by_lists hub.subscribers refl hub.last_end refl gives
       let told = if_some (nat_lt k.number x.place) (EndDue k x.terminal) d (sym (or_none (if nat_lt k.number x.place then Some (EndDue k x.terminal) else None)) ∙ is_due) in
       let first = first_passes (opens h hub.number) (places h) k.number (numbers ks) (sym is.subscribers ∙ ap numbers some) in
       let parts = both_parts (at (is_subscriber_of hub.number) h k.number) (is_open h k.number) first in
-      subst (λ y. IsDue h (event_of y)) told.1 (cut parts.1 (old_cut h hub is k.number x parts.0 l (lt_of k.number x.place told.0)))
+      subst (λ y. IsDue base h (event_of y)) told.1 (cut parts.1 (old_cut h hub is k.number x parts.0 l (lt_of k.number x.place told.0)))
 
-pub hubs_forced : (h : List Event) (hubs : List Hub) (d : HubDue) → AreHubsOf h hubs → IsDueIn hubs d → IsForced h (event_of d)
-hubs_forced h hubs d are (connects i hub there gives) =
+pub hubs_forced : (base : Kept) → (h : List Event) (hubs : List Hub) (d : HubDue) → AreHubsOf h hubs → IsDueIn hubs d → IsForced base h (event_of d)
+hubs_forced base h hubs d are (connects i hub there gives) =
     let told = if_some (waits hub) (ConnectDue hub.number) d gives in
-    subst (λ x. IsForced h (event_of x)) told.1 (connecting (connect_due h hub (are.each i hub there) told.0))
-hubs_forced h hubs d are (acts i hub none there gives) = due (none_waits h hubs are none) (hub_due h hub (are.each i hub there) d gives)
+    subst (λ x. IsForced base h (event_of x)) told.1 (connecting (connect_due h hub (are.each i hub there) told.0))
+hubs_forced base h hubs d are (acts i hub none there gives) = due (none_waits h hubs are none) (hub_due base h hub (are.each i hub there) d gives)
 
 -- what is due is of a hub --------------------------------------------------------------------------
 
@@ -319,8 +320,8 @@ none_cut h hubs are quiet n t o ended =
         let later = ended.later in
         true≢false (sym (of_lt k.number x.place (omega (arith, least, later, up))) ∙ quiet_first hub k ks x some l none)
 
-pub none_left : (h : List Event) (hubs : List Hub) → AreHubsOf h hubs → IsQuiet hubs → (c : ℕ) → ¬ IsDue h (Close c)
-none_left h hubs are quiet c (left {g = g} o at_c auto none) =
+pub none_left : (base : Kept) → (h : List Event) (hubs : List Hub) → AreHubsOf h hubs → IsQuiet hubs → (c : ℕ) → ¬ IsDue base h (Close c)
+none_left base h hubs are quiet c (left {g = g} o at_c auto none) =
     let has = are.every g (auto_makes (slice_get h g) auto) in
     let hub = has.hub in
     let is = are.each has.index hub has.there in
@@ -345,6 +346,6 @@ none_left h hubs are quiet c (left {g = g} o at_c auto none) =
           no_cut None = refl
           no_cut (Some x) = refl
 
-pub quiet_settles : (h : List Event) (nodes : Slots Node) (hubs : List Hub) → AreRecordsOf h nodes → AreHubsOf h hubs → IsQuietTree nodes → IsQuiet hubs → IsSettled h
-quiet_settles h nodes hubs records are quiet_tree quiet =
-    quiet_settled h nodes records quiet_tree (none_waits h hubs are quiet.connected) (none_cut h hubs are quiet) (none_left h hubs are quiet)
+pub quiet_settles : (base : Kept) → (h : List Event) (nodes : Slots Node) (hubs : List Hub) → AreRecordsOf base h nodes → AreHubsOf h hubs → IsQuietTree nodes → IsQuiet hubs → IsSettled base h
+quiet_settles base h nodes hubs records are quiet_tree quiet =
+    quiet_settled base h nodes records quiet_tree (none_waits h hubs are quiet.connected) (none_cut h hubs are quiet) (none_left base h hubs are quiet)

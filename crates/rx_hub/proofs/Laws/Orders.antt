@@ -7,6 +7,7 @@ use Rattle.std.specs.Option.{option_and_then, option_map_or, option_or}
 use Rattle.std.proofs.lemmas.Bool.{and_parts}
 use Rattle.std.proofs.lemmas.Bool.Decides.{nat_tests}
 use Rattle.std.proofs.lemmas.Option.{same_Some, none-some}
+use Rattle.rx_event.specs.Kept.{Kept}
 use Rattle.rx_event.specs.declared.event.Event.{Event}
 use Rattle.rx_event.specs.declared.event.Event.TheVariants.{Connect}
 use Rattle.rx_event.specs.Events.{parent_named, is_subscriber_of}
@@ -32,10 +33,11 @@ use Rattle.rx_hub.specs.Route.{ReachesFrom, IsOrdered}
 use Rattle.rx_hub.proofs.Laws.Walks.{found_hub}
 
 -- the node above one is its parent in the history
-parent_above : (h : List Event) (nodes : Slots Node) (hubs : List Hub) → IsWalk h nodes hubs → (key up : Key) (node : Node) → find nodes key ≡ Some node →
+parent_above : (base : Kept) → (h : List Event) (nodes : Slots Node) (hubs : List Hub) → IsWalk base h nodes hubs → (key up : Key) (node : Node) →
+    find nodes key ≡ Some node →
     node.above ≡ Some up → parent h key.number ≡ Some up.number
 unfolding parent
-parent_above h nodes hubs w key up node found above =
+parent_above base h nodes hubs w key up node found above =
     let placed = w.sound.placed key node found in
     let lower : up.number < key.number = below node.above above placed.lower in
     let test : (if_less key.number up.number) ≡ Some up.number = grind (arith, nat_tests, lower) in
@@ -47,11 +49,11 @@ parent_above h nodes hubs w key up node found above =
     below (Some k) some lower = subst (λ (x : Key). x.number < key.number) (same_Some k up some) lower
 
 -- a connection that an item gets to stands above the node
-way_within_connection : (h : List Event) (nodes : Slots Node) (hubs : List Hub) → IsWalk h nodes hubs → (c : Key) (left : ℕ) (key : Key) →
+way_within_connection : (base : Kept) → (h : List Event) (nodes : Slots Node) (hubs : List Hub) → IsWalk base h nodes hubs → (c : Key) (left : ℕ) (key : Key) →
     IsSome (find nodes key) → end_of nodes (way_within left nodes key) ≡ Some (Connection c) → is_within h c.number key.number ≡ true
-way_within_connection h nodes hubs w c zero key there ends = absurd (none-some (Connection c) ends)
-way_within_connection h nodes hubs w c (suc left) key there ends =
-    by_stop (stop_of nodes key) refl (above_of nodes key) refl ends (way_within_connection h nodes hubs w c left) where
+way_within_connection base h nodes hubs w c zero key there ends = absurd (none-some (Connection c) ends)
+way_within_connection base h nodes hubs w c (suc left) key there ends =
+    by_stop (stop_of nodes key) refl (above_of nodes key) refl ends (way_within_connection base h nodes hubs w c left) where
       own : (node : Node) × (find nodes key ≡ Some node)
       own = some_of (find nodes key) there
 
@@ -66,13 +68,14 @@ way_within_connection h nodes hubs w c (suc left) key there ends =
       by_stop None stop None at ends later = absurd (none-some (Connection c) ends)
       by_stop None stop (Some up) at ends later =
           within_parent h c.number key.number up.number
-          (parent_above h nodes hubs w key up own.0 own.1 (sym (ap (option_and_then (λ (node : Node). node.above)) own.1) ∙ at))
+          (parent_above base h nodes hubs w key up own.0 own.1 (sym (ap (option_and_then (λ (node : Node). node.above)) own.1) ∙ at))
           (later up (above_found nodes key up w.sound at) ends)
 
 -- the event of a node's record is that of the history
-made_told : (h : List Event) (nodes : Slots Node) (hubs : List Hub) → IsWalk h nodes hubs → (c : Key) (e : Event) → made_of nodes c ≡ Some e →
+made_told : (base : Kept) → (h : List Event) (nodes : Slots Node) (hubs : List Hub) → IsWalk base h nodes hubs → (c : Key) (e : Event) →
+    made_of nodes c ≡ Some e →
     slice_get h c.number ≡ Some e
-made_told h nodes hubs w c e made = by_node (find nodes c) refl made where
+made_told base h nodes hubs w c e made = by_node (find nodes c) refl made where
   by_node : (o : Option Node) → find nodes c ≡ o → option_map (λ (node : Node). node.made) o ≡ Some e → slice_get h c.number ≡ Some e
   by_node None found none = absurd (none-some e none)
   by_node (Some node) found some = (w.records.each c node found).made ∙ some
@@ -84,16 +87,16 @@ of_numbers P F Q same [] each found = tt
 of_numbers P F Q same (key ∷ keys) each found = (same key each.0 found.0, of_numbers P F Q same keys each.1 found.1)
 
 -- a walk of a lawful history is in order
-pub IsOrdered-walk : (h : List Event) (nodes : Slots Node) (hubs : List Hub) → IsLawful h → IsWalk h nodes hubs → IsOrdered nodes hubs
-IsOrdered-walk h nodes hubs law w = record { found = w.found; later = later } where
+pub IsOrdered-walk : (base : Kept) → (h : List Event) (nodes : Slots Node) (hubs : List Hub) → IsLawful base h → IsWalk base h nodes hubs → IsOrdered nodes hubs
+IsOrdered-walk base h nodes hubs law w = record { found = w.found; later = later } where
   subscribes : (g : ℕ) → AllByRecursion (λ s. at (is_subscriber_of g) h s ≡ true) (open_subscribers h g)
   subscribes g = filtered (λ n. at (is_subscriber_of g) h n && is_open h n) (λ s. at (is_subscriber_of g) h s ≡ true)
       (λ s both. (and_parts (at (is_subscriber_of g) h s) (is_open h s) both).0) (places h)
 
   reaches : (g : ℕ) (key : Key) → at (is_subscriber_of g) h key.number ≡ true → IsSome (find nodes key) → ReachesFrom nodes (suc g) key
   reaches g key is there c k ends made =
-      let order = hubs_in_order h law g key.number c.number k is (way_within_connection h nodes hubs w c (suc most_visits) key there ends)
-      (made_told h nodes hubs w c (Connect k) made) in
+      let order = hubs_in_order base h law g key.number c.number k is (way_within_connection base h nodes hubs w c (suc most_visits) key there ends)
+      (made_told base h nodes hubs w c (Connect k) made) in
       omega (arith, order)
 
   later : (g : ℕ) (hub : Hub) → find_hub hubs g ≡ Some hub → AllByRecursion (ReachesFrom nodes (suc g)) hub.subscribers

@@ -6,6 +6,7 @@ use Rattle.std.specs.Option.{option_and_then, option_map_or, option_to_list}
 use Rattle.std.proofs.lemmas.Bool.{false≢true}
 use Rattle.std.proofs.lemmas.Bool.Decides.{nat_tests}
 use Rattle.std.proofs.lemmas.Option.{same_Some, none-some}
+use Rattle.rx_event.specs.Kept.{Kept}
 use Rattle.rx_event.specs.declared.event.Event.{Event}
 use Rattle.rx_event.specs.declared.event.Event.TheVariants.{Connect}
 use Rattle.rx_event.specs.Events.{is_subscriber_of}
@@ -28,8 +29,8 @@ use Rattle.rx_hub.specs.Walk.{subscribers_of, onward_by, onward_over, visited_ov
 abbrev AreFound : Slots Node → List Key → Type 0
 AreFound nodes keys = AllByRecursion (λ key. IsSome (find nodes key)) keys
 
-told : {h : List Event} {nodes : Slots Node} {hubs : List Hub} → IsWalk h nodes hubs → IsTold h nodes
-told w = record { sound = w.sound; records = w.records }
+told : (base : Kept) → {h : List Event} {nodes : Slots Node} {hubs : List Hub} → IsWalk base h nodes hubs → IsTold base h nodes
+told base w = record { sound = w.sound; records = w.records }
 
 -- hubs by number ----------------------------------------------------------------------------------
 
@@ -58,8 +59,8 @@ and_first true b e = refl
 and_first false b e = absurd (false≢true e)
 
 -- the subscribers of a hub are those of the history
-subscribers_told : (h : List Event) (nodes : Slots Node) (hubs : List Hub) → IsWalk h nodes hubs → (g : ℕ) → numbers (subscribers_of hubs (Some (Connect g))) ≡ open_subscribers h g
-subscribers_told h nodes hubs w g = of (find_hub hubs g) refl where
+subscribers_told : (base : Kept) → (h : List Event) (nodes : Slots Node) (hubs : List Hub) → IsWalk base h nodes hubs → (g : ℕ) → numbers (subscribers_of hubs (Some (Connect g))) ≡ open_subscribers h g
+subscribers_told base h nodes hubs w g = of (find_hub hubs g) refl where
   none_open : find_hub hubs g ≡ None → (ns : List ℕ) → open_subscribers h g ≡ ns → [] ≡ ns
   none_open none [] is = refl
   none_open none (n ∷ ns) is =
@@ -73,8 +74,8 @@ subscribers_told h nodes hubs w g = of (find_hub hubs g) refl where
       let r = found_hub hubs g hub found in
       (w.published.each r.0 hub r.1.0).subscribers ∙ ap (open_subscribers h) r.1.1
 
-subscribers_found : (h : List Event) (nodes : Slots Node) (hubs : List Hub) → IsWalk h nodes hubs → (g : ℕ) → AreFound nodes (subscribers_of hubs (Some (Connect g)))
-subscribers_found h nodes hubs w g = of (find_hub hubs g) refl where
+subscribers_found : (base : Kept) → (h : List Event) (nodes : Slots Node) (hubs : List Hub) → IsWalk base h nodes hubs → (g : ℕ) → AreFound nodes (subscribers_of hubs (Some (Connect g)))
+subscribers_found base h nodes hubs w g = of (find_hub hubs g) refl where
   of : (o : Option Hub) → find_hub hubs g ≡ o → AreFound nodes (option_map_or (λ (hub : Hub). hub.subscribers) o [])
   of None found = tt
   of (Some hub) found = w.found g hub found
@@ -86,14 +87,14 @@ record IsOnward (h : List Event) (nodes : Slots Node) (key : Key) (keys : List K
   goes : onward h key.number ≡ numbers keys
   found : AreFound nodes keys
 
-onward_told : (h : List Event) (nodes : Slots Node) (hubs : List Hub) → IsWalk h nodes hubs → (key : Key) → IsSome (find nodes key) → IsOnward h nodes key (onward_over nodes hubs key)
-onward_told h nodes hubs w key there = by_stop (stop_of nodes key) refl where
+onward_told : (base : Kept) → (h : List Event) (nodes : Slots Node) (hubs : List Hub) → IsWalk base h nodes hubs → (key : Key) → IsSome (find nodes key) → IsOnward h nodes key (onward_over nodes hubs key)
+onward_told base h nodes hubs w key there = by_stop (stop_of nodes key) refl where
   own : (x : Node) × (find nodes key ≡ Some x)
   own = some_of (find nodes key) there
 
   at_stop : (s : Stop) → stop_of nodes key ≡ Some s →
       onward h key.number ≡ onward_unless (option_and_then numbered (Some s)) (option_map_or (onward_from h key.number) (slice_get h key.number) [])
-  at_stop s stop = onward_at h nodes (told w) key own.0 own.1 (Some s) stop
+  at_stop s stop = onward_at base h nodes (told base w) key own.0 own.1 (Some s) stop
 
   to_parent : (o : Option Key) → above_of nodes key ≡ o → AreFound nodes (option_to_list o)
   to_parent None above = tt
@@ -105,7 +106,7 @@ onward_told h nodes hubs w key there = by_stop (stop_of nodes key) refl where
 
   by_stop : (s : Option Stop) → stop_of nodes key ≡ s → IsOnward h nodes key (onward_by nodes hubs key s)
   by_stop None free = record {
-    goes = onward_seen h nodes (told w) key own.0 own.1 free ∙ numbers_option own.0.above ∙ ap (λ (o : Option Key). numbers (option_to_list o)) (sym (ap (option_and_then (λ (n : Node). n.above)) own.1));
+    goes = onward_seen base h nodes (told base w) key own.0 own.1 free ∙ numbers_option own.0.above ∙ ap (λ (o : Option Key). numbers (option_to_list o)) (sym (ap (option_and_then (λ (n : Node). n.above)) own.1));
     found = to_parent (above_of nodes key) refl;
   }
   by_stop (Some (Delivery c)) stop = record { goes = at_stop (Delivery c) stop; found = tt }
@@ -118,8 +119,8 @@ onward_told h nodes hubs w key there = by_stop (stop_of nodes key) refl where
       record {
         goes = at_stop (Connection c) stop ∙
             ap (λ (o : Option Event). option_map_or (onward_from h key.number) o []) ((w.records.each key own.0 own.1).made ∙ ap (λ e. Some e) c_is.1) ∙
-            sym (ap (λ (o : Option Event). numbers (subscribers_of hubs o)) made_is ∙ subscribers_told h nodes hubs w c_is.0);
-        found = subst (λ (o : Option Event). AreFound nodes (subscribers_of hubs o)) (sym made_is) (subscribers_found h nodes hubs w c_is.0);
+            sym (ap (λ (o : Option Event). numbers (subscribers_of hubs o)) made_is ∙ subscribers_told base h nodes hubs w c_is.0);
+        found = subst (λ (o : Option Event). AreFound nodes (subscribers_of hubs o)) (sym made_is) (subscribers_found base h nodes hubs w c_is.0);
       }
 
 -- all nodes ---------------------------------------------------------------------------------------
@@ -128,33 +129,35 @@ numbers_both : (xs ys : List Key) → numbers (xs ++ ys) ≡ numbers xs ++ numbe
 numbers_both [] ys = refl
 numbers_both (x ∷ xs) ys = ap (λ (ns : List ℕ). x.number ∷ ns) (numbers_both xs ys)
 
-visited_told : (h : List Event) (nodes : Slots Node) (hubs : List Hub) → IsWalk h nodes hubs → (left : ℕ) (keys : List Key) → AreFound nodes keys →
+visited_told : (base : Kept) → (h : List Event) (nodes : Slots Node) (hubs : List Hub) → IsWalk base h nodes hubs → (left : ℕ) (keys : List Key) →
+    AreFound nodes keys →
     visited left h (numbers keys) ≡ numbers (visited_over left nodes hubs keys)
-visited_told h nodes hubs w zero keys found = refl
-visited_told h nodes hubs w (suc left) [] found = refl
-visited_told h nodes hubs w (suc left) (key ∷ keys) found =
-    let on = onward_told h nodes hubs w key found.0 in
+visited_told base h nodes hubs w zero keys found = refl
+visited_told base h nodes hubs w (suc left) [] found = refl
+visited_told base h nodes hubs w (suc left) (key ∷ keys) found =
+    let on = onward_told base h nodes hubs w key found.0 in
     ap (λ (ns : List ℕ). key.number ∷ visited left h ns) (ap (λ (ns : List ℕ). ns ++ numbers keys) on.goes ∙ sym (numbers_both (onward_over nodes hubs key) keys)) ∙
-    ap (λ (ns : List ℕ). key.number ∷ ns) (visited_told h nodes hubs w left (onward_over nodes hubs key ++ keys)
+    ap (λ (ns : List ℕ). key.number ∷ ns) (visited_told base h nodes hubs w left (onward_over nodes hubs key ++ keys)
     (AllByRecursion-both (λ k. IsSome (find nodes k)) (onward_over nodes hubs key) keys on.found found.1))
 
-visited_found : (h : List Event) (nodes : Slots Node) (hubs : List Hub) → IsWalk h nodes hubs → (left : ℕ) (keys : List Key) → AreFound nodes keys →
+visited_found : (base : Kept) → (h : List Event) (nodes : Slots Node) (hubs : List Hub) → IsWalk base h nodes hubs → (left : ℕ) (keys : List Key) →
+    AreFound nodes keys →
     AreFound nodes (visited_over left nodes hubs keys)
-visited_found h nodes hubs w zero keys found = tt
-visited_found h nodes hubs w (suc left) [] found = tt
-visited_found h nodes hubs w (suc left) (key ∷ keys) found =
-    let on = onward_told h nodes hubs w key found.0 in (
+visited_found base h nodes hubs w zero keys found = tt
+visited_found base h nodes hubs w (suc left) [] found = tt
+visited_found base h nodes hubs w (suc left) (key ∷ keys) found =
+    let on = onward_told base h nodes hubs w key found.0 in (
       found.0,
-      visited_found h nodes hubs w left (onward_over nodes hubs key ++ keys)
+      visited_found base h nodes hubs w left (onward_over nodes hubs key ++ keys)
           (AllByRecursion-both (λ k. IsSome (find nodes k)) (onward_over nodes hubs key) keys on.found found.1),
     )
 
-stops_told : (h : List Event) (nodes : Slots Node) → IsTold h nodes → (keys : List Key) → AreFound nodes keys →
+stops_told : (base : Kept) → (h : List Event) (nodes : Slots Node) → IsTold base h nodes → (keys : List Key) → AreFound nodes keys →
     filter_map (stop_at h) (numbers keys) ≡ filter_map numbered (filter_map (arrival_at nodes) keys)
-stops_told h nodes t [] found = refl
-stops_told h nodes t (key ∷ keys) found =
+stops_told base h nodes t [] found = refl
+stops_told base h nodes t (key ∷ keys) found =
     let own = some_of (find nodes key) found.0 in
-    of (stop_of nodes key) (stop_at h key.number) (stop_seen h nodes t key own.0 own.1) (stops_told h nodes t keys found.1) where
+    of (stop_of nodes key) (stop_at h key.number) (stop_seen base h nodes t key own.0 own.1) (stops_told base h nodes t keys found.1) where
       of : (s : Option Stop) (o : Option NumberedStop) → o ≡ option_and_then numbered s →
           filter_map (stop_at h) (numbers keys) ≡ filter_map numbered (filter_map (arrival_at nodes) keys) →
           cons_option o (filter_map (stop_at h) (numbers keys)) ≡ filter_map numbered (cons_option (option_and_then arrival s) (filter_map (arrival_at nodes) keys))
@@ -164,21 +167,21 @@ stops_told h nodes t (key ∷ keys) found =
       of (Some (Firing c)) o is rest = (λ i. cons_option (is i) (rest i))
       of (Some (Connection c)) o is rest = (λ i. cons_option (is i) (rest i))
 
-pub climbs_told : (h : List Event) (nodes : Slots Node) (hubs : List Hub) (key : Key) → IsWalk h nodes hubs → IsSome (find nodes key) → climb h key.number ≡ numbers (climb_over nodes hubs key)
+pub climbs_told : (base : Kept) → (h : List Event) (nodes : Slots Node) (hubs : List Hub) (key : Key) → IsWalk base h nodes hubs → IsSome (find nodes key) → climb h key.number ≡ numbers (climb_over nodes hubs key)
 unfolding climb
-climbs_told h nodes hubs key w found = visited_told h nodes hubs w (suc most_visits) (key ∷ []) (found, tt)
+climbs_told base h nodes hubs key w found = visited_told base h nodes hubs w (suc most_visits) (key ∷ []) (found, tt)
 
-pub all_stops_told : (h : List Event) (nodes : Slots Node) (hubs : List Hub) (key : Key) → IsWalk h nodes hubs → IsSome (find nodes key) →
+pub all_stops_told : (base : Kept) → (h : List Event) (nodes : Slots Node) (hubs : List Hub) (key : Key) → IsWalk base h nodes hubs → IsSome (find nodes key) →
     stops h key.number ≡ filter_map numbered (stops_over nodes hubs key)
 unfolding stops
-all_stops_told h nodes hubs key w found =
-    ap (filter_map (stop_at h)) (climbs_told h nodes hubs key w found) ∙
-    stops_told h nodes (told w) (climb_over nodes hubs key) (visited_found h nodes hubs w (suc most_visits) (key ∷ []) (found, tt))
+all_stops_told base h nodes hubs key w found =
+    ap (filter_map (stop_at h)) (climbs_told base h nodes hubs key w found) ∙
+    stops_told base h nodes (told base w) (climb_over nodes hubs key) (visited_found base h nodes hubs w (suc most_visits) (key ∷ []) (found, tt))
 
 length_numbers : (keys : List Key) → length (numbers keys) ≡ length keys
 length_numbers [] = refl
 length_numbers (k ∷ keys) = ap suc (length_numbers keys)
 
-pub visits_told : (h : List Event) (nodes : Slots Node) (hubs : List Hub) (key : Key) → IsWalk h nodes hubs → IsSome (find nodes key) → visits h key.number ≡ length (climb_over nodes hubs key)
+pub visits_told : (base : Kept) → (h : List Event) (nodes : Slots Node) (hubs : List Hub) (key : Key) → IsWalk base h nodes hubs → IsSome (find nodes key) → visits h key.number ≡ length (climb_over nodes hubs key)
 unfolding visits
-visits_told h nodes hubs key w found = ap length (climbs_told h nodes hubs key w found) ∙ length_numbers (climb_over nodes hubs key)
+visits_told base h nodes hubs key w found = ap length (climbs_told base h nodes hubs key w found) ∙ length_numbers (climb_over nodes hubs key)

@@ -2,4 +2,4 @@ use Rattle.rx_flow.proofs.Laws.Dues.{due_forced, quiet_settled, quiet_settled_hu
 use Rattle.rx_flow.proofs.theorems.due_is_forced.Goals as goal
 
 pub returns : goal.returns
-returns c = record { forced = due_forced; settled = quiet_settled; hubless = quiet_settled_hubless; quiet = settled_quiet_records }
+returns c base = record { forced = due_forced base; settled = quiet_settled base; hubless = quiet_settled_hubless base; quiet = settled_quiet_records base }

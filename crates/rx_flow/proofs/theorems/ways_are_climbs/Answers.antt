@@ -2,4 +2,4 @@ use Rattle.rx_flow.proofs.Laws.Ways.{climb_whole_way, stops_whole_way, climb_con
 use Rattle.rx_flow.proofs.theorems.ways_are_climbs.Goals as goal
 
 pub returns : goal.returns
-returns c = record { whole = climb_whole_way; alone = stops_whole_way; connected_climb = climb_connected_way; connected_stops = stops_connected_way }
+returns c base = record { whole = climb_whole_way base; alone = stops_whole_way base; connected_climb = climb_connected_way base; connected_stops = stops_connected_way base }

@@ -4,23 +4,23 @@ use Rattle.rx_hub.proofs.Laws.AfterReady.{hubs_older, ready_to_subscribe, ready_
 use Rattle.rx_hub.proofs.theorems.hubs_follow_events.Goals as goal
 
 pub returns-clause-ready : goal.returns-clause-ready
-returns-clause-ready c = record {
+returns-clause-ready c base = record {
   publish = hubs_older;
-  subscribe = ready_to_subscribe;
-  exchange = ready_to_exchange;
-  connect = ready_to_connect;
+  subscribe = ready_to_subscribe base;
+  exchange = ready_to_exchange base;
+  connect = ready_to_connect base;
 }
 
 pub returns-clause-follow : goal.returns-clause-follow
-returns-clause-follow c = record {
-  follow = hubs_follow;
+returns-clause-follow c base = record {
+  follow = hubs_follow base;
   same = hubs_same;
-  stay = hubs_stay;
+  stay = hubs_stay base;
   publish = hubs_published;
   subscribe = hubs_subscribed;
   connect = hubs_connected;
   end = hubs_ended;
   close = hubs_closed;
-  exchange = hubs_exchanged;
+  exchange = hubs_exchanged base;
   agree = tests_agree;
 }
