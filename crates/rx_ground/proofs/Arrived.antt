@@ -25,8 +25,8 @@ module _ {T : Type 0} (first : Register) (start : Tree T) (leaf : ℕ) (value : 
       passed.pending ∙ ap (filter_map (told (length first.history) value)) all_done ∙
       ap (λ (r : Register). mail_of r.history (Item leaf value)) (sym passed.same)
 
-  pub arrived_may_follow : MayFollow first.history (Item leaf value) → MayFollow register.history (Item leaf value)
-  arrived_may_follow next = subst (λ (r : Register). MayFollow r.history (Item leaf value)) (sym passed.same) next
+  pub arrived_may_follow : MayFollow first.base first.history (Item leaf value) → MayFollow register.base register.history (Item leaf value)
+  arrived_may_follow next = subst (λ (r : Register). MayFollow r.base r.history (Item leaf value)) (sym passed.same) next
 
   pub arrived_room : 0 < first.room → 0 < register.room
   arrived_room some = subst (λ (r : Register). 0 < r.room) (sym passed.same) some
@@ -35,15 +35,17 @@ module _ {T : Type 0} (first : Register) (start : Tree T) (leaf : ℕ) (value : 
   pub arrived_keeps : (h : List Event) → KeepsNodes h start.nodes tree.nodes
   arrived_keeps h = record { from = λ key some. sym (passed.there key) ∙ some; still = λ key some alive. passed.there key ∙ some }
 
-  pub arrived_writes : (new : Register) → new.history ≡ register.history ++ Item leaf value ∷ [] → new.pending ≡ [] → new.room + 1 ≡ register.room →
+  pub arrived_writes : (new : Register) → new.base ≡ register.base → new.history ≡ register.history ++ Item leaf value ∷ [] → new.pending ≡ [] →
+      new.room + 1 ≡ register.room →
       new.limit ≡ register.limit → new.given ≡ register.given → new.mail_room ≡ register.mail_room → Writes first (Item leaf value ∷ []) new
   arrived_writes new =
       writes_told first register new (Item leaf value) passed.same
       (passed.mail_room ∙ ap (λ (ss : List NumberedStop). register.mail_room + length (filter_map (told (length first.history) value) ss)) all_done)
 
-  pub arrived_tied : (g : Ghosts T) (hubs : Hubs) → IsLawful first.history → MayFollow first.history (Item leaf value) → AreTied g first.history start hubs →
-      (h : List Event) → h ≡ register.history ++ Item leaf value ∷ [] → AreTied g h tree hubs
+  pub arrived_tied : (g : Ghosts T) (hubs : Hubs) → IsLawful first.base first.history → MayFollow first.base first.history (Item leaf value) →
+      AreTied first.base g first.history start hubs →
+      (h : List Event) → h ≡ register.history ++ Item leaf value ∷ [] → AreTied first.base g h tree hubs
   arrived_tied g hubs law next tied h grown =
-      subst (λ (k : List Event). AreTied g k tree hubs) (sym (grown ∙ ap (λ (r : Register). r.history ++ Item leaf value ∷ []) passed.same))
-      (tied_item g first.history leaf value law next start tree hubs tied (subst (λ (ss : List NumberedStop). ArePassed first.history ss tree.nodes tree.chain) all_done passed.records)
+      subst (λ (k : List Event). AreTied first.base g k tree hubs) (sym (grown ∙ ap (λ (r : Register). r.history ++ Item leaf value ∷ []) passed.same))
+      (tied_item first.base g first.history leaf value law next start tree hubs tied (subst (λ (ss : List NumberedStop). ArePassed first.base first.history ss tree.nodes tree.chain) all_done passed.records)
       (λ key there. passed.there key ∙ there) passed.resources)

@@ -6,6 +6,7 @@ use Rattle.std.specs.List.{find as find_number}
 use Rattle.std.specs.Option.{option_and_then, option_map_or, option_to_list}
 use Rattle.std.proofs.lemmas.Bool.{false≢true, both_ways, and_parts, cases_lt, false_from_ne_true}
 use Rattle.std.proofs.lemmas.Option.{none-some, same_Some, slice_get_within}
+use Rattle.rx_event.specs.Kept.{Kept}
 use Rattle.rx_resource.specs.declared.Resource.{Ghosts}
 use Rattle.rx_event.specs.declared.event.Event.{Event}
 use Rattle.rx_event.specs.declared.event.Event.TheVariants.{Hub as Publish}
@@ -31,11 +32,11 @@ use Rattle.rx_ground.proofs.Laws.Ranges.{find_first, find_nothing}
 -- a hub's own -------------------------------------------------------------------------------------
 
 -- no connection is open of what is no hub
-unconnected : (h : List Event) → IsLawful h → (n : ℕ) → at makes_hub h n ≡ false → open_connections h n ≡ []
-unconnected h law n unmade = by_list (open_connections h n) refl where
+unconnected : (base : Kept) → (h : List Event) → IsLawful base h → (n : ℕ) → at makes_hub h n ≡ false → open_connections h n ≡ []
+unconnected base h law n unmade = by_list (open_connections h n) refl where
   by_list : (cs : List ℕ) → open_connections h n ≡ cs → cs ≡ []
   by_list [] is = refl
-  by_list (c ∷ cs) is = absurd (both_ways (at makes_hub h n) unmade (connected_hub h law c n (first_connection h n c cs is).0))
+  by_list (c ∷ cs) is = absurd (both_ways (at makes_hub h n) unmade (connected_hub base h law c n (first_connection h n c cs is).0))
 
 numbered : (o : Option Key) → option_to_list (option_map (λ (key : Key). key.number) o) ≡ numbers (option_to_list o)
 numbered None = refl
@@ -50,14 +51,15 @@ abbrev pub connection_in : Option Published → Option Key
 connection_in o = option_and_then (λ (p : Published). p.connection) o
 
 -- what is kept of the hub of a number, if there is one, says its connection
-pub connection_known : {T : Type 0} (g : Ghosts T) (h : List Event) (tree : Tree T) (hubs : Hubs) → IsLawful h → AreTied g h tree hubs →
+pub connection_known : (base : Kept) → {T : Type 0} (g : Ghosts T) (h : List Event) (tree : Tree T) (hubs : Hubs) → IsLawful base h →
+    AreTied base g h tree hubs →
     (n : ℕ) (o : Option Published) → o ≡ option_map published_of (find_hub hubs.hubs n) → IsConnectionOf h tree.nodes n (connection_in o)
-connection_known g h tree hubs law tied n o is =
+connection_known base g h tree hubs law tied n o is =
     subst (λ (x : Option Published). IsConnectionOf h tree.nodes n (connection_in x)) (sym is) (by_hub (find_hub hubs.hubs n) refl)
   where
     by_hub : (x : Option Hub) → find_hub hubs.hubs n ≡ x → IsConnectionOf h tree.nodes n (connection_in (option_map published_of x))
     by_hub None none = record {
-      number = sym (unconnected h law n (sym (found_made h hubs.hubs tied.published n) ∙ ap is_some none));
+      number = sym (unconnected base h law n (sym (found_made h hubs.hubs tied.published n) ∙ ap is_some none));
       there = tt;
     }
     by_hub (Some hub) found =

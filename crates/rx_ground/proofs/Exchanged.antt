@@ -6,6 +6,7 @@ use Rattle.std.proofs.lemmas.Bool.{ne_eqb, cases_Bool}
 use Rattle.std.proofs.lemmas.Option.{none-some, same_Some}
 use Rattle.std.proofs.lemmas.List.Sums.{count_by-le-length}
 use Rattle.std.proofs.lemmas.List.FromFn.{length-range_with_len}
+use Rattle.rx_event.specs.Kept.{Kept}
 use Rattle.rx_resource.specs.declared.Resource.{Ghosts}
 use Rattle.rx_event.specs.declared.marks.Marks.{Marks}
 use Rattle.rx_event.specs.declared.event.Place.{Place}
@@ -46,12 +47,13 @@ none_closed h (Inner f) kind none n l = by_test (cases_Bool (at is_switch h f)) 
   by_test (inr flat) = is_open-inner_flat h f kind flat n l
 
 -- the node above stays open
-above_open : (h : List Event) (place : Place) (kind : Kind) (p : ℕ) → MayFollow h (Open place kind) → named_by place ≡ Some p → is_open (h ++ Open place kind ∷ []) p ≡ true
-above_open h Root kind p next named = absurd (none-some p named)
-above_open h (Source f) kind p next named = let alive = may_name next named in is_open_kept h (Open (Source f) kind) p (is_open_within h p alive) refl ∙ alive
-above_open h (Notifier f) kind p next named = let alive = may_name next named in is_open_kept h (Open (Notifier f) kind) p (is_open_within h p alive) refl ∙ alive
-above_open h (Inner f) kind p next named =
-    let alive = may_name next named in
+above_open : (base : Kept) → (h : List Event) (place : Place) (kind : Kind) (p : ℕ) → MayFollow base h (Open place kind) → named_by place ≡ Some p → is_open (h ++ Open place kind ∷ []) p ≡ true
+above_open base h Root kind p next named = absurd (none-some p named)
+above_open base h (Source f) kind p next named = let alive = may_name base next named in
+    is_open_kept h (Open (Source f) kind) p (is_open_within h p alive) refl ∙ alive
+above_open base h (Notifier f) kind p next named = let alive = may_name base next named in is_open_kept h (Open (Notifier f) kind) p (is_open_within h p alive) refl ∙ alive
+above_open base h (Inner f) kind p next named =
+    let alive = may_name base next named in
     let same = same_Some f p named in
     is_open_cut h (Open (Inner f) kind) p (is_open_within h p alive) ∙ rw (alive, is_cut_inner h f kind p (omega arith)) refl
 
@@ -67,7 +69,7 @@ opened_owes replaces (Notifier f) m = omega arith
 
 -- the tree that is ready for an opening -------------------------------------------------------------
 
-module _ {T : Type 0} (g : Ghosts T) (h : List Event) (place : Place) (kind : Kind) (law : IsLawful h) (next : MayFollow h (Open place kind)) (old left : Tree T) (tied : IsTied g h old) (sound : IsSound old.nodes) (replaces : Bool) (way : MakesWay h place old left replaces) where
+module _ (base : Kept) {T : Type 0} (g : Ghosts T) (h : List Event) (place : Place) (kind : Kind) (law : IsLawful base h) (next : MayFollow base h (Open place kind)) (old left : Tree T) (tied : IsTied base g h old) (sound : IsSound old.nodes) (replaces : Bool) (way : MakesWay h place old left replaces) where
   -- it has the records of the nodes that stay open
   pub way_left : AreLeft h (Open place kind) old.nodes left.nodes old.chain left.chain
   way_left = by_test (cases_Bool replaces) where
@@ -77,12 +79,12 @@ module _ {T : Type 0} (g : Ghosts T) (h : List Event) (place : Place) (kind : Ki
         let c = x.inner.number in
         let found = some_of (find old.nodes x.inner) x.replaced.inner.found in
         let alive : is_open h c ≡ true = (tied.records.each x.inner found.0 found.1).alive in
-        let opens : (n : ℕ) → n < length h → is_open (h ++ Open place kind ∷ []) n ≡ (is_open h n && not (is_within h c n)) = λ n l. ap (λ (q : Place). is_open (h ++ Open q kind ∷ []) n) x.replaced.named ∙ is_open-inner_switch h switch c kind law x.replaced.switches x.replaced.inner.stands alive n l in
-        cut_left h (Open place kind) law next old.nodes old.chain tied.records left.nodes left.chain c sound opens x.cuts.nodes x.cuts.chain
+        let opens : (n : ℕ) → n < length h → is_open (h ++ Open place kind ∷ []) n ≡ (is_open h n && not (is_within h c n)) = λ n l. ap (λ (q : Place). is_open (h ++ Open q kind ∷ []) n) x.replaced.named ∙ is_open-inner_switch base h switch c kind law x.replaced.switches x.replaced.inner.stands alive n l in
+        cut_left base h (Open place kind) law next old.nodes old.chain tied.records left.nodes left.chain c sound opens x.cuts.nodes x.cuts.chain
 
     by_test : (replaces ≡ true) ⊎ (replaces ≡ false) → AreLeft h (Open place kind) old.nodes left.nodes old.chain left.chain
     by_test (inl takes) = exchanged (way.exchanged takes)
-    by_test (inr leaves) = subst (λ (t : Tree T). AreLeft h (Open place kind) old.nodes t.nodes old.chain t.chain) (sym (way.same leaves)) (all_left h (Open place kind) law next old.nodes old.chain tied.records (none_closed h place kind (way.none leaves)))
+    by_test (inr leaves) = subst (λ (t : Tree T). AreLeft h (Open place kind) old.nodes t.nodes old.chain t.chain) (sym (way.same leaves)) (all_left base h (Open place kind) law next old.nodes old.chain tied.records (none_closed h place kind (way.none leaves)))
 
   pub way_resources : left.resources ≡ old.resources
   way_resources = by_test (cases_Bool replaces) where
@@ -91,29 +93,29 @@ module _ {T : Type 0} (g : Ghosts T) (h : List Event) (place : Place) (kind : Ki
     by_test (inr leaves) = ap (λ (t : Tree T). t.resources) (way.same leaves)
 
   -- an inner changes the marks of the node above as it takes the place of another or not
-  way_marks : (f : ℕ) → place ≡ Inner f → marks_of (h ++ Open (Inner f) kind ∷ []) f ≡ after_inner replaces (marks_of h f)
+  way_marks : (f : ℕ) → place ≡ Inner f → marks_of base (h ++ Open (Inner f) kind ∷ []) f ≡ after_inner replaces (marks_of base h f)
   way_marks f named = by_test (cases_Bool replaces) where
-    may : MayFollow h (Open (Inner f) kind)
-    may = subst (λ (q : Place). MayFollow h (Open q kind)) named next
+    may : MayFollow base h (Open (Inner f) kind)
+    may = subst (λ (q : Place). MayFollow base h (Open q kind)) named next
 
-    exchanged : Exchanges h place old left → marks_of (h ++ Open (Inner f) kind ∷ []) f ≡ after_inner true (marks_of h f)
+    exchanged : Exchanges h place old left → marks_of base (h ++ Open (Inner f) kind ∷ []) f ≡ after_inner true (marks_of base h f)
     exchanged x =
         let same : x.replaced.switch ≡ f = same_inner x.replaced.switch f (sym x.replaced.named ∙ named) in
         let found = some_of (find old.nodes x.inner) x.replaced.inner.found in
         let alive : is_open h x.inner.number ≡ true = (tied.records.each x.inner found.0 found.1).alive in
-        marks-inner_at_next h f x.inner.number kind law may (ap (at is_switch h) (sym same) ∙ x.replaced.switches) (ap (λ n. at (is_inner_of n) h x.inner.number) (sym same) ∙ x.replaced.inner.stands) alive
+        marks-inner_at_next base h f x.inner.number kind law may (ap (at is_switch h) (sym same) ∙ x.replaced.switches) (ap (λ n. at (is_inner_of n) h x.inner.number) (sym same) ∙ x.replaced.inner.stands) alive
 
-    beside : ReplacesNone h place → (at is_switch h f ≡ true) ⊎ (at is_switch h f ≡ false) → marks_of (h ++ Open (Inner f) kind ∷ []) f ≡ after_inner false (marks_of h f)
-    beside none (inl switch) = marks-inner_at_first h f kind law may (none f named switch)
-    beside none (inr flat) = marks-inner_at_flat h f kind law may flat
+    beside : ReplacesNone h place → (at is_switch h f ≡ true) ⊎ (at is_switch h f ≡ false) → marks_of base (h ++ Open (Inner f) kind ∷ []) f ≡ after_inner false (marks_of base h f)
+    beside none (inl switch) = marks-inner_at_first base h f kind law may (none f named switch)
+    beside none (inr flat) = marks-inner_at_flat base h f kind law may flat
 
-    by_test : (replaces ≡ true) ⊎ (replaces ≡ false) → marks_of (h ++ Open (Inner f) kind ∷ []) f ≡ after_inner replaces (marks_of h f)
-    by_test (inl takes) = exchanged (way.exchanged takes) ∙ ap (λ b. after_inner b (marks_of h f)) (sym takes)
-    by_test (inr leaves) = beside (way.none leaves) (cases_Bool (at is_switch h f)) ∙ ap (λ b. after_inner b (marks_of h f)) (sym leaves)
+    by_test : (replaces ≡ true) ⊎ (replaces ≡ false) → marks_of base (h ++ Open (Inner f) kind ∷ []) f ≡ after_inner replaces (marks_of base h f)
+    by_test (inl takes) = exchanged (way.exchanged takes) ∙ ap (λ b. after_inner b (marks_of base h f)) (sym takes)
+    by_test (inr leaves) = beside (way.none leaves) (cases_Bool (at is_switch h f)) ∙ ap (λ b. after_inner b (marks_of base h f)) (sym leaves)
 
   -- the node above is there, as it was
   pub above_found : (p : Key) (x : Node) → named_by place ≡ Some p.number → find old.nodes p ≡ Some x → find left.nodes p ≡ Some x
-  above_found p x named found = way_left.still p x found (above_open h place kind p.number next named)
+  above_found p x named found = way_left.still p x found (above_open base h place kind p.number next named)
 
   pub above_there : (above : Option Key) → named_by place ≡ option_map (λ k. k.number) above → IfSome above (λ k. IsSome (find old.nodes k)) → IfSome above (λ k. IsSome (find left.nodes k))
   above_there None named there = tt
@@ -136,16 +138,16 @@ module _ {T : Type 0} (g : Ghosts T) (h : List Event) (place : Place) (kind : Ki
       by_above None named there opened = tt
       by_above (Some p) named there opened =
           let here = above_there (Some p) named there in
-          ap is_some (found_still g h law old left mid tied key (Open place kind) (Some p) opened p here) ∙ here
+          ap is_some (found_still base g h law old left mid tied key (Open place kind) (Some p) opened p here) ∙ here
 
-    pub above_marks : (P : Node → Type 0) → ((p : Key) (x : Node) → named_by place ≡ Some p.number → IsRecordOf h p.number x → P x) → IfSome above (λ k. IfSome (find mid.nodes k) P)
+    pub above_marks : (P : Node → Type 0) → ((p : Key) (x : Node) → named_by place ≡ Some p.number → IsRecordOf base h p.number x → P x) → IfSome above (λ k. IfSome (find mid.nodes k) P)
     above_marks P holds = by_above above named there opened where
       by_above : (o : Option Key) → named_by place ≡ option_map (λ k. k.number) o → IfSome o (λ k. IsSome (find old.nodes k)) → IsOpenedIn h (Open place kind) o left mid key → IfSome o (λ k. IfSome (find mid.nodes k) P)
       by_above None named there opened = tt
       by_above (Some p) named there opened =
           let x = some_of (find old.nodes p) there in
           let here = above_found p x.0 named x.1 in
-          subst (λ o. IfSome o P) (sym (found_still g h law old left mid tied key (Open place kind) (Some p) opened p (ap is_some here) ∙ here)) (holds p x.0 named (tied.records.each p x.0 x.1))
+          subst (λ o. IfSome o P) (sym (found_still base g h law old left mid tied key (Open place kind) (Some p) opened p (ap is_some here) ∙ here)) (holds p x.0 named (tied.records.each p x.0 x.1))
 
     -- it has few children
     pub few_above : (most : ℕ) → length h < most → IfSome above (λ k. IfSome (find mid.nodes k) (λ node. node.marks.open_children + 1 < suc most))
@@ -159,10 +161,10 @@ module _ {T : Type 0} (g : Ghosts T) (h : List Event) (place : Place) (kind : Ki
     -- and where an inner is opened it owes something
     pub owes_above : (f : ℕ) → place ≡ Inner f → IfSome above (λ k. IfSome (find mid.nodes k) (λ node. 0 < node.marks.owed))
     owes_above f inner = above_marks (λ node. 0 < node.marks.owed) (λ p x named is.
-        let free = may_open (subst (λ (q : Place). MayFollow h (Open q kind)) inner next) in
+        let free = may_open base (subst (λ (q : Place). MayFollow base h (Open q kind)) inner next) in
         let same : f ≡ p.number = same_Some f p.number (sym (ap named_by inner) ∙ named) in
-        let owes : 0 < owed h p.number = subst (λ n. 0 < owed h n) same free.2 in
-        let owing : x.marks.owed ≡ owed h p.number = ap (λ (m : Marks). m.owed) is.marks in
+        let owes : 0 < owed base h p.number = subst (λ n. 0 < owed base h n) same free.2 in
+        let owing : x.marks.owed ≡ owed base h p.number = ap (λ (m : Marks). m.owed) is.marks in
         omega arith)
 
     -- no other node came
@@ -189,30 +191,30 @@ module _ {T : Type 0} (g : Ghosts T) (h : List Event) (place : Place) (kind : Ki
       by_above : (o : Option Key) → IsOpenedIn h (Open place kind) o left mid key → IfSome o (λ p. Remarks mid new p (opened_marks replaces place)) →
           IfNone o (new ≡ mid) → IsSome (find new.nodes k)
       by_above None opened marked same =
-          ap (λ (t : Tree T). is_some (find t.nodes k)) same ∙ ap is_some (found_still g h law old left mid tied key (Open place kind) None opened k some) ∙ some
+          ap (λ (t : Tree T). is_some (find t.nodes k)) same ∙ ap is_some (found_still base g h law old left mid tied key (Open place kind) None opened k some) ∙ some
       by_above (Some p) opened marked same =
-          still_there p marked.nodes k (ap is_some (found_still g h law old left mid tied key (Open place kind) (Some p) opened k some) ∙ some)
+          still_there p marked.nodes k (ap is_some (found_still base g h law old left mid tied key (Open place kind) (Some p) opened k some) ∙ some)
 
 -- the tie after an opening --------------------------------------------------------------------------
 
-module _ {T : Type 0} (g : Ghosts T) (h : List Event) (kind : Kind) (law : IsLawful h) (old left mid new : Tree T) (tied : IsTied g h old) (sound : IsSound old.nodes) (replaces : Bool) (key : Key) where
-  pub opened_tied : (place : Place) (above : Option Key) → MayFollow h (Open place kind) → MakesWay h place old left replaces → AreApart mid.nodes → parent_named (Open place kind) ≡ option_map (λ k. k.number) above → IfSome above (λ k. IsSome (find old.nodes k)) → IsOpenedIn h (Open place kind) above left mid key → IfSome above (λ k. Remarks mid new k (opened_marks replaces place)) → IfNone above (new ≡ mid) → IsTied g (h ++ Open place kind ∷ []) new
+module _ (base : Kept) {T : Type 0} (g : Ghosts T) (h : List Event) (kind : Kind) (law : IsLawful base h) (old left mid new : Tree T) (tied : IsTied base g h old) (sound : IsSound old.nodes) (replaces : Bool) (key : Key) where
+  pub opened_tied : (place : Place) (above : Option Key) → MayFollow base h (Open place kind) → MakesWay h place old left replaces → AreApart mid.nodes → parent_named (Open place kind) ≡ option_map (λ k. k.number) above → IfSome above (λ k. IsSome (find old.nodes k)) → IsOpenedIn h (Open place kind) above left mid key → IfSome above (λ k. Remarks mid new k (opened_marks replaces place)) → IfNone above (new ≡ mid) → IsTied base g (h ++ Open place kind ∷ []) new
   opened_tied Root None next way apart named there opened marked same =
-      let stays = way_left g h Root kind law next old left tied sound replaces way in
-      subst (IsTied g (h ++ Open Root kind ∷ [])) (sym same) (tied_root g h kind law old left mid new tied key next stays (way_resources g h Root kind law next old left tied sound replaces way) opened)
+      let stays = way_left base g h Root kind law next old left tied sound replaces way in
+      subst (IsTied base g (h ++ Open Root kind ∷ [])) (sym same) (tied_root base g h kind law old left mid new tied key next stays (way_resources base g h Root kind law next old left tied sound replaces way) opened)
   opened_tied Root (Some p) next way apart named there opened marked same = absurd (none-some p.number named)
   opened_tied (Source f) None next way apart named there opened marked same = absurd (none-some f (sym named))
   opened_tied (Source f) (Some p) next way apart named there opened marked same =
       let at : p.number ≡ f = sym (same_Some f p.number named) in
-      tied_below g h kind law old left mid new tied key (Source f) p after_source next (way_left g h (Source f) kind law next old left tied sound replaces way) (way_resources g h (Source f) kind law next old left tied sound replaces way) named (λ n differs. ne_eqb f n (λ same. differs (at ∙ same)))
-      (subst (λ (n : ℕ). marks_of (h ++ Open (Source f) kind ∷ []) n ≡ after_source (marks_of h n)) (sym at) (marks-source_at h f kind law next)) apart (above_there g h (Source f) kind law next old left tied sound replaces way (Some p) named there) opened marked
+      tied_below base g h kind law old left mid new tied key (Source f) p after_source next (way_left base g h (Source f) kind law next old left tied sound replaces way) (way_resources base g h (Source f) kind law next old left tied sound replaces way) named (λ n differs. ne_eqb f n (λ same. differs (at ∙ same)))
+      (subst (λ (n : ℕ). marks_of base (h ++ Open (Source f) kind ∷ []) n ≡ after_source (marks_of base h n)) (sym at) (marks-source_at base h f kind law next)) apart (above_there base g h (Source f) kind law next old left tied sound replaces way (Some p) named there) opened marked
   opened_tied (Notifier u) None next way apart named there opened marked same = absurd (none-some u (sym named))
   opened_tied (Notifier u) (Some p) next way apart named there opened marked same =
       let at : p.number ≡ u = sym (same_Some u p.number named) in
-      tied_below g h kind law old left mid new tied key (Notifier u) p after_notifier next (way_left g h (Notifier u) kind law next old left tied sound replaces way) (way_resources g h (Notifier u) kind law next old left tied sound replaces way) named (λ n differs. ne_eqb u n (λ same. differs (at ∙ same)))
-      (subst (λ (n : ℕ). marks_of (h ++ Open (Notifier u) kind ∷ []) n ≡ after_notifier (marks_of h n)) (sym at) (marks-notifier_at h u kind law next)) apart (above_there g h (Notifier u) kind law next old left tied sound replaces way (Some p) named there) opened marked
+      tied_below base g h kind law old left mid new tied key (Notifier u) p after_notifier next (way_left base g h (Notifier u) kind law next old left tied sound replaces way) (way_resources base g h (Notifier u) kind law next old left tied sound replaces way) named (λ n differs. ne_eqb u n (λ same. differs (at ∙ same)))
+      (subst (λ (n : ℕ). marks_of base (h ++ Open (Notifier u) kind ∷ []) n ≡ after_notifier (marks_of base h n)) (sym at) (marks-notifier_at base h u kind law next)) apart (above_there base g h (Notifier u) kind law next old left tied sound replaces way (Some p) named there) opened marked
   opened_tied (Inner f) None next way apart named there opened marked same = absurd (none-some f (sym named))
   opened_tied (Inner f) (Some p) next way apart named there opened marked same =
       let at : p.number ≡ f = sym (same_Some f p.number named) in
-      tied_below g h kind law old left mid new tied key (Inner f) p (after_inner replaces) next (way_left g h (Inner f) kind law next old left tied sound replaces way) (way_resources g h (Inner f) kind law next old left tied sound replaces way) named (λ n differs. ne_eqb f n (λ same. differs (at ∙ same)))
-      (subst (λ (n : ℕ). marks_of (h ++ Open (Inner f) kind ∷ []) n ≡ after_inner replaces (marks_of h n)) (sym at) (way_marks g h (Inner f) kind law next old left tied sound replaces way f refl)) apart (above_there g h (Inner f) kind law next old left tied sound replaces way (Some p) named there) opened marked
+      tied_below base g h kind law old left mid new tied key (Inner f) p (after_inner replaces) next (way_left base g h (Inner f) kind law next old left tied sound replaces way) (way_resources base g h (Inner f) kind law next old left tied sound replaces way) named (λ n differs. ne_eqb f n (λ same. differs (at ∙ same)))
+      (subst (λ (n : ℕ). marks_of base (h ++ Open (Inner f) kind ∷ []) n ≡ after_inner replaces (marks_of base h n)) (sym at) (way_marks base g h (Inner f) kind law next old left tied sound replaces way f refl)) apart (above_there base g h (Inner f) kind law next old left tied sound replaces way (Some p) named there) opened marked

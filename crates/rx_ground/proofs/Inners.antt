@@ -1,11 +1,10 @@
 -- The children of a Switch: its source, and one inner.
 use Rattle.std.specs.Prelude.{IfNone}
-use Rattle.std.proofs.Common.{◌≡◌, ℕ, zero, suc, ◌+◌, ◌<◌, Bool, true, false, List, [], ◌∷◌, take, Option, Some, None, is_some, IsSome, IfSome, option_map, slice_get, refl, sym, ap, ◌∙◌, inl, inr, ◌⊎◌, arith}
-use Rattle.std.proofs.Math.Bool.{◌||◌}
-use Rattle.std.specs.List.{list_any}
+use Rattle.std.proofs.Common.{◌≡◌, ℕ, ◌+◌, true, false, List, Option, Some, None, is_some, IsSome, IfSome, option_map, slice_get, refl, sym, ap, ◌∙◌, inl, inr, ◌⊎◌, arith}
 use Rattle.std.specs.Option.{option_map_or}
-use Rattle.std.proofs.lemmas.Bool.{false≢true, cases_order, both_ways, eqb-true, eq-eqb, or_right, false_from_ne_true}
+use Rattle.std.proofs.lemmas.Bool.{false≢true, both_ways, eq-eqb, false_from_ne_true}
 use Rattle.std.proofs.lemmas.Option.{none-some, same_Some}
+use Rattle.rx_event.specs.Kept.{Kept}
 use Rattle.rx_event.specs.declared.event.Place.{Place}
 use Rattle.rx_event.specs.declared.event.Place.TheVariants.{Root, Source, Inner, Notifier}
 use Rattle.rx_event.specs.declared.event.Kind.TheVariants.{Switch, Until}
@@ -14,11 +13,9 @@ use Rattle.rx_event.specs.declared.event.Event.TheVariants.{Open}
 use Rattle.rx_event.specs.Events.{is_switch, is_until, is_source_of, is_inner_of, inner_named, named_by, parent_named}
 use Rattle.rx_event.specs.Tree.{at, is_open, parent}
 use Rattle.rx_event.specs.Lawful.{IsLawful}
-use Rattle.rx_event.proofs.Laws.Places.{at-take, at_within}
-use Rattle.rx_event.proofs.Laws.Lawful.{lawful_at}
+use Rattle.rx_event.proofs.Laws.Sources.{one_source}
 use Rattle.rx_event.proofs.Laws.Parents.{parent_within, parent_name}
 use Rattle.rx_event.proofs.Laws.Stands.{event_at, notifier_stands}
-use Rattle.rx_event.proofs.Laws.Steps.{may_open}
 use Rattle.rx_event.proofs.Laws.MarksInner.{switched_parent}
 use Rattle.rx_slots.specs.declared.Key.{Key}
 use Rattle.rx_slots.specs.Slots.{Slots, find}
@@ -30,35 +27,6 @@ use Rattle.rx_ground.specs.Ties.{AreRecords}
 use Rattle.rx_ground.specs.Inners.{IsInner, HasNoInner, ReplacesNone}
 use Rattle.rx_ground.proofs.Records.{parent_in_tree}
 
--- one source --------------------------------------------------------------------------------------
-
-at_any : (p : Event → Bool) (h : List Event) (n : ℕ) → at p h n ≡ true → list_any p h ≡ true
-at_any p [] n passes = absurd (false≢true passes)
-at_any p (x ∷ h) zero passes = ap (λ b. b || list_any p h) passes
-at_any p (x ∷ h) (suc n) passes = or_right (p x) (list_any p h) (at_any p h n passes)
-
--- a second one is not opened
-no_later : (h : List Event) → IsLawful h → (f a b : ℕ) → a < b → at (is_source_of f) h a ≡ true → at (is_source_of f) h b ≡ true → ⊥
-no_later h law f a b l one other = by_event (slice_get h b) refl other where
-  by_event : (o : Option Event) → slice_get h b ≡ o → option_map_or (is_source_of f) o false ≡ true → ⊥
-  by_event None at_b source = absurd (false≢true source)
-  by_event (Some (Open (Source q) kind)) at_b source =
-      let same : q ≡ f = eqb-true q f source in
-      let free = may_open (lawful_at h law b (Open (Source q) kind) at_b) in
-      let before : at (is_source_of f) (take b h) a ≡ true = at-take (is_source_of f) h b a l (at_within (is_source_of f) h b other) ∙ one in
-      absurd (both_ways (list_any (is_source_of f) (take b h)) (ap (λ n. list_any (is_source_of n) (take b h)) (sym same) ∙ free.2) (at_any (is_source_of f) (take b h) a before))
-  by_event (Some (Open Root kind)) at_b source = absurd (false≢true source)
-  by_event (Some (Open (Inner q) kind)) at_b source = absurd (false≢true source)
-  by_event (Some (Open (Notifier q) kind)) at_b source = absurd (false≢true source)
-  by_event (Some _) at_b source = absurd (false≢true source)
-
-one_source : (h : List Event) → IsLawful h → (f a b : ℕ) → at (is_source_of f) h a ≡ true → at (is_source_of f) h b ≡ true → a ≡ b
-one_source h law f a b one other = by_order (cases_order a b) where
-  by_order : (a ≡ b) ⊎ ((a < b) ⊎ (b < a)) → a ≡ b
-  by_order (inl same) = same
-  by_order (inr (inl l)) = absurd (no_later h law f a b l one other)
-  by_order (inr (inr l)) = absurd (no_later h law f b a l other one)
-
 -- children ----------------------------------------------------------------------------------------
 
 no_until : (o : Option Event) → option_map_or is_switch o false ≡ true → option_map_or is_until o false ≡ true → ⊥
@@ -68,8 +36,8 @@ no_until (Some (Open place Until)) s u = absurd (false≢true s)
 no_until (Some _) s u = absurd (false≢true s)
 
 -- what stands below a Switch is a source or an inner
-child_of_switch : (h : List Event) → IsLawful h → (f n : ℕ) → at is_switch h f ≡ true → parent h n ≡ Some f → (at (is_source_of f) h n ≡ true) ⊎ (at (is_inner_of f) h n ≡ true)
-child_of_switch h law f n switch below = by_event e.0 e.1 (parent_name h n f e.0 below e.1) where
+child_of_switch : (base : Kept) → (h : List Event) → IsLawful base h → (f n : ℕ) → at is_switch h f ≡ true → parent h n ≡ Some f → (at (is_source_of f) h n ≡ true) ⊎ (at (is_inner_of f) h n ≡ true)
+child_of_switch base h law f n switch below = by_event e.0 e.1 (parent_name h n f e.0 below e.1) where
   e : (e : Event) × (slice_get h n ≡ Some e)
   e = event_at h n (parent_within h n f below)
 
@@ -77,21 +45,21 @@ child_of_switch h law f n switch below = by_event e.0 e.1 (parent_name h n f e.0
   by_event (Open Root kind) at_n named = absurd (none-some f named)
   by_event (Open (Source q) kind) at_n named = inl (ap (λ (o : Option Event). option_map_or (is_source_of f) o false) at_n ∙ eq-eqb q f (same_Some q f named))
   by_event (Open (Inner q) kind) at_n named = inr (ap (λ (o : Option Event). option_map_or (is_inner_of f) o false) at_n ∙ eq-eqb q f (same_Some q f named))
-  by_event (Open (Notifier q) kind) at_n named = absurd (no_until (slice_get h f) switch (ap (at is_until h) (sym (same_Some q f named)) ∙ notifier_stands h law n q kind at_n))
+  by_event (Open (Notifier q) kind) at_n named = absurd (no_until (slice_get h f) switch (ap (at is_until h) (sym (same_Some q f named)) ∙ notifier_stands base h law n q kind at_n))
   by_event _ at_n named = absurd (none-some f named)
 
-module _ (h : List Event) (law : IsLawful h) (nodes : Slots Node) (chain : List Key) (r : AreRecords h nodes chain) (switch : Key) (there : IsSome (find nodes switch)) (switches : at is_switch h switch.number ≡ true) where
+module _ (base : Kept) (h : List Event) (law : IsLawful base h) (nodes : Slots Node) (chain : List Key) (r : AreRecords base h nodes chain) (switch : Key) (there : IsSome (find nodes switch)) (switches : at is_switch h switch.number ≡ true) where
   -- a child of the tree stands there in the history, at one of the two places
   child_place : (key : Key) → IsChild nodes switch key → (at (is_source_of switch.number) h key.number ≡ true) ⊎ (at (is_inner_of switch.number) h key.number ≡ true)
   child_place key child =
       let x = some_of (find nodes key) (child_found nodes key switch.number child.named) in
-      child_of_switch h law switch.number key.number switches (sym (parent_in_tree h nodes chain r key x.0 x.1) ∙ child.named)
+      child_of_switch base h law switch.number key.number switches (sym (parent_in_tree base h nodes chain r key x.0 x.1) ∙ child.named)
 
   -- an open inner is a child of the tree
   inner_child : (n : ℕ) → at (is_inner_of switch.number) h n ≡ true → is_open h n ≡ true → (key : Key) × IsChild nodes switch key × (key.number ≡ n)
   inner_child n inner alive =
       let has = r.every n alive in
-      (has.key, record { there = there; named = parent_in_tree h nodes chain r has.key has.value has.found ∙ ap (parent h) has.numbered ∙ switched_parent h law switch.number n inner }, has.numbered)
+      (has.key, record { there = there; named = parent_in_tree base h nodes chain r has.key has.value has.found ∙ ap (parent h) has.numbered ∙ switched_parent base h law switch.number n inner }, has.numbered)
 
   -- without a child it has no inner
   pub no_child : HasNone (IsChild nodes switch) 0 → HasNoInner h switch.number
@@ -137,7 +105,7 @@ module _ (h : List Event) (law : IsLawful h) (nodes : Slots Node) (chain : List 
     pub inner_next : (next : Key) → IsFirst (IsChild nodes switch) (first.number + 1) next → IsInner h nodes switch.number next
     inner_next next younger = by_place (child_place next younger.one) where
       by_place : (at (is_source_of switch.number) h next.number ≡ true) ⊎ (at (is_inner_of switch.number) h next.number ≡ true) → IsInner h nodes switch.number next
-      by_place (inl source) = absurd (let same = one_source h law switch.number first.number next.number source_first source in let more = younger.at_least in omega arith)
+      by_place (inl source) = absurd (let same = one_source base h law switch.number first.number next.number source_first source in let more = younger.at_least in omega arith)
       by_place (inr inner) = record { stands = inner; found = child_found nodes next switch.number younger.one.named }
 
     -- or nothing
@@ -169,8 +137,8 @@ made_found None made read = absurd (none-some made read)
 made_found (Some x) made read = (x, refl, same_Some x.made made read)
 
 -- where the node above is no Switch, nothing is replaced
-pub no_switch : (h : List Event) (nodes : Slots Node) (chain : List Key) (r : AreRecords h nodes chain) (place : Place) (above : Option Key) (merging : Key) (made : Event) → named_by place ≡ option_map (λ k. k.number) above → above ≡ Some merging → option_map (λ (x : Node). x.made) (find nodes merging) ≡ Some made → false ≡ is_switch made → ReplacesNone h place
-no_switch h nodes chain r place above merging made named at_above read flat f inner switch =
+pub no_switch : (base : Kept) → (h : List Event) (nodes : Slots Node) (chain : List Key) (r : AreRecords base h nodes chain) (place : Place) (above : Option Key) (merging : Key) (made : Event) → named_by place ≡ option_map (λ k. k.number) above → above ≡ Some merging → option_map (λ (x : Node). x.made) (find nodes merging) ≡ Some made → false ≡ is_switch made → ReplacesNone h place
+no_switch base h nodes chain r place above merging made named at_above read flat f inner switch =
     let x = made_found (find nodes merging) made read in
     let same : f ≡ merging.number = same_Some f merging.number (sym (ap named_by inner) ∙ named ∙ ap (option_map (λ (k : Key). k.number)) at_above) in
     absurd (both_ways (at is_switch h f) (ap (at is_switch h) same ∙ ap (λ (o : Option Event). option_map_or is_switch o false) (r.each merging x.0 x.1).made ∙ ap is_switch x.2 ∙ sym flat) switch)

@@ -9,6 +9,7 @@ use Rattle.std.proofs.lemmas.Bool.{false≢true, and_parts, and_from, eq-eqb, eq
 use Rattle.std.proofs.lemmas.List.{length-map}
 use Rattle.std.proofs.lemmas.List.FromFn.{get_or-range_with_len, length-range_with_len}
 use Rattle.std.proofs.lemmas.Option.{none-some, same_Some, slice_get_within, get_or_from_slice_get}
+use Rattle.rx_event.specs.Kept.{Kept}
 use Rattle.rx_resource.specs.declared.Resource.{Ghosts}
 use Rattle.rx_event.specs.declared.event.Event.{Event}
 use Rattle.rx_event.specs.declared.event.Event.TheVariants.{Open, Connect}
@@ -18,8 +19,7 @@ use Rattle.rx_event.specs.declared.event.Kind.TheVariants.{Leaf, Pass, Flat, Swi
 use Rattle.rx_event.specs.Events.{makes_hub, hub_connected, hub_subscribed, is_connect_of, is_subscriber_of}
 use Rattle.rx_event.specs.Tree.{at, is_open, places}
 use Rattle.rx_event.specs.Lawful.{IsLawful}
-use Rattle.rx_event.proofs.Laws.Hubs.{may_connect_hub}
-use Rattle.rx_event.proofs.Laws.Lawful.{lawful_at}
+use Rattle.rx_event.proofs.Laws.Sound.{hub_before}
 use Rattle.rx_event.proofs.Laws.Lists.{AllByRecursion-both}
 use Rattle.rx_event.proofs.Laws.Openness.{is_open_within}
 use Rattle.rx_event.proofs.Laws.Places.{at-append, at_within}
@@ -185,23 +185,23 @@ connection_named (Connect k) g named = ap (λ n. Connect n) (same_Some k g named
 connection_named _ g named = absurd (none-some g named)
 
 -- what was connected is a hub
-pub connected_hub : (h : List Event) → IsLawful h → (c g : ℕ) → slice_get h c ≡ Some (Connect g) → at makes_hub h g ≡ true
-connected_hub h law c g at_c =
-    let made : at makes_hub (take c h) g ≡ true = may_connect_hub (lawful_at h law c (Connect g) at_c) in
+pub connected_hub : (base : Kept) → (h : List Event) → IsLawful base h → (c g : ℕ) → slice_get h c ≡ Some (Connect g) → at makes_hub h g ≡ true
+connected_hub base h law c g at_c =
+    let made : at makes_hub (take c h) g ≡ true = hub_before base h law c g at_c in
     ap (λ k. at makes_hub k g) (sym (take-append-drop c h)) ∙ at-append makes_hub (take c h) (drop c h) g (at_within makes_hub (take c h) g made) ∙ made
 
-module _ {T : Type 0} (g : Ghosts T) (h : List Event) (tree : Tree T) (hubs : Hubs) (tied : AreTied g h tree hubs) (law : IsLawful h) (sound : IsSound tree.nodes) where
+module _ (base : Kept) {T : Type 0} (g : Ghosts T) (h : List Event) (tree : Tree T) (hubs : Hubs) (tied : AreTied base g h tree hubs) (law : IsLawful base h) (sound : IsSound tree.nodes) where
   -- a record's node is known to the hubs as what its event made it
   known : (c : Closed) → find tree.nodes c.key ≡ Some c.node → IsKnown hubs.hubs c
   known c found = record {
     subscribed = λ n named. found_has hubs.hubs n (tied.published.subscribed n c.key.number (told (is_subscriber_of n) (subscriber_named c.node.made n named)));
     connected = λ n named. found_has hubs.hubs n
-        (tied.published.every n (connected_hub h law c.key.number n (is.made ∙ ap (λ (e : Event). Some e) (connection_named c.node.made n named))));
+        (tied.published.every n (connected_hub base h law c.key.number n (is.made ∙ ap (λ (e : Event). Some e) (connection_named c.node.made n named))));
     subscribes = λ i hub at_i. same_test _ _ (subscribes_now i hub at_i) (subscriber_there i hub at_i);
     connects = λ i hub at_i. same_test _ _ (connects_now i hub at_i) (connection_there i hub at_i);
   }
     where
-      is : IsRecordOf h c.key.number c.node
+      is : IsRecordOf base h c.key.number c.node
       is = tied.of_tree.records.each c.key c.node found
 
       told : (p : Event → Bool) → p c.node.made ≡ true → at p h c.key.number ≡ true
@@ -243,7 +243,7 @@ module _ {T : Type 0} (g : Ghosts T) (h : List Event) (tree : Tree T) (hubs : Hu
       connection_there : (i : ℕ) (hub : Hub) → slice_get hubs.hubs i ≡ Some hub → is_connect_of hub.number c.node.made ≡ true →
           option_map_or (is_key c.key) hub.connection false ≡ true
       connection_there i hub at_i connects =
-          let one = named_connection h hub law (tied.published.each i hub at_i) c.key.number (told (is_connect_of hub.number) connects) is.alive in
+          let one = named_connection base h hub law (tied.published.each i hub at_i) c.key.number (told (is_connect_of hub.number) connects) is.alive in
           let there : IsSome (find tree.nodes one.0) =
           subst (λ (o : Option Key). IfSome o (λ key. IsSome (find tree.nodes key))) one.1 (tied.joined.connection i hub at_i) in
           ap (λ (o : Option Key). option_map_or (is_key c.key) o false) one.1 ∙ ap (is_key c.key) (same one.0 there one.2) ∙ key_itself c.key
@@ -264,7 +264,7 @@ module _ {T : Type 0} (g : Ghosts T) (h : List Event) (tree : Tree T) (hubs : Hu
       stays : (key : Key) → IsSome (find tree.nodes key) → not (is_inside h top key) ≡ true → IsSome (find left.nodes key)
       stays key some apart =
           let x = some_of (find tree.nodes key) some in
-          let outside = below_is_within h tree.nodes tree.chain tied.of_tree.records sound key x.0 x.1 top ∙ not-true (is_inside h top key) apart in
+          let outside = below_is_within base h tree.nodes tree.chain tied.of_tree.records sound key x.0 x.1 top ∙ not-true (is_inside h top key) apart in
           ap is_some (cuts.nodes key ∙ ap (λ b. cond b None (find tree.nodes key)) outside) ∙ some
 
       by_option : (x : Hub) (o : Option Key) → IfSome o (λ key. IsSome (find tree.nodes key)) → (b : Bool) → option_map_or (is_inside h top) o false ≡ b →
@@ -284,7 +284,7 @@ module _ {T : Type 0} (g : Ghosts T) (h : List Event) (tree : Tree T) (hubs : Hu
 
     -- a key of the tree is moved out just where its node is inside the top
     moved_inside : (key : Key) → IsSome (find tree.nodes key) → is_closed closed key ≡ is_inside h top key
-    moved_inside key some = same_test _ _ out within ∙ below_is_within h tree.nodes tree.chain tied.of_tree.records sound key x.0 x.1 top where
+    moved_inside key some = same_test _ _ out within ∙ below_is_within base h tree.nodes tree.chain tied.of_tree.records sound key x.0 x.1 top where
       x : (node : Node) × (find tree.nodes key ≡ Some node)
       x = some_of (find tree.nodes key) some
 

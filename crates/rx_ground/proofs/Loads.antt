@@ -1,5 +1,6 @@
 -- What closing everything needs, counted from what is there.
 use Rattle.std.proofs.Common.{◌≡◌, ℕ, ◌+◌, ◌-◌, ◌*◌, ◌≤◌, List, [], length, ap, arith}
+use Rattle.rx_event.specs.Kept.{Kept}
 use Rattle.rx_event.specs.declared.event.Event.{Event}
 use Rattle.rx_event.specs.Totals.{open_count, waiting_count, accepted_count, taken_count, owed_count, debt}
 use Rattle.rx_event.specs.Lawful.{IsLawful}
@@ -10,26 +11,26 @@ use Rattle.rx_register.specs.Paid.{IsPaid}
 use Rattle.rx_register.proofs.Laws.Empty.{debt_empty}
 
 -- the debt is counted from the open nodes, those that wait, what was accepted and taken, and what is owed
-pub debt_counted : (h : List Event) → IsLawful h → (nodes waiting accepted taken owing : ℕ) → nodes ≡ open_count h →
-    waiting ≡ waiting_count h → accepted ≡ accepted_count h → taken ≡ taken_count h → owing ≡ owed_count h →
-    nodes + 2 * (accepted - taken - waiting) + waiting + owing ≡ debt h
-debt_counted h law nodes waiting accepted taken owing o w a t p =
-    let parts = accepted_count-parts h law in
-    let counts = debt-counts h in
+pub debt_counted : (base : Kept) → (h : List Event) → IsLawful base h → (nodes waiting accepted taken owing : ℕ) → nodes ≡ open_count h →
+    waiting ≡ waiting_count h → accepted ≡ accepted_count base h → taken ≡ taken_count base h → owing ≡ owed_count base h →
+    nodes + 2 * (accepted - taken - waiting) + waiting + owing ≡ debt base h
+debt_counted base h law nodes waiting accepted taken owing o w a t p =
+    let parts = accepted_count-parts base h law in
+    let counts = debt-counts base h in
     omega arith
 
 -- a register that is paid for has room for it
-pub debt_bounded : (s : State) → IsPromised s → IsPaid s → debt s.history ≤ 4294967295
-debt_bounded s promised paid = let e = paid.events in let r = promised.room in let l = promised.limited in omega arith
+pub debt_bounded : (s : State) → IsPromised s → IsPaid s → debt s.base s.history ≤ 4294967295
+debt_bounded s promised paid = let e = paid.events in let b = promised.begun in let r = promised.room in let l = promised.limited in omega arith
 
 -- and each open node takes a part of it
-pub open_count_in_debt : (h : List Event) → open_count h ≤ debt h
-open_count_in_debt h = let counts = debt-counts h in omega arith
+pub open_count_in_debt : (base : Kept) → (h : List Event) → open_count h ≤ debt base h
+open_count_in_debt base h = let counts = debt-counts base h in omega arith
 
 -- nothing is needed in a new register
-pub fits_empty : (h : List Event) (limit more : ℕ) → h ≡ [] → more ≤ limit → length h + debt h + more ≤ limit
-fits_empty h limit more empty fits =
-    let none = ap debt empty in
+pub fits_empty : (base : Kept) → (h : List Event) (limit more : ℕ) → h ≡ [] → more ≤ limit → length h + debt base h + more ≤ base.at_length + limit
+fits_empty base h limit more empty fits =
+    let none = ap (debt base) empty in
     let nothing = ap (length {A = Event}) empty in
-    let zero = debt_empty in
+    let zero = debt_empty base in
     omega arith

@@ -1,12 +1,10 @@
 -- What was there before the next event, and what is found of a held resource.
-use Rattle.std.proofs.Common.{◌≡◌, ℕ, ◌≤◌, true, false, List, length, Option, Some, None, IfSome, refl, sym, subst, arith}
+use Rattle.std.proofs.Common.{◌≡◌, ℕ, true, false, List, length, Option, Some, None, IfSome, refl, sym, subst, arith}
 use Rattle.std.specs.Option.{option_map_or}
 use Rattle.std.proofs.lemmas.Bool.{false≢true}
-use Rattle.std.proofs.lemmas.List.Sums.{count_by-le-length}
+use Rattle.rx_event.specs.Kept.{Kept}
 use Rattle.rx_resource.specs.declared.Resource.{Ghosts}
 use Rattle.rx_event.specs.declared.event.Event.{Event}
-use Rattle.rx_event.specs.Events.{is_use_of}
-use Rattle.rx_event.specs.Resources.{uses}
 use Rattle.rx_event.specs.Lawful.{IsLawful}
 use Rattle.rx_event.proofs.Laws.Openness.{is_open_within}
 use Rattle.rx_slots.specs.Slots.{find}
@@ -18,17 +16,18 @@ use Rattle.rx_tree.proofs.Laws.Keys.{some_of}
 use Rattle.rx_ground.specs.Ties.{IsTied}
 use Rattle.rx_ground.proofs.Stored.{stored_within}
 
-module _ {T : Type 0} (g : Ghosts T) (h : List Event) (tree : Tree T) (tied : IsTied g h tree) (law : IsLawful h) (n : ℕ) (at_end : n ≡ length h) where
+module _ (base : Kept) {T : Type 0} (g : Ghosts T) (h : List Event) (tree : Tree T) (tied : IsTied base g h tree) (law : IsLawful base h) (n : ℕ) (at_end : n ≡ length h) where
   pub past_resources : IsPast tree.resources n
   past_resources key some =
       let x = some_of (find tree.resources key) some in
-      let w = (stored_within g h law tree.nodes key.number x.0 (tied.stored.each key x.0 x.1)).0 in
+      let w = (stored_within base g h law tree.nodes key.number x.0 (tied.stored.each key x.0 x.1)).0 in
       omega arith
 
   pub newest : IsNewest tree n
   newest = record {
     past = λ key some. let x = some_of (find tree.nodes key) some in let w = is_open_within h key.number (tied.records.each key x.0 x.1).alive in omega arith;
-    homes = λ key s found. let w = stored_within g h law tree.nodes key.number s (tied.stored.each key s found) in let a = w.0 in let b = w.1 in omega arith;
+    homes = λ key s found. let w = stored_within base g h law tree.nodes key.number s (tied.stored.each key s found) in let a = w.0 in let b = w.1 in
+        omega arith;
   }
 
 -- what the key of a held resource finds
@@ -42,11 +41,6 @@ held_found {T = T} tree res held = by_value (find tree.resources (store_key res)
   by_value : (o : Option (Stowed T)) → find tree.resources (store_key res) ≡ o → option_map_or (is_held tree.nodes) o false ≡ true → IsFoundHeld tree res
   by_value None found held = absurd (false≢true held)
   by_value (Some x) found held = record { stowed = x; found = found; held = held }
-
--- a resource is used no more often than there are events
-pub used_within : (h : List Event) (r : ℕ) → uses h r ≤ length h
-unfolding uses
-used_within h r = count_by-le-length (is_use_of r) h
 
 -- what is said of what is found
 pub of_found : {X : Type 0} (o : Option X) (x : X) (P : X → Type 0) → o ≡ Some x → IfSome o P → P x

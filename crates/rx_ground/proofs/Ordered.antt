@@ -3,6 +3,7 @@ use Rattle.std.proofs.Common.{◌≡◌, ℕ, suc, ◌<◌, true, false, List, [
 use Rattle.std.proofs.Math.Bool.{◌||◌}
 use Rattle.std.specs.List.{list_any}
 use Rattle.std.specs.Option.{option_and_then, option_map_or}
+use Rattle.rx_event.specs.Kept.{Kept}
 use Rattle.rx_resource.specs.declared.Resource.{Ghosts}
 use Rattle.rx_event.specs.declared.event.Event.{Event}
 use Rattle.rx_event.specs.Events.{parent_named}
@@ -17,10 +18,11 @@ use Rattle.rx_ground.specs.Ties.{IsTied}
 use Rattle.rx_ground.specs.Told.{is_inside_up_to}
 
 -- a record names the node above as the history does
-pub parent_told : {T : Type 0} (g : Ghosts T) (h : List Event) (tree : Tree T) → IsTied g h tree → (key : Key) → is_some (find tree.nodes key) ≡ true →
+pub parent_told : (base : Kept) → {T : Type 0} (g : Ghosts T) (h : List Event) (tree : Tree T) → IsTied base g h tree → (key : Key) →
+    is_some (find tree.nodes key) ≡ true →
     parent_number tree.nodes key ≡ parent h key.number
 unfolding parent
-parent_told g h tree tied key there =
+parent_told base g h tree tied key there =
     let x = some_of (find tree.nodes key) there in
     let is = tied.records.each key x.0 x.1 in
     ap (option_and_then (named_above key.number)) x.1 ∙ ap (λ o. option_and_then (if_less key.number) (option_and_then parent_named o)) (sym is.made)

@@ -1,10 +1,10 @@
 -- What all open FlatMaps and Switches owe together, by the history and by the records of a tree, and that it stays within 64 bits.
-use Rattle.std.proofs.Common.{◌≡◌, ℕ, zero, suc, ◌+◌, ◌*◌, ◌<◌, ◌≤◌, Bool, true, false, cond, List, [], ◌∷◌, ◌++◌, length, Option, Some, None, is_some, IsSome, option_map, refl, sym, ap, ◌∙◌, inl, inr, ◌⊎◌, arith, length-append}
+use Rattle.std.proofs.Common.{◌≡◌, ℕ, zero, suc, ◌+◌, ◌*◌, ◌<◌, ◌≤◌, Bool, true, false, cond, List, [], ◌∷◌, ◌++◌, length, Option, Some, None, is_some, IsSome, option_map, refl, sym, ap, ◌∙◌, arith, length-append}
 use Rattle.std.proofs.Math.Bool.{not, ◌&&◌}
 use Rattle.std.specs.List.{AllByRecursion, count_by, filter_map, cons_option}
-use Rattle.std.proofs.lemmas.Bool.{cases_order}
-use Rattle.std.proofs.lemmas.Option.{none-some, same_Some, slice_get_past}
+use Rattle.std.proofs.lemmas.Option.{none-some, same_Some}
 use Rattle.std.proofs.lemmas.List.Sums.{sum_by-cons}
+use Rattle.rx_event.specs.Kept.{Kept, shown}
 use Rattle.rx_resource.specs.declared.Resource.{Ghosts}
 use Rattle.rx_event.specs.declared.event.Event.{Event}
 use Rattle.rx_event.specs.declared.event.Event.TheVariants.{Item}
@@ -12,16 +12,18 @@ use Rattle.rx_event.specs.declared.marks.Marks.{Marks}
 use Rattle.rx_event.specs.Events.{is_merging, pays}
 use Rattle.rx_event.specs.Tree.{at, is_open}
 use Rattle.rx_event.specs.Climb.{Stop, stop_at, onward, visited, most_visits, climb, stops}
-use Rattle.rx_event.specs.Moments.{moments, projections, owed, is_projection, is_projection_to, stops_of}
+use Rattle.rx_event.specs.Moments.{owed, is_projection, is_projection_to, stops_of}
 use Rattle.rx_event.specs.Totals.{owed_open, owed_count}
 use Rattle.rx_event.specs.Claims.Climbs.{StopsAtOpen}
 use Rattle.rx_event.specs.Lawful.{MayFollow, IsLawful}
 use Rattle.rx_event.proofs.Laws.Places.{at-append}
-use Rattle.rx_event.proofs.Laws.Counts.{projections-push}
 use Rattle.rx_event.proofs.Laws.Openness.{is_cut, is_open_cut, is_open_within}
-use Rattle.rx_event.proofs.Laws.Steps.{by_pushes, by_events, may_emit}
+use Rattle.rx_event.proofs.Laws.Steps.{by_events, may_emit}
 use Rattle.rx_event.proofs.Laws.Sums.{sum_by-places-push, sum_by-plus, sum_by_no_rise}
-use Rattle.rx_event.proofs.Laws.Projections.{projects_none, owed-push, owed_new, projected_open, projected_count, stops_open}
+use Rattle.rx_event.proofs.Laws.Bases.{length-shown}
+use Rattle.rx_event.proofs.Laws.Debt.{debt-counts}
+use Rattle.rx_event.proofs.Laws.Plain.{owed_plain}
+use Rattle.rx_event.proofs.Laws.Projections.{owed-push, owed_new, projected_open, projected_count, stops_open}
 use Rattle.rx_slots.specs.declared.Key.{Key}
 use Rattle.rx_slots.specs.Slots.{Slots, find}
 use Rattle.rx_tree.specs.declared.node.Node.{Node}
@@ -33,33 +35,12 @@ use Rattle.rx_ground.specs.Ties.{AreRecords, IsTied}
 
 -- what one node owes ------------------------------------------------------------------------------
 
-merging_before : (h : List Event) (e : Event) (f : ℕ) → at is_merging (h ++ e ∷ []) f ≡ false → at is_merging h f ≡ false
-merging_before h e f plain = by_place (cases_order f (length h)) where
-  past : length h ≤ f → at is_merging h f ≡ false
-  past l = rw (slice_get_past h f l) refl
-
-  by_place : (f ≡ length h) ⊎ ((f < length h) ⊎ (length h < f)) → at is_merging h f ≡ false
-  by_place (inl same) = past (omega arith)
-  by_place (inr (inl l)) = sym (at-append is_merging h (e ∷ []) f l) ∙ plain
-  by_place (inr (inr gr)) = past (omega arith)
-
--- what is no FlatMap or Switch was never projected to
-projections_none : (h : List Event) (f : ℕ) → at is_merging h f ≡ false → projections h f ≡ 0
-unfolding projections moments
-projections_none = by_pushes (λ h. (f : ℕ) → at is_merging h f ≡ false → projections h f ≡ 0) (λ f plain. refl) (λ h e before f plain.
-    let was = merging_before h e f plain in projections-push h e f ∙ rw (before f was, projects_none h e f was) refl)
-
--- and owes nothing
-pub owed_none : (h : List Event) (f : ℕ) → at is_merging h f ≡ false → owed h f ≡ 0
-unfolding owed
-owed_none h f plain = let none = projections_none h f plain in omega arith
-
 -- what an open node owes
-pub owed_open-open : (h : List Event) (n : ℕ) → is_open h n ≡ true → owed_open h n ≡ owed h n
-owed_open-open h n alive = by_kind (at is_merging h n) refl where
-  by_kind : (b : Bool) → at is_merging h n ≡ b → owed_open h n ≡ owed h n
+pub owed_open-open : (base : Kept) → (h : List Event) → IsLawful base h → (n : ℕ) → is_open h n ≡ true → owed_open base h n ≡ owed base h n
+owed_open-open base h law n alive = by_kind (at is_merging h n) refl where
+  by_kind : (b : Bool) → at is_merging h n ≡ b → owed_open base h n ≡ owed base h n
   by_kind true merges = rw (alive, merges) refl
-  by_kind false plain = rw (alive, plain) (sym (owed_none h n plain))
+  by_kind false plain = rw (alive, plain) (sym (owed_plain base h law n alive plain))
 
 -- what all owe ------------------------------------------------------------------------------------
 
@@ -92,16 +73,16 @@ few_projected h (Item l v) most is = let few = projected_item h l in omega arith
 few_projected h _ most is = omega arith
 
 -- an event adds what it projects at most
-owed_count-rise : (h : List Event) (e : Event) → IsLawful h → MayFollow h e →
-    owed_count (h ++ e ∷ []) ≤ owed_count h + count_by is_projection (stops_of h e)
-owed_count-rise h e law next =
-    let last = sum_by-places-push (owed_open (h ++ e ∷ [])) h e in
-    let new = owes_none (is_open (h ++ e ∷ []) (length h) && at is_merging (h ++ e ∷ []) (length h)) (owed (h ++ e ∷ []) (length h)) (owed_new h e) in
-    let less = sum_by_no_rise (λ n. owed_open h n + projected_open h (stops_of h e) n) (owed_open (h ++ e ∷ [])) (length h) (λ n l.
+owed_count-rise : (base : Kept) → (h : List Event) (e : Event) → IsLawful base h → MayFollow base h e →
+    owed_count base (h ++ e ∷ []) ≤ owed_count base h + count_by is_projection (stops_of h e)
+owed_count-rise base h e law next =
+    let last = sum_by-places-push (owed_open base (h ++ e ∷ [])) h e in
+    let new = owes_none (is_open (h ++ e ∷ []) (length h) && at is_merging (h ++ e ∷ []) (length h)) (owed base (h ++ e ∷ []) (length h)) (owed_new base h law e) in
+    let less = sum_by_no_rise (λ n. owed_open base h n + projected_open h (stops_of h e) n) (owed_open base (h ++ e ∷ [])) (length h) (λ n l.
     rw (is_open_cut h e n l, at-append is_merging h (e ∷ []) n l)
-    (shape (is_open h n) (is_cut h e n) (at is_merging h n) (pays n e) (owed (h ++ e ∷ []) n) (owed h n) (count_by (is_projection_to n) (stops_of h e))
-    (owed-push h e law next n))) in
-    let parts = sum_by-plus (owed_open h) (projected_open h (stops_of h e)) (length h) in
+    (shape (is_open h n) (is_cut h e n) (at is_merging h n) (pays n e) (owed base (h ++ e ∷ []) n) (owed base h n) (count_by (is_projection_to n) (stops_of h e))
+    (owed-push base h e law next n))) in
+    let parts = sum_by-plus (owed_open base h) (projected_open h (stops_of h e)) (length h) in
     let projected = projected_count h (stops_of h e) (well e next) in
     omega arith
   where
@@ -115,42 +96,52 @@ owed_count-rise h e law next =
     shape true false false p x y k same = omega arith
     shape false c m p x y k same = omega arith
 
-    well : (e : Event) → MayFollow h e → AllByRecursion (StopsAtOpen h) (stops_of h e)
-    well (Item l v) next = stops_open h l law (may_emit next)
+    well : (e : Event) → MayFollow base h e → AllByRecursion (StopsAtOpen h) (stops_of h e)
+    well (Item l v) next = stops_open base h l law (may_emit base next)
     well _ next = tt
 
--- so all that is owed is bounded by the number of events
-owed_count-le : (h : List Event) → IsLawful h → owed_count h ≤ 1048577 * length h
-owed_count-le = by_events (λ h. owed_count h ≤ 1048577 * length h) (omega arith) (λ h e law next before.
-    let rise = owed_count-rise h e law next in
+-- so all that is owed is bounded by what the base owes and the number of events since
+owed_count-le : (base : Kept) → (h : List Event) → IsLawful base h →
+    owed_count base h + 1048577 * length (shown base) ≤ owed_count base (shown base) + 1048577 * length h
+owed_count-le base = by_events base (λ h. owed_count base h + 1048577 * length (shown base) ≤ owed_count base (shown base) + 1048577 * length h) (λ started. omega arith)
+    (λ h e law next before.
+    let rise = owed_count-rise base h e law next in
     let few = few_projected h e 1048577 limit_is in
     omega (arith, length-append h (e ∷ [])))
 
--- and of a history of at most 4,294,967,295 events it is far within 64 bits
-pub owed_count-bounded : (h : List Event) → IsLawful h → length h ≤ 4294967295 → owed_count h ≤ 4503603921289215
-owed_count-bounded h law within = let all = owed_count-le h law in omega arith
+-- and with at most 4,294,967,295 events since, and a base whose closing fits them, it is far within 64 bits
+pub owed_count-bounded : (s : Register) → IsPromised s → owed_count s.base s.history ≤ 4503608216256510
+owed_count-bounded s promised =
+    let all = owed_count-le s.base s.history promised.lawful in
+    let long = length-shown s.base in
+    let within = promised.within in
+    let limited = promised.limited in
+    let closing = promised.closing in
+    let counts = debt-counts s.base (shown s.base) in
+    omega arith
 
 -- by the records of a tree ------------------------------------------------------------------------
 
 -- a node's marks say what it owes by the history
-pub owed_told : (h : List Event) (nodes : Slots Node) (chain : List Key) → AreRecords h nodes chain → (key : Key) (marks : Marks) →
-    option_map (λ (node : Node). node.marks) (find nodes key) ≡ Some marks → marks.owed ≡ owed h key.number
-owed_told h nodes chain records key marks at_key = by_value (find nodes key) refl at_key where
-  by_value : (o : Option Node) → find nodes key ≡ o → option_map (λ (node : Node). node.marks) o ≡ Some marks → marks.owed ≡ owed h key.number
+pub owed_told : (base : Kept) → (h : List Event) (nodes : Slots Node) (chain : List Key) → AreRecords base h nodes chain → (key : Key) (marks : Marks) →
+    option_map (λ (node : Node). node.marks) (find nodes key) ≡ Some marks → marks.owed ≡ owed base h key.number
+owed_told base h nodes chain records key marks at_key = by_value (find nodes key) refl at_key where
+  by_value : (o : Option Node) → find nodes key ≡ o → option_map (λ (node : Node). node.marks) o ≡ Some marks → marks.owed ≡ owed base h key.number
   by_value None found none = absurd (none-some marks none)
   by_value (Some node) found same = ap (λ (m : Marks). m.owed) (sym (same_Some node.marks marks same) ∙ (records.each key node found).marks)
 
 -- what the records owe together is what the history's FlatMaps and Switches do
-pub owed_in-count : (h : List Event) (nodes : Slots Node) (chain : List Key) → AreRecords h nodes chain → AreApart nodes → owed_in nodes ≡ owed_count h
-owed_in-count h nodes chain records apart = owed_in-numbers (owed_open h) (length h) nodes apart each every where
-  each : (key : Key) (node : Node) → find nodes key ≡ Some node → (key.number < length h) × (node.marks.owed ≡ owed_open h key.number)
+pub owed_in-count : (base : Kept) → (h : List Event) → IsLawful base h → (nodes : Slots Node) (chain : List Key) → AreRecords base h nodes chain →
+    AreApart nodes → owed_in nodes ≡ owed_count base h
+owed_in-count base h law nodes chain records apart = owed_in-numbers (owed_open base h) (length h) nodes apart each every where
+  each : (key : Key) (node : Node) → find nodes key ≡ Some node → (key.number < length h) × (node.marks.owed ≡ owed_open base h key.number)
   each key node found =
       let is = records.each key node found in
-      (is_open_within h key.number is.alive, ap (λ (m : Marks). m.owed) is.marks ∙ sym (owed_open-open h key.number is.alive))
+      (is_open_within h key.number is.alive, ap (λ (m : Marks). m.owed) is.marks ∙ sym (owed_open-open base h law key.number is.alive))
 
-  every : (k : ℕ) → k < length h → 0 < owed_open h k → (key : Key) × (key.number ≡ k) × IsSome (find nodes key)
+  every : (k : ℕ) → k < length h → 0 < owed_open base h k → (key : Key) × (key.number ≡ k) × IsSome (find nodes key)
   every k l some = by_test (is_open h k) refl some where
-    by_test : (b : Bool) → is_open h k ≡ b → 0 < cond (b && at is_merging h k) (owed h k) 0 → (key : Key) × (key.number ≡ k) × IsSome (find nodes key)
+    by_test : (b : Bool) → is_open h k ≡ b → 0 < cond (b && at is_merging h k) (owed base h k) 0 → (key : Key) × (key.number ≡ k) × IsSome (find nodes key)
     by_test true alive some = let has = records.every k alive in (has.key, has.numbered, ap is_some has.found)
     by_test false shut some = absurd (omega arith)
 
@@ -166,11 +157,9 @@ owed_marks-le nodes key marks at_key = by_value (find nodes key) refl at_key whe
       omega arith
 
 -- and all of it far within 64 bits
-pub owed_in-bounded : {T : Type 0} (g : Ghosts T) (s : Register) (tree : Tree T) → IsTied g s.history tree → IsPromised s → AreApart tree.nodes →
-    owed_in tree.nodes ≤ 4503603921289215
+pub owed_in-bounded : {T : Type 0} (g : Ghosts T) (s : Register) (tree : Tree T) → IsTied s.base g s.history tree → IsPromised s → AreApart tree.nodes →
+    owed_in tree.nodes ≤ 4503608216256510
 owed_in-bounded g s tree tied promised apart =
-    let same = owed_in-count s.history tree.nodes tree.chain tied.records apart in
-    let within = promised.within in
-    let limited = promised.limited in
-    let all = owed_count-bounded s.history promised.lawful (omega arith) in
+    let same = owed_in-count s.base s.history promised.lawful tree.nodes tree.chain tied.records apart in
+    let all = owed_count-bounded s promised in
     omega arith

@@ -6,6 +6,7 @@ use Rattle.std.specs.List.{AllByRecursion, filter_map, cons_option}
 use Rattle.std.specs.Option.{option_and_then, option_map_or, option_to_list}
 use Rattle.std.proofs.lemmas.List.Elements.{filter_map-append}
 use Rattle.std.proofs.lemmas.List.Sums.{sum_by-append, count_by-le-length}
+use Rattle.rx_event.specs.Kept.{Kept}
 use Rattle.rx_event.specs.declared.mail.Mail.{Mail}
 use Rattle.rx_event.specs.declared.marks.Marks.{Marks}
 use Rattle.rx_event.specs.declared.event.Place.TheVariants.{Root, Source, Inner, Notifier}
@@ -122,8 +123,8 @@ record IsNumbered (stop : Stop) (last : NumberedStop) : Type 0 where
   owed_is : owed_at stop ≡ count_by is_projection (last ∷ [])
 
 -- what is marked there leaves everything else as it was
-record IsFurther {T : Type 0} (h : List Event) (done : List NumberedStop) (hubs : List Hub) (route : Route) (stop : Stop) (last : NumberedStop) (old new : Tree T) : Type 0 where
-  records : ArePassed h (done ++ last ∷ []) new.nodes new.chain
+record IsFurther (base : Kept) {T : Type 0} (h : List Event) (done : List NumberedStop) (hubs : List Hub) (route : Route) (stop : Stop) (last : NumberedStop) (old new : Tree T) : Type 0 where
+  records : ArePassed base h (done ++ last ∷ []) new.nodes new.chain
   ordered : IsOrdered new.nodes hubs
   under_way : IsUnderWay new.nodes hubs route
   left : stops_left new.nodes hubs route ≡ stops_left old.nodes hubs route
@@ -132,10 +133,10 @@ record IsFurther {T : Type 0} (h : List Event) (done : List NumberedStop) (hubs 
   resources : new.resources ≡ old.resources
   owed : owed_in new.nodes ≡ owed_in old.nodes + owed_at stop
 
-module _ {T : Type 0} (h : List Event) (done : List NumberedStop) (hubs : List Hub) (route : Route) (old new : Tree T) (passed : ArePassed h done old.nodes old.chain) (apart : AreApart old.nodes) (ordered : IsOrdered old.nodes hubs) (under_way : IsUnderWay old.nodes hubs route) where
-  further_told : (key : Key) → new ≡ old → IsFurther h done hubs route (Delivery key) (DeliveryTo key.number) old new
-  further_told key same = subst (λ (tree : Tree T). IsFurther h done hubs route (Delivery key) (DeliveryTo key.number) old tree) (sym same) (record {
-    records = passed_told h done old.nodes old.chain key.number passed;
+module _ (base : Kept) {T : Type 0} (h : List Event) (done : List NumberedStop) (hubs : List Hub) (route : Route) (old new : Tree T) (passed : ArePassed base h done old.nodes old.chain) (apart : AreApart old.nodes) (ordered : IsOrdered old.nodes hubs) (under_way : IsUnderWay old.nodes hubs route) where
+  further_told : (key : Key) → new ≡ old → IsFurther base h done hubs route (Delivery key) (DeliveryTo key.number) old new
+  further_told key same = subst (λ (tree : Tree T). IsFurther base h done hubs route (Delivery key) (DeliveryTo key.number) old tree) (sym same) (record {
+    records = passed_told base h done old.nodes old.chain key.number passed;
     ordered = ordered;
     under_way = under_way;
     left = refl;
@@ -146,10 +147,10 @@ module _ {T : Type 0} (h : List Event) (done : List NumberedStop) (hubs : List H
   })
 
   further_marked : (key : Key) (stop : Stop) (last : NumberedStop) (change : Marks → Marks) → IsSome (find old.nodes key) → Changes key.number last change →
-      Remarks old new key change → ((m : Marks) → (change m).owed ≡ m.owed + owed_at stop) → IsFurther h done hubs route stop last old new
+      Remarks old new key change → ((m : Marks) → (change m).owed ≡ m.owed + owed_at stop) → IsFurther base h done hubs route stop last old new
   further_marked key stop last change found changes marked adds = record {
-    records = subst (ArePassed h (done ++ last ∷ []) new.nodes) (sym marked.chain)
-        (passed_marked h done old.nodes new.nodes old.chain key last change passed apart found changes marked.nodes);
+    records = subst (ArePassed base h (done ++ last ∷ []) new.nodes) (sym marked.chain)
+        (passed_marked base h done old.nodes new.nodes old.chain key last change passed apart found changes marked.nodes);
     ordered = ordered-marked old.nodes new.nodes key marks fixed hubs ordered;
     under_way = under_way-marked old.nodes new.nodes key marks fixed hubs route under_way;
     left = stops_left-marked old.nodes new.nodes key marks fixed hubs route;
@@ -185,7 +186,7 @@ module _ {T : Type 0} (h : List Event) (done : List NumberedStop) (hubs : List H
         by_key (inr differs) = ap is_some (marked.nodes.others k differs)
 
   further : (stop : Stop) → IsThere old.nodes stop → IsMarkedAt stop old new →
-      (last : NumberedStop) × IsNumbered stop last × IsFurther h done hubs route stop last old new
+      (last : NumberedStop) × IsNumbered stop last × IsFurther base h done hubs route stop last old new
   further (Delivery key) there marks = (DeliveryTo key.number, record { named = refl; mail = λ place v. refl; told_is = λ place v. refl; owed_is = refl }, further_told key marks)
   further (Projection key) there marks = (
     ProjectionTo key.number,
@@ -212,7 +213,8 @@ pub record IsGoing {T : Type 0} (first : Register) (start : Tree T) (hubs : List
   pub few : length (stops first.history leaf) ≤ 1048577
 
 module _ {T : Type 0} (first : Register) (start : Tree T) (hubs : List Hub) (room : ℕ) (leaf : Key) (value : ℤ) where
-  pub going_starts : (route : Route) → IsLawful first.history → IsWalk first.history start.nodes hubs → AreRecords first.history start.nodes start.chain →
+  pub going_starts : (route : Route) → IsLawful first.base first.history → IsWalk first.base first.history start.nodes hubs →
+      AreRecords first.base first.history start.nodes start.chain →
       IsSome (find start.nodes leaf) → first.pending ≡ [] → IsUnderWay start.nodes hubs route → route.room ≡ room →
       stops_left start.nodes hubs route ≡ stops_over start.nodes hubs leaf → IsGoing first start hubs room leaf.number value first start route
   going_starts route law walk records found pending under_way same left = record {
@@ -222,13 +224,13 @@ module _ {T : Type 0} (first : Register) (start : Tree T) (hubs : List Hub) (roo
       same = refl;
       pending = pending;
       mail_room = omega arith;
-      records = passed_none first.history start.nodes start.chain records;
+      records = passed_none first.base first.history start.nodes start.chain records;
       there = λ key. refl;
       places = refl;
       resources = refl;
       owed = let none : count_by is_projection [] ≡ 0 = refl in omega arith;
     };
-    ordered = IsOrdered-walk first.history start.nodes hubs law walk;
+    ordered = IsOrdered-walk first.base first.history start.nodes hubs law walk;
     under_way = under_way;
     room_is = same;
     there = subst (AllByRecursion (IsThere start.nodes)) (sym left) (stops_there start.nodes hubs walk.sound walk.found leaf found);
@@ -238,7 +240,7 @@ module _ {T : Type 0} (first : Register) (start : Tree T) (hubs : List Hub) (roo
   }
     where
       all_stops : stops first.history leaf.number ≡ filter_map numbered (stops_over start.nodes hubs leaf)
-      all_stops = all_stops_told first.history start.nodes hubs leaf walk found
+      all_stops = all_stops_told first.base first.history start.nodes hubs leaf walk found
 
   module _ (register : Register) (tree : Tree T) (route next : Route) (stop : Stop) (going : IsGoing first start hubs room leaf.number value register tree route) (arrives : Arrives tree.nodes hubs route next (Some stop)) where
     ahead : AllByRecursion (IsThere tree.nodes) (stop ∷ stops_left tree.nodes hubs next)
@@ -263,7 +265,7 @@ module _ {T : Type 0} (first : Register) (start : Tree T) (hubs : List Hub) (roo
         omega arith
 
     -- and what all owe stays far within 64 bits
-    pub stop_countable : owed_in start.nodes ≤ 4503603921289215 → owed_in tree.nodes < 9223372036854775808
+    pub stop_countable : owed_in start.nodes ≤ 4503608216256510 → owed_in tree.nodes < 9223372036854775808
     stop_countable bounded =
         let p = going.passing in
         let few = going.few in
@@ -277,7 +279,7 @@ module _ {T : Type 0} (first : Register) (start : Tree T) (hubs : List Hub) (roo
         told_register ≡ record register { pending = told_register.pending; mail_room = told_register.mail_room } →
         told_register.pending ≡ register.pending ++ option_to_list (mail_at (length register.history) value stop) →
         register.mail_room ≡ told_register.mail_room + told_at stop →
-        IsFurther first.history going.passing.done hubs next stop last tree marked →
+        IsFurther first.base first.history going.passing.done hubs next stop last tree marked →
         IsGoing first start hubs room leaf.number value told_register marked next
     go_on told_register marked last is same pending mail_room further = record {
       passing = record {
@@ -332,8 +334,8 @@ module _ {T : Type 0} (first : Register) (start : Tree T) (hubs : List Hub) (roo
 module _ {T : Type 0} (first : Register) (start : Tree T) (hubs : List Hub) (room : ℕ) (leaf : Key) (value : ℤ) (register : Register) (tree marked : Tree T)
     (route next : Route) (stop : Stop) (going : IsGoing first start hubs room leaf.number value register tree route)
     (arrives : Arrives tree.nodes hubs route next (Some stop)) (marks : IsMarkedAt stop tree marked) where
-  marked_further : (last : NumberedStop) × IsNumbered stop last × IsFurther first.history going.passing.done hubs next stop last tree marked
-  marked_further = further first.history going.passing.done hubs next tree marked going.passing.records going.apart going.ordered arrives.under_way stop
+  marked_further : (last : NumberedStop) × IsNumbered stop last × IsFurther first.base first.history going.passing.done hubs next stop last tree marked
+  marked_further = further first.base first.history going.passing.done hubs next tree marked going.passing.records going.apart going.ordered arrives.under_way stop
       (stop_there first start hubs room leaf value register tree route next stop going arrives) marks
 
   pub going_on : (told_register : Register) → told_register ≡ record register { pending = told_register.pending; mail_room = told_register.mail_room } →

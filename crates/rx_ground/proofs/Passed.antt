@@ -3,6 +3,7 @@ use Rattle.std.proofs.Common.{◌≡◌, ◌≢◌, ℕ, ℤ, true, false, cond,
 use Rattle.std.proofs.Common.{refl, sym, ap, ◌∙◌, inl, inr, ◌⊎◌}
 use Rattle.std.proofs.lemmas.Bool.{both_ways, eq-eqb, ne_eqb}
 use Rattle.std.proofs.lemmas.Option.{same_Some}
+use Rattle.rx_event.specs.Kept.{Kept}
 use Rattle.rx_resource.specs.declared.Resource.{Ghosts}
 use Rattle.rx_event.specs.declared.marks.Marks.{Marks}
 use Rattle.rx_event.specs.declared.event.Event.{Event}
@@ -53,8 +54,8 @@ firing_changes n = record {
 -- records -----------------------------------------------------------------------------------------
 
 -- before the first stop
-pub passed_none : (h : List Event) (nodes : Slots Node) (chain : List Key) → AreRecords h nodes chain → ArePassed h [] nodes chain
-passed_none h nodes chain r = record {
+pub passed_none : (base : Kept) → (h : List Event) (nodes : Slots Node) (chain : List Key) → AreRecords base h nodes chain → ArePassed base h [] nodes chain
+passed_none base h nodes chain r = record {
   made = λ key node found. (r.each key node found).made;
   alive = λ key node found. (r.each key node found).alive;
   marks = λ key node found. (r.each key node found).marks;
@@ -63,21 +64,22 @@ passed_none h nodes chain r = record {
 }
 
 -- at a stop that changes no marks
-pub passed_told : (h : List Event) (done : List NumberedStop) (nodes : Slots Node) (chain : List Key) (root : ℕ) → ArePassed h done nodes chain →
-    ArePassed h (done ++ DeliveryTo root ∷ []) nodes chain
-passed_told h done nodes chain root p = record {
+pub passed_told : (base : Kept) → (h : List Event) (done : List NumberedStop) (nodes : Slots Node) (chain : List Key) (root : ℕ) →
+    ArePassed base h done nodes chain →
+    ArePassed base h (done ++ DeliveryTo root ∷ []) nodes chain
+passed_told base h done nodes chain root p = record {
   made = p.made;
   alive = p.alive;
-  marks = λ key node found. p.marks key node found ∙ sym (after_stops-append key.number done (DeliveryTo root) (marks_of h key.number));
+  marks = λ key node found. p.marks key node found ∙ sym (after_stops-append key.number done (DeliveryTo root) (marks_of base h key.number));
   every = p.every;
   quiet = p.quiet;
 }
 
 -- at one that changes those of one record
-pub passed_marked : (h : List Event) (done : List NumberedStop) (nodes new : Slots Node) (chain : List Key) (p : Key) (s : NumberedStop) (change : Marks → Marks) →
-    ArePassed h done nodes chain → AreApart nodes → IsSome (find nodes p) → Changes p.number s change →
-    Rewrites nodes new p (λ node. with_marks (change node.marks) node) → ArePassed h (done ++ s ∷ []) new (with_last p chain)
-passed_marked h done nodes new chain p s change was apart there changes rewrites =
+pub passed_marked : (base : Kept) → (h : List Event) (done : List NumberedStop) (nodes new : Slots Node) (chain : List Key) (p : Key) (s : NumberedStop) (change : Marks → Marks) →
+    ArePassed base h done nodes chain → AreApart nodes → IsSome (find nodes p) → Changes p.number s change →
+    Rewrites nodes new p (λ node. with_marks (change node.marks) node) → ArePassed base h (done ++ s ∷ []) new (with_last p chain)
+passed_marked base h done nodes new chain p s change was apart there changes rewrites =
     record { made = made; alive = alive; marks = marks; every = every; quiet = quiet } where
       before : (x : Node) × (find nodes p ≡ Some x)
       before = some_of (find nodes p) there
@@ -109,20 +111,21 @@ passed_marked h done nodes new chain p s change was apart there changes rewrites
         by_key (inl same) = ap (is_open h) (number key same) ∙ was.alive p before.0 before.1
         by_key (inr differs) = was.alive key node (other key node differs found)
 
-      marks : (key : Key) (node : Node) → find new key ≡ Some node → node.marks ≡ after_stops key.number (done ++ s ∷ []) (marks_of h key.number)
+      marks : (key : Key) (node : Node) → find new key ≡ Some node → node.marks ≡ after_stops key.number (done ++ s ∷ []) (marks_of base h key.number)
       marks key node found = by_key (cases_key key p) where
-        more : (n : ℕ) → after_stops n (done ++ s ∷ []) (marks_of h n) ≡ after_stop n s (after_stops n done (marks_of h n))
-        more n = after_stops-append n done s (marks_of h n)
+        more : (n : ℕ) → after_stops n (done ++ s ∷ []) (marks_of base h n) ≡ after_stop n s (after_stops n done (marks_of base h n))
+        more n = after_stops-append n done s (marks_of base h n)
 
-        by_key : (key ≡ p) ⊎ (key ≢ p) → node.marks ≡ after_stops key.number (done ++ s ∷ []) (marks_of h key.number)
+        by_key : (key ≡ p) ⊎ (key ≢ p) → node.marks ≡ after_stops key.number (done ++ s ∷ []) (marks_of base h key.number)
         by_key (inl same) =
             sym (ap (λ (x : Node). x.marks) (is_after key node same found)) ∙ ap change (was.marks p before.0 before.1) ∙
-            sym (changes.here (after_stops p.number done (marks_of h p.number))) ∙ sym (more p.number) ∙
-            ap (λ (n : ℕ). after_stops n (done ++ s ∷ []) (marks_of h n)) (sym (number key same))
+            sym (changes.here (after_stops p.number done (marks_of base h p.number))) ∙ sym (more p.number) ∙
+            ap (λ (n : ℕ). after_stops n (done ++ s ∷ []) (marks_of base h n)) (sym (number key same))
         by_key (inr differs) =
             let old = other key node differs found in
             let apart_numbers : p.number ≢ key.number = λ same. differs (apart key p (ap is_some old) there (sym same)) in
-            was.marks key node old ∙ sym (changes.others key.number apart_numbers (after_stops key.number done (marks_of h key.number))) ∙ sym (more key.number)
+            was.marks key node old ∙ sym (changes.others key.number apart_numbers (after_stops key.number done (marks_of base h key.number))) ∙
+            sym (more key.number)
 
       every : (n : ℕ) → is_open h n ≡ true → HasKey new n
       every n open_now = by_key (was.every n open_now) where
@@ -139,15 +142,16 @@ passed_marked h done nodes new chain p s change was apart there changes rewrites
         by_key (inr differs) = was.quiet key node (other key node differs found) (off_last key p chain off)
 
 -- and after the last, once the item is written
-pub passed_all : (h : List Event) (leaf : ℕ) (v : ℤ) (nodes : Slots Node) (chain : List Key) → IsLawful h → MayFollow h (Item leaf v) →
-    ArePassed h (stops h leaf) nodes chain → AreRecords (h ++ Item leaf v ∷ []) nodes chain
-passed_all h leaf v nodes chain law next p = record {
+pub passed_all : (base : Kept) → (h : List Event) (leaf : ℕ) (v : ℤ) (nodes : Slots Node) (chain : List Key) → IsLawful base h →
+    MayFollow base h (Item leaf v) →
+    ArePassed base h (stops h leaf) nodes chain → AreRecords base (h ++ Item leaf v ∷ []) nodes chain
+passed_all base h leaf v nodes chain law next p = record {
   each = λ key node found.
       let within = is_open_within h key.number (p.alive key node found) in
       record {
         made = slice_get-append h (Item leaf v ∷ []) key.number within ∙ p.made key node found;
         alive = is_open_unchanged h (Item leaf v) refl refl key.number ∙ p.alive key node found;
-        marks = p.marks key node found ∙ sym (marks-item_at h leaf v law next key.number within);
+        marks = p.marks key node found ∙ sym (marks-item_at base h leaf v law next key.number within);
       };
   every = λ n alive. p.every n (sym (is_open_unchanged h (Item leaf v) refl refl n) ∙ alive);
   quiet = p.quiet;
@@ -156,12 +160,14 @@ passed_all h leaf v nodes chain law next p = record {
 -- ties --------------------------------------------------------------------------------------------
 
 -- an item that went its whole way and is written
-pub tied_item : {T : Type 0} (g : Ghosts T) (h : List Event) (leaf : ℕ) (v : ℤ) → IsLawful h → MayFollow h (Item leaf v) → (old new : Tree T) (hubs : Hubs) →
-    AreTied g h old hubs → ArePassed h (stops h leaf) new.nodes new.chain → ((key : Key) → IsSome (find old.nodes key) → IsSome (find new.nodes key)) →
-    new.resources ≡ old.resources → AreTied g (h ++ Item leaf v ∷ []) new hubs
-tied_item g h leaf v law next old new hubs tied passed still same =
-    tied_on g (Item leaf v) law next tied refl refl refl still (record {
-      records = passed_all h leaf v new.nodes new.chain law next passed;
-      stored = all_stored g h law (Item leaf v) old new tied.of_tree.stored same refl (λ r. record { removes = refl; takes = refl; uses = refl })
+pub tied_item : (base : Kept) → {T : Type 0} (g : Ghosts T) (h : List Event) (leaf : ℕ) (v : ℤ) → IsLawful base h → MayFollow base h (Item leaf v) →
+    (old new : Tree T) (hubs : Hubs) →
+    AreTied base g h old hubs → ArePassed base h (stops h leaf) new.nodes new.chain →
+    ((key : Key) → IsSome (find old.nodes key) → IsSome (find new.nodes key)) →
+    new.resources ≡ old.resources → AreTied base g (h ++ Item leaf v ∷ []) new hubs
+tied_item base g h leaf v law next old new hubs tied passed still same =
+    tied_on g base (Item leaf v) law next tied refl refl refl still (record {
+      records = passed_all base h leaf v new.nodes new.chain law next passed;
+      stored = all_stored base g h law (Item leaf v) old new tied.of_tree.stored same refl (λ r. record { removes = refl; takes = refl; uses = refl })
           (λ key there alive. still key there);
     })

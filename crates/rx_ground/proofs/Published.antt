@@ -7,6 +7,7 @@ use Rattle.std.proofs.lemmas.Bool.{false≢true, cases_Bool, lt-ltb, ltb-true, l
 use Rattle.std.proofs.lemmas.List.{length-map}
 use Rattle.std.proofs.lemmas.List.Sums.{length-filter}
 use Rattle.std.proofs.lemmas.Option.{slice_get_within, slice_get-get_or, get_or_from_slice_get}
+use Rattle.rx_event.specs.Kept.{Kept}
 use Rattle.rx_resource.specs.declared.Resource.{Ghosts}
 use Rattle.rx_event.specs.declared.event.Mode.{Mode}
 use Rattle.rx_event.specs.declared.event.Place.{Place}
@@ -156,17 +157,17 @@ too_many h s promised of count is = one_more most_hubs 1023 count (length (hubs_
 -- ties --------------------------------------------------------------------------------------------
 
 -- what an opening leaves of the hubs, in the place of an open inner or not
-pub cleared : {T : Type 0} (g : Ghosts T) (h : List Event) (place : Place) (kind : Kind) (slot : ℕ) (old left : Tree T) (hubs later : Hubs) (replaces : Bool) → IsLawful h →
-    AreTied g h old hubs → MakesWay h place old left replaces → ClearsHubs h place old left hubs later replaces →
+pub cleared : (base : Kept) → {T : Type 0} (g : Ghosts T) (h : List Event) (place : Place) (kind : Kind) (slot : ℕ) (old left : Tree T) (hubs later : Hubs) (replaces : Bool) → IsLawful base h →
+    AreTied base g h old hubs → MakesWay h place old left replaces → ClearsHubs h place old left hubs later replaces →
     hubs_after h (Open place kind) slot hubs.hubs ≡ with_made (next_key h slot) (Open place kind) later.hubs
-cleared {T = T} g h place kind slot old left hubs later replaces law tied way clears = by_test (cases_Bool replaces) where
+cleared base {T = T} g h place kind slot old left hubs later replaces law tied way clears = by_test (cases_Bool replaces) where
   exchanged : LeavesHubs h place old left hubs later → hubs_after h (Open place kind) slot hubs.hubs ≡ with_made (next_key h slot) (Open place kind) later.hubs
   exchanged x =
       let r = x.replaced in
       let found = some_of (find old.nodes x.inner) r.inner.found in
       let alive = (tied.of_tree.records.each x.inner found.0 found.1).alive in
       ap (λ (q : Place). hubs_after h (Open q kind) slot hubs.hubs) r.named ∙
-      hubs_exchanged h r.switch x.inner.number kind slot hubs.hubs law tied.published r.switches r.inner.stands alive ∙
+      hubs_exchanged base h r.switch x.inner.number kind slot hubs.hubs law tied.published r.switches r.inner.stands alive ∙
       (λ i. with_made (next_key h slot) (Open (sym r.named i) kind) ((sym x.leave i).hubs))
 
   by_test : (replaces ≡ true) ⊎ (replaces ≡ false) → hubs_after h (Open place kind) slot hubs.hubs ≡ with_made (next_key h slot) (Open place kind) later.hubs
@@ -188,31 +189,31 @@ rest_same h place old left hubs later replaces clears = by_test (cases_Bool repl
       let same = clears.same leaves in
       same ∙ ap (λ (hs : Hubs). record hubs { hubs = hs.hubs }) (sym same)
 
-module _ {T : Type 0} (g : Ghosts T) (h : List Event) (place : Place) (old left : Tree T) (hubs later : Hubs) (replaces : Bool) (law : IsLawful h)
-    (tied : AreTied g h old hubs) (clears : ClearsHubs h place old left hubs later replaces) where
+module _ (base : Kept) {T : Type 0} (g : Ghosts T) (h : List Event) (place : Place) (old left : Tree T) (hubs later : Hubs) (replaces : Bool) (law : IsLawful base h)
+    (tied : AreTied base g h old hubs) (clears : ClearsHubs h place old left hubs later replaces) where
   -- what is left of the hubs finds its records in what is left of the tree
   pub joined_left : IsSound old.nodes → MakesWay h place old left replaces → AreJoined left.nodes later.hubs
   joined_left sound way = by_test (cases_Bool replaces) where
     by_test : (replaces ≡ true) ⊎ (replaces ≡ false) → AreJoined left.nodes later.hubs
     by_test (inl takes) =
         let x = clears.exchanged takes in
-        subst (λ (hs : Hubs). AreJoined left.nodes hs.hubs) (sym x.leave) (joined_cut g h old hubs tied law sound left x.inner.number None x.cuts)
+        subst (λ (hs : Hubs). AreJoined left.nodes hs.hubs) (sym x.leave) (joined_cut base g h old hubs tied law sound left x.inner.number None x.cuts)
     by_test (inr leaves) =
         subst (λ (hs : Hubs). AreJoined left.nodes hs.hubs) (sym (clears.same leaves))
         (subst (λ (t : Tree T). AreJoined t.nodes hubs.hubs) (sym (way.same leaves)) tied.joined)
 
   -- the hub that is subscribed to is there still, and its subscribers are older
-  pub ready_left : (n : ℕ) → MayFollow h (Open place (Sub n)) →
+  pub ready_left : (n : ℕ) → MayFollow base h (Open place (Sub n)) →
       (hub : Hub) × (find_hub later.hubs n ≡ Some hub) × AreBelow (length h) hub.subscribers
   ready_left n next = by_test (cases_Bool replaces) where
     by_test : (replaces ≡ true) ⊎ (replaces ≡ false) → (hub : Hub) × (find_hub later.hubs n ≡ Some hub) × AreBelow (length h) hub.subscribers
     by_test (inl takes) =
         let x = clears.exchanged takes in
         subst (λ (hs : Hubs). (hub : Hub) × (find_hub hs.hubs n ≡ Some hub) × AreBelow (length h) hub.subscribers) (sym x.leave)
-        (ready_to_exchange h place n hubs.hubs (is_inside h x.inner.number) None next tied.published)
+        (ready_to_exchange base h place n hubs.hubs (is_inside h x.inner.number) None next tied.published)
     by_test (inr leaves) =
         subst (λ (hs : Hubs). (hub : Hub) × (find_hub hs.hubs n ≡ Some hub) × AreBelow (length h) hub.subscribers) (sym (clears.same leaves))
-        (ready_to_subscribe h place n hubs.hubs next tied.published)
+        (ready_to_subscribe base h place n hubs.hubs next tied.published)
 
 -- the hubs after a connection of one of them
 pub connected_after : (h : List Event) (n : ℕ) (key : Key) (hubs : List Hub) → AreHubsOf h hubs → key.number ≡ length h →
@@ -221,45 +222,53 @@ connected_after h n key hubs of numbered =
     hubs_connected h n key.slot hubs of ∙ (λ i. at_hub n (connected (record { slot = key.slot; number = sym numbered i })) hubs)
 
 module _ {T : Type 0} (g : Ghosts T) where
+  -- over the same base
+  pub rebased : {c base : Kept} {h : List Event} {tree : Tree T} {hubs : Hubs} → c ≡ base → AreTied base g h tree hubs → AreTied c g h tree hubs
+  rebased {h = h} {tree = tree} {hubs = hubs} same tied = subst (λ (b : Kept). AreTied b g h tree hubs) (sym same) tied
+
   -- another tree of the same history with the same nodes, beside the same hubs
-  pub tied_beside : {h : List Event} {old new : Tree T} {hubs later : Hubs} → later.hubs ≡ hubs.hubs →
-      ((key : Key) → IsSome (find old.nodes key) → IsSome (find new.nodes key)) → AreTied g h old hubs → IsTied g h new → AreTied g h new later
-  tied_beside {h = h} {old = old} {new = new} {hubs = hubs} {later = later} same still was tied = record {
+  pub tied_beside : (base : Kept) → {h : List Event} {old new : Tree T} {hubs later : Hubs} → later.hubs ≡ hubs.hubs →
+      ((key : Key) → IsSome (find old.nodes key) → IsSome (find new.nodes key)) → AreTied base g h old hubs → IsTied base g h new → AreTied base g h new later
+  tied_beside base {h = h} {old = old} {new = new} {hubs = hubs} {later = later} same still was tied = record {
     of_tree = tied;
     published = subst (AreHubsOf h) (sym same) was.published;
     joined = subst (AreJoined new.nodes) (sym same) (joined_still h old.nodes new.nodes hubs.hubs was.published (λ key some alive. still key some) was.joined);
   }
 
   -- a tree after one more event, which closes no node and makes none, and no hub
-  pub tied_on : {h k : List Event} {old new : Tree T} {hubs : Hubs} (e : Event) → IsLawful h → MayFollow h e → AreTied g h old hubs → k ≡ h ++ e ∷ [] →
+  pub tied_on : (base : Kept) → {h k : List Event} {old new : Tree T} {hubs : Hubs} (e : Event) → IsLawful base h → MayFollow base h e →
+      AreTied base g h old hubs → k ≡ h ++ e ∷ [] →
       joins_hubs e ≡ false → shuts_none e ≡ true → ((key : Key) → IsSome (find old.nodes key) → IsSome (find new.nodes key)) →
-      IsTied g k new → AreTied g k new hubs
-  tied_on {h = h} {k = k} {old = old} {new = new} {hubs = hubs} e law next was grown joins shuts still tied = record {
+      IsTied base g k new → AreTied base g k new hubs
+  tied_on base {h = h} {k = k} {old = old} {new = new} {hubs = hubs} e law next was grown joins shuts still tied = record {
     of_tree = tied;
     published = of;
     joined = joined_still k old.nodes new.nodes hubs.hubs of (λ key some alive. still key some) was.joined;
   }
     where
       of : AreHubsOf k hubs.hubs
-      of = subst (λ (j : List Event). AreHubsOf j hubs.hubs) (sym grown) (hubs_stay h e hubs.hubs law next was.published joins (closes_none h e shuts))
+      of = subst (λ (j : List Event). AreHubsOf j hubs.hubs) (sym grown) (hubs_stay base h e hubs.hubs law next was.published joins (closes_none h e shuts))
 
   -- with the nodes as they were
-  pub tied_on_same : {h k : List Event} {old new : Tree T} {hubs : Hubs} (e : Event) → IsLawful h → MayFollow h e → AreTied g h old hubs → k ≡ h ++ e ∷ [] →
-      joins_hubs e ≡ false → shuts_none e ≡ true → new.nodes ≡ old.nodes → IsTied g k new → AreTied g k new hubs
-  tied_on_same e law next was grown joins shuts same tied =
-      tied_on e law next was grown joins shuts (λ key some. ap (λ (nodes : Slots Node). is_some (find nodes key)) same ∙ some) tied
+  pub tied_on_same : (base : Kept) → {h k : List Event} {old new : Tree T} {hubs : Hubs} (e : Event) → IsLawful base h → MayFollow base h e →
+      AreTied base g h old hubs → k ≡ h ++ e ∷ [] →
+      joins_hubs e ≡ false → shuts_none e ≡ true → new.nodes ≡ old.nodes → IsTied base g k new → AreTied base g k new hubs
+  tied_on_same base e law next was grown joins shuts same tied =
+      tied_on base e law next was grown joins shuts (λ key some. ap (λ (nodes : Slots Node). is_some (find nodes key)) same ∙ some) tied
 
   -- and with the marks of one changed
-  pub tied_on_marked : {h k : List Event} {old new : Tree T} {hubs : Hubs} (e : Event) → IsLawful h → MayFollow h e → AreTied g h old hubs → k ≡ h ++ e ∷ [] →
-      joins_hubs e ≡ false → shuts_none e ≡ true → (u : Key) (change : Marks → Marks) → Remarks old new u change → IsTied g k new → AreTied g k new hubs
-  tied_on_marked e law next was grown joins shuts u change marked tied =
-      tied_on e law next was grown joins shuts (λ key some. still_there u marked.nodes key some) tied
+  pub tied_on_marked : (base : Kept) → {h k : List Event} {old new : Tree T} {hubs : Hubs} (e : Event) → IsLawful base h → MayFollow base h e →
+      AreTied base g h old hubs → k ≡ h ++ e ∷ [] →
+      joins_hubs e ≡ false → shuts_none e ≡ true → (u : Key) (change : Marks → Marks) → Remarks old new u change → IsTied base g k new →
+      AreTied base g k new hubs
+  tied_on_marked base e law next was grown joins shuts u change marked tied =
+      tied_on base e law next was grown joins shuts (λ key some. still_there u marked.nodes key some) tied
 
   -- after one that closes nodes, which leave the hubs
-  pub tied_closed : {h k : List Event} {old new : Tree T} {hubs later : Hubs} (e : Event) (gone : Key → Bool) (ended : Option LastEnd) → IsLawful h → MayFollow h e →
-      AreTied g h old hubs → k ≡ h ++ e ∷ [] → hubs_after h e 0 hubs.hubs ≡ map (without_gone gone ended) hubs.hubs →
-      later.hubs ≡ map (without_gone gone ended) hubs.hubs → KeepsNodes k old.nodes new.nodes → IsTied g k new → AreTied g k new later
-  tied_closed {h = h} {k = k} {old = old} {new = new} {hubs = hubs} {later = later} e gone ended law next was grown after left kept tied = record {
+  pub tied_closed : (base : Kept) → {h k : List Event} {old new : Tree T} {hubs later : Hubs} (e : Event) (gone : Key → Bool) (ended : Option LastEnd) → IsLawful base h → MayFollow base h e →
+      AreTied base g h old hubs → k ≡ h ++ e ∷ [] → hubs_after h e 0 hubs.hubs ≡ map (without_gone gone ended) hubs.hubs →
+      later.hubs ≡ map (without_gone gone ended) hubs.hubs → KeepsNodes k old.nodes new.nodes → IsTied base g k new → AreTied base g k new later
+  tied_closed base {h = h} {k = k} {old = old} {new = new} {hubs = hubs} {later = later} e gone ended law next was grown after left kept tied = record {
     of_tree = tied;
     published = of;
     joined = joined_still k old.nodes new.nodes later.hubs of kept.still
@@ -268,38 +277,40 @@ module _ {T : Type 0} (g : Ghosts T) where
     where
       of : AreHubsOf k later.hubs
       of = subst (λ (j : List Event). AreHubsOf j later.hubs) (sym grown)
-          (subst (AreHubsOf (h ++ e ∷ [])) (after ∙ sym left) (hubs_follow h e 0 hubs.hubs law next was.published))
+          (subst (AreHubsOf (h ++ e ∷ [])) (after ∙ sym left) (hubs_follow base h e 0 hubs.hubs law next was.published))
 
   -- after one that opens a node, which joins the hub that it subscribes to
-  pub tied_opened : {h k : List Event} {old new : Tree T} {hubs later : Hubs} (mid : Hubs) (place : Place) (kind : Kind) (key : Key) → IsLawful h →
-      MayFollow h (Open place kind) → AreTied g h old hubs → k ≡ h ++ Open place kind ∷ [] → later.hubs ≡ hubs_after h (Open place kind) key.slot hubs.hubs →
-      later.hubs ≡ with_made key (Open place kind) mid.hubs → AreJoined new.nodes mid.hubs → IsSome (find new.nodes key) → IsTied g k new → AreTied g k new later
-  tied_opened {h = h} {new = new} {hubs = hubs} {later = later} mid place kind key law next was grown after made joined there tied = record {
+  pub tied_opened : (base : Kept) → {h k : List Event} {old new : Tree T} {hubs later : Hubs} (mid : Hubs) (place : Place) (kind : Kind) (key : Key) →
+      IsLawful base h →
+      MayFollow base h (Open place kind) → AreTied base g h old hubs → k ≡ h ++ Open place kind ∷ [] → later.hubs ≡ hubs_after h (Open place kind) key.slot hubs.hubs →
+      later.hubs ≡ with_made key (Open place kind) mid.hubs → AreJoined new.nodes mid.hubs → IsSome (find new.nodes key) → IsTied base g k new → AreTied base g k new later
+  tied_opened base {h = h} {new = new} {hubs = hubs} {later = later} mid place kind key law next was grown after made joined there tied = record {
     of_tree = tied;
     published = subst (λ (j : List Event). AreHubsOf j later.hubs) (sym grown)
-        (subst (AreHubsOf (h ++ Open place kind ∷ [])) (sym after) (hubs_follow h (Open place kind) key.slot hubs.hubs law next was.published));
+        (subst (AreHubsOf (h ++ Open place kind ∷ [])) (sym after) (hubs_follow base h (Open place kind) key.slot hubs.hubs law next was.published));
     joined = subst (AreJoined new.nodes) (sym made) (joined_opened new.nodes key place kind mid.hubs there joined);
   }
 
   -- after one that makes a connection, which its hub has from then on
-  pub tied_connected : {h : List Event} {old new : Tree T} {hubs later : Hubs} (n : ℕ) (key : Key) → IsLawful h → MayFollow h (Connect n) → AreTied g h old hubs →
+  pub tied_connected : (base : Kept) → {h : List Event} {old new : Tree T} {hubs later : Hubs} (n : ℕ) (key : Key) → IsLawful base h → MayFollow base h (Connect n) → AreTied base g h old hubs →
       key.number ≡ length h → later.hubs ≡ at_hub n (connected key) hubs.hubs → ((k : Key) → IsSome (find old.nodes k) → IsSome (find new.nodes k)) →
-      IsSome (find new.nodes key) → IsTied g (h ++ Connect n ∷ []) new → AreTied g (h ++ Connect n ∷ []) new later
-  tied_connected {h = h} {old = old} {new = new} {hubs = hubs} n key law next was numbered made still there tied = record {
+      IsSome (find new.nodes key) → IsTied base g (h ++ Connect n ∷ []) new → AreTied base g (h ++ Connect n ∷ []) new later
+  tied_connected base {h = h} {old = old} {new = new} {hubs = hubs} n key law next was numbered made still there tied = record {
     of_tree = tied;
     published = subst (AreHubsOf (h ++ Connect n ∷ [])) (connected_after h n key hubs.hubs was.published numbered ∙ sym made)
-        (hubs_follow h (Connect n) key.slot hubs.hubs law next was.published);
+        (hubs_follow base h (Connect n) key.slot hubs.hubs law next was.published);
     joined = subst (AreJoined new.nodes) (sym made)
         (joined_connected new.nodes key n hubs.hubs there (joined_found old.nodes new.nodes hubs.hubs still was.joined));
   }
 
   -- and after one that makes this hub
-  pub tied_published : {h : List Event} {old : Tree T} {hubs new : Hubs} (mode : Mode) → IsLawful h → MayFollow h (Publish mode) → AreTied g h old hubs →
-      IsTied g (h ++ Publish mode ∷ []) old → new.hubs ≡ hubs.hubs ++ new_hub (length h) mode ∷ [] → AreTied g (h ++ Publish mode ∷ []) old new
-  tied_published {h = h} {old = old} {hubs = hubs} {new = new} mode law next was tied added = record {
+  pub tied_published : (base : Kept) → {h : List Event} {old : Tree T} {hubs new : Hubs} (mode : Mode) → IsLawful base h → MayFollow base h (Publish mode) →
+      AreTied base g h old hubs →
+      IsTied base g (h ++ Publish mode ∷ []) old → new.hubs ≡ hubs.hubs ++ new_hub (length h) mode ∷ [] → AreTied base g (h ++ Publish mode ∷ []) old new
+  tied_published base {h = h} {old = old} {hubs = hubs} {new = new} mode law next was tied added = record {
     of_tree = tied;
     published = subst (AreHubsOf (h ++ Publish mode ∷ [])) (hubs_published h mode 0 hubs.hubs was.published ∙ sym added)
-        (hubs_follow h (Publish mode) 0 hubs.hubs law next was.published);
+        (hubs_follow base h (Publish mode) 0 hubs.hubs law next was.published);
     joined = record {
       subscribers = λ i hub at_i. by_place i hub (pushed_from hubs.hubs (new_hub (length h) mode) hub i (ap (λ (hs : List Hub). slice_get hs i) (sym added) ∙ at_i));
       connection = λ i hub at_i. by_place_too i hub (pushed_from hubs.hubs (new_hub (length h) mode) hub i (ap (λ (hs : List Hub). slice_get hs i) (sym added) ∙ at_i));

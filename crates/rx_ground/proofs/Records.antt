@@ -5,6 +5,7 @@ use Rattle.std.specs.List.{list_any}
 use Rattle.std.specs.Option.{option_and_then, option_map_or}
 use Rattle.std.proofs.lemmas.Bool.{false≢true, cases_order, and_parts, and_from, or_parts, both_ways, eq-eqb, not-true, not_from_false}
 use Rattle.std.proofs.lemmas.Option.{none-some, same_Some}
+use Rattle.rx_event.specs.Kept.{Kept}
 use Rattle.rx_event.specs.declared.marks.Marks.{Marks}
 use Rattle.rx_event.specs.declared.event.Event.{Event}
 use Rattle.rx_event.specs.Events.{makes_node, parent_named}
@@ -68,23 +69,23 @@ off_outside nodes top k (x ∷ chain) apart off = by_test (off_outside nodes top
 -- a step of the records ---------------------------------------------------------------------------
 
 -- the records are those of the open nodes, but that the marks of this one, if it is one, are not yet those of the history
-pub record AreNearly (h : List Event) (stale : Option ℕ) (nodes : Slots Node) (chain : List Key) : Type 0 where
+pub record AreNearly (base : Kept) (h : List Event) (stale : Option ℕ) (nodes : Slots Node) (chain : List Key) : Type 0 where
   pub made : (key : Key) (node : Node) → find nodes key ≡ Some node → slice_get h key.number ≡ Some node.made
   pub alive : (key : Key) (node : Node) → find nodes key ≡ Some node → is_open h key.number ≡ true
-  pub marks : (key : Key) (node : Node) → find nodes key ≡ Some node → stale ≢ Some key.number → node.marks ≡ marks_of h key.number
+  pub marks : (key : Key) (node : Node) → find nodes key ≡ Some node → stale ≢ Some key.number → node.marks ≡ marks_of base h key.number
   pub every : (n : ℕ) → is_open h n ≡ true → HasKey nodes n
   pub quiet : (key : Key) (node : Node) → find nodes key ≡ Some node → stale ≢ Some key.number → is_on key chain ≡ false → due_at node.made node.marks key.number ≡ None
 
-pub all_fresh : (h : List Event) (nodes : Slots Node) (chain : List Key) → AreNearly h None nodes chain → AreRecords h nodes chain
-all_fresh h nodes chain near = record {
+pub all_fresh : (base : Kept) → (h : List Event) (nodes : Slots Node) (chain : List Key) → AreNearly base h None nodes chain → AreRecords base h nodes chain
+all_fresh base h nodes chain near = record {
   each = λ key node found. record { made = near.made key node found; alive = near.alive key node found; marks = near.marks key node found (λ e. none-some key.number e) };
   every = near.every;
   quiet = λ key node found off. near.quiet key node found (λ e. none-some key.number e) off;
 }
 
 -- the marks of that record are set
-pub remarked : (h : List Event) (nodes new : Slots Node) (chain : List Key) (p : Key) (before : Node) (change : Marks → Marks) → AreNearly h (Some p.number) nodes chain → AreApart nodes → find nodes p ≡ Some before → marks_of h p.number ≡ change before.marks → Rewrites nodes new p (λ node. with_marks (change node.marks) node) → AreRecords h new (with_last p chain)
-remarked h nodes new chain p before change near apart at_p marked rewrites = record { each = each; every = every; quiet = quiet } where
+pub remarked : (base : Kept) → (h : List Event) (nodes new : Slots Node) (chain : List Key) (p : Key) (before : Node) (change : Marks → Marks) → AreNearly base h (Some p.number) nodes chain → AreApart nodes → find nodes p ≡ Some before → marks_of base h p.number ≡ change before.marks → Rewrites nodes new p (λ node. with_marks (change node.marks) node) → AreRecords base h new (with_last p chain)
+remarked base h nodes new chain p before change near apart at_p marked rewrites = record { each = each; every = every; quiet = quiet } where
   here : find new p ≡ Some (with_marks (change before.marks) before)
   here = rewrites.changed ∙ ap (option_map (λ (node : Node). with_marks (change node.marks) node)) at_p
 
@@ -94,16 +95,16 @@ remarked h nodes new chain p before change near apart at_p marked rewrites = rec
   fresh : (key : Key) (node : Node) → key ≢ p → find nodes key ≡ Some node → ◌≢◌ {A = Option ℕ} (Some p.number) (Some key.number)
   fresh key node differs found same = differs (apart key p (ap is_some found) (ap is_some at_p) (sym (same_Some p.number key.number same)))
 
-  each : (key : Key) (node : Node) → find new key ≡ Some node → IsRecordOf h key.number node
+  each : (key : Key) (node : Node) → find new key ≡ Some node → IsRecordOf base h key.number node
   each key node found = by_key (cases_key key p) where
-    by_key : (key ≡ p) ⊎ (key ≢ p) → IsRecordOf h key.number node
+    by_key : (key ≡ p) ⊎ (key ≢ p) → IsRecordOf base h key.number node
     by_key (inl same) =
         let is : with_marks (change before.marks) before ≡ node = same_Some _ _ (sym here ∙ sym (ap (find new) same) ∙ found) in
         let n : key.number ≡ p.number = ap (λ (k : Key). k.number) same in
         record {
           made = ap (slice_get h) n ∙ near.made p before at_p ∙ ap (λ (x : Node). Some x.made) is;
           alive = ap (is_open h) n ∙ near.alive p before at_p;
-          marks = sym (ap (λ (x : Node). x.marks) is) ∙ sym marked ∙ ap (marks_of h) (sym n);
+          marks = sym (ap (λ (x : Node). x.marks) is) ∙ sym marked ∙ ap (marks_of base h) (sym n);
         }
     by_key (inr differs) =
         let was = other key node differs found in
@@ -126,8 +127,8 @@ remarked h nodes new chain p before change near apart at_p marked rewrites = rec
         near.quiet key node was (fresh key node differs was) (off_last key p chain off)
 
 -- another chain, off which nothing is due
-pub rechained : (h : List Event) (nodes : Slots Node) (chain other : List Key) → AreRecords h nodes chain → ((key : Key) (node : Node) → find nodes key ≡ Some node → is_on key other ≡ false → is_on key chain ≡ true → due_at node.made node.marks key.number ≡ None) → AreRecords h nodes other
-rechained h nodes chain other r quiet = record {
+pub rechained : (base : Kept) → (h : List Event) (nodes : Slots Node) (chain other : List Key) → AreRecords base h nodes chain → ((key : Key) (node : Node) → find nodes key ≡ Some node → is_on key other ≡ false → is_on key chain ≡ true → due_at node.made node.marks key.number ≡ None) → AreRecords base h nodes other
+rechained base h nodes chain other r quiet = record {
   each = r.each;
   every = r.every;
   quiet = λ key node found off. by_test key node found off (is_on key chain) refl;
@@ -147,7 +148,7 @@ named_parent : (h : List Event) (n : ℕ) (node : Node) → slice_get h n ≡ So
 unfolding parent
 named_parent h n node made = ap (λ o. option_and_then (if_less n) (option_and_then parent_named o)) (sym made)
 
-module _ (h : List Event) (nodes : Slots Node) (chain : List Key) (r : AreRecords h nodes chain) where
+module _ (base : Kept) (h : List Event) (nodes : Slots Node) (chain : List Key) (r : AreRecords base h nodes chain) where
   -- the parent of a node of the tree is that of the history
   pub parent_in_tree : (key : Key) (node : Node) → find nodes key ≡ Some node → parent_number nodes key ≡ parent h key.number
   parent_in_tree key node found = ap (option_and_then (named_above key.number)) found ∙ named_parent h key.number node (r.each key node found).made
@@ -178,31 +179,31 @@ pub record AreLeft (h : List Event) (e : Event) (nodes left : Slots Node) (chain
 
 -- events ------------------------------------------------------------------------------------------
 
-module _ (h : List Event) (e : Event) (law : IsLawful h) (next : MayFollow h e) (nodes : Slots Node) (chain : List Key) (r : AreRecords h nodes chain) where
+module _ (base : Kept) (h : List Event) (e : Event) (law : IsLawful base h) (next : MayFollow base h e) (nodes : Slots Node) (chain : List Key) (r : AreRecords base h nodes chain) where
   -- what was made is still made
   made_still : (key : Key) (node : Node) → find nodes key ≡ Some node → slice_get (h ++ e ∷ []) key.number ≡ Some node.made
   made_still key node found = let is = r.each key node found in slice_get-append h (e ∷ []) key.number (is_open_within h key.number is.alive) ∙ is.made
 
   -- an event that touches no node
-  pub records_still : shuts_none e ≡ true → makes_node e ≡ false → ((n : ℕ) → touches h n e ≡ false) → AreRecords (h ++ e ∷ []) nodes chain
+  pub records_still : shuts_none e ≡ true → makes_node e ≡ false → ((n : ℕ) → touches h n e ≡ false) → AreRecords base (h ++ e ∷ []) nodes chain
   records_still shuts makes untouched = record {
     each = λ key node found. let is = r.each key node found in
         record {
           made = made_still key node found;
           alive = is_open_unchanged h e shuts makes key.number ∙ is.alive;
-          marks = is.marks ∙ sym (marks_untouched h e law next key.number (is_open_within h key.number is.alive) (is_open_unchanged h e shuts makes key.number ∙ is.alive) (untouched key.number));
+          marks = is.marks ∙ sym (marks_untouched base h e law next key.number (is_open_within h key.number is.alive) (is_open_unchanged h e shuts makes key.number ∙ is.alive) (untouched key.number));
         };
     every = λ n alive. r.every n (sym (is_open_unchanged h e shuts makes n) ∙ alive);
     quiet = r.quiet;
   }
 
   -- one that touches the marks of one node alone
-  pub records_touched : (p : ℕ) → shuts_none e ≡ true → makes_node e ≡ false → ((n : ℕ) → p ≢ n → touches h n e ≡ false) → AreNearly (h ++ e ∷ []) (Some p) nodes chain
+  pub records_touched : (p : ℕ) → shuts_none e ≡ true → makes_node e ≡ false → ((n : ℕ) → p ≢ n → touches h n e ≡ false) → AreNearly base (h ++ e ∷ []) (Some p) nodes chain
   records_touched p shuts makes untouched = record {
     made = made_still;
     alive = alive;
     marks = λ key node found fresh. let is = r.each key node found in
-        is.marks ∙ sym (marks_untouched h e law next key.number (is_open_within h key.number is.alive) (alive key node found) (untouched key.number (λ same. fresh (ap (λ (n : ℕ). Some n) same))));
+        is.marks ∙ sym (marks_untouched base h e law next key.number (is_open_within h key.number is.alive) (alive key node found) (untouched key.number (λ same. fresh (ap (λ (n : ℕ). Some n) same))));
     every = λ n open_now. r.every n (sym (is_open_unchanged h e shuts makes n) ∙ open_now);
     quiet = λ key node found fresh off. r.quiet key node found off;
   }
@@ -223,7 +224,7 @@ module _ (h : List Event) (e : Event) (law : IsLawful h) (next : MayFollow h e) 
   pub cut_left : (left : Slots Node) (rest : List Key) (top : ℕ) → IsSound nodes → ((n : ℕ) → n < length h → is_open (h ++ e ∷ []) n ≡ (is_open h n && not (list_any (λ a. top == a) (ancestors h n)))) → ((key : Key) → find left key ≡ cond (is_below nodes top key.number) None (find nodes key)) → rest ≡ outside nodes top chain → AreLeft h e nodes left chain rest
   cut_left left rest top sound opens cuts chained = record {
     was = λ k node f. (was k node f).1;
-    alive = λ k node f. let o = was k node f in let is = r.each k node o.1 in opens k.number (is_open_within h k.number is.alive) ∙ and_from _ _ is.alive (not_from_false _ (sym (below_is_within h nodes chain r sound k node o.1 top) ∙ o.0));
+    alive = λ k node f. let o = was k node f in let is = r.each k node o.1 in opens k.number (is_open_within h k.number is.alive) ∙ and_from _ _ is.alive (not_from_false _ (sym (below_is_within base h nodes chain r sound k node o.1 top) ∙ o.0));
     still = still;
     off = λ k node f off. off_outside nodes top k chain (was k node f).0 (sym (ap (is_on k) chained) ∙ off);
   }
@@ -237,10 +238,10 @@ module _ (h : List Event) (e : Event) (law : IsLawful h) (next : MayFollow h e) 
       still : (k : Key) (node : Node) → find nodes k ≡ Some node → is_open (h ++ e ∷ []) k.number ≡ true → find left k ≡ Some node
       still k node f alive =
           let parts = and_parts (is_open h k.number) (not (list_any (λ a. top == a) (ancestors h k.number))) (sym (opens k.number (is_open_within h k.number (r.each k node f).alive)) ∙ alive) in
-          cuts k ∙ ap (λ b. cond b None (find nodes k)) (below_is_within h nodes chain r sound k node f top ∙ not-true (list_any (λ a. top == a) (ancestors h k.number)) parts.1) ∙ f
+          cuts k ∙ ap (λ b. cond b None (find nodes k)) (below_is_within base h nodes chain r sound k node f top ∙ not-true (list_any (λ a. top == a) (ancestors h k.number)) parts.1) ∙ f
 
   -- a new node beside those that stay
-  pub records_opened : (left : Slots Node) (rest : List Key) → AreLeft h e nodes left chain rest → (new : Slots Node) (key : Key) (above : Option Key) → makes_node e ≡ true → ((n : ℕ) → parent_named e ≢ Some n → touches h n e ≡ false) → key.number ≡ length h → entry_at left key.slot ≡ None → find new key ≡ Some (blank_node e above) → KeepsOthers left new key → AreNearly (h ++ e ∷ []) (parent_named e) new rest
+  pub records_opened : (left : Slots Node) (rest : List Key) → AreLeft h e nodes left chain rest → (new : Slots Node) (key : Key) (above : Option Key) → makes_node e ≡ true → ((n : ℕ) → parent_named e ≢ Some n → touches h n e ≡ false) → key.number ≡ length h → entry_at left key.slot ≡ None → find new key ≡ Some (blank_node e above) → KeepsOthers left new key → AreNearly base (h ++ e ∷ []) (parent_named e) new rest
   records_opened left rest stays new key above makes untouched numbered free found others = record {
     made = made;
     alive = alive;
@@ -267,17 +268,17 @@ module _ (h : List Event) (e : Event) (law : IsLawful h) (next : MayFollow h e) 
       alive : (k : Key) (node : Node) → find new k ≡ Some node → is_open (h ++ e ∷ []) k.number ≡ true
       alive k node f = by_key (cases_key k key) where
         by_key : (k ≡ key) ⊎ (k ≢ key) → is_open (h ++ e ∷ []) k.number ≡ true
-        by_key (inl same) = ap (is_open (h ++ e ∷ [])) (at_end k same) ∙ is_open_new h e next ∙ makes
+        by_key (inl same) = ap (is_open (h ++ e ∷ [])) (at_end k same) ∙ is_open_new base h e next ∙ makes
         by_key (inr differs) = stays.alive k node (old k node differs f)
 
-      marks : (k : Key) (node : Node) → find new k ≡ Some node → parent_named e ≢ Some k.number → node.marks ≡ marks_of (h ++ e ∷ []) k.number
+      marks : (k : Key) (node : Node) → find new k ≡ Some node → parent_named e ≢ Some k.number → node.marks ≡ marks_of base (h ++ e ∷ []) k.number
       marks k node f fresh = by_key (cases_key k key) where
-        by_key : (k ≡ key) ⊎ (k ≢ key) → node.marks ≡ marks_of (h ++ e ∷ []) k.number
-        by_key (inl same) = sym (ap (λ (x : Node). x.marks) (is_blank k node same f)) ∙ sym (marks-new h e law next) ∙ ap (marks_of (h ++ e ∷ [])) (sym (at_end k same))
+        by_key : (k ≡ key) ⊎ (k ≢ key) → node.marks ≡ marks_of base (h ++ e ∷ []) k.number
+        by_key (inl same) = sym (ap (λ (x : Node). x.marks) (is_blank k node same f)) ∙ sym (marks-new base h e law next) ∙ ap (marks_of base (h ++ e ∷ [])) (sym (at_end k same))
         by_key (inr differs) =
             let here = old k node differs f in
             let is = r.each k node (stays.was k node here) in
-            is.marks ∙ sym (marks_untouched h e law next k.number (is_open_within h k.number is.alive) (stays.alive k node here) (untouched k.number fresh))
+            is.marks ∙ sym (marks_untouched base h e law next k.number (is_open_within h k.number is.alive) (stays.alive k node here) (untouched k.number fresh))
 
       every : (n : ℕ) → is_open (h ++ e ∷ []) n ≡ true → HasKey new n
       every n open_now = by_place (cases_order n (length h)) where
@@ -296,7 +297,7 @@ module _ (h : List Event) (e : Event) (law : IsLawful h) (next : MayFollow h e) 
         by_key (inr differs) = let here = old k node differs f in r.quiet k node (stays.was k node here) (stays.off k node here off)
 
   -- what a closing leaves
-  pub records_cut : (new : Slots Node) (rest : List Key) (top : ℕ) (stale : Option ℕ) → IsSound nodes → ((n : ℕ) → stale ≢ Some n → is_open (h ++ e ∷ []) n ≡ true → marks_of (h ++ e ∷ []) n ≡ marks_of h n) → ((n : ℕ) → is_open (h ++ e ∷ []) n ≡ (is_open h n && not (list_any (λ a. top == a) (ancestors h n)))) → ((key : Key) → find new key ≡ cond (is_below nodes top key.number) None (find nodes key)) → rest ≡ outside nodes top chain → AreNearly (h ++ e ∷ []) stale new rest
+  pub records_cut : (new : Slots Node) (rest : List Key) (top : ℕ) (stale : Option ℕ) → IsSound nodes → ((n : ℕ) → stale ≢ Some n → is_open (h ++ e ∷ []) n ≡ true → marks_of base (h ++ e ∷ []) n ≡ marks_of base h n) → ((n : ℕ) → is_open (h ++ e ∷ []) n ≡ (is_open h n && not (list_any (λ a. top == a) (ancestors h n)))) → ((key : Key) → find new key ≡ cond (is_below nodes top key.number) None (find nodes key)) → rest ≡ outside nodes top chain → AreNearly base (h ++ e ∷ []) stale new rest
   records_cut new rest top stale sound kept opens cuts chained = record {
     made = λ k node f. let o = was k node f in made_still k node o.1;
     alive = λ k node f. let o = was k node f in alive k node o.1 o.0;
@@ -312,11 +313,11 @@ module _ (h : List Event) (e : Event) (law : IsLawful h) (next : MayFollow h e) 
         by_test false e f = (e, f)
 
       alive : (k : Key) (node : Node) → find nodes k ≡ Some node → is_below nodes top k.number ≡ false → is_open (h ++ e ∷ []) k.number ≡ true
-      alive k node f apart = opens k.number ∙ and_from _ _ (r.each k node f).alive (not_from_false _ (sym (below_is_within h nodes chain r sound k node f top) ∙ apart))
+      alive k node f apart = opens k.number ∙ and_from _ _ (r.each k node f).alive (not_from_false _ (sym (below_is_within base h nodes chain r sound k node f top) ∙ apart))
 
       every : (n : ℕ) → is_open (h ++ e ∷ []) n ≡ true → HasKey new n
       every n open_now =
           let parts = and_parts _ _ (sym (opens n) ∙ open_now) in
           let has = r.every n parts.0 in
-          let apart : is_below nodes top has.key.number ≡ false = below_is_within h nodes chain r sound has.key has.value has.found top ∙ ap (λ m. list_any (λ a. top == a) (ancestors h m)) has.numbered ∙ not-true _ parts.1 in
+          let apart : is_below nodes top has.key.number ≡ false = below_is_within base h nodes chain r sound has.key has.value has.found top ∙ ap (λ m. list_any (λ a. top == a) (ancestors h m)) has.numbered ∙ not-true _ parts.1 in
           record { key = has.key; value = has.value; found = cuts has.key ∙ ap (λ b. cond b None (find nodes has.key)) apart ∙ has.found; numbered = has.numbered }

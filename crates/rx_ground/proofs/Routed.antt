@@ -6,6 +6,7 @@ use Rattle.std.specs.List.{filter_map}
 use Rattle.std.specs.Option.{option_map_or}
 use Rattle.std.proofs.lemmas.List.Sums.{sum_by-cons}
 use Rattle.std.proofs.lemmas.Option.{same_Some, none-some}
+use Rattle.rx_event.specs.Kept.{Kept}
 use Rattle.rx_resource.specs.declared.Resource.{Ghosts}
 use Rattle.rx_event.specs.declared.event.Event.{Event}
 use Rattle.rx_event.specs.Events.{is_leaf}
@@ -35,17 +36,17 @@ use Rattle.rx_ground.specs.Reached.{IsReach}
 use Rattle.rx_ground.specs.Passing.{IsMeasured, owed_at, told_at, sum_at}
 
 -- the records are those of the history, whatever is due
-as_records : (h : List Event) (nodes : Slots Node) (chain : List Key) → AreRecords h nodes chain → AreRecordsOf h nodes
-as_records h nodes chain r = record {
+as_records : (base : Kept) → (h : List Event) (nodes : Slots Node) (chain : List Key) → AreRecords base h nodes chain → AreRecordsOf base h nodes
+as_records base h nodes chain r = record {
   each = λ key node found. let is = r.each key node found in record { alive = is.alive; made = is.made; marks = is.marks };
   every = λ n alive. let has = r.every n alive in record { key = has.key; node = has.value; numbered = has.numbered; found = has.found };
 }
 
 -- an item may go over a tree and hubs of one history
-pub walk_tied : {T : Type 0} {g : Ghosts T} {h : List Event} {tree : Tree T} {hubs : Hubs} → AreTied g h tree hubs → IsSound tree.nodes → IsWalk h tree.nodes hubs.hubs
-walk_tied {h = h} {tree = tree} {hubs = hubs} tied sound = record {
+pub walk_tied : (base : Kept) → {T : Type 0} {g : Ghosts T} {h : List Event} {tree : Tree T} {hubs : Hubs} → AreTied base g h tree hubs → IsSound tree.nodes → IsWalk base h tree.nodes hubs.hubs
+walk_tied base {h = h} {tree = tree} {hubs = hubs} tied sound = record {
   sound = sound;
-  records = as_records h tree.nodes tree.chain tied.of_tree.records;
+  records = as_records base h tree.nodes tree.chain tied.of_tree.records;
   published = tied.published;
   found = λ n hub at_n. let at_i = found_hub hubs.hubs n hub at_n in tied.joined.subscribers at_i.0 hub at_i.1.0;
 }
@@ -67,9 +68,10 @@ told_sum place value (Firing key ∷ ss) = let rest = told_sum place value ss in
 told_sum place value (Connection key ∷ ss) = let rest = told_sum place value ss in omega arith
 
 -- what was counted on its way is what it wants
-pub reach_told : (h : List Event) (nodes : Slots Node) (hubs : List Hub) (key : Key) → IsWalk h nodes hubs → IsSome (find nodes key) → (reach : Reach) →
+pub reach_told : (base : Kept) → (h : List Event) (nodes : Slots Node) (hubs : List Hub) (key : Key) → IsWalk base h nodes hubs → IsSome (find nodes key) →
+    (reach : Reach) →
     IsMeasured (stops_over nodes hubs key) reach → IsReach h nodes key reach
-reach_told h nodes hubs key walk there reach is = record {
+reach_told base h nodes hubs key walk there reach is = record {
   there = there;
   events = is.events ∙ ap (λ (n : ℕ). 1 + n) (owed_sum (stops_over nodes hubs key)) ∙ ap (λ (ss : List NumberedStop). 1 + count_by is_projection ss) (sym same);
   notes = λ value. ap (λ (ss : List NumberedStop). length (filter_map (told (length h) value) ss)) same ∙ told_sum (length h) value (stops_over nodes hubs key) ∙
@@ -78,29 +80,31 @@ reach_told h nodes hubs key walk there reach is = record {
 }
   where
     same : stops h key.number ≡ filter_map numbered (stops_over nodes hubs key)
-    same = all_stops_told h nodes hubs key walk there
+    same = all_stops_told base h nodes hubs key walk there
 
-pub reach_if : (h : List Event) (nodes : Slots Node) (hubs : List Hub) (key : Key) → IsWalk h nodes hubs → IsSome (find nodes key) → (answer : Option Reach) →
+pub reach_if : (base : Kept) → (h : List Event) (nodes : Slots Node) (hubs : List Hub) (key : Key) → IsWalk base h nodes hubs → IsSome (find nodes key) →
+    (answer : Option Reach) →
     IfSome answer (IsMeasured (stops_over nodes hubs key)) → IfSome answer (IsReach h nodes key)
-reach_if h nodes hubs key walk there None is = tt
-reach_if h nodes hubs key walk there (Some reach) is = reach_told h nodes hubs key walk there reach is
+reach_if base h nodes hubs key walk there None is = tt
+reach_if base h nodes hubs key walk there (Some reach) is = reach_told base h nodes hubs key walk there reach is
 
 -- refusals ----------------------------------------------------------------------------------------
 
 -- what stands first against an item of this key's node
-abbrev pub cause_of : List Event → ℕ → Slots Node → Key → ℤ → Option Refusal
-cause_of h limit nodes key value = first_cause (by_key (is_some (find nodes key)) (causes h limit true (Emitting key.number value)))
+abbrev pub cause_of : Kept → List Event → ℕ → Slots Node → Key → ℤ → Option Refusal
+cause_of base h limit nodes key value = first_cause (by_key (is_some (find nodes key)) (causes base h limit true (Emitting key.number value)))
 
 -- of a node whose items are not refused for what it is
-abbrev by_limits : List Event → ℕ → ℕ → Option Refusal
-by_limits h limit n =
-    cond (nat_lt most_visits (visits h n)) (Some TooMany) (cond (is_over h limit (1 + count_by is_projection (stops h n))) (Some Full) None)
+abbrev by_limits : Kept → List Event → ℕ → ℕ → Option Refusal
+by_limits base h limit n =
+    cond (nat_lt most_visits (visits h n)) (Some TooMany) (cond (is_over base h limit (1 + count_by is_projection (stops h n))) (Some Full) None)
 
 -- by the tests in their order
-first_cause-emitting : (known : Bool) (h : List Event) (limit n : ℕ) (value : ℤ) → first_cause (by_key known (causes h limit true (Emitting n value))) ≡
-    cond known (cond (not (is_open h n)) (Some Gone) (cond (not (at is_leaf h n)) (Some WrongKind) (by_limits h limit n))) (Some Gone)
-first_cause-emitting true h limit n value = refl
-first_cause-emitting false h limit n value = refl
+first_cause-emitting : (base : Kept) → (known : Bool) (h : List Event) (limit n : ℕ) (value : ℤ) →
+    first_cause (by_key known (causes base h limit true (Emitting n value))) ≡
+    cond known (cond (not (is_open h n)) (Some Gone) (cond (not (at is_leaf h n)) (Some WrongKind) (by_limits base h limit n))) (Some Gone)
+first_cause-emitting base true h limit n value = refl
+first_cause-emitting base false h limit n value = refl
 
 test_is : (wide b : Bool) → b ≡ not wide → wide ≡ not b
 test_is true b e = ap not (sym e)
@@ -114,26 +118,26 @@ node_made made (Some x) at_x = (x, refl, sym (same_Some made x.made at_x))
 abbrev pub IsMadeBy : Slots Node → Key → Event → Type 0
 IsMadeBy nodes key made = Some made ≡ option_map (λ node. node.made) (find nodes key)
 
-module _ (h : List Event) (limit : ℕ) (nodes : Slots Node) (chain : List Key) (records : AreRecords h nodes chain) (key : Key) (value : ℤ)
+module _ (base : Kept) (h : List Event) (limit : ℕ) (nodes : Slots Node) (chain : List Key) (records : AreRecords base h nodes chain) (key : Key) (value : ℤ)
     (made : Event) (at_made : IsMadeBy nodes key made) where
-  row : (b : Bool) → b ≡ is_leaf made → cause_of h limit nodes key value ≡ cond (not b) (Some WrongKind) (by_limits h limit key.number)
+  row : (b : Bool) → b ≡ is_leaf made → cause_of base h limit nodes key value ≡ cond (not b) (Some WrongKind) (by_limits base h limit key.number)
   row b is =
       let node = node_made made (find nodes key) at_made in
       let record_at = records.each key node.0 node.1 in
       let known : is_some (find nodes key) ≡ true = ap is_some node.1 in
       let made_is = record_at.made ∙ ap (λ e. Some e) node.2 in
       let kind : at is_leaf h key.number ≡ is_leaf made = ap (λ (o : Option Event). option_map_or is_leaf o false) made_is in
-      first_cause-emitting (is_some (find nodes key)) h limit key.number value ∙ rw (known, record_at.alive, kind, ← is) refl
+      first_cause-emitting base (is_some (find nodes key)) h limit key.number value ∙ rw (known, record_at.alive, kind, ← is) refl
 
-  pub cause_of-no_leaf : false ≡ is_leaf made → cause_of h limit nodes key value ≡ Some WrongKind
+  pub cause_of-no_leaf : false ≡ is_leaf made → cause_of base h limit nodes key value ≡ Some WrongKind
   cause_of-no_leaf other = row false other
 
-  pub cause_of-visits : true ≡ is_leaf made → false ≡ not (nat_lt most_visits (visits h key.number)) → cause_of h limit nodes key value ≡ Some TooMany
+  pub cause_of-visits : true ≡ is_leaf made → false ≡ not (nat_lt most_visits (visits h key.number)) → cause_of base h limit nodes key value ≡ Some TooMany
   cause_of-visits leaf wide = let many = test_is _ false wide in row true leaf ∙ rw many refl
 
   -- the room decides last
   pub cause_of-room : (reach : Reach) (full : Bool) → true ≡ is_leaf made → true ≡ not (nat_lt most_visits (visits h key.number)) →
-      IsReach h nodes key reach → full ≡ is_over h limit reach.events → cause_of h limit nodes key value ≡ cond full (Some Full) None
+      IsReach h nodes key reach → full ≡ is_over base h limit reach.events → cause_of base h limit nodes key value ≡ cond full (Some Full) None
   cause_of-room reach full leaf narrow reached room =
       let few = test_is _ true narrow in
       row true leaf ∙ rw (few, ← reached.events, ← room) refl

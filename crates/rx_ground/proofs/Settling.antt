@@ -6,6 +6,7 @@ use Rattle.std.specs.Option.{option_and_then}
 use Rattle.std.proofs.Math.Bool.{◌||◌}
 use Rattle.std.proofs.lemmas.Bool.{false≢true, both_ways}
 use Rattle.std.proofs.lemmas.Option.{none-some, same_Some}
+use Rattle.rx_event.specs.Kept.{Kept}
 use Rattle.rx_resource.specs.declared.Resource.{Ghosts}
 use Rattle.rx_note.specs.declared.note.Terminal.{Terminal}
 use Rattle.rx_event.specs.declared.marks.Marks.{Marks}
@@ -46,32 +47,32 @@ use Rattle.rx_ground.proofs.Tied.{tied_end_top, tied_end_child, parent_stays, cu
 
 -- ends ----------------------------------------------------------------------------------------------
 
-module _ {T : Type 0} (g : Ghosts T) (h : List Event) (c : ℕ) (t : Terminal) (law : IsLawful h) (next : MayFollow h (End c t)) (old mid new : Tree T) (tied : IsTied g h old) (sound : IsSound old.nodes) (cuts : Cuts old mid c) (made : Event) (alive : is_open h c ≡ true) (at_c : slice_get h c ≡ Some made) where
+module _ (base : Kept) {T : Type 0} (g : Ghosts T) (h : List Event) (c : ℕ) (t : Terminal) (law : IsLawful base h) (next : MayFollow base h (End c t)) (old mid new : Tree T) (tied : IsTied base g h old) (sound : IsSound old.nodes) (cuts : Cuts old mid c) (made : Event) (alive : is_open h c ≡ true) (at_c : slice_get h c ≡ Some made) where
   -- the one above has an open child
   pub above_counted : (above : Option Key) → option_map (λ k. k.number) above ≡ parent h c → IfSome above (λ k. IsSome (find old.nodes k)) → IfSome above (λ key. IfSome (find mid.nodes key) (λ node. 0 < node.marks.open_children))
   above_counted None named there = tt
   above_counted (Some p) named there =
       let x = some_of (find old.nodes p) there in
-      let stays = parent_stays g h c t law next old mid new tied sound cuts p x.0 alive (sym named) x.1 in
+      let stays = parent_stays base g h c t law next old mid new tied sound cuts p x.0 alive (sym named) x.1 in
       let counted = child_counted h c p.number alive (sym named) in
       let marks = (tied.records.each p x.0 x.1).marks in
       subst (λ o. IfSome o (λ (node : Node). 0 < node.marks.open_children)) (sym stays) (rw marks counted)
 
-  pub ended_tied : (above : Option Key) → AreApart mid.nodes → option_map (λ k. k.number) above ≡ parent h c → IfSome above (λ k. IsSome (find old.nodes k)) → IfSome above (λ key. IfSome (find mid.nodes key) (λ node. Remarks mid new key (after_child (is_some (source_named made)) (is_merging node.made) t))) → IfNone above (new ≡ mid) → IsTied g (h ++ End c t ∷ []) new × KeepsNodes (h ++ End c t ∷ []) old.nodes new.nodes × (new.resources ≡ old.resources) × (new.nodes.count ≡ mid.nodes.count)
+  pub ended_tied : (above : Option Key) → AreApart mid.nodes → option_map (λ k. k.number) above ≡ parent h c → IfSome above (λ k. IsSome (find old.nodes k)) → IfSome above (λ key. IfSome (find mid.nodes key) (λ node. Remarks mid new key (after_child (is_some (source_named made)) (is_merging node.made) t))) → IfNone above (new ≡ mid) → IsTied base g (h ++ End c t ∷ []) new × KeepsNodes (h ++ End c t ∷ []) old.nodes new.nodes × (new.resources ≡ old.resources) × (new.nodes.count ≡ mid.nodes.count)
   ended_tied None apart named there marked same =
-      subst (λ (tree : Tree T). IsTied g (h ++ End c t ∷ []) tree × KeepsNodes (h ++ End c t ∷ []) old.nodes tree.nodes × (tree.resources ≡ old.resources) × (tree.nodes.count ≡ mid.nodes.count)) (sym same) (tied_end_top g h c t law next old mid new tied sound cuts (sym named), cut_keeps h (End c t) old mid tied.records sound c (is_open_outside-end h c t) cuts, cuts.resources, refl)
+      subst (λ (tree : Tree T). IsTied base g (h ++ End c t ∷ []) tree × KeepsNodes (h ++ End c t ∷ []) old.nodes tree.nodes × (tree.resources ≡ old.resources) × (tree.nodes.count ≡ mid.nodes.count)) (sym same) (tied_end_top base g h c t law next old mid new tied sound cuts (sym named), cut_keeps base h (End c t) old mid tied.records sound c (is_open_outside-end h c t) cuts, cuts.resources, refl)
   ended_tied (Some p) apart named there marked same =
       let x = some_of (find old.nodes p) there in
-      let stays = parent_stays g h c t law next old mid new tied sound cuts p x.0 alive (sym named) x.1 in
+      let stays = parent_stays base g h c t law next old mid new tied sound cuts p x.0 alive (sym named) x.1 in
       let m : Remarks mid new p (after_child (is_some (source_named made)) (is_merging x.0.made) t) = subst (λ o. IfSome o (λ (node : Node). Remarks mid new p (after_child (is_some (source_named made)) (is_merging node.made) t))) stays marked in
-      (tied_end_child g h c t law next old mid new tied sound cuts p made x.0 apart alive (sym named) at_c x.1 stays m, keeps_marked h (End c t) old mid tied.records sound c (is_open_outside-end h c t) cuts new p _ m, m.resources ∙ cuts.resources, ap (λ (s : Slots Node). s.count) m.nodes.rest)
+      (tied_end_child base g h c t law next old mid new tied sound cuts p made x.0 apart alive (sym named) at_c x.1 stays m, keeps_marked base h (End c t) old mid tied.records sound c (is_open_outside-end h c t) cuts new p _ m, m.resources ∙ cuts.resources, ap (λ (s : Slots Node). s.count) m.nodes.rest)
 
 -- settling ------------------------------------------------------------------------------------------
 
 -- a Connect is forced where its hub waits for it
-connect_due : {h : List Event} {n : ℕ} → IsForced h (Connect n) → IsConnectDue h n
-connect_due (connecting d) = d
-connect_due (due none d) = absurd (elim d [ ])
+connect_due : (base : Kept) → {h : List Event} {n : ℕ} → IsForced base h (Connect n) → IsConnectDue h n
+connect_due base (connecting d) = d
+connect_due base (due none d) = absurd (elim d [ ])
 
 -- a key that is among those that are found is found
 found_on : (nodes : Slots Node) (key : Key) (keys : List Key) → AllByRecursion (λ k. IsSome (find nodes k)) keys → is_on key keys ≡ true → IsSome (find nodes key)
@@ -81,10 +82,10 @@ found_on nodes key (k ∷ keys) all on = by_test (is_key key k) refl (found_on n
   by_test true here later = ap (λ (x : Key). is_some (find nodes x)) (key_is key k here) ∙ all.0
   by_test false here later = later (ap (λ b. b || is_on key keys) (sym here) ∙ on)
 
-module _ {T : Type 0} (g : Ghosts T) (b : Ground T) (tied : AreTied g b.register.history b.tree b.hubs) where
+module _ {T : Type 0} (g : Ghosts T) (b : Ground T) (tied : AreTied b.register.base g b.register.history b.tree b.hubs) where
   -- what is due at a hub comes next
   pub hub_next : (d : HubDue) → IsDueIn b.hubs.hubs d → ConcernsHub b.hubs.hubs d → IsNext b d
-  hub_next d is concerns = record { forced = hubs_forced b.register.history b.hubs.hubs d tied.published is; there = by_due d concerns } where
+  hub_next d is concerns = record { forced = hubs_forced b.register.base b.register.history b.hubs.hubs d tied.published is; there = by_due d concerns } where
     at_hub : (hub : Hub) → find_hub b.hubs.hubs hub.number ≡ Some hub → (i : ℕ) × (slice_get b.hubs.hubs i ≡ Some hub)
     at_hub hub found = let f = found_hub b.hubs.hubs hub.number hub found in (f.0, f.1.0)
 
@@ -104,24 +105,24 @@ module _ {T : Type 0} (g : Ghosts T) (b : Ground T) (tied : AreTied g b.register
     node_next next is_due =
         let is = tied.of_tree.records.each next.node is_due.node is_due.found in
         record {
-          forced = due_at_forced b.register.history next.node.number is_due.node.made (End next.node.number next.terminal) connected is.alive is.made
+          forced = due_at_forced b.register.base b.register.history next.node.number is_due.node.made (End next.node.number next.terminal) connected is.alive is.made
               (ap (λ m. due_at is_due.node.made m next.node.number) (sym is.marks) ∙ ap (option_map (λ t. End next.node.number t)) is_due.due);
           there = ap is_some is_due.found;
         }
 
     -- and where nothing is either, nothing is forced
-    pub quiet_settled : AllQuiet b.tree.nodes → IsSettled b.register.history
-    quiet_settled all = settled_by_marks b.register.history connected
-        (λ n t alive. none_cut b.register.history b.hubs.hubs tied.published quiet n t alive) (none_left b.register.history b.hubs.hubs tied.published quiet)
+    pub quiet_settled : AllQuiet b.tree.nodes → IsSettled b.register.base b.register.history
+    quiet_settled all = settled_by_marks b.register.base b.register.history connected
+        (λ n t alive. none_cut b.register.history b.hubs.hubs tied.published quiet n t alive) (none_left b.register.base b.register.history b.hubs.hubs tied.published quiet)
         (λ n made alive at_n.
         let has = tied.of_tree.records.every n alive in
         let is = tied.of_tree.records.each has.key has.value has.found in
         let same : has.value.made ≡ made = same_Some _ _ (sym is.made ∙ ap (slice_get b.register.history) has.numbered ∙ at_n) in
-        ap (λ (e : Event). due_at e (marks_of b.register.history n) n) (sym same) ∙ ap (λ (m : ℕ). due_at has.value.made (marks_of b.register.history m) n) (sym has.numbered) ∙
+        ap (λ (e : Event). due_at e (marks_of b.register.base b.register.history n) n) (sym same) ∙ ap (λ (m : ℕ). due_at has.value.made (marks_of b.register.base b.register.history m) n) (sym has.numbered) ∙
         ap (λ m. due_at has.value.made m n) (sym is.marks) ∙ ap (option_map (λ t. End n t)) (all.quiet has.key has.value has.found))
 
   -- what comes next may be written
-  pub next_ready : (d : HubDue) → IsLawful b.register.history → IsNext b d → IsPaid b.register → IsReady b.register (event_of d)
+  pub next_ready : (d : HubDue) → IsLawful b.register.base b.register.history → IsNext b d → IsPaid b.register → IsReady b.register (event_of d)
   next_ready d law next paid = record {
     next = forced next.forced;
     room = forced_room b.register (event_of d) law next.forced paid;
@@ -129,7 +130,7 @@ module _ {T : Type 0} (g : Ghosts T) (b : Ground T) (tied : AreTied g b.register
     pending = paid.pending;
   }
     where
-      by_due : (d : HubDue) → IsForced b.register.history (event_of d) → length (mail_of b.register.history (event_of d)) ≤ b.register.mail_room
+      by_due : (d : HubDue) → IsForced b.register.base b.register.history (event_of d) → length (mail_of b.register.history (event_of d)) ≤ b.register.mail_room
       by_due (ConnectDue n) f = omega arith
       by_due (EndDue key t) f = let one = told_by_end b.register.history key.number t in let room = end_room b.register key.number t f paid in omega arith
       by_due (CloseDue key) f = omega arith
@@ -158,10 +159,11 @@ none_newer number kept = record { from = λ key some l. kept.from key some; stil
 
 -- what was forced so far was written
 pub record IsOnTheWay {T : Type 0} (g : Ghosts T) (start now : Ground T) : Type 0 where
-  pub tied : AreTied g now.register.history now.tree now.hubs
+  pub tied : AreTied now.register.base g now.register.history now.tree now.hubs
   pub paid : IsPaid now.register
   pub room : HasRoomToConnect now.register.history now.tree.nodes.room now.space
-  pub forced : IsForcedOn start.register.history now.register.history
+  pub base : now.register.base ≡ start.register.base
+  pub forced : IsForcedOn start.register.base start.register.history now.register.history
   pub grown : length start.register.history ≤ length now.register.history
   pub within : (key : Key) → IsSome (find start.tree.nodes key) → key.number < length now.register.history
   pub nodes : KeepsOlder now.register.history (length start.register.history) start.tree.nodes now.tree.nodes
@@ -171,12 +173,13 @@ pub record IsOnTheWay {T : Type 0} (g : Ghosts T) (start now : Ground T) : Type 
   pub given : now.register.given ≡ start.register.given
   pub memory : TakesNoMemory start now
 
-pub way_starts : {T : Type 0} (g : Ghosts T) (b : Ground T) → AreTied g b.register.history b.tree b.hubs → IsPaid b.register →
+pub way_starts : {T : Type 0} (g : Ghosts T) (b : Ground T) → AreTied b.register.base g b.register.history b.tree b.hubs → IsPaid b.register →
     HasRoomToConnect b.register.history b.tree.nodes.room b.space → IsOnTheWay g b b
 way_starts g b tied paid room = record {
   tied = tied;
   paid = paid;
   room = room;
+  base = refl;
   forced = stays;
   grown = omega arith;
   within = λ key some. let x = some_of (find b.tree.nodes key) some in is_open_within b.register.history key.number (tied.of_tree.records.each key x.0 x.1).alive;
@@ -189,12 +192,13 @@ way_starts g b tied paid room = record {
 }
 
 -- another chain is no other way
-pub way_rechained : {T : Type 0} (g : Ghosts T) (start old new : Ground T) → IsOnTheWay g start old → WithChain old new → AreTied g new.register.history new.tree new.hubs → IsOnTheWay g start new
+pub way_rechained : {T : Type 0} (g : Ghosts T) (start old new : Ground T) → IsOnTheWay g start old → WithChain old new → AreTied new.register.base g new.register.history new.tree new.hubs → IsOnTheWay g start new
 way_rechained {T = T} g start old new w kept tied = record {
   tied = tied;
   paid = subst IsPaid (sym register) w.paid;
   room = subst (λ (b : Ground T). HasRoomToConnect b.register.history b.tree.nodes.room b.space) (sym kept.same) w.room;
-  forced = subst (λ (s : Register). IsForcedOn start.register.history s.history) (sym register) w.forced;
+  base = ap (λ (s : Register). s.base) register ∙ w.base;
+  forced = subst (λ (s : Register). IsForcedOn start.register.base start.register.history s.history) (sym register) w.forced;
   grown = let l = ap (λ (s : Register). length s.history) register in let n = w.grown in omega arith;
   within = λ key some. let l = ap (λ (s : Register). length s.history) register in let n = w.within key some in omega arith;
   nodes = subst (λ (b : Ground T). KeepsOlder b.register.history (length start.register.history) start.tree.nodes b.tree.nodes) (sym kept.same) w.nodes;
@@ -211,19 +215,22 @@ way_rechained {T = T} g start old new w kept tied = record {
 -- what comes next, if it is a Connect, has room
 pub next_room : {T : Type 0} (b : Ground T) (d : HubDue) → IsNext b d → HasRoomToConnect b.register.history b.tree.nodes.room b.space →
     (n : ℕ) → d ≡ ConnectDue n → (0 < b.tree.nodes.room) × (0 < b.space)
-next_room b d next room n is = room n (connect_due (subst (λ (x : HubDue). IsForced b.register.history (event_of x)) is next.forced))
+next_room b d next room n is = room n (connect_due b.register.base (subst (λ (x : HubDue). IsForced b.register.base b.register.history (event_of x)) is next.forced))
 
 -- one event more
-pub way_on : {T : Type 0} (g : Ghosts T) (start old new : Ground T) (d : HubDue) → IsOnTheWay g start old → IsLawful old.register.history → IsNext old d →
-    Writes old.register (event_of d ∷ []) new.register → AreTied g new.register.history new.tree new.hubs →
+pub way_on : {T : Type 0} (g : Ghosts T) (start old new : Ground T) (d : HubDue) → IsOnTheWay g start old → IsLawful old.register.base old.register.history →
+    IsNext old d →
+    Writes old.register (event_of d ∷ []) new.register → AreTied new.register.base g new.register.history new.tree new.hubs →
     KeepsOlder new.register.history (length old.register.history) old.tree.nodes new.tree.nodes → new.tree.resources ≡ old.tree.resources →
     length new.hubs.hubs ≡ length old.hubs.hubs → TakesNoMemory old new → IsOnTheWay g start new
 way_on g start old new d w law next written tied kept resources hubs memory = record {
   tied = tied;
   paid = forced_pays old.register new.register (event_of d) law next.forced w.paid written;
-  room = λ n waits. absurd (forced_connected old.register.history (event_of d) w.paid.waits w.paid.may_wait next.forced n
+  room = λ n waits. absurd (forced_connected old.register.base old.register.history (event_of d) w.paid.waits w.paid.may_wait next.forced n
       (subst (λ (k : List Event). IsConnectDue k n) written.history waits));
-  forced = subst (IsForcedOn start.register.history) (sym written.history) (more w.forced next.forced);
+  base = written.base ∙ w.base;
+  forced = subst (IsForcedOn start.register.base start.register.history) (sym written.history)
+      (more w.forced (subst (λ (b : Kept). IsForced b old.register.history (event_of d)) w.base next.forced));
   grown = let n = w.grown in let l = longer in omega arith;
   within = λ key some. let n = w.within key some in let l = longer in omega arith;
   nodes = subst (λ (k : List Event). KeepsOlder k (length start.register.history) start.tree.nodes new.tree.nodes) (sym written.history)
@@ -242,9 +249,9 @@ way_on g start old new d w law next written tied kept resources hubs memory = re
 -- the chain -----------------------------------------------------------------------------------------
 
 -- where the first of the chain is not due it may be dropped
-pub chain_dropped : {T : Type 0} (g : Ghosts T) (h : List Event) (tree new : Tree T) (p : Key) → IsTied g h tree → first_of tree.chain ≡ Some p → option_and_then (λ (node : Node). terminal_due node.made node.marks) (find tree.nodes p) ≡ None → new ≡ record tree { chain = drop 1 tree.chain } → IsTied g h new
-chain_dropped {T = T} g h tree new p tied first undue same = subst (IsTied g h) (sym same) (record {
-  records = rechained h tree.nodes tree.chain (drop 1 tree.chain) tied.records (λ key node found off on. by_chain key node found tree.chain first off on);
+pub chain_dropped : (base : Kept) → {T : Type 0} (g : Ghosts T) (h : List Event) (tree new : Tree T) (p : Key) → IsTied base g h tree → first_of tree.chain ≡ Some p → option_and_then (λ (node : Node). terminal_due node.made node.marks) (find tree.nodes p) ≡ None → new ≡ record tree { chain = drop 1 tree.chain } → IsTied base g h new
+chain_dropped base {T = T} g h tree new p tied first undue same = subst (IsTied base g h) (sym same) (record {
+  records = rechained base h tree.nodes tree.chain (drop 1 tree.chain) tied.records (λ key node found off on. by_chain key node found tree.chain first off on);
   stored = record { each = tied.stored.each; every = tied.stored.every };
 })
   where
@@ -259,8 +266,9 @@ chain_dropped {T = T} g h tree new p tied first undue same = subst (IsTied g h) 
       by_test false here = absurd (both_ways (is_on key (x ∷ chain)) (ap (λ b. b || is_on key chain) here ∙ off) on)
 
 -- with an empty chain nothing is due
-pub chain_empty : {T : Type 0} (g : Ghosts T) (h : List Event) (tree : Tree T) → IsTied g h tree → first_of tree.chain ≡ None → AllQuiet tree.nodes
-chain_empty g h tree tied empty = record { quiet = λ key node found. undue node key (tied.records.quiet key node found (by_chain key tree.chain empty)) } where
+pub chain_empty : (base : Kept) → {T : Type 0} (g : Ghosts T) (h : List Event) (tree : Tree T) → IsTied base g h tree → first_of tree.chain ≡ None →
+    AllQuiet tree.nodes
+chain_empty base g h tree tied empty = record { quiet = λ key node found. undue node key (tied.records.quiet key node found (by_chain key tree.chain empty)) } where
   by_chain : (key : Key) (chain : List Key) → first_of chain ≡ None → is_on key chain ≡ false
   by_chain key [] e = refl
   by_chain key (x ∷ chain) e = absurd (none-some x (sym e))

@@ -2,6 +2,7 @@
 use Rattle.std.proofs.Common.{◌≡◌, ℕ, List, [], get_or, slice_get, Option, None, sym, ap, subst, ◌∙◌, arith, is_some}
 use Rattle.std.proofs.lemmas.Bool.{both_ways, false≢true}
 use Rattle.std.proofs.lemmas.Option.{none-some}
+use Rattle.rx_event.specs.Kept.{Kept}
 use Rattle.rx_resource.specs.declared.Resource.{Ghosts}
 use Rattle.rx_event.specs.declared.event.Event.{Event}
 use Rattle.rx_event.specs.Tree.{is_open}
@@ -33,8 +34,8 @@ none_found : {X : Type 0} (slots : Slots X) → slots.entries ≡ [] → (key : 
 none_found {X = X} slots empty key = ap (λ (es : List (Option (Entry X))). with_number key.number (get_or es key.slot None)) empty
 
 module _ {T : Type 0} (g : Ghosts T) where
-  tied_empty : (tree : Tree T) → tree.nodes.entries ≡ [] → tree.resources.entries ≡ [] → IsTied g [] tree
-  tied_empty tree nodes resources = record {
+  tied_empty : (base : Kept) → (tree : Tree T) → tree.nodes.entries ≡ [] → tree.resources.entries ≡ [] → IsTied base g [] tree
+  tied_empty base tree nodes resources = record {
     records = record {
       each = λ key node found. absurd (none-some node (sym (none_found tree.nodes nodes key) ∙ found));
       every = λ n alive. absurd (both_ways (is_open [] n) (is_open_past [] n (omega arith)) alive);
@@ -46,8 +47,8 @@ module _ {T : Type 0} (g : Ghosts T) where
     };
   }
 
-  hubs_empty : (tree : Tree T) (hubs : Hubs) → hubs.hubs ≡ [] → IsTied g [] tree → AreTied g [] tree hubs
-  hubs_empty tree hubs none tied = record {
+  hubs_empty : (base : Kept) → (tree : Tree T) (hubs : Hubs) → hubs.hubs ≡ [] → IsTied base g [] tree → AreTied base g [] tree hubs
+  hubs_empty base tree hubs none tied = record {
     of_tree = tied;
     published = record {
       each = λ i hub at_i. absurd (none-some hub (sym (ap (λ (hs : List Hub). slice_get hs i) none) ∙ at_i));
@@ -64,15 +65,16 @@ module _ {T : Type 0} (g : Ghosts T) where
   pub standing_empty : (b : Ground T) → b.register.history ≡ [] → b.register.pending ≡ [] → b.tree.nodes.entries ≡ [] →
       b.tree.resources.entries ≡ [] → b.hubs.hubs ≡ [] → IsStanding g b
   standing_empty b empty told nodes resources none = record {
-    tied = subst (λ (h : List Event). AreTied g h b.tree b.hubs) (sym empty) (hubs_empty b.tree b.hubs none (tied_empty b.tree nodes resources));
-    settled = subst IsSettled (sym empty) settled_empty;
+    tied = subst (λ (h : List Event). AreTied b.register.base g h b.tree b.hubs) (sym empty) (hubs_empty b.register.base b.tree b.hubs none (tied_empty b.register.base b.tree nodes resources));
+    settled = subst (IsSettled b.register.base) (sym empty) (settled_empty b.register.base);
     paid = paid_empty b.register empty told;
   }
 
   -- a tree of the same entries and chain
-  tied_same_entries : (h : List Event) (old new : Tree T) → new.nodes.entries ≡ old.nodes.entries → new.resources.entries ≡ old.resources.entries →
-      new.chain ≡ old.chain → IsTied g h old → IsTied g h new
-  tied_same_entries h old new nodes resources chain tied = record {
+  tied_same_entries : (base : Kept) → (h : List Event) (old new : Tree T) → new.nodes.entries ≡ old.nodes.entries →
+      new.resources.entries ≡ old.resources.entries →
+      new.chain ≡ old.chain → IsTied base g h old → IsTied base g h new
+  tied_same_entries base h old new nodes resources chain tied = record {
     records = record {
       each = λ key node found. r.each key node (sym (at_node key) ∙ found);
       every = λ n alive. has_still old.nodes new.nodes nodes n (r.every n alive);
@@ -84,7 +86,7 @@ module _ {T : Type 0} (g : Ghosts T) where
     };
   }
     where
-      r : AreRecords h old.nodes old.chain
+      r : AreRecords base h old.nodes old.chain
       r = tied.records
 
       at_node : (key : Key) → find new.nodes key ≡ find old.nodes key
@@ -93,25 +95,28 @@ module _ {T : Type 0} (g : Ghosts T) where
       at_resource : (key : Key) → find new.resources key ≡ find old.resources key
       at_resource = same_finds old.resources new.resources resources
 
-      of : (n : ℕ) (s : Stowed T) → IsStored g h old.nodes n s → IsStored g h new.nodes n s
+      of : (n : ℕ) (s : Stowed T) → IsStored base g h old.nodes n s → IsStored base g h new.nodes n s
       of n s is = record {
+        made = is.made;
         accepted = is.accepted;
-        removed = is.removed;
+        older = is.older;
+        held = is.held;
         untaken = is.untaken;
         home = λ alive. ap is_some (at_node s.node) ∙ is.home alive;
         live = is.live;
+        few = is.few;
         uses = is.uses;
       }
 
   -- a ground with more room
   pub standing_roomier : (old new : Ground T) → IsRoomier old new → IsStanding g old → IsStanding g new
   standing_roomier old new more s = record {
-    tied = subst (λ (h : List Event). AreTied g h new.tree new.hubs) (sym history) tied;
-    settled = subst IsSettled (sym history) s.settled;
+    tied = subst (λ (r : Register). AreTied r.base g r.history new.tree new.hubs) (sym more.register) tied;
+    settled = subst (λ (r : Register). IsSettled r.base r.history) (sym more.register) s.settled;
     paid = record {
       waits = s.paid.waits;
       may_wait = subst (λ (h : List Event). MayWait h s.paid.waits) (sym history) s.paid.may_wait;
-      events = let d = ap debt history in let e = s.paid.events in let m = more.room in omega arith;
+      events = let d = ap (λ (r : Register). debt r.base r.history) more.register in let e = s.paid.events in let m = more.room in omega arith;
       notes = let o = ap (λ (h : List Event). open_count h) history in let n = s.paid.notes in let m = more.mail_room in omega arith;
       pending = ap (λ (r : Register). r.pending) more.register ∙ s.paid.pending;
     };
@@ -126,6 +131,6 @@ module _ {T : Type 0} (g : Ghosts T) where
       resources : new.tree.resources.entries ≡ old.tree.resources.entries
       resources = ap (λ (slots : Slots (Stowed T)). slots.entries) more.resources
 
-      tied : AreTied g old.register.history new.tree new.hubs
-      tied = tied_beside g (ap (λ (hubs : Hubs). hubs.hubs) more.hubs) (λ key some. ap is_some (same_finds old.tree.nodes new.tree.nodes nodes key) ∙ some) s.tied
-          (tied_same_entries old.register.history old.tree new.tree nodes resources more.chain s.tied.of_tree)
+      tied : AreTied old.register.base g old.register.history new.tree new.hubs
+      tied = tied_beside g old.register.base (ap (λ (hubs : Hubs). hubs.hubs) more.hubs) (λ key some. ap is_some (same_finds old.tree.nodes new.tree.nodes nodes key) ∙ some) s.tied
+          (tied_same_entries old.register.base old.register.history old.tree new.tree nodes resources more.chain s.tied.of_tree)

@@ -1,22 +1,24 @@
 -- What one event leaves of the resources in the store.
-use Rattle.std.proofs.Common.{◌≡◌, ◌≢◌, ℕ, ◌+◌, ◌<◌, Bool, true, false, cond, List, [], ◌∷◌, ◌++◌, length, Option, Some, None, is_some, IsSome, option_map, slice_get, refl, sym, ap, subst, ◌∙◌, inl, inr, ◌⊎◌, arith, length-append}
-use Rattle.std.proofs.Math.Bool.{◌||◌}
+use Rattle.std.proofs.Common.{◌≡◌, ◌≢◌, ℕ, ◌+◌, ◌<◌, ◌≤◌, Bool, true, false, cond, List, [], ◌∷◌, ◌++◌, length, Option, Some, None, is_some, IsSome, option_map, slice_get, refl, sym, ap, subst, ◌∙◌, inl, inr, ◌⊎◌, arith, length-append}
+use Rattle.std.proofs.Math.Bool.{not, ◌&&◌, ◌||◌}
 use Rattle.std.specs.List.{list_any}
 use Rattle.std.specs.Option.{option_and_then, option_map_or}
 use Rattle.std.proofs.lemmas.Bool.{false≢true, cases_order, or_parts, or_right, both_ways, eq-eqb, ne_eqb}
 use Rattle.std.proofs.lemmas.Option.{none-some, same_Some, slice_get_within}
+use Rattle.rx_event.specs.Kept.{Kept}
 use Rattle.rx_resource.specs.declared.Resource.{Ghosts}
 use Rattle.rx_resource.specs.declared.Life.TheVariants.{Live}
 use Rattle.rx_event.specs.declared.event.Event.{Event}
 use Rattle.rx_event.specs.declared.event.Event.TheVariants.{Accept, Use, Remove, Take}
 use Rattle.rx_event.specs.Events.{makes_resource, node_of_accept, is_remove_of, is_take_of, is_use_of}
 use Rattle.rx_event.specs.Tree.{at, is_open}
-use Rattle.rx_event.specs.Resources.{uses}
+use Rattle.rx_event.specs.Resources.{is_held, uses}
 use Rattle.rx_event.specs.Lawful.{IsLawful}
-use Rattle.rx_event.proofs.Laws.Places.{slice_get-append, slice_get_last, at-append}
+use Rattle.rx_event.proofs.Laws.Places.{slice_get_last, at-append, at_within}
 use Rattle.rx_event.proofs.Laws.Searches.{list_any_push, or_false}
-use Rattle.rx_event.proofs.Laws.Openness.{stays_closed}
-use Rattle.rx_event.proofs.Laws.Resources.{node_of-lt, no_remove, no_take}
+use Rattle.rx_event.proofs.Laws.Openness.{is_cut, is_open_cut, is_open_unchanged, is_open_within, stays_closed}
+use Rattle.rx_event.proofs.Laws.Resources.{node_of, loses, is_held-push, is_held-remove, is_held_last, no_take, accepted_by-push, accepted_by_new}
+use Rattle.rx_event.proofs.Laws.Sound.{reads_held}
 use Rattle.rx_event.proofs.Laws.Totals.{uses-push, uses_new}
 use Rattle.rx_slots.specs.declared.Key.{Key}
 use Rattle.rx_slots.specs.Slots.{Slots, find, entry_at, with_number, KeepsOthers}
@@ -33,10 +35,14 @@ pub record IsApart (r : ℕ) (e : Event) : Type 0 where
   pub takes : is_take_of r e ≡ false
   pub uses : is_use_of r e ≡ false
 
-module _ {T : Type 0} (g : Ghosts T) (h : List Event) (law : IsLawful h) where
+at_most_one : (test : Bool) → cond {A = ℕ} test 1 0 ≤ 1
+at_most_one true = omega arith
+at_most_one false = omega arith
+
+module _ (base : Kept) {T : Type 0} (g : Ghosts T) (h : List Event) (law : IsLawful base h) where
   -- where a stored resource came to be held is an older node
-  pub stored_within : (nodes : Slots Node) (r : ℕ) (s : Stowed T) → IsStored g h nodes r s → (r < length h) × (s.node.number < r)
-  stored_within nodes r s is = (slice_get_within h r _ is.accepted, node_of-lt h law r s.node.number (ap (option_and_then node_of_accept) is.accepted))
+  pub stored_within : (nodes : Slots Node) (r : ℕ) (s : Stowed T) → IsStored base g h nodes r s → (r < length h) × (s.node.number < r)
+  stored_within nodes r s is = (at_within makes_resource h r is.made, is.older)
 
   module _ (e : Event) where
     -- a search for an event of a resource that this one is not about
@@ -50,14 +56,57 @@ module _ {T : Type 0} (g : Ghosts T) (h : List Event) (law : IsLawful h) where
       by_test true was = refl
       by_test false was = absurd (false≢true (sym (stays_closed h e n l was) ∙ alive))
 
-    pub stored_still : (nodes new : Slots Node) (r : ℕ) (s : Stowed T) → IsStored g h nodes r s → IsApart r e → ((key : Key) → IsSome (find nodes key) → is_open (h ++ e ∷ []) key.number ≡ true → IsSome (find new key)) → IsStored g (h ++ e ∷ []) new r s
+    -- it is used no more often than there are events
+    few_after : (r : ℕ) → uses base h r ≤ length h → uses base (h ++ e ∷ []) r ≤ length (h ++ e ∷ [])
+    few_after r few =
+        let u = uses-push base h e r in
+        let o = at_most_one (is_use_of r e) in
+        omega (arith, length-append h (e ∷ []))
+
+    -- a resource that it does not remove is held after it where it was, and its node stays open
+    held_still : (nodes : Slots Node) (r : ℕ) (s : Stowed T) → IsStored base g h nodes r s → is_remove_of r e ≡ false →
+        is_held (h ++ e ∷ []) r ≡ (is_open (h ++ e ∷ []) s.node.number && not s.removed)
+    held_still nodes r s is kept =
+        is_held-push base h e law r within.0 ∙ by_test (is_held h r) refl ∙
+        ap (λ o. o && not s.removed) (sym (is_open_cut h e n (let a = within.0 in let b = within.1 in omega arith)))
+      where
+        n : ℕ
+        n = s.node.number
+
+        within : (r < length h) × (n < r)
+        within = stored_within nodes r s is
+
+        shape : (o c m : Bool) → (o && not m) ≡ true → (not (c || false)) ≡ ((o && not c) && not m)
+        shape true true false held = refl
+        shape true false false held = refl
+        shape true c true held = absurd (false≢true held)
+        shape false c m held = absurd (false≢true held)
+
+        shape_lost : (o c m : Bool) → (o && not m) ≡ false → false ≡ ((o && not c) && not m)
+        shape_lost true c false lost = absurd (false≢true (sym lost))
+        shape_lost true true true lost = refl
+        shape_lost true false true lost = refl
+        shape_lost false c m lost = refl
+
+        by_test : (b : Bool) → is_held h r ≡ b → (b && not (loses h e r)) ≡ ((is_open h n && not (is_cut h e n)) && not s.removed)
+        by_test true held =
+            let node : node_of h r ≡ Some n = ap (option_and_then node_of_accept) (sym (reads_held base h law r held) ∙ is.accepted) in
+            ap (λ o. not (option_map_or (is_cut h e) o false || is_remove_of r e)) node ∙ ap (λ b. not (is_cut h e n || b)) kept ∙
+            shape (is_open h n) (is_cut h e n) s.removed (sym is.held ∙ held)
+        by_test false lost = shape_lost (is_open h n) (is_cut h e n) s.removed (sym is.held ∙ lost)
+
+    pub stored_still : (nodes new : Slots Node) (r : ℕ) (s : Stowed T) → IsStored base g h nodes r s → IsApart r e →
+        ((key : Key) → IsSome (find nodes key) → is_open (h ++ e ∷ []) key.number ≡ true → IsSome (find new key)) → IsStored base g (h ++ e ∷ []) new r s
     stored_still nodes new r s is apart kept = record {
-      accepted = slice_get-append h (e ∷ []) r within.0 ∙ is.accepted;
-      removed = is.removed ∙ sym (still (is_remove_of r) apart.removes);
+      made = at-append makes_resource h (e ∷ []) r within.0 ∙ is.made;
+      accepted = accepted_by-push base h e r within.0 ∙ is.accepted;
+      older = is.older;
+      held = held_still nodes r s is apart.removes;
       untaken = still (is_take_of r) apart.takes ∙ is.untaken;
       home = λ alive. kept s.node (is.home (open_before s.node.number (let a = within.0 in let b = within.1 in omega arith) alive)) alive;
       live = is.live;
-      uses = is.uses ∙ sym (uses-push h e r ∙ ap (λ b. uses h r + cond {A = ℕ} b 1 0) apart.uses ∙ no_more (uses h r));
+      few = few_after r is.few;
+      uses = is.uses ∙ sym (uses-push base h e r ∙ ap (λ b. uses base h r + cond {A = ℕ} b 1 0) apart.uses ∙ no_more (uses base h r));
     }
       where
         within : (r < length h) × (s.node.number < r)
@@ -83,22 +132,23 @@ module _ {T : Type 0} (g : Ghosts T) (h : List Event) (law : IsLawful h) where
     untaken_before r none = (or_parts (list_any (is_take_of r) h) (is_take_of r e) (sym (list_any_push (is_take_of r) h e) ∙ none)).0
 
     -- an event that is about no resource
-    pub all_stored : (old new : Tree T) → AreStored g h old → new.resources ≡ old.resources → makes_resource e ≡ false → ((r : ℕ) → IsApart r e) → ((key : Key) → IsSome (find old.nodes key) → is_open (h ++ e ∷ []) key.number ≡ true → IsSome (find new.nodes key)) → AreStored g (h ++ e ∷ []) new
+    pub all_stored : (old new : Tree T) → AreStored base g h old → new.resources ≡ old.resources → makes_resource e ≡ false → ((r : ℕ) → IsApart r e) → ((key : Key) → IsSome (find old.nodes key) → is_open (h ++ e ∷ []) key.number ≡ true → IsSome (find new.nodes key)) → AreStored base g (h ++ e ∷ []) new
     all_stored old new s same none apart kept = record {
       each = λ key x found. stored_still old.nodes new.nodes key.number x (s.each key x (sym (ap (λ (r : Slots (Stowed T)). find r key) same) ∙ found)) (apart key.number) kept;
       every = λ r made untaken. let has = s.every r (accepted_before r none made) (untaken_before r untaken) in record { key = has.key; value = has.value; found = ap (λ (x : Slots (Stowed T)). find x has.key) same ∙ has.found; numbered = has.numbered };
     }
 
     -- one that is about the resource of one key alone
-    pub all_stored_but : (old new : Tree T) (k : Key) → AreStored g h old → AreApart old.resources → IsSome (find old.resources k) → new.nodes ≡ old.nodes → KeepsOthers old.resources new.resources k → makes_resource e ≡ false → ((r : ℕ) → r ≢ k.number → IsApart r e) → ((x : Stowed T) → find new.resources k ≡ Some x → IsStored g (h ++ e ∷ []) old.nodes k.number x) → (list_any (is_take_of k.number) (h ++ e ∷ []) ≡ false → IsSome (find new.resources k)) → AreStored g (h ++ e ∷ []) new
+    pub all_stored_but : (old new : Tree T) (k : Key) → AreStored base g h old → AreApart old.resources → IsSome (find old.resources k) → new.nodes ≡ old.nodes → KeepsOthers old.resources new.resources k → makes_resource e ≡ false → ((r : ℕ) → r ≢ k.number → IsApart r e) → ((x : Stowed T) → find new.resources k ≡ Some x → IsStored base g (h ++ e ∷ []) old.nodes k.number x) → (list_any (is_take_of k.number) (h ++ e ∷ []) ≡ false → IsSome (find new.resources k)) → AreStored base g (h ++ e ∷ []) new
     all_stored_but old new k s unique there nodes others none apart here left = record { each = each; every = every } where
       kept : (key : Key) → IsSome (find old.nodes key) → is_open (h ++ e ∷ []) key.number ≡ true → IsSome (find old.nodes key)
       kept key some alive = some
 
-      each : (key : Key) (x : Stowed T) → find new.resources key ≡ Some x → IsStored g (h ++ e ∷ []) new.nodes key.number x
-      each key x found = subst (λ (ns : Slots Node). IsStored g (h ++ e ∷ []) ns key.number x) (sym nodes) (by_key (cases_key key k)) where
-        by_key : (key ≡ k) ⊎ (key ≢ k) → IsStored g (h ++ e ∷ []) old.nodes key.number x
-        by_key (inl same) = subst (λ (j : Key). IsStored g (h ++ e ∷ []) old.nodes j.number x) (sym same) (here x (sym (ap (find new.resources) same) ∙ found))
+      each : (key : Key) (x : Stowed T) → find new.resources key ≡ Some x → IsStored base g (h ++ e ∷ []) new.nodes key.number x
+      each key x found = subst (λ (ns : Slots Node). IsStored base g (h ++ e ∷ []) ns key.number x) (sym nodes) (by_key (cases_key key k)) where
+        by_key : (key ≡ k) ⊎ (key ≢ k) → IsStored base g (h ++ e ∷ []) old.nodes key.number x
+        by_key (inl same) = subst (λ (j : Key). IsStored base g (h ++ e ∷ []) old.nodes j.number x) (sym same) (here x (sym (ap (find new.resources) same) ∙
+            found))
         by_key (inr differs) =
             let was : find old.resources key ≡ Some x = sym (others key differs) ∙ found in
             stored_still old.nodes old.nodes key.number x (s.each key x was) (apart key.number (λ same. differs (unique key k (ap is_some was) there same))) kept
@@ -116,46 +166,50 @@ module _ {T : Type 0} (g : Ghosts T) (h : List Event) (law : IsLawful h) where
 
 -- each event --------------------------------------------------------------------------------------
 
-module _ {T : Type 0} (g : Ghosts T) (h : List Event) (law : IsLawful h) (old new : Tree T) (s : AreStored g h old) (unique : AreApart old.resources) (nodes : new.nodes ≡ old.nodes) where
+module _ (base : Kept) {T : Type 0} (g : Ghosts T) (h : List Event) (law : IsLawful base h) (old new : Tree T) (s : AreStored base g h old) (unique : AreApart old.resources) (nodes : new.nodes ≡ old.nodes) where
   -- a resource is used
-  pub stored_used : (k : Key) (before : Stowed T) (after : T) → find old.resources k ≡ Some before → g.uses_of after ≡ g.uses_of before.resource + 1 → g.tag_of after ≡ g.tag_of before.resource → g.life_of after ≡ g.life_of before.resource → Rewrites old.resources new.resources k (with_resource after) → AreStored g (h ++ Use k.number ∷ []) new
-  stored_used k before after found used tagged lives w = all_stored_but g h law (Use k.number) old new k s unique (ap is_some found) nodes w.others refl apart here (λ untaken. ap is_some now) where
+  pub stored_used : (k : Key) (before : Stowed T) (after : T) → find old.resources k ≡ Some before → g.uses_of after ≡ g.uses_of before.resource + 1 → g.tag_of after ≡ g.tag_of before.resource → g.life_of after ≡ g.life_of before.resource → Rewrites old.resources new.resources k (with_resource after) → AreStored base g (h ++ Use k.number ∷ []) new
+  stored_used k before after found used tagged lives w = all_stored_but base g h law (Use k.number) old new k s unique (ap is_some found) nodes w.others refl apart here (λ untaken. ap is_some now) where
     now : find new.resources k ≡ Some (with_resource after before)
     now = w.changed ∙ ap (option_map (with_resource after)) found
 
-    was : IsStored g h old.nodes k.number before
+    was : IsStored base g h old.nodes k.number before
     was = s.each k before found
 
     within : (k.number < length h) × (before.node.number < k.number)
-    within = stored_within g h law old.nodes k.number before was
+    within = stored_within base g h law old.nodes k.number before was
 
     apart : (r : ℕ) → r ≢ k.number → IsApart r (Use k.number)
     apart r differs = record { removes = refl; takes = refl; uses = ne_eqb k.number r (λ same. differs (sym same)) }
 
-    after_it : IsStored g (h ++ Use k.number ∷ []) old.nodes k.number (with_resource after before)
+    after_it : IsStored base g (h ++ Use k.number ∷ []) old.nodes k.number (with_resource after before)
     after_it = record {
-      accepted = slice_get-append h (Use k.number ∷ []) k.number within.0 ∙ was.accepted ∙ ap (λ (t : ℕ). Some (Accept before.node.number t)) (sym tagged);
-      removed = was.removed ∙ sym (still g h law (Use k.number) (is_remove_of k.number) refl);
-      untaken = still g h law (Use k.number) (is_take_of k.number) refl ∙ was.untaken;
-      home = λ alive. was.home (open_before g h law (Use k.number) before.node.number (let a = within.0 in let b = within.1 in omega arith) alive);
+      made = at-append makes_resource h (Use k.number ∷ []) k.number within.0 ∙ was.made;
+      accepted = accepted_by-push base h (Use k.number) k.number within.0 ∙ was.accepted ∙ ap (λ (t : ℕ). Some (Accept before.node.number t)) (sym tagged);
+      older = was.older;
+      held = held_still base g h law (Use k.number) old.nodes k.number before was refl;
+      untaken = still base g h law (Use k.number) (is_take_of k.number) refl ∙ was.untaken;
+      home = λ alive. was.home (open_before base g h law (Use k.number) before.node.number (let a = within.0 in let b = within.1 in omega arith) alive);
       live = lives ∙ was.live;
-      uses = used ∙ ap (λ (n : ℕ). n + 1) was.uses ∙ sym (uses-push h (Use k.number) k.number ∙ ap (λ b. uses h k.number + cond {A = ℕ} b 1 0) (eq-eqb k.number k.number refl));
+      few = few_after base g h law (Use k.number) k.number was.few;
+      uses = used ∙ ap (λ (n : ℕ). n + 1) was.uses ∙ sym (uses-push base h (Use k.number) k.number ∙
+          ap (λ b. uses base h k.number + cond {A = ℕ} b 1 0) (eq-eqb k.number k.number refl));
     }
 
-    here : (x : Stowed T) → find new.resources k ≡ Some x → IsStored g (h ++ Use k.number ∷ []) old.nodes k.number x
-    here x f = subst (IsStored g (h ++ Use k.number ∷ []) old.nodes k.number) (same_Some _ x (sym now ∙ f)) after_it
+    here : (x : Stowed T) → find new.resources k ≡ Some x → IsStored base g (h ++ Use k.number ∷ []) old.nodes k.number x
+    here x f = subst (IsStored base g (h ++ Use k.number ∷ []) old.nodes k.number) (same_Some _ x (sym now ∙ f)) after_it
 
   -- a resource is removed
-  pub stored_removed : (k : Key) (before : Stowed T) → find old.resources k ≡ Some before → Rewrites old.resources new.resources k removed → AreStored g (h ++ Remove k.number ∷ []) new
-  stored_removed k before found w = all_stored_but g h law (Remove k.number) old new k s unique (ap is_some found) nodes w.others refl apart here (λ untaken. ap is_some now) where
+  pub stored_removed : (k : Key) (before : Stowed T) → find old.resources k ≡ Some before → Rewrites old.resources new.resources k removed → AreStored base g (h ++ Remove k.number ∷ []) new
+  stored_removed k before found w = all_stored_but base g h law (Remove k.number) old new k s unique (ap is_some found) nodes w.others refl apart here (λ untaken. ap is_some now) where
     now : find new.resources k ≡ Some (removed before)
     now = w.changed ∙ ap (option_map removed) found
 
-    was : IsStored g h old.nodes k.number before
+    was : IsStored base g h old.nodes k.number before
     was = s.each k before found
 
     within : (k.number < length h) × (before.node.number < k.number)
-    within = stored_within g h law old.nodes k.number before was
+    within = stored_within base g h law old.nodes k.number before was
 
     apart : (r : ℕ) → r ≢ k.number → IsApart r (Remove k.number)
     apart r differs = record { removes = ne_eqb k.number r (λ same. differs (sym same)); takes = refl; uses = refl }
@@ -163,58 +217,75 @@ module _ {T : Type 0} (g : Ghosts T) (h : List Event) (law : IsLawful h) (old ne
     no_more : (n : ℕ) → n + 0 ≡ n
     no_more n = omega arith
 
-    after_it : IsStored g (h ++ Remove k.number ∷ []) old.nodes k.number (removed before)
+    both_false : (a b : Bool) → (a && false) ≡ (b && false)
+    both_false true true = refl
+    both_false true false = refl
+    both_false false true = refl
+    both_false false false = refl
+
+    after_it : IsStored base g (h ++ Remove k.number ∷ []) old.nodes k.number (removed before)
     after_it = record {
-      accepted = slice_get-append h (Remove k.number ∷ []) k.number within.0 ∙ was.accepted;
-      removed = sym (list_any_push (is_remove_of k.number) h (Remove k.number) ∙ or_right (list_any (is_remove_of k.number) h) _ (eq-eqb k.number k.number refl));
-      untaken = still g h law (Remove k.number) (is_take_of k.number) refl ∙ was.untaken;
-      home = λ alive. was.home (open_before g h law (Remove k.number) before.node.number (let a = within.0 in let b = within.1 in omega arith) alive);
+      made = at-append makes_resource h (Remove k.number ∷ []) k.number within.0 ∙ was.made;
+      accepted = accepted_by-push base h (Remove k.number) k.number within.0 ∙ was.accepted;
+      older = was.older;
+      held = is_held-remove base h k.number law k.number within.0 ∙ ap (λ b. is_held h k.number && not b) (eq-eqb k.number k.number refl) ∙
+          both_false (is_held h k.number) (is_open (h ++ Remove k.number ∷ []) before.node.number);
+      untaken = still base g h law (Remove k.number) (is_take_of k.number) refl ∙ was.untaken;
+      home = λ alive. was.home (open_before base g h law (Remove k.number) before.node.number (let a = within.0 in let b = within.1 in omega arith) alive);
       live = was.live;
-      uses = was.uses ∙ sym (uses-push h (Remove k.number) k.number ∙ no_more (uses h k.number));
+      few = few_after base g h law (Remove k.number) k.number was.few;
+      uses = was.uses ∙ sym (uses-push base h (Remove k.number) k.number ∙ no_more (uses base h k.number));
     }
 
-    here : (x : Stowed T) → find new.resources k ≡ Some x → IsStored g (h ++ Remove k.number ∷ []) old.nodes k.number x
-    here x f = subst (IsStored g (h ++ Remove k.number ∷ []) old.nodes k.number) (same_Some _ x (sym now ∙ f)) after_it
+    here : (x : Stowed T) → find new.resources k ≡ Some x → IsStored base g (h ++ Remove k.number ∷ []) old.nodes k.number x
+    here x f = subst (IsStored base g (h ++ Remove k.number ∷ []) old.nodes k.number) (same_Some _ x (sym now ∙ f)) after_it
 
   -- a resource is taken
-  pub stored_taken : (k : Key) → IsSome (find old.resources k) → find new.resources k ≡ None → KeepsOthers old.resources new.resources k → AreStored g (h ++ Take k.number ∷ []) new
-  stored_taken k there gone others = all_stored_but g h law (Take k.number) old new k s unique there nodes others refl apart (λ x f. absurd (none-some x (sym gone ∙ f))) (λ untaken. absurd (both_ways _ untaken (list_any_push (is_take_of k.number) h (Take k.number) ∙ or_right (list_any (is_take_of k.number) h) _ (eq-eqb k.number k.number refl)))) where
+  pub stored_taken : (k : Key) → IsSome (find old.resources k) → find new.resources k ≡ None → KeepsOthers old.resources new.resources k → AreStored base g (h ++ Take k.number ∷ []) new
+  stored_taken k there gone others = all_stored_but base g h law (Take k.number) old new k s unique there nodes others refl apart (λ x f. absurd (none-some x (sym gone ∙ f))) (λ untaken. absurd (both_ways _ untaken (list_any_push (is_take_of k.number) h (Take k.number) ∙ or_right (list_any (is_take_of k.number) h) _ (eq-eqb k.number k.number refl)))) where
     apart : (r : ℕ) → r ≢ k.number → IsApart r (Take k.number)
     apart r differs = record { removes = refl; takes = ne_eqb k.number r (λ same. differs (sym same)); uses = refl }
 
   -- a fresh resource is accepted
-  pub stored_accepted : (home k : Key) (x : T) → IsSome (find old.nodes home) → g.life_of x ≡ Live → g.uses_of x ≡ 0 → k.number ≡ length h → entry_at old.resources k.slot ≡ None → find new.resources k ≡ Some (stowed_at home x) → KeepsOthers old.resources new.resources k → AreStored g (h ++ Accept home.number (g.tag_of x) ∷ []) new
-  stored_accepted home k x there lives unused numbered free found others = record { each = each; every = every } where
+  pub stored_accepted : (home k : Key) (x : T) → IsSome (find old.nodes home) → is_open h home.number ≡ true → g.life_of x ≡ Live → g.uses_of x ≡ 0 → k.number ≡ length h → entry_at old.resources k.slot ≡ None → find new.resources k ≡ Some (stowed_at home x) → KeepsOthers old.resources new.resources k → AreStored base g (h ++ Accept home.number (g.tag_of x) ∷ []) new
+  stored_accepted home k x there alive lives unused numbered free found others = record { each = each; every = every } where
     e : Event
     e = Accept home.number (g.tag_of x)
 
-    after_it : IsStored g (h ++ e ∷ []) old.nodes (length h) (stowed_at home x)
+    by_open : (o : Bool) → o ≡ (o && true)
+    by_open true = refl
+    by_open false = refl
+
+    after_it : IsStored base g (h ++ e ∷ []) old.nodes (length h) (stowed_at home x)
     after_it = record {
-      accepted = slice_get_last h e;
-      removed = sym (still g h law e (is_remove_of (length h)) refl ∙ no_remove h law (length h) (omega arith));
-      untaken = still g h law e (is_take_of (length h)) refl ∙ no_take h law (length h) (omega arith);
+      made = ap (λ o. option_map_or makes_resource o false) (slice_get_last h e);
+      accepted = accepted_by_new base h e law;
+      older = is_open_within h home.number alive;
+      held = is_held_last base h e law ∙ sym (is_open_unchanged h e refl refl home.number) ∙ by_open (is_open (h ++ e ∷ []) home.number);
+      untaken = still base g h law e (is_take_of (length h)) refl ∙ no_take base h law (length h) (omega arith);
       home = λ alive. there;
       live = lives;
-      uses = unused ∙ sym (uses_new h e law refl);
+      few = let none = uses_new base h e law refl in omega arith;
+      uses = unused ∙ sym (uses_new base h e law refl);
     }
 
     kept : (key : Key) → IsSome (find old.nodes key) → is_open (h ++ e ∷ []) key.number ≡ true → IsSome (find old.nodes key)
     kept key some alive = some
 
-    each : (key : Key) (y : Stowed T) → find new.resources key ≡ Some y → IsStored g (h ++ e ∷ []) new.nodes key.number y
-    each key y f = subst (λ (ns : Slots Node). IsStored g (h ++ e ∷ []) ns key.number y) (sym nodes) (by_key (cases_key key k)) where
-      by_key : (key ≡ k) ⊎ (key ≢ k) → IsStored g (h ++ e ∷ []) old.nodes key.number y
+    each : (key : Key) (y : Stowed T) → find new.resources key ≡ Some y → IsStored base g (h ++ e ∷ []) new.nodes key.number y
+    each key y f = subst (λ (ns : Slots Node). IsStored base g (h ++ e ∷ []) ns key.number y) (sym nodes) (by_key (cases_key key k)) where
+      by_key : (key ≡ k) ⊎ (key ≢ k) → IsStored base g (h ++ e ∷ []) old.nodes key.number y
       by_key (inl same) =
           let at_end : key.number ≡ length h = ap (λ (j : Key). j.number) same ∙ numbered in
-          subst (λ (n : ℕ). IsStored g (h ++ e ∷ []) old.nodes n y) (sym at_end) (subst (IsStored g (h ++ e ∷ []) old.nodes (length h)) (same_Some _ y (sym found ∙ sym (ap (find new.resources) same) ∙ f)) after_it)
-      by_key (inr differs) = stored_still g h law e old.nodes old.nodes key.number y (s.each key y (sym (others key differs) ∙ f)) (record { removes = refl; takes = refl; uses = refl }) kept
+          subst (λ (n : ℕ). IsStored base g (h ++ e ∷ []) old.nodes n y) (sym at_end) (subst (IsStored base g (h ++ e ∷ []) old.nodes (length h)) (same_Some _ y (sym found ∙ sym (ap (find new.resources) same) ∙ f)) after_it)
+      by_key (inr differs) = stored_still base g h law e old.nodes old.nodes key.number y (s.each key y (sym (others key differs) ∙ f)) (record { removes = refl; takes = refl; uses = refl }) kept
 
     every : (r : ℕ) → at makes_resource (h ++ e ∷ []) r ≡ true → list_any (is_take_of r) (h ++ e ∷ []) ≡ false → HasKey new.resources r
     every r made untaken = by_place (cases_order r (length h)) where
       by_place : (r ≡ length h) ⊎ ((r < length h) ⊎ (length h < r)) → HasKey new.resources r
       by_place (inl same) = record { key = k; value = stowed_at home x; found = found; numbered = numbered ∙ sym same }
       by_place (inr (inl l)) =
-          let has = s.every r (sym (at-append makes_resource h (e ∷ []) r l) ∙ made) (untaken_before g h law e r untaken) in
+          let has = s.every r (sym (at-append makes_resource h (e ∷ []) r l) ∙ made) (untaken_before base g h law e r untaken) in
           record { key = has.key; value = has.value; found = others has.key (λ same. none-some has.value (sym (ap (find old.resources) same ∙ ap (with_number k.number) free) ∙ has.found)) ∙ has.found; numbered = has.numbered }
       by_place (inr (inr gr)) = absurd (let w = within_now in omega (arith, length-append h (e ∷ []))) where
         within_now : r < length (h ++ e ∷ [])

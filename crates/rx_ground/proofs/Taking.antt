@@ -4,12 +4,12 @@ use Rattle.std.proofs.Math.Bool.{not, ◌&&◌}
 use Rattle.std.specs.Prelude.{IsTrue}
 use Rattle.std.specs.Cmp.{both_ways as same_test}
 use Rattle.std.specs.List.{Contains, list_any}
-use Rattle.std.specs.Option.{option_and_then, option_map_or}
 use Rattle.std.proofs.lemmas.Bool.{false≢true}
+use Rattle.rx_event.specs.Kept.{Kept as Base}
 use Rattle.rx_resource.specs.declared.Resource.{Ghosts}
 use Rattle.rx_resource.specs.declared.Life.TheVariants.{Live}
 use Rattle.rx_event.specs.declared.event.Event.{Event}
-use Rattle.rx_event.specs.Events.{makes_resource, node_of_accept, is_remove_of, is_take_of}
+use Rattle.rx_event.specs.Events.{makes_resource, is_take_of}
 use Rattle.rx_event.specs.Tree.{at, is_open}
 use Rattle.rx_event.specs.Resources.{is_held as is_held_in, is_waiting, is_taken}
 use Rattle.rx_slots.specs.declared.Key.{Key}
@@ -23,12 +23,11 @@ use Rattle.rx_ground.specs.Ties.{IsTied, IsStored, IsListed}
 use Rattle.rx_ground.proofs.Laws.Members.{Contains-head, Contains-map}
 use Rattle.rx_ground.proofs.Listed.{filter_member, filter_has, kept_found, kept_listed}
 
-module _ {T : Type 0} (g : Ghosts T) (h : List Event) (tree : Tree T) (tied : IsTied g h tree) where
+module _ (base : Base) {T : Type 0} (g : Ghosts T) (h : List Event) (tree : Tree T) (tied : IsTied base g h tree) where
   -- a stored resource is held in the tree just where it is in the history
   pub held_agrees : (k : Kept (Stowed T)) → Contains (kept_in tree.resources) k → is_held_in h k.key.number ≡ is_held tree.nodes k.value
-  unfolding is_held_in
-  held_agrees k c = ap (λ o. option_map_or (is_open h) (option_and_then node_of_accept o) false && not (list_any (is_remove_of k.key.number) h)) is.accepted ∙ ap (λ b. b && not (list_any (is_remove_of k.key.number) h)) node ∙ ap (λ b. is_some (find tree.nodes k.value.node) && not b) (sym is.removed) where
-    is : IsStored g h tree.nodes k.key.number k.value
+  held_agrees k c = is.held ∙ ap (λ b. b && not k.value.removed) node where
+    is : IsStored base g h tree.nodes k.key.number k.value
     is = tied.stored.each k.key k.value (kept_found tree.resources k c)
 
     node : is_open h k.value.node.number ≡ is_some (find tree.nodes k.value.node)
@@ -36,8 +35,8 @@ module _ {T : Type 0} (g : Ghosts T) (h : List Event) (tree : Tree T) (tied : Is
 
   pub waits_agrees : (k : Kept (Stowed T)) → Contains (kept_in tree.resources) k → is_waiting h k.key.number ≡ not (is_held tree.nodes k.value)
   unfolding is_waiting is_taken
-  waits_agrees k c = shape (at makes_resource h k.key.number) (is_held_in h k.key.number) (list_any (is_take_of k.key.number) h) (is_held tree.nodes k.value) (ap (λ o. option_map_or makes_resource o false) is.accepted) is.untaken (held_agrees k c) where
-    is : IsStored g h tree.nodes k.key.number k.value
+  waits_agrees k c = shape (at makes_resource h k.key.number) (is_held_in h k.key.number) (list_any (is_take_of k.key.number) h) (is_held tree.nodes k.value) is.made is.untaken (held_agrees k c) where
+    is : IsStored base g h tree.nodes k.key.number k.value
     is = tied.stored.each k.key k.value (kept_found tree.resources k c)
 
     shape : (a b d e : Bool) → a ≡ true → d ≡ false → b ≡ e → (a && not b && not (a && d)) ≡ not e
@@ -50,11 +49,11 @@ module _ {T : Type 0} (g : Ghosts T) (h : List Event) (tree : Tree T) (tied : Is
 
 module _ {T : Type 0} (g : Ghosts T) (h : List Event) (old new : Tree T) (number : ℕ) (x : T) where
   -- it waits in the history too
-  pub takes_waiting : IsTied g h old → Takes old new number x → is_waiting h number ≡ true
-  takes_waiting tied t = ap (is_waiting h) (sym t.numbered) ∙ waits_agrees g h old tied (record { key = t.key; value = t.stowed }) (kept_listed old.resources t.key t.stowed t.found) ∙ ap not t.waited
+  pub takes_waiting : (base : Base) → IsTied base g h old → Takes old new number x → is_waiting h number ≡ true
+  takes_waiting base tied t = ap (is_waiting h) (sym t.numbered) ∙ waits_agrees base g h old tied (record { key = t.key; value = t.stowed }) (kept_listed old.resources t.key t.stowed t.found) ∙ ap not t.waited
 
-  pub takes_live : IsTied g h old → Takes old new number x → g.life_of x ≡ Live
-  takes_live tied t = ap g.life_of (sym t.handed) ∙ (tied.stored.each t.key t.stowed t.found).live
+  pub takes_live : (base : Base) → IsTied base g h old → Takes old new number x → g.life_of x ≡ Live
+  takes_live base tied t = ap g.life_of (sym t.handed) ∙ (tied.stored.each t.key t.stowed t.found).live
 
 -- it is listed among those that wait
 pub takes_listed : {T : Type 0} (g : Ghosts T) (old new : Tree T) (number : ℕ) (x : T) → Takes old new number x → IsListed g old (number, x)

@@ -4,23 +4,25 @@ use Rattle.std.specs.Prelude.{nat_lt}
 use Rattle.std.proofs.Math.Bool.{not, ◌&&◌, ◌||◌}
 use Rattle.std.specs.Cmp.{both_ways as same_test}
 use Rattle.std.specs.List.{list_any, count_by}
-use Rattle.std.specs.Option.{option_and_then, option_map_or}
+use Rattle.std.specs.Option.{option_map_or}
 use Rattle.std.proofs.lemmas.Bool.{lt-ltb}
 use Rattle.std.proofs.lemmas.List.Sums.{sum_by-cons}
 use Rattle.std.proofs.lemmas.Option.{none-some, same_Some}
+use Rattle.rx_event.specs.Kept.{Kept}
 use Rattle.rx_resource.specs.declared.Resource.{Ghosts}
 use Rattle.rx_event.specs.declared.marks.Marks.{Marks}
 use Rattle.rx_event.specs.declared.event.Place.{Place}
 use Rattle.rx_event.specs.declared.event.Place.TheVariants.{Root, Source, Inner, Notifier}
 use Rattle.rx_event.specs.declared.event.Event.{Event}
-use Rattle.rx_event.specs.Events.{node_of_accept, is_remove_of, has_source, is_merging, is_until, is_source_of, is_notifier_of, named_by}
+use Rattle.rx_event.specs.Events.{has_source, is_merging, is_until, named_by}
 use Rattle.rx_event.specs.Tree.{at, places, is_open, is_open_child_of, has_open_child}
+use Rattle.rx_event.specs.Opened.{source_opened, notifier_opened}
 use Rattle.rx_event.specs.Moments.{owed}
 use Rattle.rx_event.specs.Resources.{is_held as is_held_in}
 use Rattle.rx_event.specs.Marks.{marks_of, open_children}
 use Rattle.rx_register.specs.Causes.{is_wrong_place, is_taken_place, is_unowed_place}
 use Rattle.rx_slots.specs.declared.Key.{Key}
-use Rattle.rx_slots.specs.Slots.{find}
+use Rattle.rx_slots.specs.Slots.{Slots, find}
 use Rattle.rx_tree.specs.declared.node.Node.{Node}
 use Rattle.rx_tree.specs.declared.node.ResKey.{ResKey}
 use Rattle.rx_tree.specs.Tree.{Tree}
@@ -31,26 +33,23 @@ use Rattle.rx_ground.specs.Ties.{IsTied, record_of}
 use Rattle.rx_ground.specs.Told.{IsTold, has_place, is_used, is_unowed}
 use Rattle.rx_ground.proofs.Newest.{held_found}
 
-module _ {T : Type 0} (g : Ghosts T) (h : List Event) (tree : Tree T) (tied : IsTied g h tree) where
+module _ (base : Kept) {T : Type 0} (g : Ghosts T) (h : List Event) (tree : Tree T) (tied : IsTied base g h tree) where
   -- a node that is there is open
   pub there_open : (key : Key) → is_some (find tree.nodes key) ≡ true → is_open h key.number ≡ true
   there_open key some = let x = some_of (find tree.nodes key) some in (tied.records.each key x.0 x.1).alive
 
   -- a resource that is held in the tree is held in the history
   pub held_in_history : (res : ResKey) → is_held_at tree res ≡ true → is_held_in h res.number ≡ true
-  unfolding is_held_in
   held_in_history res held =
       let f = held_found tree res held in
       let is = tied.stored.each (store_key res) f.stowed f.found in
       let node : is_open h f.stowed.node.number ≡ is_some (find tree.nodes f.stowed.node) = same_test _ _ is.home (there_open f.stowed.node) in
-      ap (λ o. option_map_or (is_open h) (option_and_then node_of_accept o) false && not (list_any (is_remove_of res.number) h)) is.accepted ∙
-      ap (λ b. b && not (list_any (is_remove_of res.number) h)) node ∙
-      ap (λ b. is_some (find tree.nodes f.stowed.node) && not b) (sym is.removed) ∙ f.held
+      is.held ∙ ap (λ b. b && not f.stowed.removed) node ∙ f.held
 
   -- what a record tells
-  pub told : (key : Key) (r : Record) → Some r ≡ option_map record_of (find tree.nodes key) → IsTold h tree.nodes key r
+  pub told : (key : Key) (r : Record) → Some r ≡ option_map record_of (find tree.nodes key) → IsTold base h tree.nodes key r
   told key r says = by_value (find tree.nodes key) refl says where
-    by_value : (o : Option Node) → find tree.nodes key ≡ o → Some r ≡ option_map record_of o → IsTold h tree.nodes key r
+    by_value : (o : Option Node) → find tree.nodes key ≡ o → Some r ≡ option_map record_of o → IsTold base h tree.nodes key r
     by_value None found says = absurd (none-some r (sym says))
     by_value (Some node) found says =
         let is = tied.records.each key node found in
@@ -74,19 +73,19 @@ wrong_at h (Source p) n made named found = ap (λ m. not (at has_source h m)) (s
 wrong_at h (Inner p) n made named found = ap (λ m. not (at is_merging h m)) (same_Some p n named) ∙ ap not (told_at is_merging h n made found)
 wrong_at h (Notifier p) n made named found = ap (λ m. not (at is_until h m)) (same_Some p n named) ∙ ap not (told_at is_until h n made found)
 
-pub taken_at : (h : List Event) (place : Place) (n : ℕ) (m : Marks) → named_by place ≡ Some n → m ≡ marks_of h n →
-    is_taken_place h place ≡ is_used m place
-taken_at h Root n m named is = refl
-taken_at h (Source p) n m named is = ap (λ k. list_any (is_source_of k) h) (same_Some p n named) ∙ ap (λ (x : Marks). x.source_opened) (sym is)
-taken_at h (Inner p) n m named is = refl
-taken_at h (Notifier p) n m named is = ap (λ k. list_any (is_notifier_of k) h) (same_Some p n named) ∙ ap (λ (x : Marks). x.notifier_opened) (sym is)
+pub taken_at : (base : Kept) → (h : List Event) (place : Place) (n : ℕ) (m : Marks) → named_by place ≡ Some n → m ≡ marks_of base h n →
+    is_taken_place base h place ≡ is_used m place
+taken_at base h Root n m named is = refl
+taken_at base h (Source p) n m named is = ap (source_opened base h) (same_Some p n named) ∙ ap (λ (x : Marks). x.source_opened) (sym is)
+taken_at base h (Inner p) n m named is = refl
+taken_at base h (Notifier p) n m named is = ap (notifier_opened base h) (same_Some p n named) ∙ ap (λ (x : Marks). x.notifier_opened) (sym is)
 
-pub unowed_at : (h : List Event) (place : Place) (n : ℕ) (m : Marks) → named_by place ≡ Some n → m ≡ marks_of h n →
-    is_unowed_place h place ≡ is_unowed m place
-unowed_at h Root n m named is = refl
-unowed_at h (Source p) n m named is = refl
-unowed_at h (Inner p) n m named is = ap (λ k. owed h k == 0) (same_Some p n named) ∙ ap (λ (x : Marks). x.owed == 0) (sym is)
-unowed_at h (Notifier p) n m named is = refl
+pub unowed_at : (base : Kept) → (h : List Event) (place : Place) (n : ℕ) (m : Marks) → named_by place ≡ Some n → m ≡ marks_of base h n →
+    is_unowed_place base h place ≡ is_unowed m place
+unowed_at base h Root n m named is = refl
+unowed_at base h (Source p) n m named is = refl
+unowed_at base h (Inner p) n m named is = ap (λ k. owed base h k == 0) (same_Some p n named) ∙ ap (λ (x : Marks). x.owed == 0) (sym is)
+unowed_at base h (Notifier p) n m named is = refl
 
 -- a test holds of some member just where a member is counted
 any_counted : {X : Type 0} (p : X → Bool) (xs : List X) → list_any p xs ≡ nat_lt 0 (count_by p xs)
@@ -98,6 +97,7 @@ any_counted {X = X} p (x ∷ xs) = by_test (any_counted p xs) (p x) refl where
       ap (nat_lt 0) (sym (sum_by-cons (λ y. cond {A = ℕ} (p y) 1 0) x xs ∙ ap (λ b. cond {A = ℕ} b 1 0 + count_by p xs) e ∙ zero-add (count_by p xs)))
 
 -- an open child is counted by the mark
-pub child_marked : (h : List Event) (n : ℕ) (m : Marks) → m ≡ marks_of h n → has_open_child h n ≡ nat_lt 0 m.open_children
+pub child_marked : (base : Kept) → (h : List Event) (nodes : Slots Node) (key : Key) (r : Record) → IsTold base h nodes key r →
+    has_open_child h key.number ≡ nat_lt 0 r.marks.open_children
 unfolding open_children
-child_marked h n m is = any_counted (is_open_child_of h n) (places h) ∙ ap (λ (x : Marks). nat_lt 0 x.open_children) (sym is)
+child_marked base h nodes key r is = any_counted (is_open_child_of h key.number) (places h) ∙ ap (λ (m : Marks). nat_lt 0 m.open_children) (sym is.marks)

@@ -17,7 +17,7 @@ module _ {T : Type 0} where
   -- or no resource, these are true
   abbrev pub first_by_key : Ground T → (is_known is_fresh : Bool) → Call → Option Refusal
   first_by_key b is_known is_fresh call =
-      first_cause (by_key is_known (causes b.register.history b.register.limit is_fresh call))
+      first_cause (by_key is_known (causes b.register.base b.register.history b.register.limit is_fresh call))
 
   -- against a call by a node's key alone
   abbrev pub first_at : Ground T → Key → Call → Option Refusal
@@ -25,4 +25,4 @@ module _ {T : Type 0} where
 
   -- against a call by a held resource's key
   abbrev pub first_by_res_key : Ground T → (is_known : Bool) → Call → Option Refusal
-  first_by_res_key b is_known call = first_cause (by_res_key is_known (causes b.register.history b.register.limit true call))
+  first_by_res_key b is_known call = first_cause (by_res_key is_known (causes b.register.base b.register.history b.register.limit true call))

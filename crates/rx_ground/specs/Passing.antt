@@ -3,6 +3,7 @@ use Rattle.std.specs.Prelude.{◌≡◌, ℕ, ℤ, ◌+◌, ◌≤◌, ◌++◌,
 use Rattle.std.specs.Prelude.{true, false}
 use Rattle.std.specs.List.{filter_map}
 use Rattle.std.specs.Option.{option_and_then}
+use Rattle.rx_event.specs.Kept.{Kept}
 use Rattle.rx_event.specs.declared.event.Event.{Event}
 use Rattle.rx_event.specs.declared.mail.Mail.{Mail}
 use Rattle.rx_event.specs.Climb.{Stop as NumberedStop, stops}
@@ -70,10 +71,10 @@ pub record IsMeasured (stops : List Stop) (reach : Reach) : Type 0 where
   pub few : reach.notes ≤ 1048577
 
 -- the records of the open nodes, as they are marked after these stops of an item that is not yet written
-pub record ArePassed (h : List Event) (done : List NumberedStop) (nodes : Slots Node) (chain : List Key) : Type 0 where
+pub record ArePassed (base : Kept) (h : List Event) (done : List NumberedStop) (nodes : Slots Node) (chain : List Key) : Type 0 where
   pub made : (key : Key) (node : Node) → find nodes key ≡ Some node → slice_get h key.number ≡ Some node.made
   pub alive : (key : Key) (node : Node) → find nodes key ≡ Some node → is_open h key.number ≡ true
-  pub marks : (key : Key) (node : Node) → find nodes key ≡ Some node → node.marks ≡ after_stops key.number done (marks_of h key.number)
+  pub marks : (key : Key) (node : Node) → find nodes key ≡ Some node → node.marks ≡ after_stops key.number done (marks_of base h key.number)
   pub every : (n : ℕ) → is_open h n ≡ true → HasKey nodes n
   pub quiet : (key : Key) (node : Node) → find nodes key ≡ Some node → is_on key chain ≡ false → due_at node.made node.marks key.number ≡ None
 
@@ -85,7 +86,7 @@ pub record IsPassing {T : Type 0} (first : Register) (start : Tree T) (leaf : �
   pub same : register ≡ record first { pending = register.pending; mail_room = register.mail_room }
   pub pending : register.pending ≡ filter_map (told (length first.history) value) done
   pub mail_room : first.mail_room ≡ register.mail_room + length (filter_map (told (length first.history) value) done)
-  pub records : ArePassed first.history done tree.nodes tree.chain
+  pub records : ArePassed first.base first.history done tree.nodes tree.chain
   pub there : (key : Key) → is_some (find tree.nodes key) ≡ is_some (find start.nodes key)
   pub places : tree.nodes ≡ record start.nodes { entries = tree.nodes.entries }
   pub resources : tree.resources ≡ start.resources

@@ -1,6 +1,7 @@
 -- How a tree and hubs are tied to the history beside them, and what each write asks for and changes.
-use Rattle.std.specs.Prelude.{◌≡◌, ℕ, ◌+◌, ◌<◌, ◌≤◌, cond, map, length, Bool, true, false, Option, Some, None, is_some, IsSome, IfSome, List, []}
+use Rattle.std.specs.Prelude.{◌≡◌, ℕ, ◌+◌, ◌<◌, ◌≤◌, cond, map, length, Bool, true, false, ◌&&◌, Option, Some, None, is_some, IsSome, IfSome, List, []}
 use Rattle.std.specs.Prelude.{slice_get}
+use Rattle.std.proofs.Math.Bool.{not}
 use Rattle.std.specs.List.{AllByRecursion, list_any, Contains}
 use Rattle.std.specs.Option.{option_map_or}
 use Rattle.rx_resource.specs.declared.Resource.{Ghosts}
@@ -10,9 +11,10 @@ use Rattle.rx_event.specs.declared.event.Place.{Place}
 use Rattle.rx_event.specs.declared.event.Place.TheVariants.{Root, Source, Inner, Notifier}
 use Rattle.rx_event.specs.declared.event.Event.{Event}
 use Rattle.rx_event.specs.declared.event.Event.TheVariants.{Accept}
-use Rattle.rx_event.specs.Events.{makes_resource, is_remove_of, is_take_of}
+use Rattle.rx_event.specs.Events.{makes_resource, is_take_of}
+use Rattle.rx_event.specs.Kept.{Kept}
 use Rattle.rx_event.specs.Tree.{at, is_open}
-use Rattle.rx_event.specs.Resources.{uses}
+use Rattle.rx_event.specs.Resources.{accepted_by, is_held, uses}
 use Rattle.rx_event.specs.Marks.{marks_of, due_at, terminal_due, after_source, after_notifier, after_inner}
 use Rattle.rx_event.specs.Notes.{mail_of}
 use Rattle.rx_event.specs.Totals.{debt, open_count}
@@ -52,10 +54,10 @@ opened_marks replaces (Notifier u) m = after_notifier m
 opened_marks replaces Root m = m
 
 -- the record of an open node: its event, and its marks by the history
-pub record IsRecordOf (h : List Event) (n : ℕ) (node : Node) : Type 0 where
+pub record IsRecordOf (base : Kept) (h : List Event) (n : ℕ) (node : Node) : Type 0 where
   pub made : slice_get h n ≡ Some node.made
   pub alive : is_open h n ≡ true
-  pub marks : node.marks ≡ marks_of h n
+  pub marks : node.marks ≡ marks_of base h n
 
 -- some slot has a value under this number
 pub record HasKey {X : Type 0} (slots : Slots X) (number : ℕ) : Type 0 where
@@ -65,8 +67,8 @@ pub record HasKey {X : Type 0} (slots : Slots X) (number : ℕ) : Type 0 where
   pub numbered : key.number ≡ number
 
 -- there is a record for each open node and no other, and off the chain nothing is due
-pub record AreRecords (h : List Event) (nodes : Slots Node) (chain : List Key) : Type 0 where
-  pub each : (key : Key) (node : Node) → find nodes key ≡ Some node → IsRecordOf h key.number node
+pub record AreRecords (base : Kept) (h : List Event) (nodes : Slots Node) (chain : List Key) : Type 0 where
+  pub each : (key : Key) (node : Node) → find nodes key ≡ Some node → IsRecordOf base h key.number node
   pub every : (n : ℕ) → is_open h n ≡ true → HasKey nodes n
   pub quiet : (key : Key) (node : Node) → find nodes key ≡ Some node → is_on key chain ≡ false → due_at node.made node.marks key.number ≡ None
 
@@ -84,37 +86,40 @@ left_inside h top ended hubs = record hubs { hubs = map (without_gone (is_inside
 -- resources ---------------------------------------------------------------------------------------
 
 module _ {T : Type 0} where
-  -- an accepted resource that is not taken: live, at its node, removed as the history says, with its tag and its uses
-  pub record IsStored (g : Ghosts T) (h : List Event) (nodes : Slots Node) (r : ℕ) (s : Stowed T) : Type 0 where
-    pub accepted : slice_get h r ≡ Some (Accept s.node.number (g.tag_of s.resource))
-    pub removed : s.removed ≡ list_any (is_remove_of r) h
+  -- an accepted resource that is not taken: live, at its node, held as the history says, with its tag and its uses
+  pub record IsStored (base : Kept) (g : Ghosts T) (h : List Event) (nodes : Slots Node) (r : ℕ) (s : Stowed T) : Type 0 where
+    pub made : at makes_resource h r ≡ true
+    pub accepted : accepted_by base h r ≡ Some (Accept s.node.number (g.tag_of s.resource))
+    pub older : s.node.number < r
+    pub held : is_held h r ≡ (is_open h s.node.number && not s.removed)
     pub untaken : list_any (is_take_of r) h ≡ false
     pub home : is_open h s.node.number ≡ true → IsSome (find nodes s.node)
     pub live : g.life_of s.resource ≡ Live
-    pub uses : g.uses_of s.resource ≡ uses h r
+    pub few : uses base h r ≤ length h
+    pub uses : g.uses_of s.resource ≡ uses base h r
 
   -- each stored resource is one that was accepted and not taken, and each such one is stored
-  pub record AreStored (g : Ghosts T) (h : List Event) (tree : Tree T) : Type 0 where
-    pub each : (key : Key) (s : Stowed T) → find tree.resources key ≡ Some s → IsStored g h tree.nodes key.number s
+  pub record AreStored (base : Kept) (g : Ghosts T) (h : List Event) (tree : Tree T) : Type 0 where
+    pub each : (key : Key) (s : Stowed T) → find tree.resources key ≡ Some s → IsStored base g h tree.nodes key.number s
     pub every : (r : ℕ) → at makes_resource h r ≡ true → list_any (is_take_of r) h ≡ false → HasKey tree.resources r
 
   -- ties ------------------------------------------------------------------------------------------
 
   -- the tree is that of this history, settled or not
-  pub record IsTied (g : Ghosts T) (h : List Event) (tree : Tree T) : Type 0 where
-    pub records : AreRecords h tree.nodes tree.chain
-    pub stored : AreStored g h tree
+  pub record IsTied (base : Kept) (g : Ghosts T) (h : List Event) (tree : Tree T) : Type 0 where
+    pub records : AreRecords base h tree.nodes tree.chain
+    pub stored : AreStored base g h tree
 
   -- and so are the hubs beside it, each key of which is an open node's
-  pub record AreTied (g : Ghosts T) (h : List Event) (tree : Tree T) (hubs : Hubs) : Type 0 where
-    pub of_tree : IsTied g h tree
+  pub record AreTied (base : Kept) (g : Ghosts T) (h : List Event) (tree : Tree T) (hubs : Hubs) : Type 0 where
+    pub of_tree : IsTied base g h tree
     pub published : AreHubsOf h hubs.hubs
     pub joined : AreJoined tree.nodes hubs.hubs
 
   -- and no rule is left undone, and what closing everything needs is reserved
   pub record IsStanding (g : Ghosts T) (b : Ground T) : Type 0 where
-    pub tied : AreTied g b.register.history b.tree b.hubs
-    pub settled : IsSettled b.register.history
+    pub tied : AreTied b.register.base g b.register.history b.tree b.hubs
+    pub settled : IsSettled b.register.base b.register.history
     pub paid : IsPaid b.register
 
   -- there may be more room, and nothing else changed
@@ -139,7 +144,7 @@ module _ {T : Type 0} where
 
   -- there is room for what a call wants beside what closing everything needs
   pub record HasRoomBeside (b : Ground T) (wanted : Wanted) : Type 0 where
-    pub events : debt b.register.history + wanted.events ≤ b.register.room
+    pub events : debt b.register.base b.register.history + wanted.events ≤ b.register.room
     pub notes : open_count b.register.history + wanted.notes ≤ b.register.mail_room
     pub nodes : wanted.nodes ≤ b.tree.nodes.room
     pub space : wanted.nodes ≤ b.space
@@ -214,12 +219,12 @@ HasRoomToConnect h room space = (g : ℕ) → IsConnectDue h g → (0 < room) ×
 module _ {T : Type 0} where
   -- it is forced, and the node that ends or closes by it is there
   pub record IsNext (b : Ground T) (due : HubDue) : Type 0 where
-    pub forced : IsForced b.register.history (event_of due)
+    pub forced : IsForced b.register.base b.register.history (event_of due)
     pub there : is_there b.tree.nodes (key_due due) ≡ true
 
 -- the event may be written, and there is room for it and its notes
 pub record IsReady (s : Register) (e : Event) : Type 0 where
-  pub next : MayFollow s.history e
+  pub next : MayFollow s.base s.history e
   pub room : 0 < s.room
   pub notes : length (mail_of s.history e) ≤ s.mail_room
   pub pending : s.pending ≡ []

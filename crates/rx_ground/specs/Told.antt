@@ -2,6 +2,7 @@
 use Rattle.std.specs.Prelude.{◌≡◌, ℕ, ◌==◌, ◌&&◌, Bool, true, false, List, Option, Some, is_some, slice_get}
 use Rattle.std.specs.List.{list_any}
 use Rattle.std.specs.Option.{option_map_or}
+use Rattle.rx_event.specs.Kept.{Kept}
 use Rattle.rx_event.specs.declared.marks.Marks.{Marks}
 use Rattle.rx_event.specs.declared.event.Place.{Place}
 use Rattle.rx_event.specs.declared.event.Place.TheVariants.{Root, Source, Inner, Notifier}
@@ -18,11 +19,11 @@ use Rattle.rx_register.specs.Causes.{has_connection, connects_up_to}
 use Rattle.rx_ground.specs.declared.base.Record.{Record}
 
 -- the key is an open node's, and the record says which event made it and how the history marks it
-pub record IsTold (h : List Event) (nodes : Slots Node) (key : Key) (r : Record) : Type 0 where
+pub record IsTold (base : Kept) (h : List Event) (nodes : Slots Node) (key : Key) (r : Record) : Type 0 where
   pub there : is_some (find nodes key) ≡ true
   pub alive : is_open h key.number ≡ true
   pub made : slice_get h key.number ≡ Some r.made
-  pub marks : r.marks ≡ marks_of h key.number
+  pub marks : r.marks ≡ marks_of base h key.number
 
 -- a node that this event made has such a place
 abbrev pub has_place : Event → Place → Bool

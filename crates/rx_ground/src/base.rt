@@ -94,7 +94,8 @@ impl<R: Resource> Ground<R> {
     /// An error comes where memory is refused, and where the count of nodes or of hubs would pass `usize`; then
     /// some of the room may have been gotten, and nothing else changed.
     pub fn reserve(&mut self, wanted: Wanted) -> Result<(), AllocError>
-        requires { length self.old.register.history + wanted.events ≤ self.old.register.limit }
+        requires { length self.old.register.history + wanted.events ≤ self.old.register.base.at_length +
+            self.old.register.limit }
         ensures ok { OnOk result (HasRoom self.new wanted) }
         ensures kept { IsRoomier self.old self.new }
     {

@@ -1,6 +1,7 @@
 //! What is there, counted, and room for more.
 
 ghost use Rattle.std.specs.Prelude.{◌≡◌, ◌+◌, ◌≤◌, ◌↔◌, [], length, slice_get, is_some, if◌then◌else◌, IsTrue, IsSome, IfSome, IfNone, IfErr, OnOk};
+ghost use Rattle.rx_event.specs.Kept.{nothing_kept, event_since};
 ghost use Rattle.rx_event.specs.Notes.{notes};
 ghost use Rattle.rx_event.specs.Totals.{open_count as open_count_in, held_count, waiting_count, accepted_count, taken_count, item_count, debt};
 ghost use Rattle.rx_event.specs.declared.refusal.Refusal.{Refusal};
@@ -20,10 +21,12 @@ use rx_tree::{Key, ResKey, Tree};
 use std::alloc::Global;
 
 impl<R: Resource> Ground<R> {
-    /// With no events, and of at most `limit`, which is at most 4,294,967,295. It takes no memory.
+    /// With no events, and of at most `limit` since the base, which is at most 4,294,967,295. It takes no
+    /// memory.
     pub fn new(alloc: Global, limit: u64) -> Self
         requires limited { limit ≤ 4294967295 }
         ensures standing { IsStanding R.Resource result }
+        ensures base { result.register.base ≡ nothing_kept }
         ensures history { result.register.history ≡ [] }
         ensures limit { result.register.limit ≡ limit }
         ensures given { result.register.given ≡ 0 }
@@ -70,28 +73,28 @@ impl<R: Resource> Ground<R> {
 
     /// How many resources were accepted.
     pub fn accepted(&self) -> u64
-        ensures { result ≡ accepted_count self.now.register.history }
+        ensures { result ≡ accepted_count self.now.register.base self.now.register.history }
     {
         self.register.accepted()
     }
 
     /// How many resources were taken.
     pub fn taken(&self) -> u64
-        ensures { result ≡ taken_count self.now.register.history }
+        ensures { result ≡ taken_count self.now.register.base self.now.register.history }
     {
         self.register.taken()
     }
 
     /// How many items were emitted.
     pub fn items(&self) -> u64
-        ensures { result ≡ item_count self.now.register.history }
+        ensures { result ≡ item_count self.now.register.base self.now.register.history }
     {
         self.register.items()
     }
 
-    /// The event at a place, if there is one.
+    /// The event at a place, if it is one since the base.
     pub fn event(&self, place: u64) -> Option<Event>
-        ensures { result ≡ slice_get self.now.register.history place }
+        ensures { result ≡ event_since self.now.register.base self.now.register.history place }
     {
         self.register.event(place)
     }
@@ -122,7 +125,7 @@ impl<R: Resource> Ground<R> {
     /// resource, one for each that waits, and one for each projected item that is owed.
     pub(crate) fn load(&self) -> Load
         requires standing { IsStanding R.Resource self.now }
-        ensures load { IsLoadOf self.now.register.history result }
+        ensures load { IsLoadOf self.now.register.base self.now.register.history result }
         ensures bound { result.debt ≤ 4294967295 }
     {
         self.promise();
@@ -142,7 +145,8 @@ impl<R: Resource> Ground<R> {
     /// changed.
     pub fn make_room(&mut self, wanted: Wanted) -> Result<(), Refusal>
         requires standing { IsStanding R.Resource self.old }
-        requires within { length self.old.register.history + debt self.old.register.history + wanted.events ≤ self.old.register.limit }
+        requires within { length self.old.register.history + debt self.old.register.base self.old.register.history + wanted.events ≤
+            self.old.register.base.at_length + self.old.register.limit }
         requires notes { wanted.notes ≤ 4294967295 }
         ensures ok { OnOk result (HasRoomBeside self.new wanted) }
         ensures err { IfErr result (λ why. why ≡ Refusal.NoMemory) }
@@ -169,6 +173,7 @@ impl<R: Resource> Ground<R> {
         requires standing { IsStanding R.Resource self.old }
         ensures value { result ≡ slice_get (notes self.old.register.history) self.old.register.given }
         ensures given { self.new.register.given ≡ (if is_some result then self.old.register.given + 1 else self.old.register.given) }
+        ensures base { self.new.register.base ≡ self.old.register.base }
         ensures history { self.new.register.history ≡ self.old.register.history }
         ensures limit { self.new.register.limit ≡ self.old.register.limit }
         ensures tree { self.new.tree ≡ self.old.tree }

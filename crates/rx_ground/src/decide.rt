@@ -74,7 +74,7 @@ impl<R: Resource> Ground<R> {
     #[tactic(auto, using(crate::proofs::Told::told))]
     pub(crate) fn told(&self, node: Key) -> Option<Record>
         requires { IsStanding R.Resource self.now }
-        ensures some { IfSome result (IsTold self.now.register.history self.now.tree.nodes node) }
+        ensures some { IfSome result (IsTold self.now.register.base self.now.register.history self.now.tree.nodes node) }
         ensures none { IfNone result (is_some (find self.now.tree.nodes node) ≡ false) }
     {
         self.record(node)
@@ -124,7 +124,7 @@ impl<R: Resource> Ground<R> {
         requires standing { IsStanding R.Resource self.now }
         requires named { named_by place ≡ option_map (λ key. key.number) above }
         requires there { is_there self.now.tree.nodes above ≡ true }
-        ensures { result ≡ is_taken_place_in self.now.register.history place }
+        ensures { result ≡ is_taken_place_in self.now.register.base self.now.register.history place }
     {
         match above {
             Some(key) => match self.told(key) {
@@ -141,7 +141,7 @@ impl<R: Resource> Ground<R> {
         requires standing { IsStanding R.Resource self.now }
         requires named { named_by place ≡ option_map (λ key. key.number) above }
         requires there { is_there self.now.tree.nodes above ≡ true }
-        ensures { result ≡ is_unowed_place_in self.now.register.history place }
+        ensures { result ≡ is_unowed_place_in self.now.register.base self.now.register.history place }
     {
         match above {
             Some(key) => match self.told(key) {
@@ -164,7 +164,7 @@ impl<R: Resource> Ground<R> {
     /// needs counted in.
     pub(crate) fn is_over(&self, more: u64) -> bool
         requires { IsStanding R.Resource self.now }
-        ensures { result ≡ is_over_in self.now.register.history self.now.register.limit more }
+        ensures { result ≡ is_over_in self.now.register.base self.now.register.history self.now.register.limit more }
     {
         self.register.is_over(self.load(), more)
     }
@@ -327,7 +327,7 @@ impl<R: Resource> Ground<R> {
     fn projecting_cause(&self, merging: Key) -> Option<Refusal>
         requires standing { IsStanding R.Resource self.now }
         ensures { result ≡ first_cause (by_key (has_node self.now merging)
-            (projecting_causes self.now.register.history merging.number)) }
+            (projecting_causes self.now.register.base self.now.register.history merging.number)) }
     {
         let Some(record) = self.told(merging) else {
             return Some(Refusal::Gone);
@@ -362,7 +362,7 @@ impl<R: Resource> Ground<R> {
     pub fn owed(&self, merging: Key) -> Option<u64>
         requires standing { IsStanding R.Resource self.now }
         ensures { result ≡ (if has_node self.now merging && at is_merging self.now.register.history merging.number
-            then Some (owed self.now.register.history merging.number) else None) }
+            then Some (owed self.now.register.base self.now.register.history merging.number) else None) }
     {
         let record = self.told(merging)?;
         if record.made.is_merging() {

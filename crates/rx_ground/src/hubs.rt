@@ -188,11 +188,12 @@ impl<R: Resource> Ground<R> {
     /// Makes a hub, for which there is room, and to which nobody has subscribed (Publish, at reactivex.io).
     /// Its number is the place of the event.
     pub fn write_hub(&mut self, mode: Mode) -> u64
-        requires tied { AreTied R.Resource self.old.register.history self.old.tree self.old.hubs }
+        requires tied { AreTied self.old.register.base R.Resource self.old.register.history self.old.tree
+            self.old.hubs }
         requires ready { IsReady self.old.register (Event.Hub mode) }
         requires room { 0 < self.old.hubs.room }
         ensures written { Writes self.old.register (Event.Hub mode ∷ []) self.new.register }
-        ensures tied { AreTied R.Resource self.new.register.history self.new.tree self.new.hubs }
+        ensures tied { AreTied self.new.register.base R.Resource self.new.register.history self.new.tree self.new.hubs }
         ensures number { result ≡ length self.old.register.history }
         ensures hubs { self.new.hubs.hubs ≡ self.old.hubs.hubs ++ new_hub result mode ∷ [] }
         ensures tree { self.new.tree ≡ self.old.tree }
@@ -208,12 +209,13 @@ impl<R: Resource> Ground<R> {
     /// Connects a hub that has no connection, for which there is room (Connect, at reactivex.io): the
     /// connection is a root, and its hub has it from then on. The key's number is the place of the event.
     pub fn write_connect(&mut self, hub: u64) -> Key
-        requires tied { AreTied R.Resource self.old.register.history self.old.tree self.old.hubs }
+        requires tied { AreTied self.old.register.base R.Resource self.old.register.history self.old.tree
+            self.old.hubs }
         requires ready { IsReady self.old.register (Event.Connect hub) }
         requires room { 0 < self.old.tree.nodes.room }
         requires space { 0 < self.old.space }
         ensures written { Writes self.old.register (Event.Connect hub ∷ []) self.new.register }
-        ensures tied { AreTied R.Resource self.new.register.history self.new.tree self.new.hubs }
+        ensures tied { AreTied self.new.register.base R.Resource self.new.register.history self.new.tree self.new.hubs }
         ensures new { IsNewNode self.old.tree.nodes self.new.tree.nodes (length self.old.register.history) result }
         ensures nodes { KeepsOlder self.new.register.history (length self.old.register.history)
             self.old.tree.nodes self.new.tree.nodes }

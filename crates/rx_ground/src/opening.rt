@@ -74,7 +74,8 @@ impl<R: Resource> Ground<R> {
     ///
     /// A Switch has two open children at most, its source and one inner, and only these are looked at.
     fn inner_of(&self, switch: Key) -> Option<Key>
-        requires tied { AreTied R.Resource self.now.register.history self.now.tree self.now.hubs }
+        requires tied { AreTied self.now.register.base R.Resource self.now.register.history self.now.tree
+            self.now.hubs }
         requires open { IsSome (find self.now.tree.nodes switch) }
         requires switches { at is_switch self.now.register.history switch.number ≡ true }
         ensures some { IfSome result (IsInner self.now.register.history self.now.tree.nodes switch.number) }
@@ -92,7 +93,8 @@ impl<R: Resource> Ground<R> {
     /// The key of the open inner whose place is taken by what is opened at this place; None where there
     /// is none. The inners of a FlatMap stay beside each other, however many they are.
     fn replaced(&self, place: Place, above: Option<Key>) -> Option<Key>
-        requires tied { AreTied R.Resource self.now.register.history self.now.tree self.now.hubs }
+        requires tied { AreTied self.now.register.base R.Resource self.now.register.history self.now.tree
+            self.now.hubs }
         requires named { named_by place ≡ option_map (λ key. key.number) above }
         requires there { IfSome above (λ key. IsSome (find self.now.tree.nodes key)) }
         ensures some { IfSome result (IsReplaced self.now.register.history self.now.tree.nodes place) }
@@ -112,7 +114,8 @@ impl<R: Resource> Ground<R> {
     /// Moves out what makes way for a node that is opened at this place: the open inner of a Switch, and
     /// all below it. Whether there was one.
     fn exchange(&mut self, place: Place, above: Option<Key>) -> bool
-        requires tied { AreTied R.Resource self.old.register.history self.old.tree self.old.hubs }
+        requires tied { AreTied self.old.register.base R.Resource self.old.register.history self.old.tree
+            self.old.hubs }
         requires named { named_by place ≡ option_map (λ key. key.number) above }
         requires there { IfSome above (λ key. IsSome (find self.old.tree.nodes key)) }
         ensures way { MakesWay self.old.register.history place self.old.tree self.new.tree result }
@@ -134,7 +137,8 @@ impl<R: Resource> Ground<R> {
     /// same step that one is closed, and all below it (Switch: it unsubscribes from the previous inner). A
     /// subscriber of a hub comes last among those of its hub (Publish).
     pub fn write_open(&mut self, place: Place, kind: Kind, above: Option<Key>) -> Key
-        requires tied { AreTied R.Resource self.old.register.history self.old.tree self.old.hubs }
+        requires tied { AreTied self.old.register.base R.Resource self.old.register.history self.old.tree
+            self.old.hubs }
         requires ready { IsReady self.old.register (Event.Open place kind) }
         requires placed { IsPlaced self.old.tree.nodes (length self.old.register.history) (Event.Open place kind) above }
         requires room { 0 < self.old.tree.nodes.room }
@@ -142,7 +146,7 @@ impl<R: Resource> Ground<R> {
         requires slots { 0 < length self.old.hubs.hubs →
             self.old.tree.nodes.count + self.old.tree.nodes.room ≤ self.old.hubs.slots }
         ensures written { Writes self.old.register (Event.Open place kind ∷ []) self.new.register }
-        ensures tied { AreTied R.Resource self.new.register.history self.new.tree self.new.hubs }
+        ensures tied { AreTied self.new.register.base R.Resource self.new.register.history self.new.tree self.new.hubs }
         ensures new { IsNewNode self.old.tree.nodes self.new.tree.nodes (length self.old.register.history) result }
         ensures resources { self.new.tree.resources ≡ self.old.tree.resources }
         ensures left { self.old.tree.nodes.room ≤ self.new.tree.nodes.room + 1 }

@@ -154,14 +154,14 @@ pub(crate) fn pass_on<R: Resource>(
     leaf: Key,
     value: i64,
 )
-    requires lawful { IsLawful register.old.history }
-    requires walk { IsWalk register.old.history tree.old.nodes hubs.now.hubs }
-    requires records { AreRecords register.old.history tree.old.nodes tree.old.chain }
+    requires lawful { IsLawful register.old.base register.old.history }
+    requires walk { IsWalk register.old.base register.old.history tree.old.nodes hubs.now.hubs }
+    requires records { AreRecords register.old.base register.old.history tree.old.nodes tree.old.chain }
     requires open { IsSome (find tree.old.nodes leaf) }
     requires notes { length (mail_of register.old.history (Event.Item leaf.number value)) ≤ register.old.mail_room }
     requires pending { register.old.pending ≡ [] }
     requires room { length hubs.now.hubs ≤ route.old.room }
-    requires countable { owed_in tree.old.nodes ≤ 4503603921289215 }
+    requires countable { owed_in tree.old.nodes ≤ 4503608216256510 }
     ensures passed { IsPassing register.old tree.old leaf.number value register.new tree.new [] }
     ensures room { route.new.room ≡ route.old.room }
 {

@@ -40,8 +40,9 @@ impl<R: Resource> Ground<R> {
 
     /// The next node that is due; None where none is. It drops from the chain those that are not.
     fn next_due(&mut self) -> Option<Due>
-        requires tied { AreTied R.Resource self.old.register.history self.old.tree self.old.hubs }
-        ensures tied { AreTied R.Resource self.new.register.history self.new.tree self.new.hubs }
+        requires tied { AreTied self.old.register.base R.Resource self.old.register.history self.old.tree
+            self.old.hubs }
+        ensures tied { AreTied self.new.register.base R.Resource self.new.register.history self.new.tree self.new.hubs }
         ensures next { MatchOption result (AllQuiet self.new.tree.nodes) (IsDueNext self.new.tree.nodes) }
         ensures kept { WithChain self.old self.new }
     {
@@ -57,9 +58,11 @@ impl<R: Resource> Ground<R> {
     /// What is forced next; None where nothing is. What is due at a hub comes first, since nothing else
     /// is forced while one waits for its connection.
     fn next_forced(&mut self) -> Option<HubDue>
-        requires tied { AreTied R.Resource self.old.register.history self.old.tree self.old.hubs }
-        ensures tied { AreTied R.Resource self.new.register.history self.new.tree self.new.hubs }
-        ensures next { MatchOption result (IsSettled self.new.register.history) (IsNext self.new) }
+        requires tied { AreTied self.old.register.base R.Resource self.old.register.history self.old.tree
+            self.old.hubs }
+        ensures tied { AreTied self.new.register.base R.Resource self.new.register.history self.new.tree self.new.hubs }
+        ensures next { MatchOption result (IsSettled self.new.register.base self.new.register.history)
+            (IsNext self.new) }
         ensures kept { WithChain self.old self.new }
     {
         if let Some(due) = self.hubs.next_forced() {
@@ -73,12 +76,13 @@ impl<R: Resource> Ground<R> {
 
     /// Writes what is due: a hub connects, a node ends, or a connection closes.
     fn write_due(&mut self, due: HubDue)
-        requires tied { AreTied R.Resource self.old.register.history self.old.tree self.old.hubs }
+        requires tied { AreTied self.old.register.base R.Resource self.old.register.history self.old.tree
+            self.old.hubs }
         requires ready { IsReady self.old.register (event_of due) }
         requires there { is_there self.old.tree.nodes (key_due due) ≡ true }
         requires room { (g : _) → due ≡ HubDue.Connect g → (0 < self.old.tree.nodes.room) × (0 < self.old.space) }
         ensures written { Writes self.old.register (event_of due ∷ []) self.new.register }
-        ensures tied { AreTied R.Resource self.new.register.history self.new.tree self.new.hubs }
+        ensures tied { AreTied self.new.register.base R.Resource self.new.register.history self.new.tree self.new.hubs }
         ensures nodes { KeepsOlder self.new.register.history (length self.old.register.history)
             self.old.tree.nodes self.new.tree.nodes }
         ensures resources { self.new.tree.resources ≡ self.old.tree.resources }
@@ -97,11 +101,13 @@ impl<R: Resource> Ground<R> {
     /// Writes what is forced until nothing is. It takes no memory: for the one connection that may be
     /// forced there is room.
     pub fn settle(&mut self)
-        requires tied { AreTied R.Resource self.old.register.history self.old.tree self.old.hubs }
+        requires tied { AreTied self.old.register.base R.Resource self.old.register.history self.old.tree
+            self.old.hubs }
         requires paid { IsPaid self.old.register }
         requires room { HasRoomToConnect self.old.register.history self.old.tree.nodes.room self.old.space }
         ensures standing { IsStanding R.Resource self.new }
-        ensures forced { IsForcedOn self.old.register.history self.new.register.history }
+        ensures base { self.new.register.base ≡ self.old.register.base }
+        ensures forced { IsForcedOn self.old.register.base self.old.register.history self.new.register.history }
         ensures nodes { KeepsOlder self.new.register.history (length self.old.register.history)
             self.old.tree.nodes self.new.tree.nodes }
         ensures resources { self.new.tree.resources ≡ self.old.tree.resources }

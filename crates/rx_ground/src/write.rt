@@ -73,14 +73,15 @@ fn mark_end<R: Resource>(
 impl<R: Resource> Ground<R> {
     /// Accepts a fresh resource at an open node, for which there is room.
     pub fn write_accept(&mut self, node: Key, resource: R) -> ResKey
-        requires tied { AreTied R.Resource self.old.register.history self.old.tree self.old.hubs }
+        requires tied { AreTied self.old.register.base R.Resource self.old.register.history self.old.tree
+            self.old.hubs }
         requires ready { IsReady self.old.register (Event.Accept node.number (R.tag_of resource)) }
         requires open { IsSome (find self.old.tree.nodes node) }
         requires live { R.life_of resource ≡ Life.Live }
         requires unused { R.uses_of resource ≡ 0 }
         requires room { 0 < self.old.tree.resources.room }
         ensures written { Writes self.old.register (Event.Accept node.number (R.tag_of resource) ∷ []) self.new.register }
-        ensures tied { AreTied R.Resource self.new.register.history self.new.tree self.new.hubs }
+        ensures tied { AreTied self.new.register.base R.Resource self.new.register.history self.new.tree self.new.hubs }
         ensures number { result.number ≡ length self.old.register.history }
         ensures held { is_held_at self.new.tree result ≡ true }
         ensures nodes { self.new.tree.nodes ≡ self.old.tree.nodes }
@@ -102,11 +103,12 @@ impl<R: Resource> Ground<R> {
 
     /// Uses a held resource on a word, and answers its word.
     pub fn write_use(&mut self, res: ResKey, word: u64) -> u64
-        requires tied { AreTied R.Resource self.old.register.history self.old.tree self.old.hubs }
+        requires tied { AreTied self.old.register.base R.Resource self.old.register.history self.old.tree
+            self.old.hubs }
         requires ready { IsReady self.old.register (Event.Use res.number) }
         requires held { IsTrue (is_held_at self.old.tree res) }
         ensures written { Writes self.old.register (Event.Use res.number ∷ []) self.new.register }
-        ensures tied { AreTied R.Resource self.new.register.history self.new.tree self.new.hubs }
+        ensures tied { AreTied self.new.register.base R.Resource self.new.register.history self.new.tree self.new.hubs }
         ensures nodes { self.new.tree.nodes ≡ self.old.tree.nodes }
         ensures kept { KeepsHeld self.old.tree self.new.tree (length self.old.register.history) }
         ensures hubs { self.new.hubs ≡ self.old.hubs }
@@ -121,11 +123,12 @@ impl<R: Resource> Ground<R> {
 
     /// Removes a held resource from its node.
     pub fn write_remove(&mut self, res: ResKey)
-        requires tied { AreTied R.Resource self.old.register.history self.old.tree self.old.hubs }
+        requires tied { AreTied self.old.register.base R.Resource self.old.register.history self.old.tree
+            self.old.hubs }
         requires ready { IsReady self.old.register (Event.Remove res.number) }
         requires held { IsTrue (is_held_at self.old.tree res) }
         ensures written { Writes self.old.register (Event.Remove res.number ∷ []) self.new.register }
-        ensures tied { AreTied R.Resource self.new.register.history self.new.tree self.new.hubs }
+        ensures tied { AreTied self.new.register.base R.Resource self.new.register.history self.new.tree self.new.hubs }
         ensures nodes { self.new.tree.nodes ≡ self.old.tree.nodes }
         ensures kept { KeepsHeld self.old.tree self.new.tree (length self.old.register.history) }
         ensures hubs { self.new.hubs ≡ self.old.hubs }
@@ -139,11 +142,12 @@ impl<R: Resource> Ground<R> {
 
     /// Declines an item that was projected to this FlatMap or Switch.
     pub fn write_decline(&mut self, merging: Key)
-        requires tied { AreTied R.Resource self.old.register.history self.old.tree self.old.hubs }
+        requires tied { AreTied self.old.register.base R.Resource self.old.register.history self.old.tree
+            self.old.hubs }
         requires ready { IsReady self.old.register (Event.Decline merging.number) }
         requires open { IsSome (find self.old.tree.nodes merging) }
         ensures written { Writes self.old.register (Event.Decline merging.number ∷ []) self.new.register }
-        ensures tied { AreTied R.Resource self.new.register.history self.new.tree self.new.hubs }
+        ensures tied { AreTied self.new.register.base R.Resource self.new.register.history self.new.tree self.new.hubs }
         ensures kept { KeepsNodes self.new.register.history self.old.tree.nodes self.new.tree.nodes }
         ensures resources { self.new.tree.resources ≡ self.old.tree.resources }
         ensures hubs { self.new.hubs ≡ self.old.hubs }
@@ -161,11 +165,12 @@ impl<R: Resource> Ground<R> {
     /// Emits an item, which goes its whole way: each root that it reaches is told of it, as often as it is
     /// reached, each FlatMap or Switch is told to project it, and each TakeUntil fires.
     pub fn write_item(&mut self, leaf: Key, value: i64)
-        requires tied { AreTied R.Resource self.old.register.history self.old.tree self.old.hubs }
+        requires tied { AreTied self.old.register.base R.Resource self.old.register.history self.old.tree
+            self.old.hubs }
         requires ready { IsReady self.old.register (Event.Item leaf.number value) }
         requires open { IsSome (find self.old.tree.nodes leaf) }
         ensures written { Writes self.old.register (Event.Item leaf.number value ∷ []) self.new.register }
-        ensures tied { AreTied R.Resource self.new.register.history self.new.tree self.new.hubs }
+        ensures tied { AreTied self.new.register.base R.Resource self.new.register.history self.new.tree self.new.hubs }
         ensures kept { KeepsNodes self.new.register.history self.old.tree.nodes self.new.tree.nodes }
         ensures resources { self.new.tree.resources ≡ self.old.tree.resources }
         ensures hubs { self.new.hubs ≡ self.old.hubs }
@@ -187,7 +192,8 @@ impl<R: Resource> Ground<R> {
     /// Moves out a node and all below it, which gives their room back, and lets them leave the hubs. A
     /// connection among them ended so if it ended by itself.
     pub(crate) fn cut(&mut self, node: Key, ended: Option<LastEnd>)
-        requires tied { AreTied R.Resource self.old.register.history self.old.tree self.old.hubs }
+        requires tied { AreTied self.old.register.base R.Resource self.old.register.history self.old.tree
+            self.old.hubs }
         requires open { IsSome (find self.old.tree.nodes node) }
         ensures cut { Cuts self.old.tree self.new.tree node.number }
         ensures owed { owed_in self.new.tree.nodes ≤ owed_in self.old.tree.nodes }
@@ -205,11 +211,12 @@ impl<R: Resource> Ground<R> {
 
     /// Ends an open node, and closes all below it. Of a connection its hub keeps how it ended.
     pub fn write_end(&mut self, node: Key, terminal: Terminal)
-        requires tied { AreTied R.Resource self.old.register.history self.old.tree self.old.hubs }
+        requires tied { AreTied self.old.register.base R.Resource self.old.register.history self.old.tree
+            self.old.hubs }
         requires ready { IsReady self.old.register (Event.End node.number terminal) }
         requires open { IsSome (find self.old.tree.nodes node) }
         ensures written { Writes self.old.register (Event.End node.number terminal ∷ []) self.new.register }
-        ensures tied { AreTied R.Resource self.new.register.history self.new.tree self.new.hubs }
+        ensures tied { AreTied self.new.register.base R.Resource self.new.register.history self.new.tree self.new.hubs }
         ensures kept { KeepsNodes self.new.register.history self.old.tree.nodes self.new.tree.nodes }
         ensures resources { self.new.tree.resources ≡ self.old.tree.resources }
         ensures hubs { self.new.hubs ≡ left_inside self.old.register.history node.number
@@ -242,11 +249,12 @@ impl<R: Resource> Ground<R> {
 
     /// Closes an open root, and all below it.
     pub fn write_close(&mut self, node: Key)
-        requires tied { AreTied R.Resource self.old.register.history self.old.tree self.old.hubs }
+        requires tied { AreTied self.old.register.base R.Resource self.old.register.history self.old.tree
+            self.old.hubs }
         requires ready { IsReady self.old.register (Event.Close node.number) }
         requires open { IsSome (find self.old.tree.nodes node) }
         ensures written { Writes self.old.register (Event.Close node.number ∷ []) self.new.register }
-        ensures tied { AreTied R.Resource self.new.register.history self.new.tree self.new.hubs }
+        ensures tied { AreTied self.new.register.base R.Resource self.new.register.history self.new.tree self.new.hubs }
         ensures kept { KeepsNodes self.new.register.history self.old.tree.nodes self.new.tree.nodes }
         ensures resources { self.new.tree.resources ≡ self.old.tree.resources }
         ensures hubs { self.new.hubs ≡ left_inside self.old.register.history node.number None self.old.hubs }
@@ -260,11 +268,12 @@ impl<R: Resource> Ground<R> {
 
     /// Hands out a resource that waits; None where none does.
     pub fn write_take(&mut self) -> Option<Handed<R>>
-        requires tied { AreTied R.Resource self.old.register.history self.old.tree self.old.hubs }
-        requires settled { IsSettled self.old.register.history }
+        requires tied { AreTied self.old.register.base R.Resource self.old.register.history self.old.tree
+            self.old.hubs }
+        requires settled { IsSettled self.old.register.base self.old.register.history }
         requires room { (r : _) → is_waiting self.old.register.history r ≡ true → IsReady self.old.register (Event.Take r) }
         ensures written { IfSome result (λ handed. Writes self.old.register (Event.Take handed.0 ∷ []) self.new.register) }
-        ensures tied { AreTied R.Resource self.new.register.history self.new.tree self.new.hubs }
+        ensures tied { AreTied self.new.register.base R.Resource self.new.register.history self.new.tree self.new.hubs }
         ensures nodes { self.new.tree.nodes ≡ self.old.tree.nodes }
         ensures kept { KeepsHeld self.old.tree self.new.tree (length self.old.register.history) }
         ensures none { IfNone result (self.new ≡ self.old) }

@@ -7,6 +7,7 @@ use Rattle.std.proofs.lemmas.Bool.{false≢true}
 use Rattle.std.proofs.lemmas.List.{length-map}
 use Rattle.std.proofs.lemmas.List.Kept.{AllPairs-cons, AllPairs-filter}
 use Rattle.std.proofs.lemmas.List.Sums.{sum_by-cons, length-filter}
+use Rattle.rx_event.specs.Kept.{Kept as Base}
 use Rattle.rx_resource.specs.declared.Resource.{Ghosts}
 use Rattle.rx_event.specs.declared.event.Event.{Event}
 use Rattle.rx_event.specs.Events.{makes_resource, is_take_of}
@@ -164,15 +165,15 @@ module _ {X : Type 0} where
 
 -- trees -------------------------------------------------------------------------------------------
 
-module _ {T : Type 0} (g : Ghosts T) (h : List Event) (tree : Tree T) (tied : IsTied g h tree) where
+module _ (base : Base) {T : Type 0} (g : Ghosts T) (h : List Event) (tree : Tree T) (tied : IsTied base g h tree) where
   -- what is listed is stored as its history says
-  stored_kept : (k : Kept (Stowed T)) → Contains (kept_in tree.resources) k → IsStored g h tree.nodes k.key.number k.value
+  stored_kept : (k : Kept (Stowed T)) → Contains (kept_in tree.resources) k → IsStored base g h tree.nodes k.key.number k.value
   stored_kept k c = tied.stored.each k.key k.value (kept_found tree.resources k c)
 
-  pub stored_held : (k : Kept (Stowed T)) → Contains (held_in tree) k → IsStored g h tree.nodes k.key.number k.value
+  pub stored_held : (k : Kept (Stowed T)) → Contains (held_in tree) k → IsStored base g h tree.nodes k.key.number k.value
   stored_held k c = stored_kept k (filter_member (λ (j : Kept (Stowed T)). is_held tree.nodes j.value) (kept_in tree.resources) k c).0
 
-  pub stored_waiting : (k : Kept (Stowed T)) → Contains (waiting_in tree) k → IsStored g h tree.nodes k.key.number k.value
+  pub stored_waiting : (k : Kept (Stowed T)) → Contains (waiting_in tree) k → IsStored base g h tree.nodes k.key.number k.value
   stored_waiting k c = stored_kept k (filter_member (λ (j : Kept (Stowed T)). not (is_held tree.nodes j.value)) (kept_in tree.resources) k c).0
 
   -- the tree's nodes are just those that are open
@@ -195,7 +196,7 @@ module _ {T : Type 0} (g : Ghosts T) (h : List Event) (tree : Tree T) (tied : Is
   -- the resources that wait there are just those that wait in the history
   pub just_waiting : AreApart tree.resources → ListsJust (is_waiting h) (numbers (waiting_in tree))
   just_waiting apart = just_kept tree.resources (λ s. not (is_held tree.nodes s)) (is_waiting h) apart (record {
-    each = waits_agrees g h tree tied;
+    each = waits_agrees base g h tree tied;
     every = λ r waits. let parts = waiting_parts h r waits in tied.stored.every r parts.0 (untaken r parts.0 parts.2);
   })
 
@@ -203,11 +204,11 @@ module _ {T : Type 0} (g : Ghosts T) (h : List Event) (tree : Tree T) (tied : Is
   length-waiting apart = length-just (is_waiting h) (waiting_in tree) (length h) (just_waiting apart) (is_waiting_within h)
 
   -- and so it is with those that are held
-  module _ (law : IsLawful h) where
+  module _ (law : IsLawful base h) where
     pub just_held : AreApart tree.resources → ListsJust (is_held_in h) (numbers (held_in tree))
     just_held apart = just_kept tree.resources (is_held tree.nodes) (is_held_in h) apart (record {
-      each = held_agrees g h tree tied;
-      every = λ r held. let made = held_resource h r held in tied.stored.every r made (untaken r made (held_not_taken h law r held));
+      each = held_agrees base g h tree tied;
+      every = λ r held. let made = held_resource h r held in tied.stored.every r made (untaken r made (held_not_taken base h law r held));
     })
 
     pub length-held : AreApart tree.resources → length (held_in tree) ≡ held_count h

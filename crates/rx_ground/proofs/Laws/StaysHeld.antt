@@ -1,8 +1,9 @@
 -- What is forced takes no resource from a node that stays open.
-use Rattle.std.proofs.Common.{◌≡◌, ℕ, true, Some, slice_get, sym, ap, ◌∙◌}
+use Rattle.std.proofs.Common.{◌≡◌, ℕ, true, Some, sym, ap, ◌∙◌}
 use Rattle.rx_resource.specs.declared.Resource.{Ghosts}
 use Rattle.rx_event.specs.declared.event.Event.TheVariants.{Accept}
 use Rattle.rx_event.specs.Tree.{is_open}
+use Rattle.rx_event.specs.Resources.{accepted_by}
 use Rattle.rx_slots.specs.Slots.{Slots, find}
 use Rattle.rx_tree.specs.declared.node.Stowed.{Stowed}
 use Rattle.rx_tree.specs.declared.node.ResKey.{ResKey}
@@ -11,11 +12,11 @@ use Rattle.rx_ground.specs.Shown.{Ground}
 use Rattle.rx_ground.specs.Ties.{IsTied, KeepsOlder}
 use Rattle.rx_ground.proofs.Laws.KeysKept.{held_before}
 
-module _ {T : Type 0} (g : Ghosts T) (mid new : Ground T) (tied : IsTied g mid.register.history mid.tree) (number : ℕ)
+module _ {T : Type 0} (g : Ghosts T) (mid new : Ground T) (tied : IsTied mid.register.base g mid.register.history mid.tree) (number : ℕ)
     (nodes : KeepsOlder new.register.history number mid.tree.nodes new.tree.nodes) where
   -- a resource stays held where the node that accepted it is open in the new history
   pub resource_stays : new.tree.resources ≡ mid.tree.resources → (res : ResKey) (n tag : ℕ) →
-      slice_get mid.register.history res.number ≡ Some (Accept n tag) → is_open new.register.history n ≡ true →
+      accepted_by mid.register.base mid.register.history res.number ≡ Some (Accept n tag) → is_open new.register.history n ≡ true →
       is_held_at mid.tree res ≡ true → is_held_at new.tree res ≡ true
   resource_stays same res n tag accepted alive held =
       held_before new.tree mid.tree (sym same) res (λ s found there. nodes.still s.node there (home s found)) held where

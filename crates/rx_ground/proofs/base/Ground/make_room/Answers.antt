@@ -5,7 +5,7 @@ use Rattle.rx_ground.proofs.base.Ground.make_room.Goals as goal
 
 pub overflow_add-in_all-2 : goal.overflow_add-in_all-2
 overflow_add-in_all-2 g c =
-    let part = open_count_in_debt c.args.self.now.register.history in
+    let part = open_count_in_debt c.args.self.now.register.base c.args.self.now.register.history in
     let bounded = c.load-load.ensures.bound in
     let nodes = c.load-load.ensures.load.open_count in
     let debt_is = c.load-load.ensures.load.debt in

@@ -9,16 +9,16 @@ use Rattle.rx_ground.proofs.base.Ground.measured.Goals as goal
 pub measure-requires-clause-ordered : goal.measure-requires-clause-ordered
 measure-requires-clause-ordered g c κs within =
     let standing = rw (← c.self.view_is) at c.requires.standing in
-    IsOrdered-walk _ _ _ c.promise.ensures.lawful (walk_tied standing.tied c.promise-2.ensures.sound)
+    IsOrdered-walk _ _ _ _ c.promise.ensures.lawful (walk_tied _ standing.tied c.promise-2.ensures.sound)
 
 pub returns-clause-reach : goal.returns-clause-reach
 returns-clause-reach g c =
     let standing = rw (← c.self.view_is) at c.requires.standing in
-    rw (← c.self.view_is) (reach_if _ _ _ c.args.node (walk_tied standing.tied c.promise-2.ensures.sound) (rw (← c.self.view_is) at c.requires.open)
+    rw (← c.self.view_is) (reach_if _ _ _ _ c.args.node (walk_tied _ standing.tied c.promise-2.ensures.sound) (rw (← c.self.view_is) at c.requires.open)
     c.measure.result c.measure.ensures.reach)
 
 pub returns-clause-visits : goal.returns-clause-visits
 returns-clause-visits g c =
     let standing = rw (← c.self.view_is) at c.requires.standing in
-    let told = visits_told _ _ _ c.args.node (walk_tied standing.tied c.promise-2.ensures.sound) (rw (← c.self.view_is) at c.requires.open) in
+    let told = visits_told _ _ _ _ c.args.node (walk_tied _ standing.tied c.promise-2.ensures.sound) (rw (← c.self.view_is) at c.requires.open) in
     rw (← c.self.view_is) (c.measure.ensures.visits ∙ ap (λ (n : ℕ). not (nat_lt most_visits n)) (sym told))

@@ -4,7 +4,7 @@ use Rattle.rx_ground.proofs.base.Ground.next_due.Given as goal
 
 abbrev pub invariant-loop-node : goal.invariant-loop-node
 invariant-loop-node g l = record {
-  tied : AreTied g.R.Resource l.self.register.history l.self.tree l.self.hubs;
+  tied : AreTied l.self.register.base g.R.Resource l.self.register.history l.self.tree l.self.hubs;
   kept : WithChain l.fn.self l.self;
 }
 

@@ -9,9 +9,9 @@ use Rattle.rx_ground.proofs.base.Ground.next_forced.Goals as goal
 pub returns-in-Some-clause-next : goal.returns-in-Some-clause-next
 returns-in-Some-clause-next g c =
     let h = c.self.inside.register.history in
-    let was : AreTied g.R.Resource h c.self.inside.tree c.self.inside.hubs = rw (← c.self.view_is) at c.requires.tied in
+    let was : AreTied c.self.inside.register.base g.R.Resource h c.self.inside.tree c.self.inside.hubs = rw (← c.self.view_is) at c.requires.tied in
     let same = sym c.in-Some.ensures.kept in
-    hub_next g.R.Resource _ (subst (λ (hs : Hubs). AreTied g.R.Resource h c.self.inside.tree hs) same was) c.in-Some.due
+    hub_next g.R.Resource _ (subst (λ (hs : Hubs). AreTied c.self.inside.register.base g.R.Resource h c.self.inside.tree hs) same was) c.in-Some.due
     (subst (λ (hs : Hubs). IsDueIn hs.hubs c.in-Some.due) same c.in-Some.ensures.due)
     (subst (λ (hs : Hubs). ConcernsHub hs.hubs c.in-Some.due) same c.in-Some.ensures.concerns)
 

@@ -7,5 +7,6 @@ pub returns : goal.returns
 returns g c =
     let h = c.self.inside.register.history in
     let tree = c.self.inside.tree in
-    let tied : IsTied g.R.Resource h tree = rw (← c.self.view_is) at c.requires.standing.tied.of_tree in
-    rw (← c.self.view_is) (c.len.ensures.counted ∙ sym (length-kept tree.nodes) ∙ length-nodes g.R.Resource h tree tied c.promise.ensures.sound.apart)
+    let tied : IsTied c.self.inside.register.base g.R.Resource h tree = rw (← c.self.view_is) at c.requires.standing.tied.of_tree in
+    rw (← c.self.view_is) (c.len.ensures.counted ∙ sym (length-kept tree.nodes) ∙
+    length-nodes c.self.inside.register.base g.R.Resource h tree tied c.promise.ensures.sound.apart)

@@ -6,12 +6,12 @@ pub returns-clause-some : goal.returns-clause-some
 returns-clause-some g c =
     let h = c.self.inside.register.history in
     let hubs = c.self.inside.hubs in
-    let tied : AreTied g.R.Resource h c.self.inside.tree hubs = rw (← c.self.view_is) at c.requires.standing.tied in
+    let tied : AreTied c.self.inside.register.base g.R.Resource h c.self.inside.tree hubs = rw (← c.self.view_is) at c.requires.standing.tied in
     rw (← c.self.view_is) (hub_known h hubs.hubs tied.published c.args.hub c.get.result c.get.ensures).0
 
 pub returns-clause-none : goal.returns-clause-none
 returns-clause-none g c =
     let h = c.self.inside.register.history in
     let hubs = c.self.inside.hubs in
-    let tied : AreTied g.R.Resource h c.self.inside.tree hubs = rw (← c.self.view_is) at c.requires.standing.tied in
+    let tied : AreTied c.self.inside.register.base g.R.Resource h c.self.inside.tree hubs = rw (← c.self.view_is) at c.requires.standing.tied in
     rw (← c.self.view_is) (hub_known h hubs.hubs tied.published c.args.hub c.get.result c.get.ensures).1

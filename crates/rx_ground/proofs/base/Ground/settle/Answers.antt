@@ -1,3 +1,5 @@
+use Rattle.std.proofs.Common.{ap, arith}
+use Rattle.rx_ground.specs.Shown.{Ground}
 use Rattle.rx_ground.proofs.Settling.{way_starts, way_rechained, way_on, next_ready, next_room}
 use Rattle.rx_ground.proofs.base.Ground.settle.Goals as goal
 
@@ -22,10 +24,19 @@ loop-due-preserved g c =
           c.write_due.ensures.written c.write_due.ensures.tied c.write_due.ensures.nodes c.write_due.ensures.resources c.write_due.ensures.hubs c.write_due.ensures.memory;
     }
 
+pub loop-due-smaller : goal.loop-due-smaller
+loop-due-smaller g c =
+    let room = c.write_due.ensures.written.room in
+    let same = ap (λ (b : Ground g.row.R.Denot). b.register.room) c.in-Some.ensures.kept.same in
+    omega arith
+
 pub returns-clause-standing : goal.returns-clause-standing
 returns-clause-standing g c =
     let w = way_rechained g.R.Resource c.args.self.now c.loop-due.self c.next_forced.new.self c.loop-due.invariant.way c.in_default.ensures.kept c.in_default.ensures.tied in
     record { tied = w.tied; settled = c.in_default.ensures.next; paid = w.paid }
+
+pub returns-clause-base : goal.returns-clause-base
+returns-clause-base g c = (way_rechained g.R.Resource c.args.self.now c.loop-due.self c.next_forced.new.self c.loop-due.invariant.way c.in_default.ensures.kept c.in_default.ensures.tied).base
 
 pub returns-clause-forced : goal.returns-clause-forced
 returns-clause-forced g c = (way_rechained g.R.Resource c.args.self.now c.loop-due.self c.next_forced.new.self c.loop-due.invariant.way c.in_default.ensures.kept c.in_default.ensures.tied).forced

@@ -1,4 +1,3 @@
-use Rattle.std.proofs.Common.{◌-◌, length}
 use Rattle.rx_ground.proofs.Settling.{IsOnTheWay}
 use Rattle.rx_ground.proofs.base.Ground.settle.Given as goal
 
@@ -6,4 +5,4 @@ abbrev pub invariant-loop-due : goal.invariant-loop-due
 invariant-loop-due g l = record { way : IsOnTheWay g.R.Resource l.fn.self l.self }
 
 abbrev pub decreases-loop-due : goal.decreases-loop-due
-decreases-loop-due g l = l.self.register.limit - length l.self.register.history
+decreases-loop-due g l = l.self.register.room

@@ -4,6 +4,7 @@ use Rattle.rx_event.specs.declared.event.Event.TheVariants.{Accept}
 use Rattle.rx_event.specs.Lawful.{MayFollow}
 use Rattle.rx_slots.specs.Slots.{find, Slots}
 use Rattle.rx_tree.specs.Resources.{store_key}
+use Rattle.rx_event.proofs.Laws.Steps.{may_accept}
 use Rattle.rx_ground.specs.Ties.{IsTied, AreTied}
 use Rattle.rx_tree.specs.declared.node.Node.{Node}
 use Rattle.rx_ground.proofs.Memory.{written_memory}
@@ -12,27 +13,27 @@ use Rattle.rx_ground.proofs.Stored.{stored_accepted}
 use Rattle.rx_ground.proofs.Tied.{tied_still}
 use Rattle.rx_ground.proofs.HeldKept.{held_new}
 use Rattle.rx_ground.proofs.Newest.{past_resources}
-use Rattle.rx_ground.proofs.Published.{tied_on_same}
+use Rattle.rx_ground.proofs.Published.{rebased, tied_on_same}
 use Rattle.rx_ground.proofs.base.Ground.write_accept.Goals as goal
 
 pub hold-requires-clause-newest : goal.hold-requires-clause-newest
-hold-requires-clause-newest g c κs within = past_resources g.R.Resource c.self.inside.register.history c.self.inside.tree (rw (← c.self.view_is) at c.requires.tied.of_tree) c.promise.ensures.lawful c.len-number.result c.len-number.ensures
+hold-requires-clause-newest g c κs within = past_resources c.self.inside.register.base g.R.Resource c.self.inside.register.history c.self.inside.tree (rw (← c.self.view_is) at c.requires.tied.of_tree) c.promise.ensures.lawful c.len-number.result c.len-number.ensures
 
 pub returns-clause-written : goal.returns-clause-written
-returns-clause-written g c = rw (← c.self.view_is) (writes_silent c.self.inside.register c.write.new.self (Accept c.args.node.number (g.R.Resource.tag_of c.args.resource)) refl (rw c.tag-tag.ensures at c.write.ensures.events) c.write.ensures.pending c.write.ensures.room c.write.ensures.limit c.write.ensures.given c.write.ensures.mail_room)
+returns-clause-written g c = rw (← c.self.view_is) (writes_silent c.self.inside.register c.write.new.self (Accept c.args.node.number (g.R.Resource.tag_of c.args.resource)) refl c.write.ensures.base (rw c.tag-tag.ensures at c.write.ensures.events) c.write.ensures.pending c.write.ensures.room c.write.ensures.limit c.write.ensures.given c.write.ensures.mail_room)
 
 pub returns-clause-tied : goal.returns-clause-tied
 returns-clause-tied g c =
     let h = c.self.inside.register.history in
     let e : Event = Accept c.args.node.number (g.R.Resource.tag_of c.args.resource) in
-    let tied : IsTied g.R.Resource h c.self.inside.tree = rw (← c.self.view_is) at c.requires.tied.of_tree in
-    let next : MayFollow h e = rw (← c.self.view_is) at c.requires.ready.next in
+    let tied : IsTied c.self.inside.register.base g.R.Resource h c.self.inside.tree = rw (← c.self.view_is) at c.requires.tied.of_tree in
+    let next : MayFollow c.self.inside.register.base h e = rw (← c.self.view_is) at c.requires.ready.next in
     let there : IsSome (find c.self.inside.tree.nodes c.args.node) = rw (← c.self.view_is) at c.requires.open in
     let grown : c.write.new.self.history ≡ h ++ e ∷ [] = rw c.tag-tag.ensures at c.write.ensures.events in
     let held = c.in-Ok.ensures in
-    let was : AreTied g.R.Resource c.self.inside.register.history c.self.inside.tree c.self.inside.hubs = rw (← c.self.view_is) at c.requires.tied in
-    tied_on_same g.R.Resource e c.promise.ensures.lawful next was grown refl refl held.nodes
-    (subst (λ (k : List Event). IsTied g.R.Resource k c.hold.new.self) (sym grown) (tied_still g.R.Resource h e c.promise.ensures.lawful next c.self.inside.tree tied c.hold.new.self refl refl (λ n. refl) held.nodes held.chain (stored_accepted g.R.Resource h c.promise.ensures.lawful c.self.inside.tree c.hold.new.self tied.stored c.promise-2.ensures.resources_apart held.nodes c.args.node (store_key c.in-Ok.res) c.args.resource there c.requires.live c.requires.unused (held.numbered ∙ c.len-number.ensures) held.was_free held.held held.kept)))
+    let was : AreTied c.self.inside.register.base g.R.Resource c.self.inside.register.history c.self.inside.tree c.self.inside.hubs = rw (← c.self.view_is) at c.requires.tied in
+    rebased g.R.Resource (c.write.ensures.base) (tied_on_same g.R.Resource c.self.inside.register.base e c.promise.ensures.lawful next was grown refl refl held.nodes
+    (subst (λ (k : List Event). IsTied c.self.inside.register.base g.R.Resource k c.hold.new.self) (sym grown) (tied_still c.self.inside.register.base g.R.Resource h e c.promise.ensures.lawful next c.self.inside.tree tied c.hold.new.self refl refl (λ n. refl) held.nodes held.chain (stored_accepted c.self.inside.register.base g.R.Resource h c.promise.ensures.lawful c.self.inside.tree c.hold.new.self tied.stored c.promise-2.ensures.resources_apart held.nodes c.args.node (store_key c.in-Ok.res) c.args.resource there (may_accept c.self.inside.register.base next) c.requires.live c.requires.unused (held.numbered ∙ c.len-number.ensures) held.was_free held.held held.kept))))
 
 pub returns-clause-kept : goal.returns-clause-kept
 returns-clause-kept g c = rw (← c.self.view_is) (held_new c.self.inside.tree c.hold.new.self (length c.self.inside.register.history) (store_key c.in-Ok.res) c.in-Ok.ensures.nodes c.in-Ok.ensures.kept (c.in-Ok.ensures.numbered ∙ c.len-number.ensures))

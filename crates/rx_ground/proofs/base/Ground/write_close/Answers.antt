@@ -12,7 +12,7 @@ use Rattle.rx_ground.specs.Ties.{IsTied, AreTied, KeepsNodes, Cuts, left_inside}
 use Rattle.rx_ground.proofs.Memory.{written_memory}
 use Rattle.rx_ground.proofs.Written.{writes_silent}
 use Rattle.rx_ground.proofs.Tied.{tied_close, cut_keeps}
-use Rattle.rx_ground.proofs.Published.{tied_closed}
+use Rattle.rx_ground.proofs.Published.{rebased, tied_closed}
 use Rattle.rx_ground.proofs.base.Ground.write_close.Given.{Over}
 use Rattle.rx_ground.proofs.base.Ground.write_close.Goals as goal
 
@@ -41,28 +41,28 @@ nodes_kept : (g : Over) (c : goal.After-write g) →
     KeepsNodes (c.self.inside.register.history ++ Close c.args.node.number ∷ []) c.self.inside.tree.nodes c.self-2.inside.tree.nodes
 nodes_kept g c =
     let h = c.self.inside.register.history in
-    let tied : IsTied g.R.Resource h c.self.inside.tree = rw (← c.self.view_is) at c.requires.tied.of_tree in
-    cut_keeps h (Close c.args.node.number) c.self.inside.tree c.self-2.inside.tree tied.records c.promise-2.ensures.sound c.args.node.number
+    let tied : IsTied c.self.inside.register.base g.R.Resource h c.self.inside.tree = rw (← c.self.view_is) at c.requires.tied.of_tree in
+    cut_keeps c.self.inside.register.base h (Close c.args.node.number) c.self.inside.tree c.self-2.inside.tree tied.records c.promise-2.ensures.sound c.args.node.number
     (is_open_outside-close h c.args.node.number) (cut_tree g c)
 
 pub returns-clause-written : goal.returns-clause-written
 returns-clause-written g c =
     rw (← c.self.view_is) (subst (λ (s : State). Writes s (Close c.args.node.number ∷ []) c.write.new.self) (registered g c)
-    (writes_silent c.self-2.inside.register c.write.new.self (Close c.args.node.number) refl c.write.ensures.events c.write.ensures.pending
+    (writes_silent c.self-2.inside.register c.write.new.self (Close c.args.node.number) refl c.write.ensures.base c.write.ensures.events c.write.ensures.pending
     c.write.ensures.room c.write.ensures.limit c.write.ensures.given c.write.ensures.mail_room))
 
 pub returns-clause-tied : goal.returns-clause-tied
 returns-clause-tied g c =
     let h = c.self.inside.register.history in
     let e : Event = Close c.args.node.number in
-    let was : AreTied g.R.Resource h c.self.inside.tree c.self.inside.hubs = rw (← c.self.view_is) at c.requires.tied in
-    let next : MayFollow h e = rw (← c.self.view_is) at c.requires.ready.next in
+    let was : AreTied c.self.inside.register.base g.R.Resource h c.self.inside.tree c.self.inside.hubs = rw (← c.self.view_is) at c.requires.tied in
+    let next : MayFollow c.self.inside.register.base h e = rw (← c.self.view_is) at c.requires.ready.next in
     let law = c.promise.ensures.lawful in
-    let tied = tied_close g.R.Resource h c.args.node.number law next c.self.inside.tree c.self-2.inside.tree was.of_tree c.promise-2.ensures.sound (cut_tree g c) in
+    let tied = tied_close c.self.inside.register.base g.R.Resource h c.args.node.number law next c.self.inside.tree c.self-2.inside.tree was.of_tree c.promise-2.ensures.sound (cut_tree g c) in
     let after = hubs_closed h c.args.node.number 0 c.self.inside.hubs.hubs was.published in
     let left = ap (λ (hubs : Hubs). hubs.hubs) (left_hubs g c) in
-    let all = tied_closed g.R.Resource e (is_inside h c.args.node.number) None law next was refl after left (nodes_kept g c) tied in
-    subst (λ (k : List Event). AreTied g.R.Resource k c.self-2.inside.tree c.self-2.inside.hubs) (sym (grown g c)) all
+    let all = tied_closed g.R.Resource c.self.inside.register.base e (is_inside h c.args.node.number) None law next was refl after left (nodes_kept g c) tied in
+    rebased g.R.Resource (c.write.ensures.base ∙ ap (λ (s : State). s.base) (registered g c)) (subst (λ (k : List Event). AreTied c.self.inside.register.base g.R.Resource k c.self-2.inside.tree c.self-2.inside.hubs) (sym (grown g c)) all)
 
 pub returns-clause-kept : goal.returns-clause-kept
 returns-clause-kept g c =

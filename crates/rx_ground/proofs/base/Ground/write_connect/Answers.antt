@@ -17,15 +17,15 @@ use Rattle.rx_ground.proofs.Joined.{as_many_at}
 use Rattle.rx_ground.proofs.Memory.{written_memory}
 use Rattle.rx_ground.proofs.Written.{writes_silent}
 use Rattle.rx_ground.proofs.Newest.{newest}
-use Rattle.rx_ground.proofs.Published.{connected_after, tied_connected}
+use Rattle.rx_ground.proofs.Published.{rebased, connected_after, tied_connected}
 use Rattle.rx_ground.proofs.base.Ground.write_connect.Given.{Over}
 use Rattle.rx_ground.proofs.base.Ground.write_connect.Goals as goal
 
 pub open-requires-clause-newest : goal.open-requires-clause-newest
 open-requires-clause-newest g c κs within =
     let h = c.self.inside.register.history in
-    let was : AreTied g.R.Resource h c.self.inside.tree c.self.inside.hubs = rw (← c.self.view_is) at c.requires.tied in
-    newest g.R.Resource h c.self.inside.tree was.of_tree c.promise.ensures.lawful c.len-number.result c.len-number.ensures
+    let was : AreTied c.self.inside.register.base g.R.Resource h c.self.inside.tree c.self.inside.hubs = rw (← c.self.view_is) at c.requires.tied in
+    newest c.self.inside.register.base g.R.Resource h c.self.inside.tree was.of_tree c.promise.ensures.lawful c.len-number.result c.len-number.ensures
 
 pub open-requires-clause-placed : goal.open-requires-clause-placed
 open-requires-clause-placed g c κs within = record { makes = refl; named = refl; lower = tt; there = tt }
@@ -33,21 +33,21 @@ open-requires-clause-placed g c κs within = record { makes = refl; named = refl
 pub connect-requires-clause-there : goal.connect-requires-clause-there
 connect-requires-clause-there g c =
     let h = c.self.inside.register.history in
-    let was : AreTied g.R.Resource h c.self.inside.tree c.self.inside.hubs = rw (← c.self.view_is) at c.requires.tied in
-    let next : MayFollow h (Connect c.args.hub) = rw (← c.self.view_is) at c.requires.ready.next in
-    let r = ready_to_connect h c.args.hub c.self.inside.hubs.hubs next was.published in
+    let was : AreTied c.self.inside.register.base g.R.Resource h c.self.inside.tree c.self.inside.hubs = rw (← c.self.view_is) at c.requires.tied in
+    let next : MayFollow c.self.inside.register.base h (Connect c.args.hub) = rw (← c.self.view_is) at c.requires.ready.next in
+    let r = ready_to_connect c.self.inside.register.base h c.args.hub c.self.inside.hubs.hubs next was.published in
     ap is_some r.1
 
 pub connect-requires-clause-unconnected : goal.connect-requires-clause-unconnected
 connect-requires-clause-unconnected g c =
     let h = c.self.inside.register.history in
-    let was : AreTied g.R.Resource h c.self.inside.tree c.self.inside.hubs = rw (← c.self.view_is) at c.requires.tied in
-    let next : MayFollow h (Connect c.args.hub) = rw (← c.self.view_is) at c.requires.ready.next in
-    let r = ready_to_connect h c.args.hub c.self.inside.hubs.hubs next was.published in
+    let was : AreTied c.self.inside.register.base g.R.Resource h c.self.inside.tree c.self.inside.hubs = rw (← c.self.view_is) at c.requires.tied in
+    let next : MayFollow c.self.inside.register.base h (Connect c.args.hub) = rw (← c.self.view_is) at c.requires.ready.next in
+    let r = ready_to_connect c.self.inside.register.base h c.args.hub c.self.inside.hubs.hubs next was.published in
     subst (λ (o : Option Hub). IfSome o (λ (x : Hub). x.connection ≡ None)) (sym r.1) r.2
 
 pub returns-clause-written : goal.returns-clause-written
-returns-clause-written g c = rw (← c.self.view_is) (writes_silent c.self.inside.register c.write.new.self (Connect c.args.hub) refl c.write.ensures.events
+returns-clause-written g c = rw (← c.self.view_is) (writes_silent c.self.inside.register c.write.new.self (Connect c.args.hub) refl c.write.ensures.base c.write.ensures.events
     c.write.ensures.pending c.write.ensures.room c.write.ensures.limit c.write.ensures.given c.write.ensures.mail_room)
 
 -- the tree has the connection's node
@@ -62,16 +62,17 @@ returns-clause-tied g c =
     let old = c.self.inside.tree in
     let e : Event = Connect c.args.hub in
     let law = c.promise.ensures.lawful in
-    let was : AreTied g.R.Resource h old c.self.inside.hubs = rw (← c.self.view_is) at c.requires.tied in
-    let next : MayFollow h e = rw (← c.self.view_is) at c.requires.ready.next in
+    let was : AreTied c.self.inside.register.base g.R.Resource h old c.self.inside.hubs = rw (← c.self.view_is) at c.requires.tied in
+    let next : MayFollow c.self.inside.register.base h e = rw (← c.self.view_is) at c.requires.ready.next in
     let opened = opened_in g c in
-    let stays = all_left h e law next old.nodes old.chain was.of_tree.records (λ n less. is_open_kept h e n less refl) in
-    let tied = tied_top g.R.Resource h law old old c.open.new.self was.of_tree c.in-Ok.key e next refl refl refl (λ n. refl)
+    let stays = all_left c.self.inside.register.base h e law next old.nodes old.chain was.of_tree.records (λ n less. is_open_kept h e n less refl) in
+    let tied = tied_top c.self.inside.register.base g.R.Resource h law old old c.open.new.self was.of_tree c.in-Ok.key e next refl refl refl (λ n. refl)
     (λ r. record { removes = refl; takes = refl; uses = refl }) stays refl opened in
     let still : (k : Key) → IsSome (find old.nodes k) → IsSome (find c.open.new.self.nodes k) =
-    λ k some. ap is_some (found_still g.R.Resource h law old old c.open.new.self was.of_tree c.in-Ok.key e None opened k some) ∙ some in
+    λ k some. ap is_some (found_still c.self.inside.register.base g.R.Resource h law old old c.open.new.self was.of_tree c.in-Ok.key e None opened k some) ∙
+    some in
     let made = ap (λ (hs : Hubs). hs.hubs) c.connect.ensures in
-    rw c.write.ensures.events (tied_connected g.R.Resource {later = c.connect.new.self} c.args.hub c.in-Ok.key law next was opened.numbered made still (ap is_some opened.found) tied)
+    rebased g.R.Resource (c.write.ensures.base) (rw c.write.ensures.events (tied_connected g.R.Resource c.self.inside.register.base {later = c.connect.new.self} c.args.hub c.in-Ok.key law next was opened.numbered made still (ap is_some opened.found) tied))
 
 -- nodes that are older were there
 before : (g : Over) (c : goal.After-write g) → (k : Key) → IsSome (find c.open.new.self.nodes k) → k.number < length c.self.inside.register.history →
@@ -91,10 +92,10 @@ pub returns-clause-nodes : goal.returns-clause-nodes
 returns-clause-nodes g c =
     let h = c.self.inside.register.history in
     let old = c.self.inside.tree in
-    let was : AreTied g.R.Resource h old c.self.inside.hubs = rw (← c.self.view_is) at c.requires.tied in
+    let was : AreTied c.self.inside.register.base g.R.Resource h old c.self.inside.hubs = rw (← c.self.view_is) at c.requires.tied in
     let kept : KeepsOlder c.write.new.self.history (length h) old.nodes c.open.new.self.nodes = record {
       from = before g c;
-      still = λ k some alive. ap is_some (found_still g.R.Resource h c.promise.ensures.lawful old old c.open.new.self was.of_tree c.in-Ok.key (Connect c.args.hub) None (opened_in g c) k some) ∙ some;
+      still = λ k some alive. ap is_some (found_still c.self.inside.register.base g.R.Resource h c.promise.ensures.lawful old old c.open.new.self was.of_tree c.in-Ok.key (Connect c.args.hub) None (opened_in g c) k some) ∙ some;
     } in
     rw (← c.self.view_is) kept
 
@@ -107,7 +108,7 @@ left_hubs : (g : Over) (c : goal.After-write g) → c.connect.new.self ≡ recor
 }
 left_hubs g c =
     let h = c.self.inside.register.history in
-    let was : AreTied g.R.Resource h c.self.inside.tree c.self.inside.hubs = rw (← c.self.view_is) at c.requires.tied in
+    let was : AreTied c.self.inside.register.base g.R.Resource h c.self.inside.tree c.self.inside.hubs = rw (← c.self.view_is) at c.requires.tied in
     c.connect.ensures ∙ ap (λ (hs : List Hub). record c.self.inside.hubs { hubs = hs })
     (sym (connected_after h c.args.hub c.in-Ok.key c.self.inside.hubs.hubs was.published (opened_in g c).numbered))
 

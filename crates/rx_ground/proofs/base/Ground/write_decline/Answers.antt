@@ -14,22 +14,22 @@ use Rattle.rx_ground.proofs.Written.{writes_silent}
 use Rattle.rx_ground.proofs.Owing.{owed_told, owed_in-bounded, owed_marks-le}
 use Rattle.rx_ground.proofs.Tied.{tied_decline, remarked_keeps}
 use Rattle.rx_ground.proofs.Settling.{set_remarks}
-use Rattle.rx_ground.proofs.Published.{tied_on_marked}
+use Rattle.rx_ground.proofs.Published.{rebased, tied_on_marked}
 use Rattle.rx_ground.proofs.base.Ground.write_decline.Given.{Over}
 use Rattle.rx_ground.proofs.base.Ground.write_decline.Goals as goal
 
 pub after_decline-requires : goal.after_decline-requires
 after_decline-requires g c =
     let h = c.self.inside.register.history in
-    let tied : IsTied g.R.Resource h c.self.inside.tree = rw (← c.self.view_is) at c.requires.tied.of_tree in
-    let next : MayFollow h (Decline c.args.merging.number) = rw (← c.self.view_is) at c.requires.ready.next in
-    let some = (may_decline next).2 in
-    let owes = owed_told h c.self.inside.tree.nodes c.self.inside.tree.chain tied.records c.args.merging c.in-Some.marks (sym c.in-Some.ensures) in
+    let tied : IsTied c.self.inside.register.base g.R.Resource h c.self.inside.tree = rw (← c.self.view_is) at c.requires.tied.of_tree in
+    let next : MayFollow c.self.inside.register.base h (Decline c.args.merging.number) = rw (← c.self.view_is) at c.requires.ready.next in
+    let some = (may_decline _ next).2 in
+    let owes = owed_told c.self.inside.register.base h c.self.inside.tree.nodes c.self.inside.tree.chain tied.records c.args.merging c.in-Some.marks (sym c.in-Some.ensures) in
     omega arith
 
 pub set_marks-requires-clause-countable : goal.set_marks-requires-clause-countable
 set_marks-requires-clause-countable g c =
-    let tied : IsTied g.R.Resource c.self.inside.register.history c.self.inside.tree = rw (← c.self.view_is) at c.requires.tied.of_tree in
+    let tied : IsTied c.self.inside.register.base g.R.Resource c.self.inside.register.history c.self.inside.tree = rw (← c.self.view_is) at c.requires.tied.of_tree in
     let all = owed_in-bounded g.R.Resource c.self.inside.register c.self.inside.tree tied c.promise.ensures c.promise-2.ensures.sound.apart in
     let one = owed_marks-le c.self.inside.tree.nodes c.args.merging c.in-Some.marks (sym c.in-Some.ensures) in
     let less = ap (λ (m : Marks). m.owed) c.after_decline.ensures in
@@ -44,18 +44,18 @@ pub returns-clause-tied : goal.returns-clause-tied
 returns-clause-tied g c =
     let h = c.self.inside.register.history in
     let e : Event = Decline c.args.merging.number in
-    let tied : IsTied g.R.Resource h c.self.inside.tree = rw (← c.self.view_is) at c.requires.tied.of_tree in
-    let next : MayFollow h e = rw (← c.self.view_is) at c.requires.ready.next in
+    let tied : IsTied c.self.inside.register.base g.R.Resource h c.self.inside.tree = rw (← c.self.view_is) at c.requires.tied.of_tree in
+    let next : MayFollow c.self.inside.register.base h e = rw (← c.self.view_is) at c.requires.ready.next in
     let there : IsSome (find c.self.inside.tree.nodes c.args.merging) = rw (← c.self.view_is) at c.requires.open in
-    let was : AreTied g.R.Resource c.self.inside.register.history c.self.inside.tree c.self.inside.hubs = rw (← c.self.view_is) at c.requires.tied in
-    tied_on_marked g.R.Resource e c.promise.ensures.lawful next was c.write.ensures.events refl refl c.args.merging after_decline (marked g c)
-    (subst (λ (k : List Event). IsTied g.R.Resource k c.set_marks.new.self) (sym c.write.ensures.events) (tied_decline g.R.Resource h c.promise.ensures.lawful c.self.inside.tree c.set_marks.new.self tied c.promise-2.ensures.sound c.args.merging there next (marked g c)))
+    let was : AreTied c.self.inside.register.base g.R.Resource c.self.inside.register.history c.self.inside.tree c.self.inside.hubs = rw (← c.self.view_is) at c.requires.tied in
+    rebased g.R.Resource (c.write.ensures.base) (tied_on_marked g.R.Resource c.self.inside.register.base e c.promise.ensures.lawful next was c.write.ensures.events refl refl c.args.merging after_decline (marked g c)
+    (subst (λ (k : List Event). IsTied c.self.inside.register.base g.R.Resource k c.set_marks.new.self) (sym c.write.ensures.events) (tied_decline c.self.inside.register.base g.R.Resource h c.promise.ensures.lawful c.self.inside.tree c.set_marks.new.self tied c.promise-2.ensures.sound c.args.merging there next (marked g c))))
 
 pub returns-clause-kept : goal.returns-clause-kept
 returns-clause-kept g c = rw (← c.self.view_is) (remarked_keeps c.write.new.self.history c.self.inside.tree c.set_marks.new.self c.args.merging after_decline (marked g c))
 
 pub returns-clause-written : goal.returns-clause-written
-returns-clause-written g c = rw (← c.self.view_is) (writes_silent c.self.inside.register c.write.new.self (Decline c.args.merging.number) refl c.write.ensures.events c.write.ensures.pending c.write.ensures.room c.write.ensures.limit c.write.ensures.given c.write.ensures.mail_room)
+returns-clause-written g c = rw (← c.self.view_is) (writes_silent c.self.inside.register c.write.new.self (Decline c.args.merging.number) refl c.write.ensures.base c.write.ensures.events c.write.ensures.pending c.write.ensures.room c.write.ensures.limit c.write.ensures.given c.write.ensures.mail_room)
 
 pub returns-clause-memory : goal.returns-clause-memory
 returns-clause-memory g c =

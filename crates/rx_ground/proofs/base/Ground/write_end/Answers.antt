@@ -1,4 +1,4 @@
-use Rattle.std.proofs.Common.{◌≡◌, ◌∷◌, ◌++◌, [], List, sym, ap, subst, ◌∙◌, arith, IsSome, Option, Some, option_map, slice_get, false, ◌≤◌, ◌+◌, ◌-◌, vec_capacity, length}
+use Rattle.std.proofs.Common.{◌≡◌, ◌∷◌, ◌++◌, [], sym, ap, subst, ◌∙◌, arith, IsSome, Option, Some, option_map, slice_get, false, ◌≤◌, ◌+◌, ◌-◌, vec_capacity, length}
 use Rattle.std.specs.Option.{option_map_or}
 use Rattle.rx_event.specs.declared.event.Event.{Event}
 use Rattle.rx_event.specs.declared.event.Event.TheVariants.{End}
@@ -22,7 +22,7 @@ use Rattle.rx_ground.proofs.Records.{parent_in_tree}
 use Rattle.rx_ground.proofs.Settling.{above_counted, ended_tied}
 use Rattle.rx_hub.specs.After.{is_inside, end_by}
 use Rattle.rx_hub.proofs.Laws.AfterCases.{hubs_ended}
-use Rattle.rx_ground.proofs.Published.{tied_closed}
+use Rattle.rx_ground.proofs.Published.{rebased, tied_closed}
 use Rattle.std.proofs.lemmas.Option.{same_Some}
 use Rattle.rx_tree.specs.declared.node.Node.{Node}
 use Rattle.rx_ground.proofs.base.Ground.write_end.Given.{Over}
@@ -35,7 +35,7 @@ read_made o x r at read = ap (λ (y : Record). y.made) (same_Some (record_of x) 
 pub tell_end-requires-clause-root : goal.tell_end-requires-clause-root
 tell_end-requires-clause-root g c =
     let h = c.self.inside.register.history in
-    let tied : IsTied g.R.Resource h c.self.inside.tree = rw (← c.self.view_is) at c.requires.tied.of_tree in
+    let tied : IsTied c.self.inside.register.base g.R.Resource h c.self.inside.tree = rw (← c.self.view_is) at c.requires.tied.of_tree in
     let there : IsSome (find c.self.inside.tree.nodes c.args.node) = rw (← c.self.view_is) at c.requires.open in
     let x = some_of (find c.self.inside.tree.nodes c.args.node) there in
     let read : option_map record_of (find c.self.inside.tree.nodes c.args.node) ≡ Some c.in-Some.record = rw (← c.self.view_is) at (sym c.record.ensures ∙ c.in-Some.is) in
@@ -46,17 +46,17 @@ pub mark_end-requires-clause-found : goal.mark_end-requires-clause-found
 mark_end-requires-clause-found g c κs within =
     let h = c.self.inside.register.history in
     let old = c.self.inside.tree in
-    let tied : IsTied g.R.Resource h old = rw (← c.self.view_is) at c.requires.tied.of_tree in
-    let next : MayFollow h (End c.args.node.number c.args.terminal) = rw (← c.self.view_is) at c.requires.ready.next in
+    let tied : IsTied c.self.inside.register.base g.R.Resource h old = rw (← c.self.view_is) at c.requires.tied.of_tree in
+    let next : MayFollow c.self.inside.register.base h (End c.args.node.number c.args.terminal) = rw (← c.self.view_is) at c.requires.ready.next in
     let there : IsSome (find old.nodes c.args.node) = rw (← c.self.view_is) at c.requires.open in
     let x = some_of (find old.nodes c.args.node) there in
     let is = tied.records.each c.args.node x.0 x.1 in
     let cuts : Cuts old c.self-2.inside.tree c.args.node.number = rw (← c.self-2.view_is) at c.cut.ensures.cut in
-    above_counted g.R.Resource h c.args.node.number c.args.terminal c.promise.ensures.lawful next old c.self-2.inside.tree c.self-2.inside.tree tied c.promise-2.ensures.sound cuts x.0.made is.alive is.made c.parent-above.result (c.parent-above.ensures.number ∙ parent_in_tree h old.nodes old.chain tied.records c.args.node x.0 x.1) c.parent-above.ensures.found
+    above_counted c.self.inside.register.base g.R.Resource h c.args.node.number c.args.terminal c.promise.ensures.lawful next old c.self-2.inside.tree c.self-2.inside.tree tied c.promise-2.ensures.sound cuts x.0.made is.alive is.made c.parent-above.result (c.parent-above.ensures.number ∙ parent_in_tree c.self.inside.register.base h old.nodes old.chain tied.records c.args.node x.0 x.1) c.parent-above.ensures.found
 
 pub mark_end-requires-clause-countable : goal.mark_end-requires-clause-countable
 mark_end-requires-clause-countable g c =
-    let tied : IsTied g.R.Resource c.self.inside.register.history c.self.inside.tree = rw (← c.self.view_is) at c.requires.tied.of_tree in
+    let tied : IsTied c.self.inside.register.base g.R.Resource c.self.inside.register.history c.self.inside.tree = rw (← c.self.view_is) at c.requires.tied.of_tree in
     let all = owed_in-bounded g.R.Resource c.self.inside.register c.self.inside.tree tied c.promise.ensures c.promise-2.ensures.sound.apart in
     let less : owed_in c.self-2.inside.tree.nodes ≤ owed_in c.self.inside.tree.nodes = rw (← c.self-2.view_is) at c.cut.ensures.owed in
     omega arith
@@ -68,23 +68,26 @@ registered g c = ap (λ (b : Ground g.row.R.Denot). b.register) c.self-2.view_is
 grown : (g : Over) (c : goal.After-mark_end g) → c.write.new.self.history ≡ c.self.inside.register.history ++ End c.args.node.number c.args.terminal ∷ []
 grown g c = c.write.ensures.events ∙ ap (λ (s : State). s.history ++ End c.args.node.number c.args.terminal ∷ []) (registered g c ∙ c.tell_end.ensures.kept)
 
+based : (g : Over) (c : goal.After-mark_end g) → c.write.new.self.base ≡ c.self.inside.register.base
+based g c = c.write.ensures.base ∙ ap (λ (s : State). s.base) (registered g c ∙ c.tell_end.ensures.kept)
+
 -- all that an end leaves
-ended : (g : Over) (c : goal.After-mark_end g) → IsTied g.R.Resource c.write.new.self.history c.mark_end.new.tree × KeepsNodes c.write.new.self.history c.self.inside.tree.nodes c.mark_end.new.tree.nodes × (c.mark_end.new.tree.resources ≡ c.self.inside.tree.resources) × (c.mark_end.new.tree.nodes.count ≡ c.self-2.inside.tree.nodes.count)
+ended : (g : Over) (c : goal.After-mark_end g) → IsTied c.self.inside.register.base g.R.Resource c.write.new.self.history c.mark_end.new.tree × KeepsNodes c.write.new.self.history c.self.inside.tree.nodes c.mark_end.new.tree.nodes × (c.mark_end.new.tree.resources ≡ c.self.inside.tree.resources) × (c.mark_end.new.tree.nodes.count ≡ c.self-2.inside.tree.nodes.count)
 ended g c =
     let h = c.self.inside.register.history in
     let old = c.self.inside.tree in
     let mid = c.self-2.inside.tree in
     let new = c.mark_end.new.tree in
     let e : Event = End c.args.node.number c.args.terminal in
-    let tied : IsTied g.R.Resource h old = rw (← c.self.view_is) at c.requires.tied.of_tree in
-    let next : MayFollow h e = rw (← c.self.view_is) at c.requires.ready.next in
+    let tied : IsTied c.self.inside.register.base g.R.Resource h old = rw (← c.self.view_is) at c.requires.tied.of_tree in
+    let next : MayFollow c.self.inside.register.base h e = rw (← c.self.view_is) at c.requires.ready.next in
     let there : IsSome (find old.nodes c.args.node) = rw (← c.self.view_is) at c.requires.open in
     let x = some_of (find old.nodes c.args.node) there in
     let read : option_map record_of (find old.nodes c.args.node) ≡ Some c.in-Some.record = rw (← c.self.view_is) at (sym c.record.ensures ∙ c.in-Some.is) in
     let is = tied.records.each c.args.node x.0 x.1 in
     let made : slice_get h c.args.node.number ≡ Some c.in-Some.record.made = is.made ∙ ap (λ (y : Event). Some y) (read_made (find old.nodes c.args.node) x.0 c.in-Some.record x.1 read) in
     let cuts : Cuts old mid c.args.node.number = rw (← c.self-2.view_is) at c.cut.ensures.cut in
-    let all = ended_tied g.R.Resource h c.args.node.number c.args.terminal c.promise.ensures.lawful next old mid new tied c.promise-2.ensures.sound cuts c.in-Some.record.made is.alive made c.parent-above.result c.promise-3.ensures.sound.apart (c.parent-above.ensures.number ∙ parent_in_tree h old.nodes old.chain tied.records c.args.node x.0 x.1) c.parent-above.ensures.found (rw (c.is_some.ensures, c.source_of.ensures) at c.mark_end.ensures.marked) c.mark_end.ensures.none in
+    let all = ended_tied c.self.inside.register.base g.R.Resource h c.args.node.number c.args.terminal c.promise.ensures.lawful next old mid new tied c.promise-2.ensures.sound cuts c.in-Some.record.made is.alive made c.parent-above.result c.promise-3.ensures.sound.apart (c.parent-above.ensures.number ∙ parent_in_tree c.self.inside.register.base h old.nodes old.chain tied.records c.args.node x.0 x.1) c.parent-above.ensures.found (rw (c.is_some.ensures, c.source_of.ensures) at c.mark_end.ensures.marked) c.mark_end.ensures.none in
     rw (grown g c) all
 
 pub invariant_of-self-2 : goal.invariant_of-self-2
@@ -105,12 +108,12 @@ pub returns-clause-tied : goal.returns-clause-tied
 returns-clause-tied g c =
     let h = c.self.inside.register.history in
     let e : Event = End c.args.node.number c.args.terminal in
-    let was : AreTied g.R.Resource h c.self.inside.tree c.self.inside.hubs = rw (← c.self.view_is) at c.requires.tied in
-    let next : MayFollow h e = rw (← c.self.view_is) at c.requires.ready.next in
+    let was : AreTied c.self.inside.register.base g.R.Resource h c.self.inside.tree c.self.inside.hubs = rw (← c.self.view_is) at c.requires.tied in
+    let next : MayFollow c.self.inside.register.base h e = rw (← c.self.view_is) at c.requires.ready.next in
     let after = hubs_ended h c.args.node.number c.args.terminal 0 c.self.inside.hubs.hubs was.published in
     let left = ap (λ (hubs : Hubs). hubs.hubs) (left_hubs g c) in
-    tied_closed g.R.Resource e (is_inside h c.args.node.number) (end_by (length h) e) c.promise.ensures.lawful next was (grown g c) after left
-    (ended g c).1 (ended g c).0
+    rebased g.R.Resource (based g c) (tied_closed g.R.Resource c.self.inside.register.base e (is_inside h c.args.node.number) (end_by (length h) e) c.promise.ensures.lawful next was (grown g c) after left
+    (ended g c).1 (ended g c).0)
 
 pub returns-clause-hubs : goal.returns-clause-hubs
 returns-clause-hubs g c = rw (← c.self.view_is) (left_hubs g c)
@@ -125,13 +128,14 @@ pub returns-clause-written : goal.returns-clause-written
 returns-clause-written g c =
     let e : Event = End c.args.node.number c.args.terminal in
     let told = registered g c in
+    let base = c.write.ensures.base ∙ ap (λ (s : State). s.base) told in
     let events = c.write.ensures.events ∙ ap (λ (s : State). s.history ++ e ∷ []) told in
     let room = c.write.ensures.room ∙ ap (λ (s : State). s.room) told in
     let limit = c.write.ensures.limit ∙ ap (λ (s : State). s.limit) told in
     let given = c.write.ensures.given ∙ ap (λ (s : State). s.given) told in
     let mail_room = c.write.ensures.mail_room ∙ ap (λ (s : State). s.mail_room) told in
     rw (← c.self.view_is) (writes_told c.self.inside.register c.tell_end.new.register c.write.new.self e c.tell_end.ensures.kept c.tell_end.ensures.mail_room
-    events c.write.ensures.pending room limit given mail_room)
+    base events c.write.ensures.pending room limit given mail_room)
 
 pub returns-clause-memory : goal.returns-clause-memory
 returns-clause-memory g c =
@@ -149,5 +153,5 @@ returns-clause-memory g c =
 -- what the cut is asked for
 pub cut-requires-clause-tied : goal.cut-requires-clause-tied
 cut-requires-clause-tied g c κs within =
-    let was : AreTied g.R.Resource c.self.inside.register.history c.self.inside.tree c.self.inside.hubs = rw (← c.self.view_is) at c.requires.tied in
-    subst (λ (k : List Event). AreTied g.R.Resource k c.self.inside.tree c.self.inside.hubs) (sym (ap (λ (s : State). s.history) c.tell_end.ensures.kept)) was
+    let was : AreTied c.self.inside.register.base g.R.Resource c.self.inside.register.history c.self.inside.tree c.self.inside.hubs = rw (← c.self.view_is) at c.requires.tied in
+    subst (λ (s : State). AreTied s.base g.R.Resource s.history c.self.inside.tree c.self.inside.hubs) (sym c.tell_end.ensures.kept) was

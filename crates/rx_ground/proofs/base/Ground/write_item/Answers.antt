@@ -1,4 +1,4 @@
-use Rattle.std.proofs.Common.{◌+◌, ◌-◌, ◌∷◌, [], ap, w64, refl, vec_capacity}
+use Rattle.std.proofs.Common.{◌+◌, ◌-◌, ◌∷◌, [], ap, ◌∙◌, w64, refl, vec_capacity}
 use Rattle.std.proofs.lemmas.Int.{to_z-of_z}
 use Rattle.rx_event.specs.declared.event.Event.TheVariants.{Item}
 use Rattle.rx_event.specs.Lawful.{MayFollow}
@@ -6,6 +6,8 @@ use Rattle.rx_slots.specs.Slots.{Slots}
 use Rattle.rx_tree.specs.declared.node.Node.{Node}
 use Rattle.rx_tree.specs.declared.node.Stowed.{Stowed}
 use Rattle.rx_ground.specs.Ties.{AreTied}
+use Rattle.rx_ground.proofs.Published.{rebased}
+use Rattle.rx_register.specs.State.{State as Register}
 use Rattle.rx_ground.proofs.Arrived.{arrived_writes, arrived_tied}
 use Rattle.rx_ground.proofs.Memory.{written_memory, same_places}
 use Rattle.rx_ground.proofs.Owing.{owed_in-bounded}
@@ -14,12 +16,12 @@ use Rattle.rx_ground.proofs.base.Ground.write_item.Goals as goal
 
 pub pass_on-requires-clause-walk : goal.pass_on-requires-clause-walk
 pass_on-requires-clause-walk g c κs within =
-    let tied : AreTied g.R.Resource c.self.inside.register.history c.self.inside.tree c.self.inside.hubs = rw (← c.self.view_is) at c.requires.tied in
-    walk_tied tied c.promise-2.ensures.sound
+    let tied : AreTied c.self.inside.register.base g.R.Resource c.self.inside.register.history c.self.inside.tree c.self.inside.hubs = rw (← c.self.view_is) at c.requires.tied in
+    walk_tied c.self.inside.register.base tied c.promise-2.ensures.sound
 
 pub pass_on-requires-clause-countable : goal.pass_on-requires-clause-countable
 pass_on-requires-clause-countable g c κs within =
-    let tied : AreTied g.R.Resource c.self.inside.register.history c.self.inside.tree c.self.inside.hubs = rw (← c.self.view_is) at c.requires.tied in
+    let tied : AreTied c.self.inside.register.base g.R.Resource c.self.inside.register.history c.self.inside.tree c.self.inside.hubs = rw (← c.self.view_is) at c.requires.tied in
     owed_in-bounded g.R.Resource c.self.inside.register c.self.inside.tree tied.of_tree c.promise.ensures c.promise-2.ensures.sound.apart
 
 pub returns-clause-written : goal.returns-clause-written
@@ -28,16 +30,16 @@ returns-clause-written g c =
     let events = rw (to_z-of_z w64 c.args.value c.ranges.value) at c.write.ensures.events in
     let w = c.write.ensures in
     rw (← c.self.view_is) (arrived_writes c.self.inside.register c.self.inside.tree c.args.leaf.number c.args.value c.pass_on.new.register c.pass_on.new.tree
-    passed c.write.new.self events w.pending w.room w.limit w.given w.mail_room)
+    passed c.write.new.self w.base events w.pending w.room w.limit w.given w.mail_room)
 
 pub returns-clause-tied : goal.returns-clause-tied
 returns-clause-tied g c =
-    let tied : AreTied g.R.Resource c.self.inside.register.history c.self.inside.tree c.self.inside.hubs = rw (← c.self.view_is) at c.requires.tied in
-    let next : MayFollow c.self.inside.register.history (Item c.args.leaf.number c.args.value) = rw (← c.self.view_is) at c.requires.ready.next in
+    let tied : AreTied c.self.inside.register.base g.R.Resource c.self.inside.register.history c.self.inside.tree c.self.inside.hubs = rw (← c.self.view_is) at c.requires.tied in
+    let next : MayFollow c.self.inside.register.base c.self.inside.register.history (Item c.args.leaf.number c.args.value) = rw (← c.self.view_is) at c.requires.ready.next in
     let passed = rw (to_z-of_z w64 c.args.value c.ranges.value) at c.pass_on.ensures.passed in
     let events = rw (to_z-of_z w64 c.args.value c.ranges.value) at c.write.ensures.events in
-    arrived_tied c.self.inside.register c.self.inside.tree c.args.leaf.number c.args.value c.pass_on.new.register c.pass_on.new.tree passed
-    g.R.Resource c.self.inside.hubs c.promise.ensures.lawful next tied c.write.new.self.history events
+    rebased g.R.Resource (c.write.ensures.base ∙ ap (λ (s : Register). s.base) passed.same) (arrived_tied c.self.inside.register c.self.inside.tree c.args.leaf.number c.args.value c.pass_on.new.register c.pass_on.new.tree passed
+    g.R.Resource c.self.inside.hubs c.promise.ensures.lawful next tied c.write.new.self.history events)
 
 pub returns-clause-memory : goal.returns-clause-memory
 returns-clause-memory g c =

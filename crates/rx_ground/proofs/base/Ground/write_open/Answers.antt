@@ -20,7 +20,7 @@ use Rattle.rx_ground.proofs.Written.{writes_silent}
 use Rattle.rx_ground.proofs.Newest.{newest}
 use Rattle.rx_ground.proofs.Owing.{owed_in-bounded}
 use Rattle.rx_ground.proofs.Exchanged.{opened_tied, opened_new, opened_found, few_above, owes_above, above_there_still, way_newest, way_placed, way_resources}
-use Rattle.rx_ground.proofs.Published.{cleared, rest_same, joined_left, ready_left, tied_opened}
+use Rattle.rx_ground.proofs.Published.{rebased, cleared, rest_same, joined_left, ready_left, tied_opened}
 use Rattle.rx_ground.proofs.Joined.{joined_found, slot_free, as_many, some_hub}
 use Rattle.rx_ground.proofs.base.Ground.write_open.Given.{Over}
 use Rattle.rx_ground.proofs.base.Ground.write_open.Goals as goal
@@ -32,11 +32,11 @@ open-requires-clause-newest g c κs within =
     let left = c.self-2.inside.tree in
     let law = c.promise.ensures.lawful in
     let sound = c.promise-2.ensures.sound in
-    let tied : IsTied g.R.Resource h old = rw (← c.self.view_is) at c.requires.tied.of_tree in
-    let next : MayFollow h (Open c.args.place c.args.kind) = rw (← c.self.view_is) at c.requires.ready.next in
+    let tied : IsTied c.self.inside.register.base g.R.Resource h old = rw (← c.self.view_is) at c.requires.tied.of_tree in
+    let next : MayFollow c.self.inside.register.base h (Open c.args.place c.args.kind) = rw (← c.self.view_is) at c.requires.ready.next in
     let exchanged : MakesWay h c.args.place old c.exchange-replaces.new.self.tree c.exchange-replaces.result = rw (← c.self.view_is) at c.exchange-replaces.ensures.way in
     let way : MakesWay h c.args.place old left c.exchange-replaces.result = rw (← c.self-2.view_is) at exchanged in
-    way_newest g.R.Resource h c.args.place c.args.kind law next old left tied sound c.exchange-replaces.result way c.len-number.result (newest g.R.Resource h old tied law c.len-number.result c.len-number.ensures)
+    way_newest c.self.inside.register.base g.R.Resource h c.args.place c.args.kind law next old left tied sound c.exchange-replaces.result way c.len-number.result (newest c.self.inside.register.base g.R.Resource h old tied law c.len-number.result c.len-number.ensures)
 
 pub open-requires-clause-placed : goal.open-requires-clause-placed
 open-requires-clause-placed g c κs within =
@@ -45,12 +45,12 @@ open-requires-clause-placed g c κs within =
     let left = c.self-2.inside.tree in
     let law = c.promise.ensures.lawful in
     let sound = c.promise-2.ensures.sound in
-    let tied : IsTied g.R.Resource h old = rw (← c.self.view_is) at c.requires.tied.of_tree in
-    let next : MayFollow h (Open c.args.place c.args.kind) = rw (← c.self.view_is) at c.requires.ready.next in
+    let tied : IsTied c.self.inside.register.base g.R.Resource h old = rw (← c.self.view_is) at c.requires.tied.of_tree in
+    let next : MayFollow c.self.inside.register.base h (Open c.args.place c.args.kind) = rw (← c.self.view_is) at c.requires.ready.next in
     let exchanged : MakesWay h c.args.place old c.exchange-replaces.new.self.tree c.exchange-replaces.result = rw (← c.self.view_is) at c.exchange-replaces.ensures.way in
     let way : MakesWay h c.args.place old left c.exchange-replaces.result = rw (← c.self-2.view_is) at exchanged in
     let placed : IsPlaced old.nodes (length h) (Open c.args.place c.args.kind) c.args.above = rw (← c.self.view_is) at c.requires.placed in
-    subst (λ (n : ℕ). IsPlaced left.nodes n (Open c.args.place c.args.kind) c.args.above) (sym c.len-number.ensures) (way_placed g.R.Resource h c.args.place c.args.kind law next old left tied sound c.exchange-replaces.result way (length h) c.args.above placed)
+    subst (λ (n : ℕ). IsPlaced left.nodes n (Open c.args.place c.args.kind) c.args.above) (sym c.len-number.ensures) (way_placed c.self.inside.register.base g.R.Resource h c.args.place c.args.kind law next old left tied sound c.exchange-replaces.result way (length h) c.args.above placed)
 
 pub mark_opened-requires-clause-there : goal.mark_opened-requires-clause-there
 mark_opened-requires-clause-there g c κs within =
@@ -59,14 +59,14 @@ mark_opened-requires-clause-there g c κs within =
     let left = c.self-2.inside.tree in
     let law = c.promise.ensures.lawful in
     let sound = c.promise-2.ensures.sound in
-    let tied : IsTied g.R.Resource h old = rw (← c.self.view_is) at c.requires.tied.of_tree in
-    let next : MayFollow h (Open c.args.place c.args.kind) = rw (← c.self.view_is) at c.requires.ready.next in
+    let tied : IsTied c.self.inside.register.base g.R.Resource h old = rw (← c.self.view_is) at c.requires.tied.of_tree in
+    let next : MayFollow c.self.inside.register.base h (Open c.args.place c.args.kind) = rw (← c.self.view_is) at c.requires.ready.next in
     let exchanged : MakesWay h c.args.place old c.exchange-replaces.new.self.tree c.exchange-replaces.result = rw (← c.self.view_is) at c.exchange-replaces.ensures.way in
     let way : MakesWay h c.args.place old left c.exchange-replaces.result = rw (← c.self-2.view_is) at exchanged in
     let o = c.in-Ok.ensures in
     let there : IfSome c.args.above (λ k. IsSome (find old.nodes k)) = rw (← c.self.view_is) at c.requires.placed.there in
     let opened : IsOpenedIn h (Open c.args.place c.args.kind) c.args.above left c.open.new.self c.in-Ok.key = record { numbered = o.numbered ∙ c.len-number.ensures; free = o.was_free; found = o.opened; others = o.kept; resources = o.resources; chain = o.chain } in
-    above_there_still g.R.Resource h c.args.place c.args.kind law next old left tied sound c.exchange-replaces.result way c.open.new.self c.open.new.self c.in-Ok.key c.args.above c.requires.placed.named there opened
+    above_there_still c.self.inside.register.base g.R.Resource h c.args.place c.args.kind law next old left tied sound c.exchange-replaces.result way c.open.new.self c.open.new.self c.in-Ok.key c.args.above c.requires.placed.named there opened
 
 pub mark_opened-requires-clause-found : goal.mark_opened-requires-clause-found
 mark_opened-requires-clause-found g c κs within =
@@ -75,8 +75,8 @@ mark_opened-requires-clause-found g c κs within =
     let left = c.self-2.inside.tree in
     let law = c.promise.ensures.lawful in
     let sound = c.promise-2.ensures.sound in
-    let tied : IsTied g.R.Resource h old = rw (← c.self.view_is) at c.requires.tied.of_tree in
-    let next : MayFollow h (Open c.args.place c.args.kind) = rw (← c.self.view_is) at c.requires.ready.next in
+    let tied : IsTied c.self.inside.register.base g.R.Resource h old = rw (← c.self.view_is) at c.requires.tied.of_tree in
+    let next : MayFollow c.self.inside.register.base h (Open c.args.place c.args.kind) = rw (← c.self.view_is) at c.requires.ready.next in
     let exchanged : MakesWay h c.args.place old c.exchange-replaces.new.self.tree c.exchange-replaces.result = rw (← c.self.view_is) at c.exchange-replaces.ensures.way in
     let way : MakesWay h c.args.place old left c.exchange-replaces.result = rw (← c.self-2.view_is) at exchanged in
     let o = c.in-Ok.ensures in
@@ -84,7 +84,8 @@ mark_opened-requires-clause-found g c κs within =
     let opened : IsOpenedIn h (Open c.args.place c.args.kind) c.args.above left c.open.new.self c.in-Ok.key = record { numbered = o.numbered ∙ c.len-number.ensures; free = o.was_free; found = o.opened; others = o.kept; resources = o.resources; chain = o.chain } in
     let in_limit = c.promise.ensures.within in
     let limited = c.promise.ensures.limited in
-    few_above g.R.Resource h c.args.place c.args.kind law next old left tied sound c.exchange-replaces.result way c.open.new.self c.open.new.self c.in-Ok.key c.args.above c.requires.placed.named there opened 18446744073709551615 (omega arith)
+    let placed = c.promise.ensures.placed in
+    few_above c.self.inside.register.base g.R.Resource h c.args.place c.args.kind law next old left tied sound c.exchange-replaces.result way c.open.new.self c.open.new.self c.in-Ok.key c.args.above c.requires.placed.named there opened 18446744073709551615 (omega arith)
 
 pub mark_opened-requires-clause-owes : goal.mark_opened-requires-clause-owes
 mark_opened-requires-clause-owes g c κs within =
@@ -93,18 +94,18 @@ mark_opened-requires-clause-owes g c κs within =
     let left = c.self-2.inside.tree in
     let law = c.promise.ensures.lawful in
     let sound = c.promise-2.ensures.sound in
-    let tied : IsTied g.R.Resource h old = rw (← c.self.view_is) at c.requires.tied.of_tree in
-    let next : MayFollow h (Open c.args.place c.args.kind) = rw (← c.self.view_is) at c.requires.ready.next in
+    let tied : IsTied c.self.inside.register.base g.R.Resource h old = rw (← c.self.view_is) at c.requires.tied.of_tree in
+    let next : MayFollow c.self.inside.register.base h (Open c.args.place c.args.kind) = rw (← c.self.view_is) at c.requires.ready.next in
     let exchanged : MakesWay h c.args.place old c.exchange-replaces.new.self.tree c.exchange-replaces.result = rw (← c.self.view_is) at c.exchange-replaces.ensures.way in
     let way : MakesWay h c.args.place old left c.exchange-replaces.result = rw (← c.self-2.view_is) at exchanged in
     let o = c.in-Ok.ensures in
     let there : IfSome c.args.above (λ k. IsSome (find old.nodes k)) = rw (← c.self.view_is) at c.requires.placed.there in
     let opened : IsOpenedIn h (Open c.args.place c.args.kind) c.args.above left c.open.new.self c.in-Ok.key = record { numbered = o.numbered ∙ c.len-number.ensures; free = o.was_free; found = o.opened; others = o.kept; resources = o.resources; chain = o.chain } in
-    owes_above g.R.Resource h c.args.place c.args.kind law next old left tied sound c.exchange-replaces.result way c.open.new.self c.open.new.self c.in-Ok.key c.args.above c.requires.placed.named there opened
+    owes_above c.self.inside.register.base g.R.Resource h c.args.place c.args.kind law next old left tied sound c.exchange-replaces.result way c.open.new.self c.open.new.self c.in-Ok.key c.args.above c.requires.placed.named there opened
 
 pub mark_opened-requires-clause-countable : goal.mark_opened-requires-clause-countable
 mark_opened-requires-clause-countable g c =
-    let tied : IsTied g.R.Resource c.self.inside.register.history c.self.inside.tree = rw (← c.self.view_is) at c.requires.tied.of_tree in
+    let tied : IsTied c.self.inside.register.base g.R.Resource c.self.inside.register.history c.self.inside.tree = rw (← c.self.view_is) at c.requires.tied.of_tree in
     let all = owed_in-bounded g.R.Resource c.self.inside.register c.self.inside.tree tied c.promise.ensures c.promise-2.ensures.sound.apart in
     let after : owed_in c.exchange-replaces.new.self.tree.nodes ≤ owed_in c.self.inside.tree.nodes = rw (← c.self.view_is) at c.exchange-replaces.ensures.owed in
     let less : owed_in c.self-2.inside.tree.nodes ≤ owed_in c.self.inside.tree.nodes = rw (← c.self-2.view_is) at after in
@@ -116,7 +117,7 @@ registered : (g : Over) (c : goal.After-write g) → c.self-2.inside.register �
 registered g c = ap (λ (b : Ground g.row.R.Denot). b.register) c.self-2.view_is ∙ c.exchange-replaces.ensures.register ∙ sym (ap (λ (b : Ground g.row.R.Denot). b.register) c.self.view_is)
 
 pub returns-clause-written : goal.returns-clause-written
-returns-clause-written g c = rw (← c.self.view_is) (subst (λ (s : State). Writes s (Open c.args.place c.args.kind ∷ []) c.write.new.self) (registered g c) (writes_silent c.self-2.inside.register c.write.new.self (Open c.args.place c.args.kind) refl c.write.ensures.events c.write.ensures.pending c.write.ensures.room c.write.ensures.limit c.write.ensures.given c.write.ensures.mail_room))
+returns-clause-written g c = rw (← c.self.view_is) (subst (λ (s : State). Writes s (Open c.args.place c.args.kind ∷ []) c.write.new.self) (registered g c) (writes_silent c.self-2.inside.register c.write.new.self (Open c.args.place c.args.kind) refl c.write.ensures.base c.write.ensures.events c.write.ensures.pending c.write.ensures.room c.write.ensures.limit c.write.ensures.given c.write.ensures.mail_room))
 
 pub join-requires-clause-there : goal.join-requires-clause-there
 join-requires-clause-there g c =
@@ -124,7 +125,7 @@ join-requires-clause-there g c =
     let old = c.self.inside.tree in
     let left = c.self-2.inside.tree in
     let mid = c.self-2.inside.hubs in
-    let was : AreTied g.R.Resource h old c.self.inside.hubs = rw (← c.self.view_is) at c.requires.tied in
+    let was : AreTied c.self.inside.register.base g.R.Resource h old c.self.inside.hubs = rw (← c.self.view_is) at c.requires.tied in
     let exchanged : MakesWay h c.args.place old c.exchange-replaces.new.self.tree c.exchange-replaces.result = rw (← c.self.view_is) at c.exchange-replaces.ensures.way in
     let way : MakesWay h c.args.place old left c.exchange-replaces.result = rw (← c.self-2.view_is) at exchanged in
     let cleared_way : ClearsHubs h c.args.place old c.exchange-replaces.new.self.tree c.self.inside.hubs c.exchange-replaces.new.self.hubs c.exchange-replaces.result =
@@ -132,10 +133,10 @@ join-requires-clause-there g c =
     let clears : ClearsHubs h c.args.place old left c.self.inside.hubs mid c.exchange-replaces.result = rw (← c.self-2.view_is) at cleared_way in
     let law = c.promise.ensures.lawful in
     let sound = c.promise-2.ensures.sound in
-    let next : MayFollow h (Open c.args.place c.args.kind) = rw (← c.self.view_is) at c.requires.ready.next in
+    let next : MayFollow c.self.inside.register.base h (Open c.args.place c.args.kind) = rw (← c.self.view_is) at c.requires.ready.next in
     let replaces = c.exchange-replaces.result in
-    λ n same. let r = ready_left g.R.Resource h c.args.place old left c.self.inside.hubs mid replaces law was clears n
-    (subst (λ (q : Kind). MayFollow h (Open c.args.place q)) same next) in ap is_some r.1
+    λ n same. let r = ready_left c.self.inside.register.base g.R.Resource h c.args.place old left c.self.inside.hubs mid replaces law was clears n
+    (subst (λ (q : Kind). MayFollow c.self.inside.register.base h (Open c.args.place q)) same next) in ap is_some r.1
 
 pub join-requires-clause-newest : goal.join-requires-clause-newest
 join-requires-clause-newest g c =
@@ -143,7 +144,7 @@ join-requires-clause-newest g c =
     let old = c.self.inside.tree in
     let left = c.self-2.inside.tree in
     let mid = c.self-2.inside.hubs in
-    let was : AreTied g.R.Resource h old c.self.inside.hubs = rw (← c.self.view_is) at c.requires.tied in
+    let was : AreTied c.self.inside.register.base g.R.Resource h old c.self.inside.hubs = rw (← c.self.view_is) at c.requires.tied in
     let exchanged : MakesWay h c.args.place old c.exchange-replaces.new.self.tree c.exchange-replaces.result = rw (← c.self.view_is) at c.exchange-replaces.ensures.way in
     let way : MakesWay h c.args.place old left c.exchange-replaces.result = rw (← c.self-2.view_is) at exchanged in
     let cleared_way : ClearsHubs h c.args.place old c.exchange-replaces.new.self.tree c.self.inside.hubs c.exchange-replaces.new.self.hubs c.exchange-replaces.result =
@@ -151,11 +152,11 @@ join-requires-clause-newest g c =
     let clears : ClearsHubs h c.args.place old left c.self.inside.hubs mid c.exchange-replaces.result = rw (← c.self-2.view_is) at cleared_way in
     let law = c.promise.ensures.lawful in
     let sound = c.promise-2.ensures.sound in
-    let next : MayFollow h (Open c.args.place c.args.kind) = rw (← c.self.view_is) at c.requires.ready.next in
+    let next : MayFollow c.self.inside.register.base h (Open c.args.place c.args.kind) = rw (← c.self.view_is) at c.requires.ready.next in
     let replaces = c.exchange-replaces.result in
     let numbered = c.in-Ok.ensures.numbered ∙ c.len-number.ensures in
-    λ n same. let r = ready_left g.R.Resource h c.args.place old left c.self.inside.hubs mid replaces law was clears n
-    (subst (λ (q : Kind). MayFollow h (Open c.args.place q)) same next) in
+    λ n same. let r = ready_left c.self.inside.register.base g.R.Resource h c.args.place old left c.self.inside.hubs mid replaces law was clears n
+    (subst (λ (q : Kind). MayFollow c.self.inside.register.base h (Open c.args.place q)) same next) in
     subst (λ (o : Option Hub). IfSome o (λ (hub : Hub). AreBelow c.in-Ok.key.number hub.subscribers)) (sym r.1)
     (subst (λ (m : ℕ). AreBelow m r.0.subscribers) (sym numbered) r.2)
 
@@ -165,7 +166,7 @@ join-requires-clause-free g c =
     let old = c.self.inside.tree in
     let left = c.self-2.inside.tree in
     let mid = c.self-2.inside.hubs in
-    let was : AreTied g.R.Resource h old c.self.inside.hubs = rw (← c.self.view_is) at c.requires.tied in
+    let was : AreTied c.self.inside.register.base g.R.Resource h old c.self.inside.hubs = rw (← c.self.view_is) at c.requires.tied in
     let exchanged : MakesWay h c.args.place old c.exchange-replaces.new.self.tree c.exchange-replaces.result = rw (← c.self.view_is) at c.exchange-replaces.ensures.way in
     let way : MakesWay h c.args.place old left c.exchange-replaces.result = rw (← c.self-2.view_is) at exchanged in
     let cleared_way : ClearsHubs h c.args.place old c.exchange-replaces.new.self.tree c.self.inside.hubs c.exchange-replaces.new.self.hubs c.exchange-replaces.result =
@@ -173,9 +174,9 @@ join-requires-clause-free g c =
     let clears : ClearsHubs h c.args.place old left c.self.inside.hubs mid c.exchange-replaces.result = rw (← c.self-2.view_is) at cleared_way in
     let law = c.promise.ensures.lawful in
     let sound = c.promise-2.ensures.sound in
-    let next : MayFollow h (Open c.args.place c.args.kind) = rw (← c.self.view_is) at c.requires.ready.next in
+    let next : MayFollow c.self.inside.register.base h (Open c.args.place c.args.kind) = rw (← c.self.view_is) at c.requires.ready.next in
     let replaces = c.exchange-replaces.result in
-    slot_free left.nodes c.in-Ok.key.slot mid.hubs (joined_left g.R.Resource h c.args.place old left c.self.inside.hubs mid replaces law was clears sound way)
+    slot_free left.nodes c.in-Ok.key.slot mid.hubs (joined_left c.self.inside.register.base g.R.Resource h c.args.place old left c.self.inside.hubs mid replaces law was clears sound way)
     c.in-Ok.ensures.was_free
 
 -- a subscriber may stand at the new node's slot
@@ -185,11 +186,11 @@ join-requires-clause-slot g c =
     let left = c.self-2.inside in
     let h = old.register.history in
     let after = c.exchange-replaces.new.self in
-    let was : AreTied g.R.Resource h old.tree old.hubs = rw (← c.self.view_is) at c.requires.tied in
+    let was : AreTied old.register.base g.R.Resource h old.tree old.hubs = rw (← c.self.view_is) at c.requires.tied in
     let cleared_way : ClearsHubs h c.args.place old.tree after.tree old.hubs after.hubs c.exchange-replaces.result = rw (← c.self.view_is) at c.exchange-replaces.ensures.hubs in
     let clears : ClearsHubs h c.args.place old.tree left.tree old.hubs left.hubs c.exchange-replaces.result = rw (← c.self-2.view_is) at cleared_way in
     let law = c.promise.ensures.lawful in
-    let next : MayFollow h (Open c.args.place c.args.kind) = rw (← c.self.view_is) at c.requires.ready.next in
+    let next : MayFollow old.register.base h (Open c.args.place c.args.kind) = rw (← c.self.view_is) at c.requires.ready.next in
     let replaces = c.exchange-replaces.result in
     let reserved : 0 < length old.hubs.hubs → old.tree.nodes.count + old.tree.nodes.room ≤ old.hubs.slots = rw (← c.self.view_is) at c.requires.slots in
     let room : 0 < old.tree.nodes.room = rw (← c.self.view_is) at c.requires.room in
@@ -205,8 +206,8 @@ join-requires-clause-slot g c =
     let more = c.in-Ok.ensures.count in
     let less = c.in-Ok.ensures.had_room (omega arith) in
     let here = c.slots-slots.ensures.within c.in-Ok.key (ap is_some c.in-Ok.ensures.opened) in
-    λ n same. let r = ready_left g.R.Resource h c.args.place old.tree left.tree old.hubs left.hubs replaces law was clears n
-    (subst (λ (q : Kind). MayFollow h (Open c.args.place q)) same next) in
+    λ n same. let r = ready_left old.register.base g.R.Resource h c.args.place old.tree left.tree old.hubs left.hubs replaces law was clears n
+    (subst (λ (q : Kind). MayFollow old.register.base h (Open c.args.place q)) same next) in
     let some = some_hub left.hubs.hubs n r.0 r.1 in
     let enough = reserved (omega arith) in
     omega arith
@@ -220,7 +221,7 @@ left_hubs g c =
     let old = c.self.inside.tree in
     let left = c.self-2.inside.tree in
     let mid = c.self-2.inside.hubs in
-    let was : AreTied g.R.Resource h old c.self.inside.hubs = rw (← c.self.view_is) at c.requires.tied in
+    let was : AreTied c.self.inside.register.base g.R.Resource h old c.self.inside.hubs = rw (← c.self.view_is) at c.requires.tied in
     let exchanged : MakesWay h c.args.place old c.exchange-replaces.new.self.tree c.exchange-replaces.result = rw (← c.self.view_is) at c.exchange-replaces.ensures.way in
     let way : MakesWay h c.args.place old left c.exchange-replaces.result = rw (← c.self-2.view_is) at exchanged in
     let cleared_way : ClearsHubs h c.args.place old c.exchange-replaces.new.self.tree c.self.inside.hubs c.exchange-replaces.new.self.hubs c.exchange-replaces.result =
@@ -228,10 +229,10 @@ left_hubs g c =
     let clears : ClearsHubs h c.args.place old left c.self.inside.hubs mid c.exchange-replaces.result = rw (← c.self-2.view_is) at cleared_way in
     let law = c.promise.ensures.lawful in
     let sound = c.promise-2.ensures.sound in
-    let next : MayFollow h (Open c.args.place c.args.kind) = rw (← c.self.view_is) at c.requires.ready.next in
+    let next : MayFollow c.self.inside.register.base h (Open c.args.place c.args.kind) = rw (← c.self.view_is) at c.requires.ready.next in
     let replaces = c.exchange-replaces.result in
     let e : Event = Open c.args.place c.args.kind in
-    let same = cleared g.R.Resource h c.args.place c.args.kind c.in-Ok.key.slot old left c.self.inside.hubs mid replaces law was way clears in
+    let same = cleared c.self.inside.register.base g.R.Resource h c.args.place c.args.kind c.in-Ok.key.slot old left c.self.inside.hubs mid replaces law was way clears in
     let rest = rest_same h c.args.place old left c.self.inside.hubs mid replaces clears in
     let numbered = c.in-Ok.ensures.numbered ∙ c.len-number.ensures in
     c.join.ensures ∙ ap (λ (hs : Hubs). record hs { hubs = with_made c.in-Ok.key e mid.hubs }) rest ∙
@@ -250,7 +251,7 @@ returns-clause-tied g c =
     let old = c.self.inside.tree in
     let left = c.self-2.inside.tree in
     let mid = c.self-2.inside.hubs in
-    let was : AreTied g.R.Resource h old c.self.inside.hubs = rw (← c.self.view_is) at c.requires.tied in
+    let was : AreTied c.self.inside.register.base g.R.Resource h old c.self.inside.hubs = rw (← c.self.view_is) at c.requires.tied in
     let exchanged : MakesWay h c.args.place old c.exchange-replaces.new.self.tree c.exchange-replaces.result = rw (← c.self.view_is) at c.exchange-replaces.ensures.way in
     let way : MakesWay h c.args.place old left c.exchange-replaces.result = rw (← c.self-2.view_is) at exchanged in
     let cleared_way : ClearsHubs h c.args.place old c.exchange-replaces.new.self.tree c.self.inside.hubs c.exchange-replaces.new.self.hubs c.exchange-replaces.result =
@@ -258,7 +259,7 @@ returns-clause-tied g c =
     let clears : ClearsHubs h c.args.place old left c.self.inside.hubs mid c.exchange-replaces.result = rw (← c.self-2.view_is) at cleared_way in
     let law = c.promise.ensures.lawful in
     let sound = c.promise-2.ensures.sound in
-    let next : MayFollow h (Open c.args.place c.args.kind) = rw (← c.self.view_is) at c.requires.ready.next in
+    let next : MayFollow c.self.inside.register.base h (Open c.args.place c.args.kind) = rw (← c.self.view_is) at c.requires.ready.next in
     let replaces = c.exchange-replaces.result in
     let o = c.in-Ok.ensures in
     let there : IfSome c.args.above (λ k. IsSome (find old.nodes k)) = rw (← c.self.view_is) at c.requires.placed.there in
@@ -266,14 +267,14 @@ returns-clause-tied g c =
     let grown : c.write.new.self.history ≡ h ++ Open c.args.place c.args.kind ∷ [] = c.write.ensures.events ∙ ap (λ (s : State). s.history ++ Open c.args.place c.args.kind ∷ []) (registered g c) in
     let marked = c.mark_opened.ensures.marked in
     let none = c.mark_opened.ensures.none in
-    let tied = opened_tied g.R.Resource h c.args.kind law old left c.open.new.self c.mark_opened.new.tree was.of_tree sound replaces c.in-Ok.key c.args.place c.args.above next way c.promise-3.ensures.sound.apart c.requires.placed.named there opened marked none in
-    let found = opened_found g.R.Resource h c.args.place c.args.kind law next old left was.of_tree sound replaces way c.open.new.self c.mark_opened.new.tree c.in-Ok.key c.args.above c.requires.placed.named there opened marked none in
-    let new = opened_new g.R.Resource h c.args.place c.args.kind law next old left was.of_tree sound replaces way c.open.new.self c.mark_opened.new.tree c.in-Ok.key c.args.above c.requires.placed.named there opened marked none in
-    let joined = joined_found left.nodes c.mark_opened.new.tree.nodes mid.hubs found (joined_left g.R.Resource h c.args.place old left c.self.inside.hubs mid replaces law was clears sound way) in
+    let tied = opened_tied c.self.inside.register.base g.R.Resource h c.args.kind law old left c.open.new.self c.mark_opened.new.tree was.of_tree sound replaces c.in-Ok.key c.args.place c.args.above next way c.promise-3.ensures.sound.apart c.requires.placed.named there opened marked none in
+    let found = opened_found c.self.inside.register.base g.R.Resource h c.args.place c.args.kind law next old left was.of_tree sound replaces way c.open.new.self c.mark_opened.new.tree c.in-Ok.key c.args.above c.requires.placed.named there opened marked none in
+    let new = opened_new c.self.inside.register.base g.R.Resource h c.args.place c.args.kind law next old left was.of_tree sound replaces way c.open.new.self c.mark_opened.new.tree c.in-Ok.key c.args.above c.requires.placed.named there opened marked none in
+    let joined = joined_found left.nodes c.mark_opened.new.tree.nodes mid.hubs found (joined_left c.self.inside.register.base g.R.Resource h c.args.place old left c.self.inside.hubs mid replaces law was clears sound way) in
     let after = ap (λ (hubs : Hubs). hubs.hubs) (left_hubs g c) in
     let made = ap (λ (hubs : Hubs). hubs.hubs) c.join.ensures in
-    let all = tied_opened g.R.Resource mid c.args.place c.args.kind c.in-Ok.key law next was refl after made joined new.found tied in
-    subst (λ (k : List Event). AreTied g.R.Resource k c.mark_opened.new.tree c.join.new.hubs) (sym grown) all
+    let all = tied_opened g.R.Resource c.self.inside.register.base mid c.args.place c.args.kind c.in-Ok.key law next was refl after made joined new.found tied in
+    rebased g.R.Resource (c.write.ensures.base ∙ ap (λ (s : State). s.base) (registered g c)) (subst (λ (k : List Event). AreTied c.self.inside.register.base g.R.Resource k c.mark_opened.new.tree c.join.new.hubs) (sym grown) all)
 
 pub returns-clause-new : goal.returns-clause-new
 returns-clause-new g c =
@@ -282,14 +283,14 @@ returns-clause-new g c =
     let left = c.self-2.inside.tree in
     let law = c.promise.ensures.lawful in
     let sound = c.promise-2.ensures.sound in
-    let tied : IsTied g.R.Resource h old = rw (← c.self.view_is) at c.requires.tied.of_tree in
-    let next : MayFollow h (Open c.args.place c.args.kind) = rw (← c.self.view_is) at c.requires.ready.next in
+    let tied : IsTied c.self.inside.register.base g.R.Resource h old = rw (← c.self.view_is) at c.requires.tied.of_tree in
+    let next : MayFollow c.self.inside.register.base h (Open c.args.place c.args.kind) = rw (← c.self.view_is) at c.requires.ready.next in
     let exchanged : MakesWay h c.args.place old c.exchange-replaces.new.self.tree c.exchange-replaces.result = rw (← c.self.view_is) at c.exchange-replaces.ensures.way in
     let way : MakesWay h c.args.place old left c.exchange-replaces.result = rw (← c.self-2.view_is) at exchanged in
     let o = c.in-Ok.ensures in
     let there : IfSome c.args.above (λ k. IsSome (find old.nodes k)) = rw (← c.self.view_is) at c.requires.placed.there in
     let opened : IsOpenedIn h (Open c.args.place c.args.kind) c.args.above left c.open.new.self c.in-Ok.key = record { numbered = o.numbered ∙ c.len-number.ensures; free = o.was_free; found = o.opened; others = o.kept; resources = o.resources; chain = o.chain } in
-    rw (← c.self.view_is) (opened_new g.R.Resource h c.args.place c.args.kind law next old left tied sound c.exchange-replaces.result way c.open.new.self c.mark_opened.new.tree c.in-Ok.key c.args.above c.requires.placed.named there opened c.mark_opened.ensures.marked c.mark_opened.ensures.none)
+    rw (← c.self.view_is) (opened_new c.self.inside.register.base g.R.Resource h c.args.place c.args.kind law next old left tied sound c.exchange-replaces.result way c.open.new.self c.mark_opened.new.tree c.in-Ok.key c.args.above c.requires.placed.named there opened c.mark_opened.ensures.marked c.mark_opened.ensures.none)
 
 -- the resources are those before
 same_resources : (g : Over) (c : goal.After-write g) → c.mark_opened.new.tree.resources ≡ c.self.inside.tree.resources
@@ -299,11 +300,11 @@ same_resources g c =
     let left = c.self-2.inside.tree in
     let law = c.promise.ensures.lawful in
     let sound = c.promise-2.ensures.sound in
-    let tied : IsTied g.R.Resource h old = rw (← c.self.view_is) at c.requires.tied.of_tree in
-    let next : MayFollow h (Open c.args.place c.args.kind) = rw (← c.self.view_is) at c.requires.ready.next in
+    let tied : IsTied c.self.inside.register.base g.R.Resource h old = rw (← c.self.view_is) at c.requires.tied.of_tree in
+    let next : MayFollow c.self.inside.register.base h (Open c.args.place c.args.kind) = rw (← c.self.view_is) at c.requires.ready.next in
     let exchanged : MakesWay h c.args.place old c.exchange-replaces.new.self.tree c.exchange-replaces.result = rw (← c.self.view_is) at c.exchange-replaces.ensures.way in
     let way : MakesWay h c.args.place old left c.exchange-replaces.result = rw (← c.self-2.view_is) at exchanged in
-    c.mark_opened.ensures.resources ∙ c.in-Ok.ensures.resources ∙ way_resources g.R.Resource h c.args.place c.args.kind law next old left tied sound c.exchange-replaces.result way
+    c.mark_opened.ensures.resources ∙ c.in-Ok.ensures.resources ∙ way_resources c.self.inside.register.base g.R.Resource h c.args.place c.args.kind law next old left tied sound c.exchange-replaces.result way
 
 pub returns-clause-resources : goal.returns-clause-resources
 returns-clause-resources g c = rw (← c.self.view_is) (same_resources g c)

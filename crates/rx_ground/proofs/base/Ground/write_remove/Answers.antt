@@ -13,11 +13,11 @@ use Rattle.rx_ground.proofs.Stored.{stored_removed}
 use Rattle.rx_ground.proofs.Tied.{tied_still}
 use Rattle.rx_ground.proofs.HeldKept.{held_rewritten}
 use Rattle.rx_ground.proofs.Newest.{held_found}
-use Rattle.rx_ground.proofs.Published.{tied_on_same}
+use Rattle.rx_ground.proofs.Published.{rebased, tied_on_same}
 use Rattle.rx_ground.proofs.base.Ground.write_remove.Goals as goal
 
 pub returns-clause-written : goal.returns-clause-written
-returns-clause-written g c = rw (← c.self.view_is) (writes_silent c.self.inside.register c.write.new.self (Remove c.args.res.number) refl c.write.ensures.events c.write.ensures.pending c.write.ensures.room c.write.ensures.limit c.write.ensures.given c.write.ensures.mail_room)
+returns-clause-written g c = rw (← c.self.view_is) (writes_silent c.self.inside.register c.write.new.self (Remove c.args.res.number) refl c.write.ensures.base c.write.ensures.events c.write.ensures.pending c.write.ensures.room c.write.ensures.limit c.write.ensures.given c.write.ensures.mail_room)
 
 pub returns-clause-tied : goal.returns-clause-tied
 returns-clause-tied g c =
@@ -25,13 +25,13 @@ returns-clause-tied g c =
     let old = c.self.inside.tree in
     let new = c.unhold.new.self in
     let e : Event = Remove c.args.res.number in
-    let tied : IsTied g.R.Resource h old = rw (← c.self.view_is) at c.requires.tied.of_tree in
-    let next : MayFollow h e = rw (← c.self.view_is) at c.requires.ready.next in
+    let tied : IsTied c.self.inside.register.base g.R.Resource h old = rw (← c.self.view_is) at c.requires.tied.of_tree in
+    let next : MayFollow c.self.inside.register.base h e = rw (← c.self.view_is) at c.requires.ready.next in
     let held : is_held_at old c.args.res ≡ true = rw (← c.self.view_is) at c.requires.held in
     let f = held_found old c.args.res held in
-    let was : AreTied g.R.Resource c.self.inside.register.history c.self.inside.tree c.self.inside.hubs = rw (← c.self.view_is) at c.requires.tied in
-    tied_on_same g.R.Resource e c.promise.ensures.lawful next was c.write.ensures.events refl refl c.unhold.ensures.nodes
-    (subst (λ (k : List Event). IsTied g.R.Resource k new) (sym c.write.ensures.events) (tied_still g.R.Resource h e c.promise.ensures.lawful next old tied new refl refl (λ n. refl) c.unhold.ensures.nodes c.unhold.ensures.chain (stored_removed g.R.Resource h c.promise.ensures.lawful old new tied.stored c.promise-2.ensures.resources_apart c.unhold.ensures.nodes (store_key c.args.res) f.stowed f.found c.unhold.ensures.resources)))
+    let was : AreTied c.self.inside.register.base g.R.Resource c.self.inside.register.history c.self.inside.tree c.self.inside.hubs = rw (← c.self.view_is) at c.requires.tied in
+    rebased g.R.Resource (c.write.ensures.base) (tied_on_same g.R.Resource c.self.inside.register.base e c.promise.ensures.lawful next was c.write.ensures.events refl refl c.unhold.ensures.nodes
+    (subst (λ (k : List Event). IsTied c.self.inside.register.base g.R.Resource k new) (sym c.write.ensures.events) (tied_still c.self.inside.register.base g.R.Resource h e c.promise.ensures.lawful next old tied new refl refl (λ n. refl) c.unhold.ensures.nodes c.unhold.ensures.chain (stored_removed c.self.inside.register.base g.R.Resource h c.promise.ensures.lawful old new tied.stored c.promise-2.ensures.resources_apart c.unhold.ensures.nodes (store_key c.args.res) f.stowed f.found c.unhold.ensures.resources))))
 
 pub returns-clause-kept : goal.returns-clause-kept
 returns-clause-kept g c = rw (← c.self.view_is) (held_rewritten c.self.inside.tree c.unhold.new.self (length c.self.inside.register.history) (store_key c.args.res) removed c.unhold.ensures.nodes c.unhold.ensures.resources (λ x h. absurd (false≢true (and_parts (is_some (find c.self.inside.tree.nodes x.node)) _ h).1)))

@@ -14,7 +14,7 @@ use Rattle.rx_ground.proofs.Stored.{stored_taken}
 use Rattle.rx_ground.proofs.Tied.{tied_still}
 use Rattle.rx_ground.proofs.HeldKept.{held_gone}
 use Rattle.rx_ground.proofs.Taking.{takes_waiting, takes_live, takes_listed, none_waits}
-use Rattle.rx_ground.proofs.Published.{tied_on_same}
+use Rattle.rx_ground.proofs.Published.{rebased, tied_on_same}
 use Rattle.rx_ground.proofs.base.Ground.write_take.Given.{Over}
 use Rattle.rx_ground.proofs.base.Ground.write_take.Goals as goal
 
@@ -23,14 +23,14 @@ returns-in_err-number-clause-waited g c = rw (c.from_residual.ensures, ← c.sel
 
 pub write-requires-clause-next : goal.write-requires-clause-next
 write-requires-clause-next g c =
-    let tied : IsTied g.R.Resource c.self.inside.register.history c.self.inside.tree = rw (← c.self.view_is) at c.requires.tied.of_tree in
-    let settled : IsSettled c.self.inside.register.history = rw (← c.self.view_is) at c.requires.settled in
-    allowed settled (taken (takes_waiting g.R.Resource c.self.inside.register.history c.self.inside.tree c.take_waiting.new.self c.in_ok-number.number c.in_ok-number.resource tied c.in_ok-number.ensures.some))
+    let tied : IsTied c.self.inside.register.base g.R.Resource c.self.inside.register.history c.self.inside.tree = rw (← c.self.view_is) at c.requires.tied.of_tree in
+    let settled : IsSettled c.self.inside.register.base c.self.inside.register.history = rw (← c.self.view_is) at c.requires.settled in
+    allowed settled (taken (takes_waiting g.R.Resource c.self.inside.register.history c.self.inside.tree c.take_waiting.new.self c.in_ok-number.number c.in_ok-number.resource c.self.inside.register.base tied c.in_ok-number.ensures.some))
 
 ready : (g : Over) (c : goal.After-write-arg-1 g) → IsReady c.self.inside.register (Take c.in_ok-number.number)
 ready g c =
-    let tied : IsTied g.R.Resource c.self.inside.register.history c.self.inside.tree = rw (← c.self.view_is) at c.requires.tied.of_tree in
-    (rw (← c.self.view_is) at c.requires.room) c.in_ok-number.number (takes_waiting g.R.Resource c.self.inside.register.history c.self.inside.tree c.take_waiting.new.self c.in_ok-number.number c.in_ok-number.resource tied c.in_ok-number.ensures.some)
+    let tied : IsTied c.self.inside.register.base g.R.Resource c.self.inside.register.history c.self.inside.tree = rw (← c.self.view_is) at c.requires.tied.of_tree in
+    (rw (← c.self.view_is) at c.requires.room) c.in_ok-number.number (takes_waiting g.R.Resource c.self.inside.register.history c.self.inside.tree c.take_waiting.new.self c.in_ok-number.number c.in_ok-number.resource c.self.inside.register.base tied c.in_ok-number.ensures.some)
 
 pub write-requires-clause-room : goal.write-requires-clause-room
 write-requires-clause-room g c = (ready g c).room
@@ -40,24 +40,24 @@ write-requires-clause-told g c = (ready g c).pending
 
 pub new-requires-clause-live : goal.new-requires-clause-live
 new-requires-clause-live g c κs within =
-    let tied : IsTied g.R.Resource c.self.inside.register.history c.self.inside.tree = rw (← c.self.view_is) at c.requires.tied.of_tree in
-    takes_live g.R.Resource c.self.inside.register.history c.self.inside.tree c.take_waiting.new.self c.in_ok-number.number c.in_ok-number.resource tied c.in_ok-number.ensures.some
+    let tied : IsTied c.self.inside.register.base g.R.Resource c.self.inside.register.history c.self.inside.tree = rw (← c.self.view_is) at c.requires.tied.of_tree in
+    takes_live g.R.Resource c.self.inside.register.history c.self.inside.tree c.take_waiting.new.self c.in_ok-number.number c.in_ok-number.resource c.self.inside.register.base tied c.in_ok-number.ensures.some
 
 pub returns-clause-written : goal.returns-clause-written
-returns-clause-written g c = rw (c.new.ensures, ← c.self.view_is) (writes_silent c.self.inside.register c.write.new.self (Take c.in_ok-number.number) refl c.write.ensures.events c.write.ensures.pending c.write.ensures.room c.write.ensures.limit c.write.ensures.given c.write.ensures.mail_room)
+returns-clause-written g c = rw (c.new.ensures, ← c.self.view_is) (writes_silent c.self.inside.register c.write.new.self (Take c.in_ok-number.number) refl c.write.ensures.base c.write.ensures.events c.write.ensures.pending c.write.ensures.room c.write.ensures.limit c.write.ensures.given c.write.ensures.mail_room)
 
 pub returns-clause-tied : goal.returns-clause-tied
 returns-clause-tied g c =
     let h = c.self.inside.register.history in
     let old = c.self.inside.tree in
     let new = c.take_waiting.new.self in
-    let tied : IsTied g.R.Resource h old = rw (← c.self.view_is) at c.requires.tied.of_tree in
-    let settled : IsSettled h = rw (← c.self.view_is) at c.requires.settled in
+    let tied : IsTied c.self.inside.register.base g.R.Resource h old = rw (← c.self.view_is) at c.requires.tied.of_tree in
+    let settled : IsSettled c.self.inside.register.base h = rw (← c.self.view_is) at c.requires.settled in
     let t = c.in_ok-number.ensures.some in
-    let next : MayFollow h (Take t.key.number) = allowed settled (taken (subst (λ n. is_waiting h n ≡ true) (sym t.numbered) (takes_waiting g.R.Resource h old new c.in_ok-number.number c.in_ok-number.resource tied t))) in
-    let was : AreTied g.R.Resource c.self.inside.register.history c.self.inside.tree c.self.inside.hubs = rw (← c.self.view_is) at c.requires.tied in
-    tied_on_same g.R.Resource (Take t.key.number) c.promise.ensures.lawful next was (sym (ap (λ n. h ++ Take n ∷ []) t.numbered ∙ sym c.write.ensures.events)) refl refl c.in_ok-number.ensures.nodes
-    (subst (λ (k : List Event). IsTied g.R.Resource k new) (ap (λ n. h ++ Take n ∷ []) t.numbered ∙ sym c.write.ensures.events) (tied_still g.R.Resource h (Take t.key.number) c.promise.ensures.lawful next old tied new refl refl (λ n. refl) c.in_ok-number.ensures.nodes c.in_ok-number.ensures.chain (stored_taken g.R.Resource h c.promise.ensures.lawful old new tied.stored c.promise-2.ensures.resources_apart c.in_ok-number.ensures.nodes t.key (ap is_some t.found) t.gone t.others)))
+    let next : MayFollow c.self.inside.register.base h (Take t.key.number) = allowed settled (taken (subst (λ n. is_waiting h n ≡ true) (sym t.numbered) (takes_waiting g.R.Resource h old new c.in_ok-number.number c.in_ok-number.resource c.self.inside.register.base tied t))) in
+    let was : AreTied c.self.inside.register.base g.R.Resource c.self.inside.register.history c.self.inside.tree c.self.inside.hubs = rw (← c.self.view_is) at c.requires.tied in
+    rebased g.R.Resource (c.write.ensures.base) (tied_on_same g.R.Resource c.self.inside.register.base (Take t.key.number) c.promise.ensures.lawful next was (sym (ap (λ n. h ++ Take n ∷ []) t.numbered ∙ sym c.write.ensures.events)) refl refl c.in_ok-number.ensures.nodes
+    (subst (λ (k : List Event). IsTied c.self.inside.register.base g.R.Resource k new) (ap (λ n. h ++ Take n ∷ []) t.numbered ∙ sym c.write.ensures.events) (tied_still c.self.inside.register.base g.R.Resource h (Take t.key.number) c.promise.ensures.lawful next old tied new refl refl (λ n. refl) c.in_ok-number.ensures.nodes c.in_ok-number.ensures.chain (stored_taken c.self.inside.register.base g.R.Resource h c.promise.ensures.lawful old new tied.stored c.promise-2.ensures.resources_apart c.in_ok-number.ensures.nodes t.key (ap is_some t.found) t.gone t.others))))
 
 pub returns-clause-kept : goal.returns-clause-kept
 returns-clause-kept g c = rw (← c.self.view_is) (let t = c.in_ok-number.ensures.some in held_gone c.self.inside.tree c.take_waiting.new.self (length c.self.inside.register.history) t.key c.in_ok-number.ensures.nodes t.others t.gone)

@@ -12,31 +12,33 @@ use Rattle.rx_ground.proofs.Written.{writes_silent}
 use Rattle.rx_ground.proofs.Stored.{stored_used}
 use Rattle.rx_ground.proofs.Tied.{tied_still}
 use Rattle.rx_ground.proofs.HeldKept.{held_rewritten}
-use Rattle.rx_ground.proofs.Newest.{held_found, used_within, of_found, if_found}
-use Rattle.rx_ground.proofs.Published.{tied_on_same}
+use Rattle.rx_ground.proofs.Newest.{held_found, of_found, if_found}
+use Rattle.rx_ground.proofs.Published.{rebased, tied_on_same}
 use Rattle.rx_ground.proofs.base.Ground.write_use.Goals as goal
 
 pub apply-answer-requires-clause-live : goal.apply-answer-requires-clause-live
 apply-answer-requires-clause-live g c κs within =
-    let tied : IsTied g.R.Resource c.self.inside.register.history c.self.inside.tree = rw (← c.self.view_is) at c.requires.tied.of_tree in
+    let tied : IsTied c.self.inside.register.base g.R.Resource c.self.inside.register.history c.self.inside.tree = rw (← c.self.view_is) at c.requires.tied.of_tree in
     let held : is_held_at c.self.inside.tree c.args.res ≡ true = rw (← c.self.view_is) at c.requires.held in
     let f = held_found c.self.inside.tree c.args.res held in
     if_found (stowed_of c.self.inside.tree c.args.res) f.stowed (λ s. g.R.Resource.life_of s.resource ≡ Live) f.found (tied.stored.each (store_key c.args.res) f.stowed f.found).live
 
 pub apply-answer-requires-clause-countable : goal.apply-answer-requires-clause-countable
 apply-answer-requires-clause-countable g c κs within =
-    let tied : IsTied g.R.Resource c.self.inside.register.history c.self.inside.tree = rw (← c.self.view_is) at c.requires.tied.of_tree in
+    let tied : IsTied c.self.inside.register.base g.R.Resource c.self.inside.register.history c.self.inside.tree = rw (← c.self.view_is) at c.requires.tied.of_tree in
     let held : is_held_at c.self.inside.tree c.args.res ≡ true = rw (← c.self.view_is) at c.requires.held in
     let f = held_found c.self.inside.tree c.args.res held in
     if_found (stowed_of c.self.inside.tree c.args.res) f.stowed (λ s. g.R.Resource.uses_of s.resource + 1 < 18446744073709551616) f.found (
-    let used = (tied.stored.each (store_key c.args.res) f.stowed f.found).uses in
-    let less = used_within c.self.inside.register.history c.args.res.number in
+    let is = tied.stored.each (store_key c.args.res) f.stowed f.found in
+    let used = is.uses in
+    let less = is.few in
+    let p = c.promise.ensures.placed in
     let w = c.promise.ensures.within in
     let l = c.promise.ensures.limited in
     omega arith)
 
 pub returns-clause-written : goal.returns-clause-written
-returns-clause-written g c = rw (← c.self.view_is) (writes_silent c.self.inside.register c.write.new.self (Use c.args.res.number) refl c.write.ensures.events c.write.ensures.pending c.write.ensures.room c.write.ensures.limit c.write.ensures.given c.write.ensures.mail_room)
+returns-clause-written g c = rw (← c.self.view_is) (writes_silent c.self.inside.register c.write.new.self (Use c.args.res.number) refl c.write.ensures.base c.write.ensures.events c.write.ensures.pending c.write.ensures.room c.write.ensures.limit c.write.ensures.given c.write.ensures.mail_room)
 
 pub returns-clause-tied : goal.returns-clause-tied
 returns-clause-tied g c =
@@ -44,14 +46,14 @@ returns-clause-tied g c =
     let old = c.self.inside.tree in
     let new = c.apply-answer.new.self in
     let e : Event = Use c.args.res.number in
-    let tied : IsTied g.R.Resource h old = rw (← c.self.view_is) at c.requires.tied.of_tree in
-    let next : MayFollow h e = rw (← c.self.view_is) at c.requires.ready.next in
+    let tied : IsTied c.self.inside.register.base g.R.Resource h old = rw (← c.self.view_is) at c.requires.tied.of_tree in
+    let next : MayFollow c.self.inside.register.base h e = rw (← c.self.view_is) at c.requires.ready.next in
     let held : is_held_at old c.args.res ≡ true = rw (← c.self.view_is) at c.requires.held in
     let f = held_found old c.args.res held in
     let u = of_found (stowed_of old c.args.res) f.stowed (Uses g.R.Resource old new c.args.res) f.found c.apply-answer.ensures in
-    let was : AreTied g.R.Resource c.self.inside.register.history c.self.inside.tree c.self.inside.hubs = rw (← c.self.view_is) at c.requires.tied in
-    tied_on_same g.R.Resource e c.promise.ensures.lawful next was c.write.ensures.events refl refl u.nodes
-    (subst (λ (k : List Event). IsTied g.R.Resource k new) (sym c.write.ensures.events) (tied_still g.R.Resource h e c.promise.ensures.lawful next old tied new refl refl (λ n. refl) u.nodes u.chain (stored_used g.R.Resource h c.promise.ensures.lawful old new tied.stored c.promise-2.ensures.resources_apart u.nodes (store_key c.args.res) f.stowed u.after f.found u.uses u.tag u.life u.written)))
+    let was : AreTied c.self.inside.register.base g.R.Resource c.self.inside.register.history c.self.inside.tree c.self.inside.hubs = rw (← c.self.view_is) at c.requires.tied in
+    rebased g.R.Resource (c.write.ensures.base) (tied_on_same g.R.Resource c.self.inside.register.base e c.promise.ensures.lawful next was c.write.ensures.events refl refl u.nodes
+    (subst (λ (k : List Event). IsTied c.self.inside.register.base g.R.Resource k new) (sym c.write.ensures.events) (tied_still c.self.inside.register.base g.R.Resource h e c.promise.ensures.lawful next old tied new refl refl (λ n. refl) u.nodes u.chain (stored_used c.self.inside.register.base g.R.Resource h c.promise.ensures.lawful old new tied.stored c.promise-2.ensures.resources_apart u.nodes (store_key c.args.res) f.stowed u.after f.found u.uses u.tag u.life u.written))))
 
 pub returns-clause-kept : goal.returns-clause-kept
 returns-clause-kept g c =
