@@ -5,12 +5,13 @@ use Rattle.std.proofs.Math.Bool.{not}
 use Rattle.std.specs.List.{list_all}
 use Rattle.std.specs.Option.{option_map_or}
 use Rattle.std.proofs.lemmas.Bool.{and_parts, false≢true}
+use Rattle.rx_event.specs.Kept.{Kept}
 use Rattle.rx_resource.specs.declared.Resource.{Ghosts}
 use Rattle.rx_event.specs.declared.mail.Mail.{Mail}
 use Rattle.rx_event.specs.declared.event.Event.{Event}
 use Rattle.rx_event.specs.declared.event.Event.TheVariants.{Accept}
 use Rattle.rx_event.specs.Events.{hub_subscribed}
-use Rattle.rx_event.specs.Forced.{IsConnected, MayWait, none_waits, one_waits}
+use Rattle.rx_event.specs.Forced.{IsConnected, MayWait, none_waits, one_waits, IsSettled}
 use Rattle.rx_event.specs.Notes.{notes, mail_of}
 use Rattle.rx_event.specs.Totals.{debt}
 use Rattle.rx_event.specs.Calls.{Call, outside_of}
@@ -41,13 +42,13 @@ use Rattle.rx_book.proofs.CausesByKey.{unstood}
 
 -- histories ---------------------------------------------------------------------------------------
 
-lawful_in_turn : (h es : List Event) → IsLawful h → MayFollowInTurn h es → IsLawful (h ++ es)
-lawful_in_turn h [] law next = subst IsLawful (sym (append-nil h)) law
-lawful_in_turn h (e ∷ es) law next = subst IsLawful (append_assoc h (e ∷ []) es) (lawful_in_turn (h ++ e ∷ []) es (IsLawful-push h e law next.0) next.1)
+lawful_in_turn : (base : Kept) → (h es : List Event) → IsLawful base h → MayFollowInTurn base h es → IsLawful base (h ++ es)
+lawful_in_turn base h [] law next = subst (IsLawful base) (sym (append-nil h)) law
+lawful_in_turn base h (e ∷ es) law next = subst (IsLawful base) (append_assoc h (e ∷ []) es) (lawful_in_turn base (h ++ e ∷ []) es (IsLawful-push base h e law next.0) next.1)
 
-lawful_forced : {h k : List Event} → IsLawful h → IsForcedOn h k → IsLawful k
-lawful_forced law stays = law
-lawful_forced law (more {k = k} {e = e} on f) = IsLawful-push k e (lawful_forced law on) (forced f)
+lawful_forced : (base : Kept) → {h k : List Event} → IsLawful base h → IsForcedOn base h k → IsLawful base k
+lawful_forced base law stays = law
+lawful_forced base law (more {k = k} {e = e} on f) = IsLawful-push base k e (lawful_forced base law on) (forced f)
 
 -- the event opens no subscriber of a hub
 abbrev pub subscribes_none : Event → Bool
@@ -62,34 +63,34 @@ none_of most is (none_waits none) = none
 none_of most is (one_waits only) = absurd (omega arith)
 
 -- after it no hub waits for its connection, where none did before
-connected_on : (h : List Event) (e : Event) → IsLawful h → IsConnected h → MayFollow h e → subscribes_none e ≡ true → IsConnected (h ++ e ∷ [])
-connected_on h e law none (forced f) plain = forced_connected h e 0 (none_waits none) f
-connected_on h e law none (allowed settled a) plain =
-    none_of _ (ap (λ (o : Option ℕ). option_map_or (λ g. 1) o 0) (unsubscribed (hub_subscribed e) plain)) (waits_after h e law none a)
-connected_on h e law none (opened_with {n = n} {tag = tag} opened next alive) plain = kept_unsubscribed h (Accept n tag) law none refl refl
+connected_on : (base : Kept) → (h : List Event) (e : Event) → IsLawful base h → IsConnected h → MayFollow base h e → subscribes_none e ≡ true → IsConnected (h ++ e ∷ [])
+connected_on base h e law none (forced f) plain = forced_connected base h e 0 (none_waits none) f
+connected_on base h e law none (allowed settled a) plain =
+    none_of _ (ap (λ (o : Option ℕ). option_map_or (λ g. 1) o 0) (unsubscribed (hub_subscribed e) plain)) (waits_after base h e law none a)
+connected_on base h e law none (opened_with {n = n} {tag = tag} opened next alive) plain = kept_unsubscribed base h (Accept n tag) law none refl refl
 
-connected_in_turn : (h es : List Event) → IsLawful h → IsConnected h → MayFollowInTurn h es → list_all subscribes_none es ≡ true → IsConnected (h ++ es)
-connected_in_turn h [] law none next plain = subst IsConnected (sym (append-nil h)) none
-connected_in_turn h (e ∷ es) law none next plain =
+connected_in_turn : (base : Kept) → (h es : List Event) → IsLawful base h → IsConnected h → MayFollowInTurn base h es → list_all subscribes_none es ≡ true → IsConnected (h ++ es)
+connected_in_turn base h [] law none next plain = subst IsConnected (sym (append-nil h)) none
+connected_in_turn base h (e ∷ es) law none next plain =
     let parts = and_parts (subscribes_none e) (list_all subscribes_none es) plain in
     subst IsConnected (append_assoc h (e ∷ []) es)
-    (connected_in_turn (h ++ e ∷ []) es (IsLawful-push h e law next.0) (connected_on h e law none next.0 parts.0) next.1 parts.1)
+    (connected_in_turn base (h ++ e ∷ []) es (IsLawful-push base h e law next.0) (connected_on base h e law none next.0 parts.0) next.1 parts.1)
 
 -- calls -------------------------------------------------------------------------------------------
 
 -- what a call was counted to add is within the limit, where nothing stands against it
-pub within_full : (call : Call) (known fresh : Bool) (h : List Event) (limit : ℕ) → causes h limit fresh call Full ≡ is_over h limit (added_by h call) →
-    first_cause (by_key_of call known (causes h limit fresh call)) ≡ None → length h + debt h + added_by h call ≤ limit
-within_full call known fresh h limit counted none =
-    let over = no_cause (causes h limit fresh call) (unstood call known (causes h limit fresh call) none).1 Full in
-    let within = within_limit h limit (added_by h call) (sym counted ∙ over) in
+pub within_full : (base : Kept) → (call : Call) (known fresh : Bool) (h : List Event) (limit : ℕ) → causes base h limit fresh call Full ≡ is_over base h limit (added_by h call) →
+    first_cause (by_key_of call known (causes base h limit fresh call)) ≡ None → length h + debt base h + added_by h call ≤ base.at_length + limit
+within_full base call known fresh h limit counted none =
+    let over = no_cause (causes base h limit fresh call) (unstood call known (causes base h limit fresh call) none).1 Full in
+    let within = within_limit base h limit (added_by h call) (sym counted ∙ over) in
     omega arith
 
 -- nothing stands against what is asked, and there is room for it
 pub record IsLetIn {T : Type 0} (g : Ghosts T) (b : Ground T) (asked : Request) : Type 0 where
   pub standing : IsStanding g b
   pub none : first_cause (stands (state_of g b) asked) ≡ None
-  pub may : MayCall b.register.history b.register.limit asked.is_fresh asked.call
+  pub may : MayCall b.register.base b.register.history b.register.limit asked.is_fresh asked.call
   pub has : HasRoomFor b.register asked.call
 
 module _ {T : Type 0} (g : Ghosts T) (b : Ground T) (asked : Request) where
@@ -118,12 +119,12 @@ module _ {T : Type 0} (g : Ghosts T) (b : Ground T) (asked : Request) where
     pub known : asked.is_known ≡ true
     known = (unstood asked.call asked.is_known _ l.none).0
 
-    follows : (es : List Event) → outside ≡ es → MayFollowInTurn h es
-    follows es writes = subst (λ (xs : List Event). MayFollowInTurn h xs) writes (call_follows h b.register.limit asked.is_fresh asked.call l.may)
+    follows : (es : List Event) → outside ≡ es → MayFollowInTurn b.register.base h es
+    follows es writes = subst (λ (xs : List Event). MayFollowInTurn b.register.base h xs) writes (call_follows b.register.base h b.register.limit asked.is_fresh asked.call l.may)
 
-    fits : (es : List Event) → outside ≡ es → Fits h (h ++ es) (added_by h asked.call) (notes_added h asked.call)
-    fits es writes = subst (λ (xs : List Event). Fits h (h ++ xs) (added_by h asked.call) (notes_added h asked.call)) writes
-        (call_fits h b.register.limit asked.is_fresh asked.call l.may)
+    fits : (es : List Event) → outside ≡ es → Fits b.register.base h (h ++ es) (added_by h asked.call) (notes_added h asked.call)
+    fits es writes = subst (λ (xs : List Event). Fits b.register.base h (h ++ xs) (added_by h asked.call) (notes_added h asked.call)) writes
+        (call_fits b.register.base h b.register.limit asked.is_fresh asked.call l.may)
 
     room : (es : List Event) → outside ≡ es → length es ≤ b.register.room
     room es writes = call_room b.register asked.call es l.has (fits es writes)
@@ -152,7 +153,8 @@ module _ {T : Type 0} (g : Ghosts T) (b : Ground T) (asked : Request) where
     pub second_ready : (e f : Event) (mid : Register) → outside ≡ e ∷ f ∷ [] → Writes b.register (e ∷ []) mid →
         mail_of mid.history f ≡ [] → IsReady mid f
     second_ready e f mid writes w silent = record {
-      next = subst (λ (k : List Event). MayFollow k f) (sym w.history) (follows (e ∷ f ∷ []) writes).1.0;
+      next = subst (λ (c : Kept). MayFollow c mid.history f) (sym w.base)
+          (subst (λ (k : List Event). MayFollow b.register.base k f) (sym w.history) (follows (e ∷ f ∷ []) writes).1.0);
       room = let r = room (e ∷ f ∷ []) writes in let left = w.room in omega arith;
       notes = let n = ap (length {A = Mail}) silent in omega arith;
       pending = w.pending;
@@ -166,38 +168,46 @@ module _ {T : Type 0} (g : Ghosts T) (b : Ground T) (asked : Request) where
     pub connects_none : (new : Register) → Writes b.register outside new → list_all subscribes_none outside ≡ true → {room space : ℕ} → HasRoomToConnect new.history room space
     connects_none new w plain = λ n waits. absurd (subst IsConnected (sym w.history) connected n waits) where
       connected : IsConnected (h ++ outside)
-      connected = connected_in_turn h outside l.may.lawful (settled_connected h l.may.settled) (follows outside refl) plain
+      connected = connected_in_turn b.register.base h outside l.may.lawful (settled_connected b.register.base h l.may.settled) (follows outside refl) plain
 
     -- and after what they force it is accepted
-    pub accepts : (mid new : Ground T) → Writes b.register outside mid.register → KeepsKeys b.tree mid.tree (length h) → IsTied g mid.register.history mid.tree →
-        IsStanding g new → IsForcedOn mid.register.history new.register.history →
+    pub accepts : (mid new : Ground T) → Writes b.register outside mid.register → KeepsKeys b.tree mid.tree (length h) → IsTied mid.register.base g mid.register.history mid.tree →
+        IsStanding g new → new.register.base ≡ mid.register.base → IsForcedOn mid.register.base mid.register.history new.register.history →
         KeepsOlder new.register.history (length mid.register.history) mid.tree.nodes new.tree.nodes →
         new.tree.resources ≡ mid.tree.resources → new.register.limit ≡ mid.register.limit → new.register.given ≡ mid.register.given →
         Accepts (state_of g b) asked (state_of g new)
-    accepts mid new w kept tied standing on nodes resources limit given = record {
+    accepts mid new w kept tied standing same on nodes resources limit given = record {
       no_cause = l.none;
-      step = record { forced = goes_on; lawful = lawful; settled = standing.settled };
+      base = based;
+      step = record { forced = goes_on; lawful = lawful; settled = subst (λ (c : Kept). IsSettled c new.register.history) based standing.settled };
       limit = limit ∙ w.limit;
       given = given ∙ w.given;
       keys = λ k c older. finding_key b.tree k (all.nodes (tree_key_of k) (key_finds new.tree k c) older);
       res_keys = λ k c older. finding_res_key b.tree k (all.held (tree_res_key_of k) (res_key_finds new.tree k c) older);
     }
       where
-        goes_on : IsForcedOn (h ++ outside) new.register.history
-        goes_on = subst (λ (k : List Event). IsForcedOn k new.register.history) w.history on
+        based : new.register.base ≡ b.register.base
+        based = same ∙ w.base
 
-        lawful_mid : IsLawful (h ++ outside)
-        lawful_mid = lawful_in_turn h outside l.may.lawful (follows outside refl)
+        goes_on : IsForcedOn b.register.base (h ++ outside) new.register.history
+        goes_on = subst (λ (c : Kept). IsForcedOn c (h ++ outside) new.register.history) w.base
+            (subst (λ (k : List Event). IsForcedOn mid.register.base k new.register.history) w.history on)
 
-        lawful : IsLawful new.register.history
-        lawful = lawful_forced lawful_mid goes_on
+        lawful_mid : IsLawful b.register.base (h ++ outside)
+        lawful_mid = lawful_in_turn b.register.base h outside l.may.lawful (follows outside refl)
+
+        lawful_then : IsLawful mid.register.base mid.register.history
+        lawful_then = subst (λ (c : Kept). IsLawful c mid.register.history) (sym w.base) (subst (IsLawful b.register.base) (sym w.history) lawful_mid)
+
+        lawful : IsLawful b.register.base new.register.history
+        lawful = lawful_forced b.register.base lawful_mid goes_on
 
         longer : length mid.register.history ≡ length h + length outside
         longer = ap (λ (k : List Event). length k) w.history ∙ length-append h outside
 
         all : KeepsKeys b.tree new.tree (length h)
         all = keeps_on b.tree mid.tree new.tree (length h) (length mid.register.history) (let l = longer in omega arith) kept
-            (keeps_settled g mid.register.history new.register.history mid.tree new.tree (subst IsLawful (sym w.history) lawful_mid) tied nodes resources)
+            (keeps_settled mid.register.base g mid.register.history new.register.history mid.tree new.tree lawful_then tied nodes resources)
 
 -- room --------------------------------------------------------------------------------------------
 

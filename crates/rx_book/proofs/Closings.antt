@@ -6,6 +6,7 @@ use Rattle.std.specs.Option.{option_and_then, option_map_or}
 use Rattle.std.proofs.lemmas.Bool.{and_parts, cases_lt, false_from_ne_true, both_ways, and_left}
 use Rattle.std.proofs.lemmas.List.Elements.{All-cons}
 use Rattle.std.proofs.lemmas.List.FromFn.{get_or-range_with_len, length-range_with_len}
+use Rattle.rx_event.specs.Kept.{Kept}
 use Rattle.rx_event.specs.declared.event.Event.{Event}
 use Rattle.rx_event.specs.declared.event.Event.TheVariants.{Accept, Close, Take}
 use Rattle.rx_event.specs.declared.refusal.Refusal.{Refusal}
@@ -43,45 +44,45 @@ forced_no_accept : (e : Event) → may_be_forced e ≡ true → makes_resource e
 forced_no_accept (Accept n tag) m = absurd (cc)
 forced_no_accept _ m = refl
 
-forced_count : (p : Event → Bool) → ((e : Event) → may_be_forced e ≡ true → p e ≡ false) → {h k : List Event} → IsForcedOn h k → count_by p k ≡ count_by p h
-forced_count p never stays = refl
-forced_count p never (more {h} {k} {e} before is_forced) =
-    let single : count_by p (e ∷ []) ≡ 0 = ap (λ b. 0 + cond b 1 0) (never e (forced_kind is_forced)) in
-    let rest = forced_count p never before in
+forced_count : (base : Kept) → (p : Event → Bool) → ((e : Event) → may_be_forced e ≡ true → p e ≡ false) → {h k : List Event} → IsForcedOn base h k → count_by p k ≡ count_by p h
+forced_count base p never stays = refl
+forced_count base p never (more {h} {k} {e} before is_forced) =
+    let single : count_by p (e ∷ []) ≡ 0 = ap (λ b. 0 + cond b 1 0) (never e (forced_kind base is_forced)) in
+    let rest = forced_count base p never before in
     omega (arith, count_by-append p k (e ∷ []))
 
-step_count : (p : Event → Bool) → ((e : Event) → may_be_forced e ≡ true → p e ≡ false) → (h k : List Event) (call : Call) → IsStepOf h call k → count_by p k ≡ count_by p h + count_by p (outside_of h call)
-step_count p never h k call step = forced_count p never step.forced ∙ count_by-append p h (outside_of h call)
+step_count : (base : Kept) → (p : Event → Bool) → ((e : Event) → may_be_forced e ≡ true → p e ≡ false) → (h k : List Event) (call : Call) → IsStepOf base h call k → count_by p k ≡ count_by p h + count_by p (outside_of h call)
+step_count base p never h k call step = forced_count base p never step.forced ∙ count_by-append p h (outside_of h call)
 
-pub disposed_taken : (h k : List Event) (n : ℕ) → IsStepOf h (Disposing n) k → taken_count k ≡ taken_count h
-disposed_taken h k n step = let e = step_count is_take forced_no_take h k (Disposing n) step in omega arith
+pub disposed_taken : (base : Kept) → (h k : List Event) (n : ℕ) → IsStepOf base h (Disposing n) k → taken_count base k ≡ taken_count base h
+disposed_taken base h k n step = let e = step_count base is_take forced_no_take h k (Disposing n) step in omega arith
 
-pub disposed_accepted : (h k : List Event) (n : ℕ) → IsStepOf h (Disposing n) k → accepted_count k ≡ accepted_count h
-disposed_accepted h k n step = let e = step_count makes_resource forced_no_accept h k (Disposing n) step in omega arith
+pub disposed_accepted : (base : Kept) → (h k : List Event) (n : ℕ) → IsStepOf base h (Disposing n) k → accepted_count base k ≡ accepted_count base h
+disposed_accepted base h k n step = let e = step_count base makes_resource forced_no_accept h k (Disposing n) step in omega arith
 
-pub taken_one : (h k : List Event) (r : ℕ) → IsStepOf h (Taking r) k → taken_count k ≡ taken_count h + 1
-taken_one h k r step = let e = step_count is_take forced_no_take h k (Taking r) step in omega arith
+pub taken_one : (base : Kept) → (h k : List Event) (r : ℕ) → IsStepOf base h (Taking r) k → taken_count base k ≡ taken_count base h + 1
+taken_one base h k r step = let e = step_count base is_take forced_no_take h k (Taking r) step in omega arith
 
-pub takes_accepted : {h k : List Event} → Takes h k → accepted_count k ≡ accepted_count h
-takes_accepted none_taken = refl
-takes_accepted (next_taken {m} {k} {r} before step) = let e = step_count makes_resource forced_no_accept m k (Taking r) step in let rest = takes_accepted before in omega arith
+pub takes_accepted : (base : Kept) → {h k : List Event} → Takes base h k → accepted_count base k ≡ accepted_count base h
+takes_accepted base none_taken = refl
+takes_accepted base (next_taken {m} {k} {r} before step) = let e = step_count base makes_resource forced_no_accept m k (Taking r) step in let rest = takes_accepted base before in omega arith
 
 -- what a caller lets go --------------------------------------------------------------------------------
 
-step_neither : {h k : List Event} (call : Call) → IsStepOf h call k → list_all makes_neither (outside_of h call) ≡ true → OpensNoneUpTo h k
-step_neither {h} {k} call step neither = makes_neither_opens (record { outside = outside_of h call; neither = neither; forced = step.forced })
+step_neither : (base : Kept) → {h k : List Event} (call : Call) → IsStepOf base h call k → list_all makes_neither (outside_of h call) ≡ true → OpensNoneUpTo h k
+step_neither base {h} {k} call step neither = makes_neither_opens base (record { outside = outside_of h call; neither = neither; forced = step.forced })
 
-takes_let_go : {h k : List Event} → Takes h k → IsLetGo h → IsLetGo k
-takes_let_go none_taken free = free
-takes_let_go (next_taken {m} {k} {r} before step) free = let_go_after (step_neither (Taking r) step refl) (takes_let_go before free)
+takes_let_go : (base : Kept) → {h k : List Event} → Takes base h k → IsLetGo h → IsLetGo k
+takes_let_go base none_taken free = free
+takes_let_go base (next_taken {m} {k} {r} before step) free = let_go_after (step_neither base (Taking r) step refl) (takes_let_go base before free)
 
 closings_neither : (cs : List ℕ) → list_all makes_neither (map (λ c. Close c) cs) ≡ true
 closings_neither [] = refl
 closings_neither (c ∷ cs) = closings_neither cs
 
 -- a disconnection opens no root
-pub roots_older : {h k : List Event} (g : ℕ) → IsStepOf h (Disconnecting g) k → (n : ℕ) → is_open_root k n ≡ true → is_open_root h n ≡ true
-roots_older {h} g step = roots_before (step_neither (Disconnecting g) step (closings_neither (open_connections h g)))
+pub roots_older : (base : Kept) → {h k : List Event} (g : ℕ) → IsStepOf base h (Disconnecting g) k → (n : ℕ) → is_open_root k n ≡ true → is_open_root h n ≡ true
+roots_older base {h} g step = roots_before (step_neither base (Disconnecting g) step (closings_neither (open_connections h g)))
 
 none_held : (h : List Event) → ((n : ℕ) → is_open h n ≡ false) → (r : ℕ) → is_held h r ≡ false
 unfolding is_held
@@ -96,17 +97,18 @@ none_listed number test (x ∷ xs) just never = absurd (both_ways _ (never (numb
 
 -- a book that was closed --------------------------------------------------------------------------
 
-pub closed_book : (mid new : State) → IsLetGo mid.history → Takes mid.history new.history → IsPromised new → (new.keys ≡ []) × (new.held ≡ [])
+pub closed_book : (mid new : State) → IsLetGo mid.history → Takes mid.base mid.history new.history → IsPromised new → (new.keys ≡ []) × (new.held ≡ [])
 closed_book mid new free takes kept =
-    let closed = nothing_open new.history kept.lawful kept.settled (takes_let_go takes free) in
+    let closed = nothing_open new.base new.history kept.lawful kept.settled (takes_let_go mid.base takes free) in
     (none_listed (λ k. k.number) (is_open new.history) new.keys kept.keys closed, none_listed (λ b. b.number) (is_held new.history) new.held kept.held (none_held new.history closed))
 
 -- what was accepted and not yet taken is taken at last
-pub closed_released : (old mid new : State) (released : ℕ) → IsPromised old → accepted_count mid.history ≡ accepted_count old.history → taken_count mid.history ≡ taken_count old.history → Takes mid.history new.history
-    → IsPromised new → new.held ≡ [] → new.waiting ≡ [] → taken_count new.history ≡ taken_count mid.history + released → released ≡ held_count old.history + waiting_count old.history
-closed_released old mid new released before accepted taken takes after none_held none_waits rose =
-    let parts = accepted_count-parts old.history before.lawful in
-    let all_accepted = takes_accepted takes in
+pub closed_released : (old mid new : State) (released : ℕ) → new.base ≡ mid.base → IsPromised old → accepted_count mid.base mid.history ≡ accepted_count old.base old.history → taken_count mid.base mid.history ≡ taken_count old.base old.history → Takes mid.base mid.history new.history
+    → IsPromised new → new.held ≡ [] → new.waiting ≡ [] → taken_count new.base new.history ≡ taken_count mid.base mid.history + released → released ≡ held_count old.history + waiting_count old.history
+closed_released old mid new released same before accepted taken takes after none_held none_waits rose =
+    let parts = accepted_count-parts old.base old.history before.lawful in
+    let all_accepted = takes_accepted mid.base takes in
+    let over = ap (λ (b : Kept). accepted_count b new.history) same in
     let held_none : length new.held ≡ 0 = ap length none_held in
     let waits_none : length new.waiting ≡ 0 = ap length none_waits in
     let whole = after.in_one_place in
@@ -164,15 +166,15 @@ no_closing_counted p never (c ∷ cs) =
     count_by-append p (Close c ∷ []) (map (λ c. Close c) cs) in
     omega arith
 
-pub disconnected_taken : (h k : List Event) (g : ℕ) → IsStepOf h (Disconnecting g) k → taken_count k ≡ taken_count h
-disconnected_taken h k g step =
-    let e = step_count is_take forced_no_take h k (Disconnecting g) step in
+pub disconnected_taken : (base : Kept) → (h k : List Event) (g : ℕ) → IsStepOf base h (Disconnecting g) k → taken_count base k ≡ taken_count base h
+disconnected_taken base h k g step =
+    let e = step_count base is_take forced_no_take h k (Disconnecting g) step in
     let none = no_closing_counted is_take (λ c. refl) (open_connections h g) in
     omega arith
 
-pub disconnected_accepted : (h k : List Event) (g : ℕ) → IsStepOf h (Disconnecting g) k → accepted_count k ≡ accepted_count h
-disconnected_accepted h k g step =
-    let e = step_count makes_resource forced_no_accept h k (Disconnecting g) step in
+pub disconnected_accepted : (base : Kept) → (h k : List Event) (g : ℕ) → IsStepOf base h (Disconnecting g) k → accepted_count base k ≡ accepted_count base h
+disconnected_accepted base h k g step =
+    let e = step_count base makes_resource forced_no_accept h k (Disconnecting g) step in
     let none = no_closing_counted makes_resource (λ c. refl) (open_connections h g) in
     omega arith
 
@@ -206,11 +208,13 @@ closes_some h g found =
     rw one.2 (omega arith)
 
 -- each step leaves less room
-pub less_room : (old new : State) (asked : Request) → Accepts old asked new → IsPromised new → 0 < length (outside_of old.history asked.call) → new.limit - length new.history < old.limit - length old.history
+pub less_room : (old new : State) (asked : Request) → Accepts old asked new → IsPromised new → 0 < length (outside_of old.history asked.call) →
+    new.base.at_length + new.limit - length new.history < old.base.at_length + old.limit - length old.history
 less_room old new asked accepts kept some =
-    let longer = step_longer old.history new.history asked.call accepts.step in
+    let longer = step_longer old.base old.history new.history asked.call accepts.step in
     let room = kept.room in
     let limit = accepts.limit in
+    let base = ap (λ (b : Kept). b.at_length) accepts.base in
     omega arith
 
 filter_none : {A : Type 0} (p : A → Bool) (xs : List A) → ((x : A) → p x ≡ false) → filter p xs ≡ []

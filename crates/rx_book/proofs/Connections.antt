@@ -6,6 +6,7 @@ use Rattle.std.proofs.Math.Bool.{◌&&◌, not}
 use Rattle.std.specs.Option.{option_map_or, option_to_list}
 use Rattle.std.proofs.lemmas.Bool.{false≢true, both_ways, cases_order, and_parts, and_from, eq-eqb, false_from_ne_true, not-true}
 use Rattle.std.proofs.lemmas.Option.{slice_get_within, same_Some}
+use Rattle.rx_event.specs.Kept.{Kept}
 use Rattle.rx_event.specs.declared.event.Place.{Place}
 use Rattle.rx_event.specs.declared.event.Kind.{Kind}
 use Rattle.rx_event.specs.declared.event.Kind.TheVariants.{Leaf, Pass, Flat, Switch, Until, Sub}
@@ -30,13 +31,13 @@ use Rattle.rx_book.specs.Answers.{makes_connection, connection_made}
 
 -- what is forced ------------------------------------------------------------------------------------
 
-due_connects_none : {h : List Event} {e : Event} → IsDue h e → makes_connection e ≡ false
-due_connects_none (mirrored o k c) = refl
-due_connects_none (fired o k f) = refl
-due_connects_none (failed o k c) = refl
-due_connects_none (completed o k n s e c w) = refl
-due_connects_none (cut o e) = refl
-due_connects_none (left o at_c a n) = refl
+due_connects_none : (base : Kept) → {h : List Event} {e : Event} → IsDue base h e → makes_connection e ≡ false
+due_connects_none base (mirrored o k c) = refl
+due_connects_none base (fired o k f) = refl
+due_connects_none base (failed o k c) = refl
+due_connects_none base (completed o k n s c w) = refl
+due_connects_none base (cut o e) = refl
+due_connects_none base (left o at_c a n) = refl
 
 -- no connection comes in or after a history in which no hub waits for one
 pub record HasNoMore (h k : List Event) : Type 0 where
@@ -46,43 +47,43 @@ pub record HasNoMore (h k : List Event) : Type 0 where
 past_none : (h : List Event) (n : ℕ) → length h ≤ n → at makes_connection h n ≡ false
 past_none h n past = false_from_ne_true _ (λ found. let l = at_within makes_connection h n found in absurd (omega arith))
 
-forced_none : {h : List Event} {e : Event} → IsConnected h → IsForced h e → makes_connection e ≡ false
-forced_none none (connecting {g = g} d) = absurd (none g d)
-forced_none none (due quiet d) = due_connects_none d
+forced_none : (base : Kept) → {h : List Event} {e : Event} → IsConnected h → IsForced base h e → makes_connection e ≡ false
+forced_none base none (connecting {g = g} d) = absurd (none g d)
+forced_none base none (due quiet d) = due_connects_none base d
 
-one_more : {h k : List Event} {e : Event} → HasNoMore h k → IsForced k e → HasNoMore h (k ++ e ∷ [])
-one_more {h = h} {k = k} {e = e} before f = record { none_wait = forced_connected k e 0 (none_waits before.none_wait) f; none_come = none_come } where
+one_more : (base : Kept) → {h k : List Event} {e : Event} → HasNoMore h k → IsForced base k e → HasNoMore h (k ++ e ∷ [])
+one_more base {h = h} {k = k} {e = e} before f = record { none_wait = forced_connected base k e 0 (none_waits before.none_wait) f; none_come = none_come } where
   none_come : (n : ℕ) → length h ≤ n → at makes_connection (k ++ e ∷ []) n ≡ false
   none_come n past = by_place (cases_order n (length k)) where
     by_place : (n ≡ length k) ⊎ ((n < length k) ⊎ (length k < n)) → at makes_connection (k ++ e ∷ []) n ≡ false
     by_place (inl same) =
-        ap (λ (o : Option Event). option_map_or makes_connection o false) (ap (slice_get (k ++ e ∷ [])) same ∙ slice_get_last k e) ∙ forced_none before.none_wait f
+        ap (λ (o : Option Event). option_map_or makes_connection o false) (ap (slice_get (k ++ e ∷ [])) same ∙ slice_get_last k e) ∙ forced_none base before.none_wait f
     by_place (inr (inl l)) = at-append makes_connection k (e ∷ []) n l ∙ before.none_come n past
     by_place (inr (inr l)) = past_none (k ++ e ∷ []) n (omega (arith, length-append k (e ∷ [])))
 
-pub no_more : {h k : List Event} → IsConnected h → IsForcedOn h k → HasNoMore h k
-no_more {h = h} none stays = record { none_wait = none; none_come = past_none h }
-no_more none (more on f) = one_more (no_more none on) f
+pub no_more : (base : Kept) → {h k : List Event} → IsConnected h → IsForcedOn base h k → HasNoMore h k
+no_more base {h = h} none stays = record { none_wait = none; none_come = past_none h }
+no_more base none (more on f) = one_more base (no_more base none on) f
 
 -- where a connection alone is forced, it comes first
-connects_first : {h k : List Event} {g : ℕ} → ((e : Event) → IsForced h e → e ≡ Connect g) → IsForcedOn h k → (k ≡ h) ⊎ IsForcedOn (h ++ Connect g ∷ []) k
-connects_first alone stays = inl refl
-connects_first {h = h} {g = g} alone (more {k = k} {e = e} on f) = by_first (connects_first alone on) where
-  by_first : (k ≡ h) ⊎ IsForcedOn (h ++ Connect g ∷ []) k → ((k ++ e ∷ []) ≡ h) ⊎ IsForcedOn (h ++ Connect g ∷ []) (k ++ e ∷ [])
+connects_first : (base : Kept) → {h k : List Event} {g : ℕ} → ((e : Event) → IsForced base h e → e ≡ Connect g) → IsForcedOn base h k → (k ≡ h) ⊎ IsForcedOn base (h ++ Connect g ∷ []) k
+connects_first base alone stays = inl refl
+connects_first base {h = h} {g = g} alone (more {k = k} {e = e} on f) = by_first (connects_first base alone on) where
+  by_first : (k ≡ h) ⊎ IsForcedOn base (h ++ Connect g ∷ []) k → ((k ++ e ∷ []) ≡ h) ⊎ IsForcedOn base (h ++ Connect g ∷ []) (k ++ e ∷ [])
   by_first (inr later) = inr (more later f)
   by_first (inl same) =
-      let is : e ≡ Connect g = alone e (subst (λ (q : List Event). IsForced q e) same f) in
-      inr (subst (λ (q : List Event). IsForcedOn (h ++ Connect g ∷ []) q) (λ i. sym same i ++ sym is i ∷ []) stays)
+      let is : e ≡ Connect g = alone e (subst (λ (q : List Event). IsForced base q e) same f) in
+      inr (subst (λ (q : List Event). IsForcedOn base (h ++ Connect g ∷ []) q) (λ i. sym same i ++ sym is i ∷ []) stays)
 
-added_on : {h k : List Event} → IsForcedOn h k → (added : List Event) × (k ≡ h ++ added)
-added_on {h = h} stays = ([], sym (append-nil h))
-added_on {h = h} (more {e = e} on f) =
-    let before = added_on on in
+added_on : (base : Kept) → {h k : List Event} → IsForcedOn base h k → (added : List Event) × (k ≡ h ++ added)
+added_on base {h = h} stays = ([], sym (append-nil h))
+added_on base {h = h} (more {e = e} on f) =
+    let before = added_on base on in
     (before.0 ++ e ∷ [], ap (λ (q : List Event). q ++ e ∷ []) before.1 ∙ append_assoc h before.0 (e ∷ []))
 
 -- the opening of a subscriber -----------------------------------------------------------------------
 
-module _ (h : List Event) (place : Place) (g : ℕ) (law : IsLawful h) (next : MayFollow h (Open place (Sub g))) (forces : forces_connect h (Sub g) ≡ true) where
+module _ (base : Kept) (h : List Event) (place : Place) (g : ℕ) (law : IsLawful base h) (next : MayFollow base h (Open place (Sub g))) (forces : forces_connect h (Sub g) ≡ true) where
   abbrev m : List Event
   m = h ++ Open place (Sub g) ∷ []
 
@@ -120,32 +121,32 @@ module _ (h : List Event) (place : Place) (g : ℕ) (law : IsLawful h) (next : M
     auto = at-append is_auto_hub h (Open place (Sub g) ∷ []) g (at_within is_auto_hub h g parts.0) ∙ parts.0;
     subscriber = length h;
     subscribes = subscribes;
-    subscribed = is_open_new h (Open place (Sub g)) next;
+    subscribed = is_open_new base h (Open place (Sub g)) next;
     waits = λ t ended. let l = slice_get_within m ended.place _ ended.ended in let past = ended.later in let n = long in absurd (omega arith);
     unconnected = unconnected;
   }
 
   only : (k : ℕ) → IsConnectDue m k → k ≡ g
-  only = kept_subscribed h place g law (settled_connected h (opened_settled next))
+  only = kept_subscribed base h place g law (settled_connected base h (opened_settled base next))
 
-  alone : (e : Event) → IsForced m e → e ≡ Connect g
+  alone : (e : Event) → IsForced base m e → e ≡ Connect g
   alone e (connecting {g = k} d) = ap (λ q. Connect q) (only k d)
   alone e (due none d) = absurd (none g waits)
 
-  module _ (k : List Event) (on : IsForcedOn m k) (law_on : IsLawful k) (settled : IsSettled k) where
-    connected : IsForcedOn (m ++ Connect g ∷ []) k
-    connected = by_first (connects_first alone on) where
-      by_first : (k ≡ m) ⊎ IsForcedOn (m ++ Connect g ∷ []) k → IsForcedOn (m ++ Connect g ∷ []) k
+  module _ (k : List Event) (on : IsForcedOn base m k) (law_on : IsLawful base k) (settled : IsSettled base k) where
+    connected : IsForcedOn base (m ++ Connect g ∷ []) k
+    connected = by_first (connects_first base alone on) where
+      by_first : (k ≡ m) ⊎ IsForcedOn base (m ++ Connect g ∷ []) k → IsForcedOn base (m ++ Connect g ∷ []) k
       by_first (inr later) = later
       by_first (inl same) = absurd (settled.none (Connect g) (connecting (subst (λ (q : List Event). IsConnectDue q g) (sym same) waits)))
 
     -- the history goes on from the opening, and from the connection
     kept : (n : ℕ) → n < length m → slice_get k n ≡ slice_get m n
-    kept n l = let grown = added_on on in ap (λ (q : List Event). slice_get q n) grown.1 ∙ slice_get-append m grown.0 n l
+    kept n l = let grown = added_on base on in ap (λ (q : List Event). slice_get q n) grown.1 ∙ slice_get-append m grown.0 n l
 
     here : slice_get k (length m) ≡ Some (Connect g)
     here =
-        let grown = added_on connected in
+        let grown = added_on base connected in
         let within : length m < length (m ++ Connect g ∷ []) = omega (arith, length-append m (Connect g ∷ [])) in
         ap (λ (q : List Event). slice_get q (length m)) grown.1 ∙ slice_get-append (m ++ Connect g ∷ []) grown.0 (length m) within ∙ slice_get_last m (Connect g)
 
@@ -158,27 +159,27 @@ module _ (h : List Event) (place : Place) (g : ℕ) (law : IsLawful h) (next : M
       by_test : c < length m → (b : Bool) → is_open m c ≡ b → ⊥
       by_test l true was = older c (sym (kept c l) ∙ connects) was
       by_test l false was =
-          let grown = added_on on in
+          let grown = added_on base on in
           both_ways (is_open k c) (ap (λ (q : List Event). is_open q c) grown.1 ∙ stays_closed_after m grown.0 c l was) alive
 
       by_place : (c ≡ length m) ⊎ ((c < length m) ⊎ (length m < c)) → c ≡ length h + 1
       by_place (inl same) = same ∙ long
       by_place (inr (inl l)) = absurd (by_test l (is_open m c) refl)
       by_place (inr (inr l)) =
-          let quiet = no_more (connected_first m g only) connected in
+          let quiet = no_more base (connected_first base m g only) connected in
           let out : at makes_connection k c ≡ false = quiet.none_come c (omega (arith, length-append m (Connect g ∷ []))) in
           absurd (both_ways (at makes_connection k c) out (ap (λ (o : Option Event). option_map_or makes_connection o false) connects))
 
     subscribed : open_subscribers k g ≢ []
     subscribed none =
         let near : length h < length m = let n = long in omega arith in
-        let alive = opened_stays h k place (Sub g) law next on in
+        let alive = opened_stays base h k place (Sub g) law next on in
         let within = is_open_within k (length h) alive in
         let listed : at (is_subscriber_of g) k (length h) ≡ true = ap (λ (o : Option Event). option_map_or (is_subscriber_of g) o false) (kept (length h) near) ∙ subscribes in
         filter_nonempty (λ n. at (is_subscriber_of g) k n && is_open k n) 0 (length k) (length h) (omega arith) (omega arith) (and_from _ _ listed alive) none
 
     pub connection_stays : open_connections k g ≡ (length h + 1) ∷ []
-    connection_stays = by_list (open_connections k g) refl (one_where_subscribed k g law_on settled auto subscribed) where
+    connection_stays = by_list (open_connections k g) refl (one_where_subscribed base k g law_on settled auto subscribed) where
       auto : at is_auto_hub k g ≡ true
       auto = let l = at_within is_auto_hub m g waits.auto in ap (λ (o : Option Event). option_map_or is_auto_hub o false) (kept g l) ∙ waits.auto
 
@@ -193,19 +194,19 @@ listed_one : (o : Option ℕ) (n : ℕ) → option_to_list o ≡ n ∷ [] → o 
 listed_one None n listed = absurd (cc)
 listed_one (Some k) n listed = let same : k ≡ n = cc in ap (λ q. Some q) same
 
-module _ (h : List Event) (place : Place) (law : IsLawful h) (k : List Event) (law_on : IsLawful k) (settled : IsSettled k) where
+module _ (base : Kept) (h : List Event) (place : Place) (law : IsLawful base h) (k : List Event) (law_on : IsLawful base k) (settled : IsSettled base k) where
   -- the connection that comes directly after the opening is the open one of its hub, where one was forced, and else there is none
-  pub connection_answered : (kind : Kind) (connects : Bool) (o : Option ℕ) → MayFollow h (Open place kind) → IsForcedOn (h ++ Open place kind ∷ []) k → connects ≡ forces_connect h kind →
+  pub connection_answered : (kind : Kind) (connects : Bool) (o : Option ℕ) → MayFollow base h (Open place kind) → IsForcedOn base (h ++ Open place kind ∷ []) k → connects ≡ forces_connect h kind →
       ((g : ℕ) → kind ≡ Sub g → connects ≡ true → option_to_list o ≡ open_connections k g) → (connects ≡ false → o ≡ None) → o ≡ connection_made h k
   connection_answered kind false o next on is forced quiet =
       let m = h ++ Open place kind ∷ [] in
-      let settled_before = opened_settled next in
-      let none_waits_then : IsConnected m = λ g d. false≢true (is ∙ opening_connects h place kind g law settled_before (may_subscribe next) d) in
-      let out : at makes_connection k (length h + 1) ≡ false = (no_more none_waits_then on).none_come (length h + 1) (omega (arith, length-append h (Open place kind ∷ []))) in
+      let settled_before = opened_settled base next in
+      let none_waits_then : IsConnected m = λ g d. false≢true (is ∙ opening_connects base h place kind g law settled_before (may_subscribe base next) d) in
+      let out : at makes_connection k (length h + 1) ≡ false = (no_more base none_waits_then on).none_come (length h + 1) (omega (arith, length-append h (Open place kind ∷ []))) in
       quiet refl ∙ sym (ap (λ (b : Bool). cond b (Some (length h + 1)) None) out)
   connection_answered (Sub g) true o next on is forced quiet =
-      let one = connection_stays h place g law next (sym is) k on law_on settled in
-      let here : at makes_connection k (length h + 1) ≡ true = connection_comes h place g law next (sym is) k on law_on settled in
+      let one = connection_stays base h place g law next (sym is) k on law_on settled in
+      let here : at makes_connection k (length h + 1) ≡ true = connection_comes base h place g law next (sym is) k on law_on settled in
       listed_one o (length h + 1) (forced g refl refl ∙ one) ∙ sym (ap (λ (b : Bool). cond b (Some (length h + 1)) None) here)
   connection_answered Leaf true o next on is forced quiet = absurd (false≢true (sym is))
   connection_answered Pass true o next on is forced quiet = absurd (false≢true (sym is))

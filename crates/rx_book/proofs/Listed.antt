@@ -1,8 +1,9 @@
 -- What a call made is listed after what it forced.
-use Rattle.std.proofs.Common.{◌≡◌, ℕ, true, length, Some, IsSome, slice_get, ap, ◌∙◌}
+use Rattle.std.proofs.Common.{◌≡◌, ℕ, true, length, Some, IsSome, ap, ◌∙◌}
 use Rattle.rx_resource.specs.declared.Resource.{Ghosts}
 use Rattle.rx_event.specs.declared.event.Event.TheVariants.{Accept}
 use Rattle.rx_event.specs.Tree.{is_open}
+use Rattle.rx_event.specs.Resources.{accepted_by}
 use Rattle.rx_slots.specs.declared.Key.{Key as TreeKey}
 use Rattle.rx_slots.specs.Slots.{find}
 use Rattle.rx_tree.specs.declared.node.ResKey.{ResKey as TreeResKey}
@@ -27,10 +28,11 @@ module _ {T : Type 0} (g : Ghosts T) (mid new : Ground T)
   })
 
   -- a resource of such a node
-  pub res_key_listed : IsTied g mid.register.history mid.tree → (res : TreeResKey) (k : ResKey) → k ≡ res_key_shown res →
+  pub res_key_listed : IsTied mid.register.base g mid.register.history mid.tree → (res : TreeResKey) (k : ResKey) → k ≡ res_key_shown res →
       new.tree.resources ≡ mid.tree.resources → res.number ≡ place → is_held_at mid.tree res ≡ true → (n tag : ℕ) →
-      slice_get mid.register.history place ≡ Some (Accept n tag) → is_open new.register.history n ≡ true → IsNewResKey (state_of g new) place k
+      accepted_by mid.register.base mid.register.history place ≡ Some (Accept n tag) → is_open new.register.history n ≡ true → IsNewResKey (state_of g new) place k
   res_key_listed tied res k shown same number held n tag accepted alive =
-      let at_res : slice_get mid.register.history res.number ≡ Some (Accept n tag) = ap (slice_get mid.register.history) number ∙ accepted in
+      let at_res : accepted_by mid.register.base mid.register.history res.number ≡ Some (Accept n tag) =
+      ap (accepted_by mid.register.base mid.register.history) number ∙ accepted in
       let listed = has_res_key_is new.tree (res_key_shown res) ∙ resource_stays g mid new tied _ nodes same res n tag at_res alive held in
       rw shown (record { number = number; listed = listed })

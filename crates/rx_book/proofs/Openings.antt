@@ -1,5 +1,6 @@
 -- An opening against which nothing stands: there is room for the connection that it forces, and the node above is open.
 use Rattle.std.proofs.Common.{◌≡◌, ◌+◌, ◌<◌, ◌≤◌, Bool, true, List, [], ◌∷◌, length, cond, IsSome, refl, ap, subst, arith}
+use Rattle.rx_event.specs.Kept.{Kept}
 use Rattle.rx_resource.specs.declared.Resource.{Ghosts}
 use Rattle.rx_event.specs.declared.event.Place.{Place}
 use Rattle.rx_event.specs.declared.event.Kind.{Kind}
@@ -26,19 +27,19 @@ use Rattle.rx_book.specs.Places.{key_above}
 use Rattle.rx_book.specs.Shown.{tree_key_of}
 
 -- where a hub waits after the opening there is room for its connection
-pub opening_room : {T : Type 0} (old new : Ground T) (place : Place) (kind : Kind) → IsLawful old.register.history → IsSettled old.register.history →
-    MayFollow old.register.history (Open place kind) → Writes old.register (Open place kind ∷ []) new.register →
+pub opening_room : {T : Type 0} (old new : Ground T) (place : Place) (kind : Kind) → IsLawful old.register.base old.register.history → IsSettled old.register.base old.register.history →
+    MayFollow old.register.base old.register.history (Open place kind) → Writes old.register (Open place kind ∷ []) new.register →
     nodes_opened old.register.history kind ≤ old.tree.nodes.room → nodes_opened old.register.history kind ≤ old.space →
     old.tree.nodes.room ≤ new.tree.nodes.room + 1 → TakesNoMemory old new → HasRoomToConnect new.register.history new.tree.nodes.room new.space
 opening_room old new place kind law settled next w room space left memory = λ g waits.
-    let forces = opening_connects old.register.history place kind g law settled (may_subscribe next) (subst (λ (k : List Event). IsConnectDue k g) w.history waits) in
+    let forces = opening_connects old.register.base old.register.history place kind g law settled (may_subscribe old.register.base next) (subst (λ (k : List Event). IsConnectDue k g) w.history waits) in
     let two : nodes_opened old.register.history kind ≡ 2 = ap (λ (b : Bool). 1 + cond b 1 0) forces in
     let nodes = memory.nodes in
     let closing = memory.closing in
     (omega arith, omega arith)
 
 -- the node above
-module _ {T : Type 0} (g : Ghosts T) (h : List Event) (tree : Tree T) (tied : IsTied g h tree) (kind : Kind) where
+module _ (base : Kept) {T : Type 0} (g : Ghosts T) (h : List Event) (tree : Tree T) (tied : IsTied base g h tree) (kind : Kind) where
   is_lower : (key : Key) → IsSome (find tree.nodes key) → key.number < length h
   is_lower key there = let x = some_of (find tree.nodes key) there in is_open_within h key.number (tied.records.each key x.0 x.1).alive
 

@@ -5,6 +5,7 @@ use Rattle.std.specs.Option.{option_and_then}
 use Rattle.std.proofs.lemmas.Bool.{lt-ltb}
 use Rattle.std.proofs.lemmas.List.{length-map}
 use Rattle.std.proofs.lemmas.List.Elements.{All-map}
+use Rattle.rx_event.specs.Kept.{Kept as Base}
 use Rattle.rx_resource.specs.declared.Resource.{Ghosts}
 use Rattle.rx_event.specs.declared.event.Event.{Event}
 use Rattle.rx_event.specs.Events.{is_auto_hub}
@@ -49,22 +50,22 @@ module _ {X : Type 0} where
 -- hubs --------------------------------------------------------------------------------------------
 
 -- RefCount: connected exactly while it has a subscriber
-shared : (h : List Event) → IsLawful h → IsSettled h → (g : ℕ) → at is_auto_hub h g ≡ true → has_connection h g ≡ has_subscriber h g
-shared h law settled g auto = by_list (open_subscribers h g) refl where
+shared : (base : Base) → (h : List Event) → IsLawful base h → IsSettled base h → (g : ℕ) → at is_auto_hub h g ≡ true → has_connection h g ≡ has_subscriber h g
+shared base h law settled g auto = by_list (open_subscribers h g) refl where
   by_list : (ss : List ℕ) → open_subscribers h g ≡ ss → has_connection h g ≡ nat_lt 0 (length ss)
-  by_list [] none = ap (λ (cs : List ℕ). nat_lt 0 (length cs)) (unsubscribed_unconnected h g settled auto none)
+  by_list [] none = ap (λ (cs : List ℕ). nat_lt 0 (length cs)) (unsubscribed_unconnected base h g settled auto none)
   by_list (s ∷ ss) some =
-      let one = one_where_subscribed h g law settled auto (λ none. let clash : s ∷ ss ≡ [] = sym some ∙ none in absurd (cc)) in
+      let one = one_where_subscribed base h g law settled auto (λ none. let clash : s ∷ ss ≡ [] = sym some ∙ none in absurd (cc)) in
       ap (nat_lt 0) one ∙ sym (lt-ltb 0 (length (s ∷ ss)) (omega arith))
 
 -- states ------------------------------------------------------------------------------------------
 
 module _ {T : Type 0} (g : Ghosts T) where
   -- what is stored as its history says has the label that it should
-  labels : (h : List Event) (nodes : Slots Node) (ks : List (Kept (Stowed T))) →
-      ((k : Kept (Stowed T)) → Contains ks k → IsStored g h nodes k.key.number k.value) → All (IsLabelOf h) (map (label_in g) ks)
-  labels h nodes ks stored = All-map (IsLabelOf h) (label_in g) ks (All-members (λ (k : Kept (Stowed T)). IsLabelOf h (label_in g k)) ks label) where
-    label : (k : Kept (Stowed T)) → Contains ks k → IsLabelOf h (label_in g k)
+  labels : (base : Base) → (h : List Event) (nodes : Slots Node) (ks : List (Kept (Stowed T))) →
+      ((k : Kept (Stowed T)) → Contains ks k → IsStored base g h nodes k.key.number k.value) → All (IsLabelOf base h) (map (label_in g) ks)
+  labels base h nodes ks stored = All-map (IsLabelOf base h) (label_in g) ks (All-members (λ (k : Kept (Stowed T)). IsLabelOf base h (label_in g k)) ks label) where
+    label : (k : Kept (Stowed T)) → Contains ks k → IsLabelOf base h (label_in g k)
     label k c = let is = stored k c in record { live = is.live; tag = ap (option_and_then accepted_tag) is.accepted; uses = is.uses }
 
   module _ (b : Ground T) (register : IsRegisterPromised b.register) (tree : IsTreePromised b.tree) (standing : IsStanding g b) where
@@ -75,37 +76,43 @@ module _ {T : Type 0} (g : Ghosts T) where
     held_key k = record { slot = k.key.slot; number = k.key.number }
 
     open_numbers : ListsJust (is_open h) (numbers (kept_in b.tree.nodes))
-    open_numbers = just_nodes g h b.tree standing.tied.of_tree tree.sound.apart
+    open_numbers = just_nodes b.register.base g h b.tree standing.tied.of_tree tree.sound.apart
 
     held_numbers : ListsJust (is_held h) (numbers (held_in b.tree))
-    held_numbers = just_held g h b.tree standing.tied.of_tree register.lawful tree.resources_apart
+    held_numbers = just_held b.register.base g h b.tree standing.tied.of_tree register.lawful tree.resources_apart
 
     waiting_numbers : ListsJust (is_waiting h) (numbers (waiting_in b.tree))
-    waiting_numbers = just_waiting g h b.tree standing.tied.of_tree tree.resources_apart
+    waiting_numbers = just_waiting b.register.base g h b.tree standing.tied.of_tree tree.resources_apart
 
-    counted : accepted_count h ≡ length (map (label_in g) (held_in b.tree)) + length (map (label_in g) (waiting_in b.tree)) + taken_count h
+    counted : accepted_count b.register.base h ≡ length (map (label_in g) (held_in b.tree)) + length (map (label_in g) (waiting_in b.tree)) + taken_count b.register.base h
     counted =
         let as_held = length-map (held_in b.tree) (label_in g) in
         let as_waiting = length-map (waiting_in b.tree) (label_in g) in
-        let holds = length-held g h b.tree standing.tied.of_tree register.lawful tree.resources_apart in
-        let waits = length-waiting g h b.tree standing.tied.of_tree tree.resources_apart in
-        omega (arith, accepted_count-parts h register.lawful)
+        let holds = length-held b.register.base g h b.tree standing.tied.of_tree register.lawful tree.resources_apart in
+        let waits = length-waiting b.register.base g h b.tree standing.tied.of_tree tree.resources_apart in
+        omega (arith, accepted_count-parts b.register.base h register.lawful)
 
     pub state_promised : IsPromised (state_of g b)
     state_promised = record {
       lawful = register.lawful;
+      from_start = register.from_start;
       settled = standing.settled;
-      shared = shared h register.lawful standing.settled;
-      one_connection = one_open_connection h register.lawful;
+      shared = shared b.register.base h register.lawful standing.settled;
+      one_connection = one_open_connection b.register.base h register.lawful;
       keys = shown_just (is_open h) (λ (k : Kept Node). key_shown k.key) (λ (k : Key). k.number) (λ k. refl) (kept_in b.tree.nodes) open_numbers;
       res_keys = shown_just (is_held h) held_key (λ (k : ResKey). k.number) (λ k. refl) (held_in b.tree) held_numbers;
       held = shown_just (is_held h) (label_in g) (λ (l : Label). l.number) (λ k. refl) (held_in b.tree) held_numbers;
       waiting = shown_just (is_waiting h) (label_in g) (λ (l : Label). l.number) (λ k. refl) (waiting_in b.tree) waiting_numbers;
-      held_labels = labels h b.tree.nodes (held_in b.tree) (stored_held g h b.tree standing.tied.of_tree);
-      waiting_labels = labels h b.tree.nodes (waiting_in b.tree) (stored_waiting g h b.tree standing.tied.of_tree);
+      held_labels = labels b.register.base h b.tree.nodes (held_in b.tree) (stored_held b.register.base g h b.tree standing.tied.of_tree);
+      waiting_labels = labels b.register.base h b.tree.nodes (waiting_in b.tree) (stored_waiting b.register.base g h b.tree standing.tied.of_tree);
+      few_items = register.few_items;
+      few_accepted = register.few_accepted;
+      few_taken = register.few_taken;
       in_one_place = counted;
+      begun = register.begun;
+      placed = register.placed;
       room = let room = register.room in let paid = standing.paid.events in omega arith;
       limited = register.limited;
       given = register.given;
-      in_order = notes_grammatical h register.lawful;
+      in_order = notes_grammatical b.register.base h register.lawful;
     }

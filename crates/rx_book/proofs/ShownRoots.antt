@@ -4,6 +4,7 @@ use Rattle.std.specs.Prelude.{IsTrue, IfSome}
 use Rattle.std.specs.List.{find}
 use Rattle.std.specs.Option.{option_map_or}
 use Rattle.std.proofs.lemmas.Bool.{and_parts, and_from, false_from_ne_true, false≢true}
+use Rattle.rx_event.specs.Kept.{Kept}
 use Rattle.rx_resource.specs.declared.Resource.{Ghosts}
 use Rattle.rx_event.specs.declared.event.Event.{Event}
 use Rattle.rx_event.specs.Events.{is_root}
@@ -26,7 +27,7 @@ use Rattle.rx_book.proofs.ShownKeys.{has_key_is}
 abbrev IsRootRecord : Option Node → Type 0
 IsRootRecord o = IfSome (option_map (λ node. is_root node.made) o) IsTrue × IsSome o
 
-module _ {T : Type 0} (g : Ghosts T) (h : List Event) (tree : Tree T) (tied : IsTied g h tree) where
+module _ (base : Kept) {T : Type 0} (g : Ghosts T) (h : List Event) (tree : Tree T) (tied : IsTied base g h tree) where
   -- a root's record is that of an open root
   key_root : (key : TreeKey) → IsRoot tree.nodes key → is_open_root h key.number ≡ true
   key_root key root = by_record (find_in tree.nodes key) refl root where

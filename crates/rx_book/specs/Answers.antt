@@ -27,11 +27,12 @@ makes_connection _ = false
 abbrev pub connection_made : List Event → List Event → Option ℕ
 connection_made old new = if at makes_connection new (length old + 1) then Some (length old + 1) else None
 
--- an accepted call: no cause stood against it, the history goes on by a step of that call, and the limit, the notes handed out
--- and the keys of all that is still there are as before
+-- an accepted call: no cause stood against it, the history goes on by a step of that call, and the base, the limit, the notes
+-- handed out and the keys of all that is still there are as before
 pub record Accepts (old : State) (asked : Request) (new : State) : Type 0 where
   pub no_cause : first_cause (stands old asked) ≡ None
-  pub step : IsStepOf old.history asked.call new.history
+  pub base : new.base ≡ old.base
+  pub step : IsStepOf old.base old.history asked.call new.history
   pub limit : new.limit ≡ old.limit
   pub given : new.given ≡ old.given
   pub keys : (k : Key) → Contains new.keys k → k.number < length old.history → Contains old.keys k

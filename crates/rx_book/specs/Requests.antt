@@ -28,7 +28,7 @@ pub record Request : Type 0 where
 
 -- the causes that stand in this state against what is asked
 abbrev pub stands : State → Request → Refusal → Bool
-stands s asked = by_key_of asked.call asked.is_known (causes s.history s.limit asked.is_fresh asked.call)
+stands s asked = by_key_of asked.call asked.is_known (causes s.base s.history s.limit asked.is_fresh asked.call)
 
 -- requests ----------------------------------------------------------------------------------------
 

@@ -33,6 +33,7 @@ module _ {T : Type 0} where
   -- the state of a book
   abbrev pub state_of : Ghosts T → Base T → State
   state_of g b = record {
+    base = b.register.base;
     history = b.register.history;
     limit = b.register.limit;
     keys = keys_of b.tree;

@@ -1,16 +1,17 @@
 -- What a book is to its callers.
-use Rattle.std.specs.Prelude.{◌≡◌, ◌≢◌, ℕ, ◌+◌, ◌<◌, ◌≤◌, Bool, nat_lt, ◌&&◌, ◌==◌, Option, Some, None, List, length, map, slice_get, IsTrue}
+use Rattle.std.specs.Prelude.{◌≡◌, ◌≢◌, ℕ, ◌+◌, ◌<◌, ◌≤◌, Bool, nat_lt, ◌&&◌, ◌==◌, Option, Some, None, List, length, map, IsTrue}
 use Rattle.std.specs.List.{All, AllPairs, Contains, list_any}
 use Rattle.std.specs.Option.{option_and_then}
 use Rattle.rx_note.specs.Notes.{IsGrammatical}
 use Rattle.rx_resource.specs.declared.Life.TheVariants.{Live}
 use Rattle.rx_event.specs.declared.event.Event.{Event}
 use Rattle.rx_event.specs.declared.event.Event.TheVariants.{Accept}
+use Rattle.rx_event.specs.Kept.{Kept, nothing_kept}
 use Rattle.rx_event.specs.Events.{is_auto_hub}
 use Rattle.rx_event.specs.Tree.{at, is_open, open_subscribers, open_connections}
-use Rattle.rx_event.specs.Resources.{is_held, is_waiting, uses}
+use Rattle.rx_event.specs.Resources.{is_held, is_waiting, accepted_by, uses}
 use Rattle.rx_event.specs.Notes.{notes, notes_to}
-use Rattle.rx_event.specs.Totals.{debt, accepted_count, taken_count}
+use Rattle.rx_event.specs.Totals.{debt, item_count, accepted_count, taken_count}
 use Rattle.rx_event.specs.Lawful.{IsLawful}
 use Rattle.rx_event.specs.Forced.{IsSettled}
 use Rattle.rx_register.specs.Causes.{has_connection}
@@ -18,9 +19,10 @@ use Rattle.rx_ground.specs.Shown.{Label}
 use Rattle.rx_book.specs.declared.key.Key.{Key}
 use Rattle.rx_book.specs.declared.key.ResKey.{ResKey}
 
--- a book: its history and limit, the keys of the open nodes and of the held resources, the resources held and those waiting, and how
--- many notes were handed out
+-- a book: what a checkpoint kept, the history as one list with it, the limit on the events since, the keys of the open nodes and of
+-- the held resources, the resources held and those waiting, and how many notes were handed out
 pub record State : Type 0 where
+  pub base : Kept
   pub history : List Event
   pub limit : ℕ
   pub keys : List Key
@@ -47,10 +49,10 @@ accepted_tag (Accept node tag) = Some tag
 accepted_tag _ = None
 
 -- the resource is live, and has the tag of its acceptance and the uses of the history
-pub record IsLabelOf (h : List Event) (l : Label) : Type 0 where
+pub record IsLabelOf (base : Kept) (h : List Event) (l : Label) : Type 0 where
   pub live : l.life ≡ Live
-  pub tag : option_and_then accepted_tag (slice_get h l.number) ≡ Some l.tag
-  pub uses : l.uses ≡ uses h l.number
+  pub tag : option_and_then accepted_tag (accepted_by base h l.number) ≡ Some l.tag
+  pub uses : l.uses ≡ uses base h l.number
 
 -- the hub has an open subscriber
 abbrev pub has_subscriber : List Event → ℕ → Bool
@@ -61,24 +63,32 @@ has_subscriber h g = nat_lt 0 (length (open_subscribers h g))
 -- left undone, a RefCount hub is connected exactly while it has a subscriber and no hub by two connections, and what each observer
 -- is told obeys the Observable Contract's grammar
 pub record IsPromised (s : State) : Type 0 where
-  pub lawful : IsLawful s.history
-  pub settled : IsSettled s.history
+  pub lawful : IsLawful s.base s.history
+  -- nothing was put in place of events yet
+  pub from_start : s.base ≡ nothing_kept
+  pub settled : IsSettled s.base s.history
   pub shared : (g : ℕ) → IsTrue (at is_auto_hub s.history g) → has_connection s.history g ≡ has_subscriber s.history g
   pub one_connection : (g : ℕ) → length (open_connections s.history g) ≤ 1
   pub keys : AreJust (is_open s.history) (map (λ k. k.number) s.keys)
   pub res_keys : AreJust (is_held s.history) (map (λ k. k.number) s.res_keys)
   pub held : AreJust (is_held s.history) (map (λ l. l.number) s.held)
   pub waiting : AreJust (is_waiting s.history) (map (λ l. l.number) s.waiting)
-  pub held_labels : All (IsLabelOf s.history) s.held
-  pub waiting_labels : All (IsLabelOf s.history) s.waiting
-  pub in_one_place : accepted_count s.history ≡ length s.held + length s.waiting + taken_count s.history
-  pub room : length s.history + debt s.history ≤ s.limit
+  pub held_labels : All (IsLabelOf s.base s.history) s.held
+  pub waiting_labels : All (IsLabelOf s.base s.history) s.waiting
+  pub few_items : item_count s.base s.history ≤ length s.history
+  pub few_accepted : accepted_count s.base s.history ≤ length s.history
+  pub few_taken : taken_count s.base s.history ≤ length s.history
+  pub in_one_place : accepted_count s.base s.history ≡ length s.held + length s.waiting + taken_count s.base s.history
+  pub begun : s.base.at_length ≤ length s.history
+  pub placed : s.base.at_length ≤ 9223372036854775807
+  pub room : length s.history + debt s.base s.history ≤ s.base.at_length + s.limit
   pub limited : s.limit ≤ 4294967295
   pub given : s.given ≤ length (notes s.history)
   pub in_order : (n : ℕ) → IsGrammatical (notes_to s.history n)
 
--- a book went on: its limit and the notes handed out are as before, and so are the keys of all that is still there
+-- a book went on: its base, its limit and the notes handed out are as before, and so are the keys of all that is still there
 pub record Continues (old new : State) : Type 0 where
+  pub base : new.base ≡ old.base
   pub limit : new.limit ≡ old.limit
   pub given : new.given ≡ old.given
   pub longer : length old.history ≤ length new.history

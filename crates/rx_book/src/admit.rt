@@ -17,7 +17,8 @@ pub(crate) fn admit<R: Resource>(
     wanted: Wanted,
 ) -> Result<(), Refusal>
     requires standing { IsStanding R.Resource ground.old }
-    requires within { cause ≡ None → length ground.old.register.history + debt ground.old.register.history + wanted.events ≤ ground.old.register.limit }
+    requires within { cause ≡ None → length ground.old.register.history + debt ground.old.register.base ground.old.register.history + wanted.events ≤
+        ground.old.register.base.at_length + ground.old.register.limit }
     requires notes { wanted.notes ≤ 4294967295 }
     ensures ok { OnOk result (HasRoomBeside ground.new wanted) }
     ensures none { OnOk result (cause ≡ None) }

@@ -3,6 +3,7 @@
 ghost use Rattle.std.specs.Prelude.{◌≡◌, ◌+◌, ◌≤◌, ◌&&◌, [], Some, None, length, slice_get, option_map, is_some};
 ghost use Rattle.std.specs.Prelude.{if◌then◌else◌, IfSome, IsTrue};
 ghost use Rattle.std.specs.List.{find};
+ghost use Rattle.rx_event.specs.Kept.{nothing_kept, event_since};
 ghost use Rattle.rx_event.specs.Events.{is_merging};
 ghost use Rattle.rx_event.specs.Tree.{at, places};
 ghost use Rattle.rx_event.specs.Moments.{owed};
@@ -53,7 +54,7 @@ impl<R: Resource> Book<R> {
     /// memory.
     pub fn new(alloc: Global, max_events: u64) -> Self
         requires { max_events ≤ 4294967295 }
-        ensures { result ≡ record { history = []; limit = max_events; keys = []; res_keys = []; held = []; waiting = []; given = 0 } }
+        ensures { result ≡ record { base = nothing_kept; history = []; limit = max_events; keys = []; res_keys = []; held = []; waiting = []; given = 0 } }
     {
         Book {
             ground: Ground::new(alloc, max_events),
@@ -102,35 +103,35 @@ impl<R: Resource> Book<R> {
 
     /// How many resources were accepted.
     pub fn accepted(&self) -> u64
-        ensures { result ≡ accepted_count self.now.history }
+        ensures { result ≡ accepted_count self.now.base self.now.history }
     {
         self.ground.accepted()
     }
 
     /// How many resources were taken.
     pub fn taken(&self) -> u64
-        ensures { result ≡ taken_count self.now.history }
+        ensures { result ≡ taken_count self.now.base self.now.history }
     {
         self.ground.taken()
     }
 
     /// How many items were emitted.
     pub fn items(&self) -> u64
-        ensures { result ≡ item_count self.now.history }
+        ensures { result ≡ item_count self.now.base self.now.history }
     {
         self.ground.items()
     }
 
-    /// How many events there are.
+    /// How many events there ever were.
     pub fn len(&self) -> u64
         ensures { result ≡ length self.now.history }
     {
         self.ground.len()
     }
 
-    /// The event at a place, if there is one.
+    /// The event at a place, if it is one since the base.
     pub fn event(&self, place: u64) -> Option<Event>
-        ensures { result ≡ slice_get self.now.history place }
+        ensures { result ≡ event_since self.now.base self.now.history place }
     {
         self.ground.event(place)
     }
@@ -154,7 +155,7 @@ impl<R: Resource> Book<R> {
     /// key is of no such node.
     pub fn owed(&self, merging: Key) -> Option<u64>
         ensures { result ≡ (if has_key self.now.keys merging && at is_merging self.now.history merging.number
-            then Some (owed self.now.history merging.number) else None) }
+            then Some (owed self.now.base self.now.history merging.number) else None) }
     {
         self.ground.owed(tree_key(merging))
     }

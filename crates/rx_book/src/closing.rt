@@ -24,9 +24,9 @@ impl<R: Resource> Book<R> {
     /// Takes and releases all that waits, one resource after another. It takes no memory. The releases
     /// run inside this call, and so inside whatever lock the owner of the book holds.
     pub fn release_waiting(&mut self) -> Closed
-        ensures drains { Drains self.old.history self.new.history }
+        ensures drains { Drains self.old.base self.old.history self.new.history }
         ensures none_waits { self.new.waiting ≡ [] }
-        ensures released { taken_count self.new.history ≡ taken_count self.old.history + result.released }
+        ensures released { taken_count self.new.base self.new.history ≡ taken_count self.old.base self.old.history + result.released }
         ensures faults { result.faults ≤ result.released }
         ensures continues { Continues self.old self.new }
     {
@@ -48,9 +48,10 @@ impl<R: Resource> Book<R> {
 
     /// Unsubscribes all open roots. It takes no memory.
     fn dispose_roots(&mut self)
+        ensures base { self.new.base ≡ self.old.base }
         ensures none_open { (n : ℕ) → is_open_root self.new.history n ≡ false }
-        ensures accepted { accepted_count self.new.history ≡ accepted_count self.old.history }
-        ensures taken { taken_count self.new.history ≡ taken_count self.old.history }
+        ensures accepted { accepted_count self.new.base self.new.history ≡ accepted_count self.old.base self.old.history }
+        ensures taken { taken_count self.new.base self.new.history ≡ taken_count self.old.base self.old.history }
     {
         self.promise();
         while let Some(root) = self.open_root() {
@@ -63,10 +64,11 @@ impl<R: Resource> Book<R> {
 
     /// Disconnects all hubs that were connected by hand. It takes no memory.
     fn disconnect_hubs(&mut self)
+        ensures base { self.new.base ≡ self.old.base }
         ensures disconnected { (g : ℕ) → at is_manual_hub self.new.history g ≡ true → open_connections self.new.history g ≡ [] }
         ensures roots { (n : ℕ) → is_open_root self.new.history n ≡ true → is_open_root self.old.history n ≡ true }
-        ensures accepted { accepted_count self.new.history ≡ accepted_count self.old.history }
-        ensures taken { taken_count self.new.history ≡ taken_count self.old.history }
+        ensures accepted { accepted_count self.new.base self.new.history ≡ accepted_count self.old.base self.old.history }
+        ensures taken { taken_count self.new.base self.new.history ≡ taken_count self.old.base self.old.history }
     {
         self.promise();
         while let Some(hub) = self.open_manual() {
@@ -83,8 +85,9 @@ impl<R: Resource> Book<R> {
         ensures none_open { self.new.keys ≡ [] }
         ensures none_held { self.new.held ≡ [] }
         ensures none_waits { self.new.waiting ≡ [] }
-        ensures taken { taken_count self.new.history ≡ taken_count self.old.history + result.released }
-        ensures accepted { accepted_count self.new.history ≡ accepted_count self.old.history }
+        ensures base { self.new.base ≡ self.old.base }
+        ensures taken { taken_count self.new.base self.new.history ≡ taken_count self.old.base self.old.history + result.released }
+        ensures accepted { accepted_count self.new.base self.new.history ≡ accepted_count self.old.base self.old.history }
         ensures released { result.released ≡ held_count self.old.history + waiting_count self.old.history }
         ensures faults { result.faults ≤ result.released }
     {

@@ -58,7 +58,7 @@ pub fn finish(book: &mut Book<File>) -> Closed
     ensures none_open { book.new.keys ≡ [] }
     ensures none_held { book.new.held ≡ [] }
     ensures none_waits { book.new.waiting ≡ [] }
-    ensures all_taken { taken_count book.new.history ≡ accepted_count book.old.history }
+    ensures all_taken { taken_count book.new.base book.new.history ≡ accepted_count book.old.base book.old.history }
     ensures released { result.released ≡ held_count book.old.history + waiting_count book.old.history }
 {
     book.promise();

@@ -1,6 +1,7 @@
 //! What no clause says of a register: that room is had where there is memory, and what stays where
 //! there is none.
 
+ghost use Rattle.rx_event.specs.Kept.{nothing_kept};
 ghost use Rattle.std.specs.Prelude.{◌≡◌, ◌≤◌, ◌+◌, length, []};
 
 use super::same::same;
@@ -27,6 +28,7 @@ const NOTE: Mail = Mail {
 
 /// Opens a leaf as a root and ends it, and tells its observer the end.
 fn open_and_end(register: &mut Register)
+    requires begun { register.old.base ≡ nothing_kept }
     requires empty { register.old.history ≡ [] }
     requires pending { register.old.pending ≡ [] }
     requires room { 2 ≤ register.old.room }
@@ -52,9 +54,10 @@ fn write_reserved(
     register: &mut Register,
     scarce: Option<Global>,
 ) -> Result<(), Fail>
+    requires begun { register.old.base ≡ nothing_kept }
     requires empty { register.old.history ≡ [] }
     requires pending { register.old.pending ≡ [] }
-    requires limit { length register.old.history + 2 ≤ register.old.limit }
+    requires limit { length register.old.history + 2 ≤ register.old.base.at_length + register.old.limit }
 {
     register.reserve(2)?;
     register.reserve_mail(1)?;

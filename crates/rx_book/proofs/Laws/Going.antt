@@ -2,6 +2,7 @@
 use Rattle.std.proofs.Common.{◌≡◌, ◌≤◌, ◌+◌, ◌++◌, ◌∷◌, [], Bool, List, length, length-append, cond, refl, ◌∙◌, arith}
 use Rattle.std.specs.Prelude.{count_by}
 use Rattle.std.proofs.lemmas.List.Sums.{sum_by-append}
+use Rattle.rx_event.specs.Kept.{Kept}
 use Rattle.rx_event.specs.declared.event.Event.{Event}
 use Rattle.rx_event.specs.Events.{is_take}
 use Rattle.rx_event.specs.Totals.{taken_count}
@@ -15,34 +16,36 @@ pub count_by-append : (p : Event → Bool) (xs ys : List Event) → count_by p (
 count_by-append p xs ys = sum_by-append (λ x. cond (p x) 1 0) xs ys
 
 -- forced events come behind
-forced_longer : {h k : List Event} → IsForcedOn h k → length h ≤ length k
-forced_longer stays = omega arith
-forced_longer (more {h} {k} {e} before forced) = let rest = forced_longer before in omega (arith, length-append k (e ∷ []))
+forced_longer : (base : Kept) → {h k : List Event} → IsForcedOn base h k → length h ≤ length k
+forced_longer base stays = omega arith
+forced_longer base (more {h} {k} {e} before forced) = let rest = forced_longer base before in omega (arith, length-append k (e ∷ []))
 
-forced_taken : {h k : List Event} → IsForcedOn h k → taken_count h ≤ taken_count k
-forced_taken stays = omega arith
-forced_taken (more {h} {k} {e} before forced) = let rest = forced_taken before in omega (arith, count_by-append is_take k (e ∷ []))
+forced_taken : (base : Kept) → {h k : List Event} → IsForcedOn base h k → taken_count base h ≤ taken_count base k
+forced_taken base stays = omega arith
+forced_taken base (more {h} {k} {e} before forced) = let rest = forced_taken base before in omega (arith, count_by-append is_take k (e ∷ []))
 
-pub step_longer : (h k : List Event) (call : Call) → IsStepOf h call k → length h + length (outside_of h call) ≤ length k
-step_longer h k call step = omega (arith, forced_longer step.forced, length-append h (outside_of h call))
+pub step_longer : (base : Kept) → (h k : List Event) (call : Call) → IsStepOf base h call k → length h + length (outside_of h call) ≤ length k
+step_longer base h k call step = omega (arith, forced_longer base step.forced, length-append h (outside_of h call))
 
-pub step_taken : (h k : List Event) (call : Call) → IsStepOf h call k → taken_count h + taken_count (outside_of h call) ≤ taken_count k
-step_taken h k call step = omega (arith, forced_taken step.forced, count_by-append is_take h (outside_of h call))
+pub step_taken : (base : Kept) → (h k : List Event) (call : Call) → IsStepOf base h call k → taken_count base h + count_by is_take (outside_of h call) ≤ taken_count base k
+step_taken base h k call step = omega (arith, forced_taken base step.forced, count_by-append is_take h (outside_of h call))
 
 pub accepted_continues : (old new : State) (asked : Request) → Accepts old asked new → Continues old new
 accepted_continues old new asked accepted = record {
+  base = accepted.base;
   limit = accepted.limit;
   given = accepted.given;
-  longer = let longer = step_longer old.history new.history asked.call accepted.step in omega arith;
+  longer = let longer = step_longer old.base old.history new.history asked.call accepted.step in omega arith;
   keys = accepted.keys;
   res_keys = accepted.res_keys;
 }
 
 pub continues_none : (s : State) → Continues s s
-continues_none s = record { limit = refl; given = refl; longer = omega arith; keys = λ k listed old. listed; res_keys = λ k listed old. listed }
+continues_none s = record { base = refl; limit = refl; given = refl; longer = omega arith; keys = λ k listed old. listed; res_keys = λ k listed old. listed }
 
 pub continues_more : (a b c : State) → Continues a b → Continues b c → Continues a c
 continues_more a b c p q = record {
+  base = q.base ∙ p.base;
   limit = q.limit ∙ p.limit;
   given = q.given ∙ p.given;
   longer = let first = p.longer in let second = q.longer in omega arith;

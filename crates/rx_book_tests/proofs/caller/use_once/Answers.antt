@@ -4,6 +4,7 @@ use Rattle.std.specs.Option.{option_map_or}
 use Rattle.std.proofs.lemmas.List.{length-map, get_or-map}
 use Rattle.std.proofs.lemmas.Bool.{false≢true}
 use Rattle.std.specs.Bool.{if◌then◌else◌}
+use Rattle.rx_event.specs.Kept.{Kept}
 use Rattle.rx_event.specs.declared.event.Event.{Event}
 use Rattle.rx_event.specs.declared.event.Event.TheVariants.{Open, Accept}
 use Rattle.rx_event.specs.declared.event.Place.TheVariants.{Root}
@@ -23,9 +24,9 @@ use Rattle.rx_event.specs.Lawful.{IsForcedOn, stays, more}
 use Rattle.rx_book_tests.proofs.caller.use_once.Goals as goal
 
 -- what is forced comes behind
-forced_behind : {h k : List Event} → IsForcedOn h k → (t : List Event) × (k ≡ h ++ t)
-forced_behind (stays {h}) = ([], sym (append-nil h))
-forced_behind (more {h} {k} {e} before next) = let b = forced_behind before in (b.0 ++ e ∷ [], ap (λ (m : List Event). m ++ e ∷ []) b.1 ∙ append_assoc h b.0 (e ∷ []))
+forced_behind : (base : Kept) → {h k : List Event} → IsForcedOn base h k → (t : List Event) × (k ≡ h ++ t)
+forced_behind base (stays {h}) = ([], sym (append-nil h))
+forced_behind base (more {h} {k} {e} before next) = let b = forced_behind base before in (b.0 ++ e ∷ [], ap (λ (m : List Event). m ++ e ∷ []) b.1 ∙ append_assoc h b.0 (e ∷ []))
 
 -- a key that a book knows is an open node's
 known_open : (s : State) → IsPromised s → (k : Key) → has_key s.keys k ≡ true → is_open s.history k.number ≡ true
@@ -41,9 +42,9 @@ slice_get_behind [] e t = refl
 slice_get_behind (x ∷ h) e t = slice_get_behind h e t
 
 -- a root that was opened with a resource is one
-root_opened : (h k : List Event) (tag n : ℕ) → IsStepOf h (OpeningUsing Root tag) k → n ≡ length h → at is_root k n ≡ true
-root_opened h k tag n step e =
-    let b = forced_behind step.forced in
+root_opened : (base : Kept) → (h k : List Event) (tag n : ℕ) → IsStepOf base h (OpeningUsing Root tag) k → n ≡ length h → at is_root k n ≡ true
+root_opened base h k tag n step e =
+    let b = forced_behind base step.forced in
     ap (λ (m : List Event). at is_root m n) b.1 ∙ rw e (at-append is_root (h ++ Open Root Pass ∷ Accept (length h) tag ∷ []) b.0 (length h) (omega (arith, length-append {A = Event})) ∙ at_end h)
   where
     at_end : (h : List Event) → at is_root (h ++ Open Root Pass ∷ Accept (length h) tag ∷ []) (length h) ≡ true
@@ -62,4 +63,4 @@ pub unreachable-requires : goal.unreachable-requires
 unreachable-requires g c =
     let given = c.in_ok-opened.ensures in
     let refused : first_cause (stands c.open_using.new.self (dispose_request c.open_using.new.self c.in_ok-opened.opened.key)) ≡ Some c.in-Err.field-0 = c.in-Err.ensures.refused in
-    closing_accepted c.open_using.new.self c.in_ok-opened.opened.key c.in-Err.field-0 given.ok.key.listed (known_open c.open_using.new.self c.promise.ensures c.in_ok-opened.opened.key given.ok.key.listed) (root_opened c.args.book.now.history c.open_using.new.self.history _ c.in_ok-opened.opened.key.number given.accepted.step given.ok.key.number) refused
+    closing_accepted c.open_using.new.self c.in_ok-opened.opened.key c.in-Err.field-0 given.ok.key.listed (known_open c.open_using.new.self c.promise.ensures c.in_ok-opened.opened.key given.ok.key.listed) (root_opened c.args.book.now.base c.args.book.now.history c.open_using.new.self.history _ c.in_ok-opened.opened.key.number given.accepted.step given.ok.key.number) refused

@@ -18,7 +18,7 @@ pub returns-in_err-admit : goal.returns-in_err-admit
 returns-in_err-admit g c =
     let b = c.self.inside.ground in
     let s = state_of g.R.Resource b in
-    let stand = causes b.register.history b.register.limit true (Applying c.args.res.number) in
+    let stand = causes b.register.base b.register.history b.register.limit true (Applying c.args.res.number) in
     let cause = c.applying_cause-cause.result in
     let first = first_by_res_key b.tree stand cause c.args.res (rw c.tree_res_key-key.ensures at c.applying_cause-cause.ensures) in
     let a = c.in_err-admit in
@@ -29,7 +29,7 @@ returns-in_err-admit g c =
 called : (g : given.Over) (c : After-promise g) → (let b = c.admit.new.ground in IsLetIn g.R.Resource b (apply_request (state_of g.R.Resource b) c.args.res))
 called g c =
     let old = c.self.inside.ground in
-    let stand = causes old.register.history old.register.limit true (Applying c.args.res.number) in
+    let stand = causes old.register.base old.register.history old.register.limit true (Applying c.args.res.number) in
     let first = first_by_res_key old.tree stand c.applying_cause-cause.result c.args.res (rw c.tree_res_key-key.ensures at c.applying_cause-cause.ensures) in
     let a = c.in_ok-admit.ensures in
     let_in_roomy g.R.Resource old c.admit.new.ground (λ (s : State). apply_request s c.args.res) _ a.kept a.standing c.promise.ensures.register
@@ -61,7 +61,7 @@ returns g c =
     let w = rw c.tree_res_key-key.ensures at u.written in
     let l = called g (goal.at.returns g c).After-promise in
     let kept = keeps_held b.tree mid.tree (length b.register.history) u.nodes u.kept in
-    let done = accepts R b _ l mid new w kept c.write_use-answer.ensures.tied.of_tree s.standing s.forced s.nodes s.resources s.limit s.given in
+    let done = accepts R b _ l mid new w kept c.write_use-answer.ensures.tied.of_tree s.standing s.base s.forced s.nodes s.resources s.limit s.given in
     let same = state_roomier R c.self.inside.ground b c.admit.ensures.kept in
     subst (λ (x : State). AnswersWord x (apply_request x c.args.res) (state_of R new) (Ok c.write_use-answer.result)) (same ∙ c.self.view_is)
     (answers_ok tt done)

@@ -1,5 +1,7 @@
-use Rattle.std.proofs.Common.{◌≡◌, [], ◌∙◌}
+use Rattle.std.proofs.Common.{◌≡◌, [], ap, ◌∙◌}
 use Rattle.std.proofs.lemmas.Bool.{false_from_ne_true, both_ways}
+use Rattle.rx_event.specs.Kept.{Kept}
+use Rattle.rx_event.specs.Totals.{accepted_count}
 use Rattle.rx_event.specs.Claims.Closing.{is_open_root, IsLetGo}
 use Rattle.rx_book.proofs.Closings.{closed_book, closed_released, takes_accepted}
 use Rattle.rx_book.proofs.book.Book.close.Given as given
@@ -22,11 +24,11 @@ pub returns-clause-none_held : goal.returns-clause-none_held
 returns-clause-none_held g c = (closed g (goal.at.returns-clause-none_held g c).After-promise-2).1
 
 pub returns-clause-accepted : goal.returns-clause-accepted
-returns-clause-accepted g c = takes_accepted c.release_waiting-closed.ensures.drains.takes ∙ c.disconnect_hubs.ensures.accepted ∙ c.dispose_roots.ensures.accepted
+returns-clause-accepted g c = ap (λ (b : Kept). accepted_count b c.release_waiting-closed.new.self.history) c.release_waiting-closed.ensures.continues.base ∙ takes_accepted _ c.release_waiting-closed.ensures.drains.takes ∙ c.disconnect_hubs.ensures.accepted ∙ c.dispose_roots.ensures.accepted
 
 pub returns-clause-released : goal.returns-clause-released
 returns-clause-released g c =
     let held = (closed g (goal.at.returns-clause-released g c).After-promise-2).1 in
-    closed_released c.args.self.now c.disconnect_hubs.new.self c.release_waiting-closed.new.self c.release_waiting-closed.result.released c.promise.ensures
+    closed_released c.args.self.now c.disconnect_hubs.new.self c.release_waiting-closed.new.self c.release_waiting-closed.result.released c.release_waiting-closed.ensures.continues.base c.promise.ensures
     (c.disconnect_hubs.ensures.accepted ∙ c.dispose_roots.ensures.accepted) (c.disconnect_hubs.ensures.taken ∙ c.dispose_roots.ensures.taken)
     c.release_waiting-closed.ensures.drains.takes c.promise-2.ensures held c.release_waiting-closed.ensures.none_waits c.release_waiting-closed.ensures.released

@@ -20,13 +20,13 @@ use Rattle.rx_book.proofs.book.Book.connect.Goals.{After-promise}
 pub admit-requires-clause-within : goal.admit-requires-clause-within
 admit-requires-clause-within g c κs within = λ none.
     let b = c.self.inside.ground in
-    let within = within_full (Connecting c.args.hub) true true b.register.history b.register.limit refl (sym c.connecting_cause-cause.ensures ∙ none) in
+    let within = within_full b.register.base (Connecting c.args.hub) true true b.register.history b.register.limit refl (sym c.connecting_cause-cause.ensures ∙ none) in
     omega arith
 
 pub returns-in_err-admit : goal.returns-in_err-admit
 returns-in_err-admit g c =
     let b = c.self.inside.ground in
-    let stand = causes b.register.history b.register.limit true (Connecting c.args.hub) in
+    let stand = causes b.register.base b.register.history b.register.limit true (Connecting c.args.hub) in
     let a = c.in_err-admit in
     let why = refused_for stand c.connecting_cause-cause.result a.field-0.0 (sym c.connecting_cause-cause.ensures) a.ensures.err in
     rw (← c.self.view_is) (passed_refusal c.from_residual.result a.field-0.0 c.from_residual.ensures.1 why
@@ -62,9 +62,9 @@ returns g c =
     let u = c.write_connect-key.ensures in
     let s = c.settle.ensures in
     let l = called g (goal.at.returns g c).After-promise in
-    let kept = keeps_opened R h b.tree mid.tree c.write_connect-key.result l.may.lawful l.standing.tied.of_tree u.new u.resources in
-    let done = accepts R b _ l mid new u.written kept u.tied.of_tree s.standing s.forced s.nodes s.resources s.limit s.given in
-    let alive = connected_stays h new.register.history c.args.hub l.may.lawful l.may.settled (one_ready R b _ l (Connect c.args.hub) refl).next done.step.forced in
+    let kept = keeps_opened b.register.base R h b.tree mid.tree c.write_connect-key.result l.may.lawful l.standing.tied.of_tree u.new u.resources in
+    let done = accepts R b _ l mid new u.written kept u.tied.of_tree s.standing s.base s.forced s.nodes s.resources s.limit s.given in
+    let alive = connected_stays b.register.base h new.register.history c.args.hub l.may.lawful l.may.settled (one_ready R b _ l (Connect c.args.hub) refl).next done.step.forced in
     let key = key_listed R mid new s.nodes (length h) c.write_connect-key.result c.shown_key.result c.shown_key.ensures u.new.numbered u.new.found alive in
     let same = state_roomier R c.self.inside.ground b c.admit.ensures.kept in
     subst (λ (x : State). AnswersKey x (connect_request c.args.hub) (state_of R new) (Ok c.shown_key.result)) (same ∙ c.self.view_is)

@@ -51,5 +51,5 @@ returns g c =
     let p = (goal.at.returns g c).In-Some-connection in
     let kept = keeps_closed mid.register.history b.tree mid.tree (length b.register.history) w.kept w.resources in
     let done = accepts g.R.Resource b _ (called g p) mid c.settle.new.self (writes g p _ w.written) kept w.tied.of_tree
-    s.standing s.forced s.nodes s.resources s.limit s.given in
+    s.standing s.base s.forced s.nodes s.resources s.limit s.given in
     rw (← c.self.view_is) (answers_ok c.len-place.ensures done)

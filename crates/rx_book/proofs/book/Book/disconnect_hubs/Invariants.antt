@@ -1,5 +1,5 @@
 -- So far only connections were closed that a caller had made.
-use Rattle.std.proofs.Common.{◌≡◌, ◌-◌, ℕ, true, length}
+use Rattle.std.proofs.Common.{◌≡◌, ◌-◌, ℕ, true, length, ◌+◌}
 use Rattle.rx_event.specs.Claims.Closing.{is_open_root}
 use Rattle.rx_event.specs.Totals.{accepted_count, taken_count}
 use Rattle.rx_book.specs.State.{IsPromised}
@@ -8,10 +8,11 @@ use Rattle.rx_book.proofs.book.Book.disconnect_hubs.Given as goal
 abbrev pub invariant-loop-hub : goal.invariant-loop-hub
 invariant-loop-hub g l = record {
   kept : IsPromised l.self;
+  base : l.self.base ≡ l.initial.self.base;
   roots : (n : ℕ) → is_open_root l.self.history n ≡ true → is_open_root l.initial.self.history n ≡ true;
-  accepted : accepted_count l.self.history ≡ accepted_count l.initial.self.history;
-  taken : taken_count l.self.history ≡ taken_count l.initial.self.history;
+  accepted : accepted_count l.self.base l.self.history ≡ accepted_count l.initial.self.base l.initial.self.history;
+  taken : taken_count l.self.base l.self.history ≡ taken_count l.initial.self.base l.initial.self.history;
 }
 
 abbrev pub decreases-loop-hub : goal.decreases-loop-hub
-decreases-loop-hub g l = l.self.limit - length l.self.history
+decreases-loop-hub g l = l.self.base.at_length + l.self.limit - length l.self.history

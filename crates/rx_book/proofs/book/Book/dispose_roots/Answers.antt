@@ -1,4 +1,6 @@
-use Rattle.std.proofs.Common.{◌∙◌, arith}
+use Rattle.std.proofs.Common.{ap, ◌∙◌, arith}
+use Rattle.rx_event.specs.Kept.{Kept}
+use Rattle.rx_event.specs.Totals.{accepted_count, taken_count}
 use Rattle.rx_book.proofs.Closings.{disposed_taken, disposed_accepted, root_found, root_missing, disposable, less_room}
 use Rattle.rx_book.proofs.book.Book.dispose_roots.Goals as goal
 
@@ -8,8 +10,9 @@ loop-root-smaller g c = less_room c.loop-root.self c.dispose.new.self _ c.in-Ok.
 pub loop-root-preserved : goal.loop-root-preserved
 loop-root-preserved g c = record {
   kept = c.promise-in-Ok.ensures;
-  accepted = disposed_accepted _ _ _ c.in-Ok.ensures.accepted.step ∙ c.loop-root.invariant.accepted;
-  taken = disposed_taken _ _ _ c.in-Ok.ensures.accepted.step ∙ c.loop-root.invariant.taken;
+  base = c.in-Ok.ensures.accepted.base ∙ c.loop-root.invariant.base;
+  accepted = ap (λ (b : Kept). accepted_count b c.dispose.new.self.history) c.in-Ok.ensures.accepted.base ∙ disposed_accepted _ _ _ _ c.in-Ok.ensures.accepted.step ∙ c.loop-root.invariant.accepted;
+  taken = ap (λ (b : Kept). taken_count b c.dispose.new.self.history) c.in-Ok.ensures.accepted.base ∙ disposed_taken _ _ _ _ c.in-Ok.ensures.accepted.step ∙ c.loop-root.invariant.taken;
 }
 
 pub unreachable-requires : goal.unreachable-requires

@@ -1,5 +1,5 @@
 -- So far only roots were disposed of.
-use Rattle.std.proofs.Common.{◌≡◌, ◌-◌, length}
+use Rattle.std.proofs.Common.{◌≡◌, ◌-◌, length, ◌+◌}
 use Rattle.rx_event.specs.Totals.{accepted_count, taken_count}
 use Rattle.rx_book.specs.State.{IsPromised}
 use Rattle.rx_book.proofs.book.Book.dispose_roots.Given as goal
@@ -7,9 +7,10 @@ use Rattle.rx_book.proofs.book.Book.dispose_roots.Given as goal
 abbrev pub invariant-loop-root : goal.invariant-loop-root
 invariant-loop-root g l = record {
   kept : IsPromised l.self;
-  accepted : accepted_count l.self.history ≡ accepted_count l.initial.self.history;
-  taken : taken_count l.self.history ≡ taken_count l.initial.self.history;
+  base : l.self.base ≡ l.initial.self.base;
+  accepted : accepted_count l.self.base l.self.history ≡ accepted_count l.initial.self.base l.initial.self.history;
+  taken : taken_count l.self.base l.self.history ≡ taken_count l.initial.self.base l.initial.self.history;
 }
 
 abbrev pub decreases-loop-root : goal.decreases-loop-root
-decreases-loop-root g l = l.self.limit - length l.self.history
+decreases-loop-root g l = l.self.base.at_length + l.self.limit - length l.self.history

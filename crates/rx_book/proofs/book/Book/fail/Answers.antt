@@ -14,14 +14,14 @@ use Rattle.rx_book.proofs.book.Book.fail.Goals.{In_default}
 pub returns-in-Some : goal.returns-in-Some
 returns-in-Some g c =
     let b = c.self.inside.ground in
-    let stand = causes b.register.history b.register.limit true (Failing c.args.merging.number c.args.code) in
+    let stand = causes b.register.base b.register.history b.register.limit true (Failing c.args.merging.number c.args.code) in
     let first = first_by_key b.tree stand (Some c.in-Some.why) c.args.merging (rw c.tree_key-key.ensures at c.in-Some.ensures) in
     rw (← c.self.view_is) (answers_err first refl)
 
 called : (g : given.Over) (c : In_default g) → (let b = c.self.inside.ground in IsLetIn g.R.Resource b (fail_request (state_of g.R.Resource b) c.args.merging c.args.code))
 called g c =
     let b = c.self.inside.ground in
-    let stand = causes b.register.history b.register.limit true (Failing c.args.merging.number c.args.code) in
+    let stand = causes b.register.base b.register.history b.register.limit true (Failing c.args.merging.number c.args.code) in
     let first = first_by_key b.tree stand None c.args.merging (rw c.tree_key-key.ensures at c.in_default.ensures) in
     let_in_free g.R.Resource b _ c.self.invariant c.promise.ensures.register first tt refl refl
 
@@ -49,5 +49,5 @@ returns g c =
     let l = called g (goal.at.returns g c).In_default in
     let kept = keeps_closed mid.register.history b.tree mid.tree (length b.register.history) w.kept w.resources in
     let done = accepts g.R.Resource b _ l mid c.settle.new.self (rw c.tree_key-key.ensures at w.written) kept w.tied.of_tree
-    s.standing s.forced s.nodes s.resources s.limit s.given in
+    s.standing s.base s.forced s.nodes s.resources s.limit s.given in
     rw (← c.self.view_is) (answers_ok c.len-place.ensures done)

@@ -1,9 +1,11 @@
-use Rattle.std.proofs.Common.{List, length, slice_get, refl, ap, subst, ◌∙◌, arith}
+use Rattle.std.proofs.Common.{List, length, refl, ap, subst, ◌∙◌, arith}
 use Rattle.std.specs.Prelude.{Ok}
 use Rattle.rx_event.specs.declared.event.Event.{Event}
 use Rattle.rx_event.specs.declared.event.Event.TheVariants.{Accept}
 use Rattle.rx_event.specs.Calls.{Holding}
-use Rattle.rx_event.proofs.Laws.Places.{slice_get_last}
+use Rattle.rx_event.specs.Kept.{Kept}
+use Rattle.rx_event.specs.Resources.{accepted_by}
+use Rattle.rx_event.proofs.Laws.Resources.{accepted_by_new}
 use Rattle.rx_event.proofs.Laws.StaysOpen.{accepted_stays}
 use Rattle.rx_register.specs.Causes.{causes}
 use Rattle.rx_ground.proofs.Laws.KeysKept.{keeps_held}
@@ -24,7 +26,7 @@ returns-in-Err g c =
     let b = c.self.inside.ground in
     let s = state_of g.R.Resource b in
     let asked = hold_request g.R.Resource s c.args.node c.args.resource in
-    let stand = causes b.register.history b.register.limit asked.is_fresh asked.call in
+    let stand = causes b.register.base b.register.history b.register.limit asked.is_fresh asked.call in
     let cause = c.holding_cause-cause.result in
     let first = first_by_key b.tree stand cause c.args.node (rw (c.tree_key-key.ensures, c.is_fresh-fresh.ensures) at c.holding_cause-cause.ensures) in
     let why = refused_for (stands s asked) cause c.in-Err.why first c.in-Err.ensures.err in
@@ -35,7 +37,7 @@ called g c =
     let old = c.self.inside.ground in
     let asked = λ (s : State). hold_request g.R.Resource s c.args.node c.args.resource in
     let fresh = (asked (state_of g.R.Resource old)).is_fresh in
-    let stand = causes old.register.history old.register.limit fresh (Holding c.args.node.number (g.R.Resource.tag_of c.args.resource)) in
+    let stand = causes old.register.base old.register.history old.register.limit fresh (Holding c.args.node.number (g.R.Resource.tag_of c.args.resource)) in
     let cause = c.holding_cause-cause.result in
     let first = first_by_key old.tree stand cause c.args.node (rw (c.tree_key-key.ensures, c.is_fresh-fresh.ensures) at c.holding_cause-cause.ensures) in
     let a = c.in_default.ensures in
@@ -70,9 +72,10 @@ returns g c =
     let n = length h in
     let node = c.args.node.number in
     let tag = R.tag_of c.args.resource in
-    let done = accepts R b _ l mid new w (keeps_held b.tree mid.tree n a.nodes a.kept) a.tied.of_tree s.standing s.forced s.nodes s.resources s.limit s.given in
-    let alive = accepted_stays h new.register.history node tag l.may.lawful (one_ready R b _ l (Accept node tag) refl).next done.step.forced in
-    let accepted = ap (λ (k : List Event). slice_get k n) w.history ∙ slice_get_last h (Accept node tag) in
+    let done = accepts R b _ l mid new w (keeps_held b.tree mid.tree n a.nodes a.kept) a.tied.of_tree s.standing s.base s.forced s.nodes s.resources s.limit s.given in
+    let alive = accepted_stays b.register.base h new.register.history node tag l.may.lawful (one_ready R b _ l (Accept node tag) refl).next done.step.forced in
+    let accepted = ap (λ (k : Kept). accepted_by k mid.register.history n) w.base ∙ ap (λ (k : List Event). accepted_by b.register.base k n) w.history ∙
+    accepted_by_new b.register.base h (Accept node tag) l.may.lawful in
     let key = res_key_listed R mid new s.nodes n a.tied.of_tree c.write_accept-res.result c.shown_res_key.result c.shown_res_key.ensures s.resources
     a.number a.held node tag accepted alive in
     let same = state_roomier R c.self.inside.ground b c.admit.ensures.kept in

@@ -17,13 +17,13 @@ use Rattle.rx_book.proofs.book.Book.hub.Goals.{After-promise}
 pub admit-requires-clause-within : goal.admit-requires-clause-within
 admit-requires-clause-within g c κs within = λ none.
     let b = c.self.inside.ground in
-    let within = within_full (Publishing c.args.mode) true true b.register.history b.register.limit refl (sym c.publishing_cause-cause.ensures ∙ none) in
+    let within = within_full b.register.base (Publishing c.args.mode) true true b.register.history b.register.limit refl (sym c.publishing_cause-cause.ensures ∙ none) in
     omega arith
 
 pub returns-in_err-admit : goal.returns-in_err-admit
 returns-in_err-admit g c =
     let b = c.self.inside.ground in
-    let stand = causes b.register.history b.register.limit true (Publishing c.args.mode) in
+    let stand = causes b.register.base b.register.history b.register.limit true (Publishing c.args.mode) in
     let a = c.in_err-admit in
     let why = refused_for stand c.publishing_cause-cause.result a.field-0.0 (sym c.publishing_cause-cause.ensures) a.ensures.err in
     rw (← c.self.view_is) (passed_refusal c.from_residual.result a.field-0.0 c.from_residual.ensures.1 why
@@ -59,7 +59,7 @@ returns g c =
     let s = c.settle.ensures in
     let l = called g (goal.at.returns g c).After-promise in
     let kept = keeps_same b.tree mid.tree (length b.register.history) u.tree in
-    let done = accepts R b _ l mid new u.written kept u.tied.of_tree s.standing s.forced s.nodes s.resources s.limit s.given in
+    let done = accepts R b _ l mid new u.written kept u.tied.of_tree s.standing s.base s.forced s.nodes s.resources s.limit s.given in
     let same = state_roomier R c.self.inside.ground b c.admit.ensures.kept in
     subst (λ (x : State). AnswersPlaceOrWant x (hub_request c.args.mode) (state_of R new) (Ok c.write_hub-number.result)) (same ∙ c.self.view_is)
     (answers_ok u.number done)

@@ -25,7 +25,7 @@ pub returns-in_err-reach : goal.returns-in_err-reach
 returns-in_err-reach g c =
     let b = c.self.inside.ground in
     let why = c.in_err-reach.field-0.0 in
-    let stand = causes b.register.history b.register.limit true (Emitting c.args.leaf.number c.args.value) in
+    let stand = causes b.register.base b.register.history b.register.limit true (Emitting c.args.leaf.number c.args.value) in
     let first = first_by_key b.tree stand (Some why) c.args.leaf (rw c.tree_key-key.ensures at (sym c.in_err-reach.ensures.first)) in
     rw (← c.self.view_is) (passed_refusal c.from_residual.result why c.from_residual.ensures.1 (inl first) (ap (state_of g.R.Resource) c.in_err-reach.ensures.kept))
 
@@ -40,15 +40,15 @@ make_room-requires-clause-within g c κs within =
     let b = c.self.inside.ground in
     let key = c.tree_key-key.result in
     let call = Emitting key.number c.args.value in
-    let within = within_full call _ true b.register.history b.register.limit refl c.in_ok-reach.ensures.none in
+    let within = within_full b.register.base call _ true b.register.history b.register.limit refl c.in_ok-reach.ensures.none in
     let added = added_by-emitting b.register.history b.tree.nodes key c.args.value c.in_ok-reach.reach c.in_ok-reach.ensures.ok in
-    subst (λ (x : Ground g.row.R.Denot). length x.register.history + debt x.register.history + c.in_ok-reach.reach.events ≤ x.register.limit)
+    subst (λ (x : Ground g.row.R.Denot). length x.register.history + debt x.register.base x.register.history + c.in_ok-reach.reach.events ≤ x.register.base.at_length + x.register.limit)
     (sym c.in_ok-reach.ensures.kept) (omega arith)
 
 pub returns-in_err-make_room : goal.returns-in_err-make_room
 returns-in_err-make_room g c =
     let b = c.self.inside.ground in
-    let stand = causes b.register.history b.register.limit true (Emitting c.args.leaf.number c.args.value) in
+    let stand = causes b.register.base b.register.history b.register.limit true (Emitting c.args.leaf.number c.args.value) in
     let first = first_by_key b.tree stand None c.args.leaf (rw c.tree_key-key.ensures at (sym c.in_ok-reach.ensures.none)) in
     let passed = c.from_residual-in_err-make_room in
     let m = c.in_err-make_room in
@@ -66,7 +66,7 @@ called : (g : given.Over) (c : After-promise g) → (let b = c.make_room.new.sel
 called g c =
     let old = c.self.inside.ground in
     let b = c.make_room.new.self in
-    let stand = causes old.register.history old.register.limit true (Emitting c.args.leaf.number c.args.value) in
+    let stand = causes old.register.base old.register.history old.register.limit true (Emitting c.args.leaf.number c.args.value) in
     let first = first_by_key old.tree stand None c.args.leaf (rw c.tree_key-key.ensures at (sym c.in_ok-reach.ensures.none)) in
     let m = c.in_ok-make_room.ensures in
     let is = rw c.tree_key-key.ensures at (reached g c) in
@@ -103,7 +103,7 @@ returns g c =
     let w = rw (c.tree_key-key.ensures, to_z-of_z w64 c.args.value c.ranges.value) at c.write_item.ensures.written in
     let l = called g (goal.at.returns g c).After-promise in
     let kept = keeps_closed mid.register.history b.tree mid.tree _ c.write_item.ensures.kept c.write_item.ensures.resources in
-    let done = accepts R b _ l mid new w kept c.write_item.ensures.tied.of_tree s.standing s.forced s.nodes s.resources s.limit s.given in
+    let done = accepts R b _ l mid new w kept c.write_item.ensures.tied.of_tree s.standing s.base s.forced s.nodes s.resources s.limit s.given in
     let same = state_roomier R c.self.inside.ground b (roomier g (goal.at.returns g c).After-promise) in
     subst (λ (x : State). AnswersPlaceOrWant x (next_request x c.args.leaf c.args.value) (state_of R new) (Ok c.len-place.result)) (same ∙ c.self.view_is)
     (answers_ok c.len-place.ensures done)

@@ -27,7 +27,7 @@ pub returns-in_err-admit : goal.returns-in_err-admit
 returns-in_err-admit g c =
     let b = c.self.inside.ground in
     let s = state_of g.R.Resource b in
-    let stand = causes b.register.history b.register.limit true (Opening (place_of c.args.at) c.args.kind) in
+    let stand = causes b.register.base b.register.history b.register.limit true (Opening (place_of c.args.at) c.args.kind) in
     let cause = c.opening_cause-cause.result in
     let first = first_by_place b.tree stand cause c.args.at
     (rw (c.spot_of-spot.ensures.place, c.spot_of-spot.ensures.above) at c.opening_cause-cause.ensures) in
@@ -40,10 +40,10 @@ pub admit-requires-clause-within : goal.admit-requires-clause-within
 admit-requires-clause-within g c κs within = λ none.
     let b = c.self.inside.ground in
     let call = Opening (place_of c.args.at) c.args.kind in
-    let stand = causes b.register.history b.register.limit true call in
+    let stand = causes b.register.base b.register.history b.register.limit true call in
     let first = first_by_place b.tree stand c.opening_cause-cause.result c.args.at
     (rw (c.spot_of-spot.ensures.place, c.spot_of-spot.ensures.above) at c.opening_cause-cause.ensures) in
-    let within = within_full call _ true b.register.history b.register.limit refl (first ∙ none) in
+    let within = within_full b.register.base call _ true b.register.history b.register.limit refl (first ∙ none) in
     let added = rw c.spot_of-spot.ensures.place at c.added_by_opening.ensures in
     omega arith
 
@@ -52,7 +52,7 @@ called g c =
     let old = c.self.inside.ground in
     let b = c.admit.new.ground in
     let asked = λ (s : State). open_request s c.args.at c.args.kind in
-    let stand = causes old.register.history old.register.limit true (Opening (place_of c.args.at) c.args.kind) in
+    let stand = causes old.register.base old.register.history old.register.limit true (Opening (place_of c.args.at) c.args.kind) in
     let cause = c.opening_cause-cause.result in
     let first = first_by_place old.tree stand cause c.args.at
     (rw (c.spot_of-spot.ensures.place, c.spot_of-spot.ensures.above) at c.opening_cause-cause.ensures) in
@@ -78,7 +78,7 @@ write_open-key-requires-clause-placed g c κs within =
     let l = called g (goal.at.write_open-key-requires-clause-placed g c).After-promise in
     let there = sym (is_known_place_is b.tree c.args.at) ∙ known g.R.Resource b _ l in
     rw (c.spot_of-spot.ensures.place, c.spot_of-spot.ensures.above)
-    (placed_at g.R.Resource b.register.history b.tree l.standing.tied.of_tree c.args.kind c.args.at there)
+    (placed_at b.register.base g.R.Resource b.register.history b.tree l.standing.tied.of_tree c.args.kind c.args.at there)
 
 pub settle-requires-clause-paid : goal.settle-requires-clause-paid
 settle-requires-clause-paid g c κs within =
@@ -109,13 +109,13 @@ returns g c =
     let w = rw c.spot_of-spot.ensures.place at o.written in
     let p = (goal.at.returns g c).After-promise in
     let l = called g p in
-    let kept = keeps_opened R h b.tree mid.tree c.write_open-key.result l.may.lawful l.standing.tied.of_tree o.new o.resources in
-    let done = accepts R b _ l mid new w kept o.tied.of_tree s.standing s.forced s.nodes s.resources s.limit s.given in
-    let alive = opened_stays h new.register.history (place_of c.args.at) c.args.kind l.may.lawful (ready g p).next done.step.forced in
+    let kept = keeps_opened b.register.base R h b.tree mid.tree c.write_open-key.result l.may.lawful l.standing.tied.of_tree o.new o.resources in
+    let done = accepts R b _ l mid new w kept o.tied.of_tree s.standing s.base s.forced s.nodes s.resources s.limit s.given in
+    let alive = opened_stays b.register.base h new.register.history (place_of c.args.at) c.args.kind l.may.lawful (ready g p).next done.step.forced in
     let key = key_listed R mid new s.nodes (length h) c.write_open-key.result c.shown_key.result c.shown_key.ensures o.new.numbered o.new.found alive in
     let forces = c.forces_connect-connects.ensures ∙ sym (ap (λ (r : Register). forces_connect r.history c.args.kind) c.in_ok-admit.ensures.kept.register) in
     let of = c.connection_of.ensures in
-    let connection = connection_answered h (place_of c.args.at) l.may.lawful new.register.history done.step.lawful s.standing.settled c.args.kind
+    let connection = connection_answered b.register.base h (place_of c.args.at) l.may.lawful new.register.history done.step.lawful done.step.settled c.args.kind
     c.forces_connect-connects.result _ (ready g p).next done.step.forced forces of.forced (λ none. ap (option_map (λ (k : Key). k.number)) (of.quiet none)) in
     let same = state_roomier R c.self.inside.ground b c.admit.ensures.kept in
     subst (λ (x : State). AnswersOpened x (open_request x c.args.at c.args.kind) (state_of R new)

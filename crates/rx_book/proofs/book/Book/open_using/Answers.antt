@@ -1,20 +1,26 @@
-use Rattle.std.proofs.Common.{◌≡◌, ◌+◌, List, ◌∷◌, [], ◌++◌, length, is_some, slice_get, refl, sym, ap, subst, ◌∙◌, arith, length-append}
+use Rattle.std.proofs.Common.{◌≡◌, ◌==◌, ◌+◌, List, ◌∷◌, [], ◌++◌, length, is_some, refl, sym, ap, subst, ◌∙◌, arith, length-append}
 use Rattle.std.specs.Prelude.{Ok}
+use Rattle.std.proofs.lemmas.Bool.{not-false, and_parts, eqb-true}
+use Rattle.rx_event.specs.declared.refusal.Refusal.TheVariants.{NotFresh}
 use Rattle.rx_event.specs.declared.event.Kind.TheVariants.{Pass}
 use Rattle.rx_event.specs.declared.event.Event.{Event}
 use Rattle.rx_event.specs.declared.event.Event.TheVariants.{Open, Accept}
 use Rattle.rx_event.specs.Calls.{OpeningUsing}
-use Rattle.rx_event.proofs.Laws.Places.{slice_get_last}
+use Rattle.rx_event.specs.Kept.{Kept}
+use Rattle.rx_event.specs.Resources.{accepted_by}
+use Rattle.rx_event.proofs.Laws.Lawful.{IsLawful-push}
+use Rattle.rx_event.proofs.Laws.Resources.{accepted_by_new}
 use Rattle.rx_event.proofs.Laws.StaysOpen.{opened_using_stays}
 use Rattle.rx_slots.specs.Slots.{Slots, find}
 use Rattle.rx_tree.specs.declared.node.Node.{Node}
 use Rattle.rx_register.specs.Causes.{causes, end_at}
 use Rattle.rx_register.specs.State.{State as Register, Writes}
 use Rattle.rx_register.proofs.Laws.Paid.{Writes-append}
+use Rattle.rx_register.proofs.Laws.NoCause.{no_cause}
 use Rattle.rx_ground.specs.Ties.{IsReady}
 use Rattle.rx_ground.proofs.Laws.KeysKept.{keeps_on, keeps_held, keeps_opened}
 use Rattle.rx_book.specs.State.{State}
-use Rattle.rx_book.specs.Requests.{using_request, stands, place_of}
+use Rattle.rx_book.specs.Requests.{using_request, stands, place_of, is_fresh_in, is_live}
 use Rattle.rx_book.specs.Answers.{AnswersOpenedUsing}
 use Rattle.rx_book.specs.Shown.{state_of}
 use Rattle.rx_book.proofs.ShownKeys.{is_known_place_is}
@@ -32,7 +38,7 @@ returns-in-Err g c =
     let b = c.self.inside.ground in
     let s = state_of g.R.Resource b in
     let asked = using_request g.R.Resource s c.args.at c.args.resource in
-    let stand = causes b.register.history b.register.limit asked.is_fresh asked.call in
+    let stand = causes b.register.base b.register.history b.register.limit asked.is_fresh asked.call in
     let cause = c.using_cause-cause.result in
     let first = first_by_place b.tree stand cause c.args.at
     (rw (c.spot_of-spot.ensures.place, c.spot_of-spot.ensures.above, c.tag-tag.ensures, c.is_fresh-fresh.ensures) at c.using_cause-cause.ensures) in
@@ -43,10 +49,10 @@ pub admit-requires-clause-within : goal.admit-requires-clause-within
 admit-requires-clause-within g c κs within = λ none.
     let b = c.self.inside.ground in
     let asked = using_request g.R.Resource (state_of g.R.Resource b) c.args.at c.args.resource in
-    let stand = causes b.register.history b.register.limit asked.is_fresh asked.call in
+    let stand = causes b.register.base b.register.history b.register.limit asked.is_fresh asked.call in
     let first = first_by_place b.tree stand c.using_cause-cause.result c.args.at
     (rw (c.spot_of-spot.ensures.place, c.spot_of-spot.ensures.above, c.tag-tag.ensures, c.is_fresh-fresh.ensures) at c.using_cause-cause.ensures) in
-    let within = within_full asked.call _ asked.is_fresh b.register.history b.register.limit refl (first ∙ none) in
+    let within = within_full b.register.base asked.call _ asked.is_fresh b.register.history b.register.limit refl (first ∙ none) in
     let end = c.end_at-end.ensures ∙ ap end_at c.spot_of-spot.ensures.place in
     omega arith
 
@@ -56,7 +62,7 @@ called g c =
     let old = c.self.inside.ground in
     let b = c.admit.new.ground in
     let asked = λ (s : State). using_request R s c.args.at c.args.resource in
-    let stand = causes old.register.history old.register.limit (asked (state_of R old)).is_fresh
+    let stand = causes old.register.base old.register.history old.register.limit (asked (state_of R old)).is_fresh
     (OpeningUsing (place_of c.args.at) (R.tag_of c.args.resource)) in
     let cause = c.using_cause-cause.result in
     let first = first_by_place old.tree stand cause c.args.at
@@ -82,7 +88,7 @@ write_open-node-requires-clause-placed g c κs within =
     let b = c.admit.new.ground in
     let l = called g (goal.at.write_open-node-requires-clause-placed g c).After-promise in
     let there = sym (is_known_place_is b.tree c.args.at) ∙ known g.R.Resource b _ l in
-    rw (c.spot_of-spot.ensures.place, c.spot_of-spot.ensures.above) (placed_at g.R.Resource b.register.history b.tree l.standing.tied.of_tree Pass c.args.at there)
+    rw (c.spot_of-spot.ensures.place, c.spot_of-spot.ensures.above) (placed_at b.register.base g.R.Resource b.register.history b.tree l.standing.tied.of_tree Pass c.args.at there)
 
 -- and then the acceptance
 holds : (g : given.Over) (c : After-promise g) (mid : Register) → (let b = c.admit.new.ground in Writes b.register (Open (place_of c.args.at) Pass ∷ []) mid →
@@ -91,6 +97,17 @@ holds g c mid w =
     let b = c.admit.new.ground in
     second_ready g.R.Resource b _ (called g c) (Open (place_of c.args.at) Pass) (Accept (length b.register.history) (g.R.Resource.tag_of c.args.resource)) mid
     refl w refl
+
+pub write_accept-res-requires-clause-unused : goal.write_accept-res-requires-clause-unused
+write_accept-res-requires-clause-unused g c κs within =
+    let R = g.R.Resource in
+    let l = called g (goal.at.write_accept-res-requires-clause-unused g c).After-promise in
+    let b = c.admit.new.ground in
+    let stand = causes b.register.base b.register.history b.register.limit (is_fresh_in R c.args.resource)
+    (OpeningUsing (place_of c.args.at) (R.tag_of c.args.resource)) in
+    let stale = no_cause stand l.may.no_cause NotFresh in
+    let fresh = not-false (is_fresh_in R c.args.resource) stale in
+    eqb-true (R.uses_of c.args.resource) 0 (and_parts (is_live (R.life_of c.args.resource)) (R.uses_of c.args.resource == 0) fresh).1
 
 pub write_accept-res-requires-clause-ready : goal.write_accept-res-requires-clause-ready
 write_accept-res-requires-clause-ready g c κs within =
@@ -139,16 +156,19 @@ returns g c =
     let p = (goal.at.returns g c).After-promise in
     let l = called g p in
     let longer : length mid.register.history ≡ length h + 1 = ap (λ (k : List Event). length k) w.history ∙ length-append h (e ∷ []) in
-    let opened = keeps_opened R h b.tree mid.tree c.write_open-node.result l.may.lawful l.standing.tied.of_tree o.new o.resources in
+    let opened = keeps_opened b.register.base R h b.tree mid.tree c.write_open-node.result l.may.lawful l.standing.tied.of_tree o.new o.resources in
     let kept = keeps_on b.tree mid.tree last.tree (length h) (length mid.register.history) (omega arith) opened
     (keeps_held mid.tree last.tree (length mid.register.history) a.nodes a.kept) in
     let both = Writes-append b.register mid.register last.register (e ∷ []) (f ∷ []) w v in
-    let done = accepts R b _ l last new both kept a.tied.of_tree s.standing s.forced s.nodes s.resources s.limit s.given in
-    let alive = opened_using_stays h new.register.history (place_of c.args.at) (R.tag_of c.args.resource) l.may.lawful (opens g p).next done.step.forced in
+    let done = accepts R b _ l last new both kept a.tied.of_tree s.standing s.base s.forced s.nodes s.resources s.limit s.given in
+    let alive = opened_using_stays b.register.base h new.register.history (place_of c.args.at) (R.tag_of c.args.resource) l.may.lawful (opens g p).next done.step.forced in
     let found = ap (λ (nodes : Slots Node). is_some (find nodes c.write_open-node.result)) a.nodes ∙ o.new.found in
     let key = key_listed R last new s.nodes (length h) c.write_open-node.result c.shown_key.result c.shown_key.ensures o.new.numbered found alive in
-    let at_last = ap (slice_get (mid.register.history ++ f ∷ [])) (sym longer) ∙ slice_get_last mid.register.history f in
-    let accepted = ap (λ (k : List Event). slice_get k (length h + 1)) v.history ∙ at_last in
+    let law = IsLawful-push b.register.base h e l.may.lawful (opens g p).next in
+    let at_last = ap (accepted_by b.register.base ((h ++ e ∷ []) ++ f ∷ [])) (sym (length-append h (e ∷ []))) ∙ accepted_by_new b.register.base (h ++ e ∷ []) f law in
+    let grown = v.history ∙ ap (λ (k : List Event). k ++ f ∷ []) w.history in
+    let accepted = ap (λ (k : Kept). accepted_by k last.register.history (length h + 1)) (v.base ∙ w.base) ∙
+    ap (λ (k : List Event). accepted_by b.register.base k (length h + 1)) grown ∙ at_last in
     let res = res_key_listed R last new s.nodes (length h + 1) a.tied.of_tree c.write_accept-res.result c.shown_res_key.result c.shown_res_key.ensures
     s.resources (a.number ∙ longer) a.held (length h) (R.tag_of c.args.resource) accepted alive in
     let same = state_roomier R c.self.inside.ground b c.admit.ensures.kept in

@@ -1,4 +1,7 @@
-use Rattle.std.proofs.Common.{sym, subst, arith}
+use Rattle.std.proofs.Common.{sym, ap, subst, arith}
+use Rattle.rx_event.specs.Kept.{Kept}
+use Rattle.rx_event.specs.Totals.{taken_count}
+use Rattle.rx_event.specs.Calls.{Taking, IsStepOf}
 use Rattle.rx_book.specs.Drains.{Drains, none_taken, next_taken}
 use Rattle.rx_book.proofs.Laws.Going.{accepted_continues, continues_none, continues_more}
 use Rattle.rx_book.proofs.Closings.{taken_one, less_room, none_waits}
@@ -18,11 +21,13 @@ loop-handed-smaller g c = less_room c.loop-handed.self c.take.new.self _ c.in-So
 
 pub loop-handed-preserved : goal.loop-handed-preserved
 loop-handed-preserved g c =
-    let one = taken_one c.loop-handed.self.history c.take.new.self.history _ c.in-Some.ensures.accepted.step in
+    let one = taken_one c.loop-handed.self.base c.loop-handed.self.history c.take.new.self.history _ c.in-Some.ensures.accepted.step in
+    let same = ap (λ (b : Kept). taken_count b c.take.new.self.history) c.in-Some.ensures.accepted.base in
     let faults = c.loop-handed.invariant.faults in
     record {
       kept = c.promise-in-Some.ensures;
-      takes = next_taken c.loop-handed.invariant.takes c.in-Some.ensures.accepted.step;
+      takes = next_taken c.loop-handed.invariant.takes
+          (subst (λ (b : Kept). IsStepOf b c.loop-handed.self.history (Taking c.in-Some.handed.0) c.take.new.self.history) c.loop-handed.invariant.continues.base c.in-Some.ensures.accepted.step);
       continues = continues_more c.args.self.now c.loop-handed.self c.take.new.self c.loop-handed.invariant.continues (accepted_continues c.loop-handed.self c.take.new.self _ c.in-Some.ensures.accepted);
       faults = elim c.if-is_some.branch [ then-is_some w ↦ omega arith | else-is_some w ↦ omega arith ];
     }
@@ -30,4 +35,4 @@ loop-handed-preserved g c =
 pub returns-clause-drains : goal.returns-clause-drains
 returns-clause-drains g c =
     let same = c.in_default.ensures.kept in
-    subst (λ b. Drains c.args.self.now.history b.history) (sym same) (record { takes = c.loop-handed.invariant.takes; none_waits = none_waits c.loop-handed.self c.loop-handed.invariant.kept c.in_default.ensures.cases })
+    subst (λ b. Drains c.args.self.now.base c.args.self.now.history b.history) (sym same) (record { takes = c.loop-handed.invariant.takes; none_waits = none_waits c.loop-handed.self c.loop-handed.invariant.kept c.in_default.ensures.cases })

@@ -1,6 +1,7 @@
 use Rattle.std.proofs.Common.{length, refl, sym, subst, ◌∙◌}
 use Rattle.rx_event.specs.declared.event.Event.TheVariants.{Take}
 use Rattle.rx_event.specs.Forced.{IsSettled}
+use Rattle.rx_event.specs.Kept.{Kept}
 use Rattle.rx_event.proofs.Laws.Calm.{closes_none_kept, settled_on, unforced}
 use Rattle.rx_ground.proofs.Laws.KeysKept.{keeps_held}
 use Rattle.rx_book.specs.Requests.{take_request}
@@ -19,7 +20,7 @@ write_take-requires-clause-room g c κs within = λ r waits.
 called : (g : given.Over) (c : In_ok-handed g) → IsLetIn g.R.Resource c.self.inside.ground (take_request c.in_ok-handed.handed.0)
 called g c =
     let b = c.self.inside.ground in
-    let waits = listed_waits g.R.Resource b.register.history b.tree c.self.invariant.tied.of_tree c.promise.ensures.tree.resources_apart c.in_ok-handed.handed
+    let waits = listed_waits g.R.Resource b.register.base b.register.history b.tree c.self.invariant.tied.of_tree c.promise.ensures.tree.resources_apart c.in_ok-handed.handed
     c.in_ok-handed.ensures.waited in
     let_in_free g.R.Resource b _ c.self.invariant c.promise.ensures.register refl waits refl refl
 
@@ -45,11 +46,12 @@ returns g c =
     let l = called g (goal.at.returns g c).In_ok-handed in
     let ready = one_ready R b _ l (Take r) refl in
     let h = b.register.history in
-    let rests = settled_on h (Take r) l.may.lawful ready.next l.may.settled refl (λ n. refl) (closes_none_kept h (Take r) refl) refl in
-    let grown = unforced s.forced (subst IsSettled (sym t.written.history) rests) ∙ t.written.history in
+    let rests = settled_on b.register.base h (Take r) l.may.lawful ready.next l.may.settled refl (λ n. refl) (closes_none_kept h (Take r) refl) refl in
+    let settled = subst (λ (k : Kept). IsSettled k mid.register.history) (sym t.written.base) (subst (IsSettled b.register.base) (sym t.written.history) rests) in
+    let grown = unforced mid.register.base s.forced settled ∙ t.written.history in
     rw (← c.self.view_is) (record {
       cases = t.waited.listed;
-      accepted = accepts R b _ l mid new t.written (keeps_held b.tree mid.tree (length b.register.history) t.nodes t.kept) t.tied.of_tree s.standing s.forced s.nodes
+      accepted = accepts R b _ l mid new t.written (keeps_held b.tree mid.tree (length b.register.history) t.nodes t.kept) t.tied.of_tree s.standing s.base s.forced s.nodes
           s.resources s.limit s.given;
       kept = tt;
       fewer = fewer_wait R b new r l.standing.tied.of_tree s.standing.tied.of_tree c.promise.ensures.tree.resources_apart c.promise-2.ensures.tree.resources_apart
