@@ -1,5 +1,6 @@
 -- What a step adds to the totals.
 use Rattle.std.proofs.Common.{◌≡◌, ◌+◌, true, false, List, [], ◌∷◌, ◌++◌, length, refl, sym, ap, ◌∙◌, arith, append_assoc, cond, ℕ, map}
+use Rattle.rx_event.specs.Kept.{Kept}
 use Rattle.rx_event.specs.declared.event.Event.{Event}
 use Rattle.rx_event.specs.declared.event.Event.TheVariants.{Open, Hub, Connect, Accept, Use, Remove, Item, Decline, End, Close, Take}
 use Rattle.rx_note.specs.declared.note.Terminal.TheVariants.{Error}
@@ -23,8 +24,8 @@ counts e s = record { items = s.items + cond (is_item e) 1 0; accepted = s.accep
 same_sums : (a b : Sums) → a.items ≡ b.items → a.accepted ≡ b.accepted → a.taken ≡ b.taken → a ≡ b
 same_sums a b i j k = rw (i, j, k) refl
 
-sums-push : (h : List Event) (e : Event) → sums_of (h ++ e ∷ []) ≡ counts e (sums_of h)
-sums-push h e = same_sums (sums_of (h ++ e ∷ [])) (counts e (sums_of h)) (item_count-push h e) (accepted_count-push h e) (taken_count-push h e)
+sums-push : (base : Kept) → (h : List Event) (e : Event) → sums_of base (h ++ e ∷ []) ≡ counts e (sums_of base h)
+sums-push base h e = same_sums (sums_of base (h ++ e ∷ [])) (counts e (sums_of base h)) (item_count-push base h e) (accepted_count-push base h e) (taken_count-push base h e)
 
 plain : (e : Event) (s : Sums) → is_item e ≡ false → makes_resource e ≡ false → is_take e ≡ false → counts e s ≡ s
 plain e s i a k = same_sums (counts e s) s (rw i (omega arith)) (rw a (omega arith)) (rw k (omega arith))
@@ -43,47 +44,47 @@ counts_none (Decline f) s m = cc
 counts_none (Take r) s m = cc
 
 -- what is forced counts nothing
-sums-forced : {h k : List Event} → IsForcedOn h k → sums_of k ≡ sums_of h
-sums-forced stays = refl
-sums-forced (more {h} {k} {e} before is_forced) = sums-push k e ∙ counts_none e (sums_of k) (forced_kind is_forced) ∙ sums-forced before
+sums-forced : (base : Kept) → {h k : List Event} → IsForcedOn base h k → sums_of base k ≡ sums_of base h
+sums-forced base stays = refl
+sums-forced base (more {h} {k} {e} before is_forced) = sums-push base k e ∙ counts_none e (sums_of base k) (forced_kind base is_forced) ∙ sums-forced base before
 
-one_more : (h : List Event) (e : Event) (s : Sums) → counts e (sums_of h) ≡ s → sums_of (h ++ e ∷ []) ≡ s
-one_more h e s counted = sums-push h e ∙ counted
+one_more : (base : Kept) → (h : List Event) (e : Event) (s : Sums) → counts e (sums_of base h) ≡ s → sums_of base (h ++ e ∷ []) ≡ s
+one_more base h e s counted = sums-push base h e ∙ counted
 
-sums-closed : (h : List Event) (cs : List ℕ) → sums_of (h ++ map (λ c. Close c) cs) ≡ sums_of h
-sums-closed h [] = ap sums_of (append-nil h)
-sums-closed h (c ∷ cs) =
-    ap sums_of (sym (append_assoc h (Close c ∷ []) (map (λ d. Close d) cs)))
-    ∙ sums-closed (h ++ Close c ∷ []) cs ∙ one_more h (Close c) (sums_of h) (plain (Close c) (sums_of h) refl refl refl)
+sums-closed : (base : Kept) → (h : List Event) (cs : List ℕ) → sums_of base (h ++ map (λ c. Close c) cs) ≡ sums_of base h
+sums-closed base h [] = ap (sums_of base) (append-nil h)
+sums-closed base h (c ∷ cs) =
+    ap (sums_of base) (sym (append_assoc h (Close c ∷ []) (map (λ d. Close d) cs)))
+    ∙ sums-closed base (h ++ Close c ∷ []) cs ∙ one_more base h (Close c) (sums_of base h) (plain (Close c) (sums_of base h) refl refl refl)
 
-sums-outside : (h : List Event) (call : Call) → sums_of (h ++ outside_of h call) ≡ counting call (sums_of h)
-sums-outside h (Opening place kind) = one_more h (Open place kind) (sums_of h) (plain (Open place kind) (sums_of h) refl refl refl)
-sums-outside h (OpeningUsing place tag) =
-    let opened : sums_of (h ++ Open place Pass ∷ []) ≡ sums_of h = one_more h (Open place Pass) (sums_of h) (plain (Open place Pass) (sums_of h) refl refl refl) in
+sums-outside : (base : Kept) → (h : List Event) (call : Call) → sums_of base (h ++ outside_of h call) ≡ counting call (sums_of base h)
+sums-outside base h (Opening place kind) = one_more base h (Open place kind) (sums_of base h) (plain (Open place kind) (sums_of base h) refl refl refl)
+sums-outside base h (OpeningUsing place tag) =
+    let opened : sums_of base (h ++ Open place Pass ∷ []) ≡ sums_of base h = one_more base h (Open place Pass) (sums_of base h) (plain (Open place Pass) (sums_of base h) refl refl refl) in
     let accept = Accept (length h) tag in
     let both : h ++ Open place Pass ∷ accept ∷ [] ≡ (h ++ Open place Pass ∷ []) ++ accept ∷ [] = sym (append_assoc h (Open place Pass ∷ []) (accept ∷ [])) in
-    ap sums_of both ∙ sums-push (h ++ Open place Pass ∷ []) accept ∙ ap (counts accept) opened
-    ∙ same_sums (counts accept (sums_of h)) (record (sums_of h) { accepted = accepted_count h + 1 }) (omega arith) refl (omega arith)
-sums-outside h (Holding node tag) =
-    let more : Sums = record (sums_of h) { accepted = accepted_count h + 1 } in
-    one_more h (Accept node tag) more (same_sums (counts (Accept node tag) (sums_of h)) more (omega arith) refl (omega arith))
-sums-outside h (Applying r) = one_more h (Use r) (sums_of h) (plain (Use r) (sums_of h) refl refl refl)
-sums-outside h (Removing r) = one_more h (Remove r) (sums_of h) (plain (Remove r) (sums_of h) refl refl refl)
-sums-outside h (Emitting leaf value) =
-    let more : Sums = record (sums_of h) { items = item_count h + 1 } in
-    one_more h (Item leaf value) more (same_sums (counts (Item leaf value) (sums_of h)) more refl (omega arith) (omega arith))
-sums-outside h (Ending leaf t) = one_more h (End leaf t) (sums_of h) (plain (End leaf t) (sums_of h) refl refl refl)
-sums-outside h (Aborting n code) = one_more h (End n (Error code)) (sums_of h) (plain (End n (Error code)) (sums_of h) refl refl refl)
-sums-outside h (Declining f) = one_more h (Decline f) (sums_of h) (plain (Decline f) (sums_of h) refl refl refl)
-sums-outside h (Failing f code) = one_more h (End f (Error code)) (sums_of h) (plain (End f (Error code)) (sums_of h) refl refl refl)
-sums-outside h (Disposing root) = one_more h (Close root) (sums_of h) (plain (Close root) (sums_of h) refl refl refl)
-sums-outside h (Publishing mode) = one_more h (Hub mode) (sums_of h) (plain (Hub mode) (sums_of h) refl refl refl)
-sums-outside h (Connecting g) = one_more h (Connect g) (sums_of h) (plain (Connect g) (sums_of h) refl refl refl)
-sums-outside h (Disconnecting g) = sums-closed h (open_connections h g)
-sums-outside h (Taking r) =
-    let more : Sums = record (sums_of h) { taken = taken_count h + 1 } in
-    one_more h (Take r) more (same_sums (counts (Take r) (sums_of h)) more (omega arith) (omega arith) refl)
+    ap (sums_of base) both ∙ sums-push base (h ++ Open place Pass ∷ []) accept ∙ ap (counts accept) opened
+    ∙ same_sums (counts accept (sums_of base h)) (record (sums_of base h) { accepted = accepted_count base h + 1 }) (omega arith) refl (omega arith)
+sums-outside base h (Holding node tag) =
+    let more : Sums = record (sums_of base h) { accepted = accepted_count base h + 1 } in
+    one_more base h (Accept node tag) more (same_sums (counts (Accept node tag) (sums_of base h)) more (omega arith) refl (omega arith))
+sums-outside base h (Applying r) = one_more base h (Use r) (sums_of base h) (plain (Use r) (sums_of base h) refl refl refl)
+sums-outside base h (Removing r) = one_more base h (Remove r) (sums_of base h) (plain (Remove r) (sums_of base h) refl refl refl)
+sums-outside base h (Emitting leaf value) =
+    let more : Sums = record (sums_of base h) { items = item_count base h + 1 } in
+    one_more base h (Item leaf value) more (same_sums (counts (Item leaf value) (sums_of base h)) more refl (omega arith) (omega arith))
+sums-outside base h (Ending leaf t) = one_more base h (End leaf t) (sums_of base h) (plain (End leaf t) (sums_of base h) refl refl refl)
+sums-outside base h (Aborting n code) = one_more base h (End n (Error code)) (sums_of base h) (plain (End n (Error code)) (sums_of base h) refl refl refl)
+sums-outside base h (Declining f) = one_more base h (Decline f) (sums_of base h) (plain (Decline f) (sums_of base h) refl refl refl)
+sums-outside base h (Failing f code) = one_more base h (End f (Error code)) (sums_of base h) (plain (End f (Error code)) (sums_of base h) refl refl refl)
+sums-outside base h (Disposing root) = one_more base h (Close root) (sums_of base h) (plain (Close root) (sums_of base h) refl refl refl)
+sums-outside base h (Publishing mode) = one_more base h (Hub mode) (sums_of base h) (plain (Hub mode) (sums_of base h) refl refl refl)
+sums-outside base h (Connecting g) = one_more base h (Connect g) (sums_of base h) (plain (Connect g) (sums_of base h) refl refl refl)
+sums-outside base h (Disconnecting g) = sums-closed base h (open_connections h g)
+sums-outside base h (Taking r) =
+    let more : Sums = record (sums_of base h) { taken = taken_count base h + 1 } in
+    one_more base h (Take r) more (same_sums (counts (Take r) (sums_of base h)) more (omega arith) (omega arith) refl)
 
 -- a step adds to the totals just what its call counts
-pub sums-step : (h k : List Event) (call : Call) → IsStepOf h call k → sums_of k ≡ counting call (sums_of h)
-sums-step h k call step = sums-forced step.forced ∙ sums-outside h call
+pub sums-step : (base : Kept) → (h k : List Event) (call : Call) → IsStepOf base h call k → sums_of base k ≡ counting call (sums_of base h)
+sums-step base h k call step = sums-forced base step.forced ∙ sums-outside base h call

@@ -1,5 +1,6 @@
 -- The ledgers after a call of the book.
 use Rattle.std.proofs.Common.{◌≡◌, Result, Ok, Err, sym, ap, ◌∙◌}
+use Rattle.rx_event.specs.Kept.{Kept}
 use Rattle.rx_book.specs.State.{State}
 use Rattle.rx_book.specs.Requests.{Request}
 use Rattle.rx_book.specs.Answers.{Accepts, Answers}
@@ -9,14 +10,15 @@ use Rattle.rx_crew.proofs.Counted.{sums-step}
 
 -- ledgers that agreed with the history, and count what the accepted call does, agree with the history after it
 pub counted : (old new : State) (asked : Request) (before after : Sums)
-    → Accepts old asked new → before ≡ sums_of old.history → after ≡ counting asked.call before → after ≡ sums_of new.history
+    → Accepts old asked new → before ≡ sums_of old.base old.history → after ≡ counting asked.call before → after ≡ sums_of new.base new.history
 counted old new asked before after accepts agreed counts =
-    counts ∙ ap (counting asked.call) agreed ∙ sym (sums-step old.history new.history asked.call accepts.step)
+    counts ∙ ap (counting asked.call) agreed ∙ sym (sums-step old.base old.history new.history asked.call accepts.step) ∙
+    ap (λ (b : Kept). sums_of b new.history) (sym accepts.base)
 
 -- the same of a call that counts nothing, whatever it answers
 pub uncounted : {A E : Type 0} (gives : A → Type 0) (refuses : E → Type 0) (old new : State) (asked : Request) (answer : Result A E) (ledgers : Sums)
-    → Answers gives refuses old asked new answer → ledgers ≡ counting asked.call ledgers → ledgers ≡ sums_of old.history → ledgers ≡ sums_of new.history
+    → Answers gives refuses old asked new answer → ledgers ≡ counting asked.call ledgers → ledgers ≡ sums_of old.base old.history → ledgers ≡ sums_of new.base new.history
 uncounted gives refuses old new asked (Ok x) ledgers answers none agreed =
     counted old new asked ledgers ledgers answers.accepted agreed none
 uncounted gives refuses old new asked (Err e) ledgers answers none agreed =
-    agreed ∙ ap (λ (s : State). sums_of s.history) (sym answers.kept)
+    agreed ∙ ap (λ (s : State). sums_of s.base s.history) (sym answers.kept)

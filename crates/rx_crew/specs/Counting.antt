@@ -1,5 +1,6 @@
 -- What calls count, in all and for the seat that they are made with.
 use Rattle.std.specs.Prelude.{◌≡◌, ◌+◌, ◌<◌, List, Result, Option, OnOk, OnErr, IfSome, IfNone}
+use Rattle.rx_event.specs.Kept.{Kept}
 use Rattle.rx_event.specs.declared.event.Event.{Event}
 use Rattle.rx_event.specs.Calls.{Call, OpeningUsing, Holding, Emitting, Taking}
 use Rattle.rx_event.specs.Totals.{item_count, accepted_count, taken_count}
@@ -7,8 +8,8 @@ use Rattle.rx_ledger.specs.declared.ledgers.Sums.{Sums}
 use Rattle.rx_ledger.specs.Shares.{Shares, sums_in}
 
 -- the totals of a history
-abbrev pub sums_of : List Event → Sums
-sums_of h = record { items = item_count h; accepted = accepted_count h; taken = taken_count h }
+abbrev pub sums_of : Kept → List Event → Sums
+sums_of base h = record { items = item_count base h; accepted = accepted_count base h; taken = taken_count base h }
 
 -- each total is one that a thread can count
 pub record AreCountable (s : Sums) : Type 0 where

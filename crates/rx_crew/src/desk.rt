@@ -40,7 +40,7 @@ impl<R: Resource, I: Ledger, A: Ledger, K: Ledger> Desk<R, I, A, K> {
         requires items { Opens I.name I.parts items.name items.parts }
         requires accepted { Opens A.name A.parts accepted.name accepted.parts }
         requires taken { Opens K.name K.parts taken.name taken.parts }
-        ensures { result.1 ≡ whole (sums_of book.history) }
+        ensures { result.1 ≡ whole (sums_of book.base book.history) }
     {
         let (floor, seat) = Floor::new(book, items, accepted, taken);
         let desk = Desk {

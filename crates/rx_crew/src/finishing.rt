@@ -54,7 +54,7 @@ pub struct Finished<R: Resource> {
 
 /// Whether a receipt's event stands at its place.
 fn stands<R: Resource>(book: &Book<R>, receipt: Receipt) -> bool
-    ensures { IsTrue result ↔ Stands book.now.history receipt }
+    ensures { IsTrue result ↔ Stands book.now.base book.now.history receipt }
 {
     match book.event(receipt.place) {
         Some(event) => event.same(receipt.event),
@@ -64,7 +64,7 @@ fn stands<R: Resource>(book: &Book<R>, receipt: Receipt) -> bool
 
 /// The place of the first receipt whose event does not stand there.
 fn first_wrong<R: Resource>(book: &Book<R>, receipts: &[Receipt]) -> Option<u64>
-    ensures { FirstWrong book.now.history receipts.now result }
+    ensures { FirstWrong book.now.base book.now.history receipts.now result }
 {
     for receipt in receipts {
         if !stands(book, *receipt) {
@@ -76,7 +76,7 @@ fn first_wrong<R: Resource>(book: &Book<R>, receipts: &[Receipt]) -> Option<u64>
 
 /// The totals of a book.
 fn count_all<R: Resource>(book: &Book<R>) -> Totals
-    ensures { result ≡ totals_of book.now.history }
+    ensures { result ≡ totals_of book.now.base book.now.history }
 {
     Totals {
         items: book.items(),
@@ -94,7 +94,7 @@ fn compare<R: Resource>(
     sums: Sums,
     receipts: &[Receipt],
 ) -> Result<Totals, Mismatch>
-    ensures { IsVerdict book.now.history sums receipts.now result }
+    ensures { IsVerdict book.now.base book.now.history sums receipts.now result }
 {
     let totals = count_all(book);
     if sums.items != totals.items {
@@ -124,7 +124,7 @@ fn compare<R: Resource>(
 /// The same of a book as it is out of its desk: where all agrees and nothing of it is left, all that
 /// was accepted was taken.
 fn judge<R: Resource>(book: &Book<R>, sums: Sums, receipts: &[Receipt]) -> Result<Totals, Mismatch>
-    ensures verdict { IsVerdict book.now.history sums receipts.now result }
+    ensures verdict { IsVerdict book.now.base book.now.history sums receipts.now result }
     ensures all_taken { IfOk result (λ _. AllTaken book.now.history sums) }
 {
     book.promise();
@@ -137,7 +137,7 @@ fn shares_of<R: Resource, I: Ledger, A: Ledger, K: Ledger>(
     seats: Vec<Seat<I, A, K>>,
 ) -> Sums
     ensures sums { result ≡ sums_in (together seats.items) }
-    ensures all { (together seats.items).parts ≡ all_parts → result ≡ sums_of floor.old.book.history }
+    ensures all { (together seats.items).parts ≡ all_parts → result ≡ sums_of floor.old.book.base floor.old.book.history }
     ensures book { floor.new.book ≡ floor.old.book }
 {
     let Some(mut all) = Seat::gather(seats) else {
@@ -167,8 +167,8 @@ pub fn finish<R: Resource, I: Ledger, A: Ledger, K: Ledger>(
     receipts: &[Receipt],
 ) -> Finished<R>
     ensures book { IsPromised result.book }
-    ensures verdict { IsVerdict result.book.history (sums_in (together seats.items)) receipts.now result.verdict }
-    ensures all { (together seats.items).parts ≡ all_parts → sums_in (together seats.items) ≡ sums_of result.book.history }
+    ensures verdict { IsVerdict result.book.base result.book.history (sums_in (together seats.items)) receipts.now result.verdict }
+    ensures all { (together seats.items).parts ≡ all_parts → sums_in (together seats.items) ≡ sums_of result.book.base result.book.history }
     ensures all_taken { IfOk result.verdict (λ _. AllTaken result.book.history (sums_in (together seats.items))) }
 {
     let Desk { floor, bell: _ } = desk;

@@ -27,7 +27,7 @@ pub struct Floor<R: Resource, I: Ledger, A: Ledger, K: Ledger> {
     book: Book<R>,
     ledgers: Ledgers<I, A, K>,
     is_shut: bool,
-    ghost tied: { ledgers ≡ sums_of book.history },
+    ghost tied: { ledgers ≡ sums_of book.base book.history },
 }
 
 impl<R: Resource, I: Ledger, A: Ledger, K: Ledger> Floor<R, I, A, K> {
@@ -43,7 +43,7 @@ impl<R: Resource, I: Ledger, A: Ledger, K: Ledger> Floor<R, I, A, K> {
         requires taken { Opens K.name K.parts taken.name taken.parts }
         ensures book { result.0.book ≡ book }
         ensures shut { result.0.is_shut ≡ false }
-        ensures seat { result.1 ≡ whole (sums_of book.history) }
+        ensures seat { result.1 ≡ whole (sums_of book.base book.history) }
     {
         let sums = Sums {
             items: book.items(),
@@ -87,9 +87,9 @@ impl<R: Resource, I: Ledger, A: Ledger, K: Ledger> Floor<R, I, A, K> {
         ensures book { self.new.book ≡ self.old.book }
         ensures shut { self.new.is_shut ≡ self.old.is_shut }
         ensures seat { seat.new ≡ seat.old }
-        ensures within { IsWithin seat.old (sums_of self.old.book.history) }
-        ensures all { seat.old.parts ≡ all_parts → sums_in seat.old ≡ sums_of self.old.book.history }
-        ensures countable { AreCountable (sums_of self.old.book.history) }
+        ensures within { IsWithin seat.old (sums_of self.old.book.base self.old.book.history) }
+        ensures all { seat.old.parts ≡ all_parts → sums_in seat.old ≡ sums_of self.old.book.base self.old.book.history }
+        ensures countable { AreCountable (sums_of self.old.book.base self.old.book.history) }
     {
         self.book.promise();
         self.ledgers.audit(seat);

@@ -3,6 +3,7 @@ use Rattle.std.specs.Prelude.{◌≡◌, Option, Some, None, Result, Ok, Err, tr
 use Rattle.std.specs.Fmt.{decimal}
 use Rattle.std.specs.Io.KnownBytes.{Appends}
 use Rattle.rx_note.specs.declared.note.Terminal.TheVariants.{Completed}
+use Rattle.rx_event.specs.Kept.{nothing_kept}
 use Rattle.rx_event.specs.declared.event.Event.{Event}
 use Rattle.rx_event.specs.Totals.{accepted_count, taken_count, held_count, waiting_count}
 use Rattle.rx_event.specs.Lawful.{IsLawful}
@@ -36,9 +37,9 @@ figures_text f = first_lines f ++ last_lines f
 -- some lawful history has these figures
 pub record IsOfHistory (f : Figures) : Type 0 where
   pub history : List Event
-  pub lawful : IsLawful history
-  pub accepted : f.accepted ≡ accepted_count history
-  pub taken : f.taken ≡ taken_count history
+  pub lawful : IsLawful nothing_kept history
+  pub accepted : f.accepted ≡ accepted_count nothing_kept history
+  pub taken : f.taken ≡ taken_count nothing_kept history
   pub held : f.held ≡ held_count history
   pub waiting : f.waiting ≡ waiting_count history
   pub events : f.events ≡ length history

@@ -68,7 +68,8 @@ pub enum StormFault {
 
 /// Takes all mail that is left, and answers how much it was.
 fn take_all_mail<R: Resource>(book: &mut Book<R>) -> u64
-    ensures { book.new.history ≡ book.old.history }
+    ensures base { book.new.base ≡ book.old.base }
+    ensures history { book.new.history ≡ book.old.history }
 {
     for notes in 0..u64::MAX {
         if book.take_mail().is_none() {

@@ -3,6 +3,7 @@
 ghost use Rattle.std.specs.Prelude.{◌≡◌, ◌+◌, ◌&&◌, Some, None, length, slice_get, option_map, is_some};
 ghost use Rattle.std.specs.Prelude.{if◌then◌else◌, IfSome, IsTrue};
 ghost use Rattle.std.specs.List.{find};
+ghost use Rattle.rx_event.specs.Kept.{event_since};
 ghost use Rattle.rx_event.specs.Events.{is_merging};
 ghost use Rattle.rx_event.specs.Tree.{at, places};
 ghost use Rattle.rx_event.specs.Moments.{owed};
@@ -50,35 +51,35 @@ impl<R: Resource, I: Ledger, A: Ledger, K: Ledger> Floor<R, I, A, K> {
 
     /// How many resources were accepted.
     pub fn accepted(&self) -> u64
-        ensures { result ≡ accepted_count self.now.book.history }
+        ensures { result ≡ accepted_count self.now.book.base self.now.book.history }
     {
         self.book.accepted()
     }
 
     /// How many resources were taken.
     pub fn taken(&self) -> u64
-        ensures { result ≡ taken_count self.now.book.history }
+        ensures { result ≡ taken_count self.now.book.base self.now.book.history }
     {
         self.book.taken()
     }
 
     /// How many items were emitted.
     pub fn items(&self) -> u64
-        ensures { result ≡ item_count self.now.book.history }
+        ensures { result ≡ item_count self.now.book.base self.now.book.history }
     {
         self.book.items()
     }
 
-    /// How many events there are.
+    /// How many events there ever were.
     pub fn len(&self) -> u64
         ensures { result ≡ length self.now.book.history }
     {
         self.book.len()
     }
 
-    /// The event at a place, if there is one.
+    /// The event at a place, if it is one since the base.
     pub fn event(&self, place: u64) -> Option<Event>
-        ensures { result ≡ slice_get self.now.book.history place }
+        ensures { result ≡ event_since self.now.book.base self.now.book.history place }
     {
         self.book.event(place)
     }
@@ -100,7 +101,7 @@ impl<R: Resource, I: Ledger, A: Ledger, K: Ledger> Floor<R, I, A, K> {
     /// How many projected items an open FlatMap or Switch owes, as [`rx_book::Book::owed`] says.
     pub fn owed(&self, merging: Key) -> Option<u64>
         ensures { result ≡ (if has_key self.now.book.keys merging && at is_merging self.now.book.history merging.number
-            then Some (owed self.now.book.history merging.number) else None) }
+            then Some (owed self.now.book.base self.now.book.history merging.number) else None) }
     {
         self.book.owed(merging)
     }
