@@ -6,6 +6,7 @@ use Rattle.std.specs.List.{list_any, range_with_len, filter}
 use Rattle.std.specs.Option.{option_map_or}
 use Rattle.std.proofs.lemmas.Bool.{cases_order, both_ways, false≢true, eqb-true, and_parts}
 use Rattle.std.proofs.lemmas.Option.{slice_get_within, none-some, same_Some}
+use Rattle.rx_event.specs.Kept.{nothing_kept}
 use Rattle.rx_note.specs.declared.note.Terminal.{Terminal}
 use Rattle.rx_note.specs.declared.note.Terminal.TheVariants.{Completed, Error}
 use Rattle.rx_event.specs.declared.event.Place.TheVariants.{Root, Source, Inner, Notifier}
@@ -23,11 +24,13 @@ use Rattle.rx_event.proofs.Laws.Places.{slice_get-append, slice_get_last, at-app
 use Rattle.rx_event.proofs.Laws.Parents.{parent-append, parent_within, parent-lt, parent_name, within_cases, is_within-le}
 use Rattle.rx_event.proofs.Laws.Openness.{shuts_none, is_open_kept, is_open_within, is_open-push, is_open_outside-close}
 use Rattle.rx_event.proofs.Laws.Lawful.{ended_after}
+use Rattle.rx_event.proofs.Laws.MarksFound.{source_completed_has}
 use Rattle.rx_event.proofs.Laws.Steps.{named_below}
 use Rattle.rx_event.proofs.Laws.Projections.{owed-push}
 use Rattle.rx_audit.specs.Rules.{is_calm, IsQuiet, open_subscribed, hub_subscribed_at}
 use Rattle.rx_audit.specs.Tables.{IsTable}
 use Rattle.rx_audit.proofs.Surveying.{any_found}
+use Rattle.rx_audit.proofs.Due.{source_of_completed}
 use Rattle.rx_audit.proofs.Deciding.{not_true, find_number, filter_none, none_filtered, both, not_not, is_false, at_subscriber}
 
 -- what such an event is not --------------------------------------------------------------------------
@@ -94,10 +97,10 @@ child_after h e p t d =
     }
 
 -- a node that ended is in the history
-ended_low : (h : List Event) → IsLawful h → (c : ℕ) (t : Terminal) → Has h (End c t) → c < length h
-ended_low h law c t has = let a = ended_after h law has.place c t has.found in let b = slice_get_within h has.place (End c t) has.found in omega arith
+ended_low : (h : List Event) → IsLawful nothing_kept h → (c : ℕ) (t : Terminal) → Has h (End c t) → c < length h
+ended_low h law c t has = let a = ended_after nothing_kept h law has.place c t has.found in let b = slice_get_within h has.place (End c t) has.found in omega arith
 
-child_before : (h : List Event) (e : Event) → IsLawful h → is_end e ≡ false
+child_before : (h : List Event) (e : Event) → IsLawful nothing_kept h → is_end e ≡ false
     → (p : ℕ) (t : Terminal) → ChildEnded (h ++ e ∷ []) p t → (p < length h) × ChildEnded h p t
 child_before h e law none p t d =
     let ended = end_before h e d.child t none d.ended in
@@ -141,20 +144,20 @@ source_is_named (Close m) f s = absurd (false≢true s)
 source_is_named (Take r) f s = absurd (false≢true s)
 
 -- the node whose source stands in a lawful history stands before it
-source_above : (h : List Event) → IsLawful h → (s f : ℕ) → at (is_source_of f) h s ≡ true → f < s
+source_above : (h : List Event) → IsLawful nothing_kept h → (s f : ℕ) → at (is_source_of f) h s ≡ true → f < s
 source_above h law s f holds = by_event (slice_get h s) refl holds where
   by_event : (o : Option Event) → slice_get h s ≡ o → option_map_or (is_source_of f) o false ≡ true → f < s
   by_event None is holds = absurd (false≢true holds)
-  by_event (Some x) is holds = named_below h law s f x is (source_is_named x f holds)
+  by_event (Some x) is holds = named_below nothing_kept h law s f x is (source_is_named x f holds)
 
 -- one quiet event ------------------------------------------------------------------------------------
 
 -- the event follows a settled history, it fires nothing, nothing fired what it makes, and it closes no child of a node that
 -- stays open, no subscriber and no connection
 record IsQuietly (h : List Event) (e : Event) : Type 0 where
-  pub law : IsLawful h
-  pub settled : IsSettled h
-  pub follows : MayFollow h e
+  pub law : IsLawful nothing_kept h
+  pub settled : IsSettled nothing_kept h
+  pub follows : MayFollow nothing_kept h e
   pub calm : still e ≡ true
   pub unfired : is_fired h (length h) ≡ false
   pub fires : (u : ℕ) → u ≤ length h → is_fired (h ++ e ∷ []) u ≡ is_fired h u
@@ -189,13 +192,13 @@ fired_before h e c u o f = by_place (cases_order u (length h)) where
   by_place (inl same) = absurd (both_ways _ c.unfired (ap (is_fired h) (sym same) ∙ was))
   by_place (inr (inr g)) = absurd (let l = open_low h e u o in omega arith)
 
-owed_before : (h : List Event) (e : Event) → IsQuietly h e → (f : ℕ) → owed (h ++ e ∷ []) f ≡ 0 → owed h f ≡ 0
+owed_before : (h : List Event) (e : Event) → IsQuietly h e → (f : ℕ) → owed nothing_kept (h ++ e ∷ []) f ≡ 0 → owed nothing_kept h f ≡ 0
 owed_before h e c f none =
-    let sums : owed (h ++ e ∷ []) f + cond (pays f e) 1 0 ≡ owed h f + count_by (is_projection_to f) (stops_of h e) = owed-push h e c.law c.follows f in
+    let sums : owed nothing_kept (h ++ e ∷ []) f + cond (pays f e) 1 0 ≡ owed nothing_kept h f + count_by (is_projection_to f) (stops_of h e) = owed-push nothing_kept h e c.law c.follows f in
     let paid : ◌≡◌ {A = ℕ} (cond (pays f e) 1 0) 0 = ap (λ (b : Bool). cond {A = ℕ} b 1 0) (no_pay f e c.calm) in
     omega arith
 
-due_before : (h : List Event) (e : Event) → IsQuietly h e → (x : Event) → IsDue (h ++ e ∷ []) x → IsDue h x
+due_before : (h : List Event) (e : Event) → IsQuietly h e → (x : Event) → IsDue nothing_kept (h ++ e ∷ []) x → IsDue nothing_kept h x
 due_before h e c _ (mirrored {p} {t} o m d) =
     let w = child_before h e c.law (no_end e c.calm) p t d in
     mirrored (open_before h e c p w.0 o) (sym (at-append is_mirroring h (e ∷ []) p w.0) ∙ m) w.1
@@ -205,21 +208,25 @@ due_before h e c _ (fired {u} o m f) =
 due_before h e c _ (failed {f} {c = code} o m d) =
     let w = child_before h e c.law (no_end e c.calm) f (Error code) d in
     failed (open_before h e c f w.0 o) (sym (at-append is_merging h (e ∷ []) f w.0) ∙ m) w.1
-due_before h e c _ (completed {f} {s} o m unfailed at_s done closed none) =
+due_before h e c _ (completed {f} o m unfailed completes closed none) =
+    let source = source_of_completed (h ++ e ∷ []) f completes in
+    let s = source.0 in
+    let at_s = source.1 in
+    let done = source.2 in
     let ended = end_before h e s Completed (no_end e c.calm) done in
     let low = ended_low h c.law s Completed ended in
     let at_old = sym (at-append (is_source_of f) h (e ∷ []) s low) ∙ at_s in
     let above = source_above h c.law s f at_old in
     let f_low : f < length h = omega arith in
     completed (open_before h e c f f_low o) (sym (at-append is_merging h (e ∷ []) f f_low) ∙ m)
-    (λ code d. unfailed code (child_after h e f (Error code) d)) at_old ended
+    (λ code d. unfailed code (child_after h e f (Error code) d)) (source_completed_has nothing_kept h f s at_old ended)
     (λ k below. let l = parent_within h k f below in
     not_true (is_open h k) (λ was. both_ways (is_open (h ++ e ∷ []) k) (closed k (parent-append h (e ∷ []) k l ∙ below)) (c.children f k o below was)))
     (owed_before h e c f none)
 due_before h e c _ (cut {s} {t} o d) =
     by_event (cases_push h e (End d.connection t) d.place d.ended) (cases_push h e (Connect d.hub) d.connection d.connects) where
       by_event : (slice_get h d.place ≡ Some (End d.connection t)) ⊎ (e ≡ End d.connection t)
-          → (slice_get h d.connection ≡ Some (Connect d.hub)) ⊎ (e ≡ Connect d.hub) → IsDue h (End s t)
+          → (slice_get h d.connection ≡ Some (Connect d.hub)) ⊎ (e ≡ Connect d.hub) → IsDue nothing_kept h (End s t)
       by_event (inr same) w = absurd (both_ways _ (no_end e c.calm) (ap is_end same))
       by_event (inl was) (inr same) = absurd (no_connection d.hub e c.calm same)
       by_event (inl was) (inl connects) =
@@ -227,7 +234,7 @@ due_before h e c _ (cut {s} {t} o d) =
           cut (open_before h e c s v.0 o)
           (record { hub = d.hub; connection = d.connection; place = d.place; subscribes = v.1; connects = connects; later = d.later; ended = was })
 due_before h e c _ (left {c = k} {g} o at_k a none) = by_event (cases_push h e (Connect g) k at_k) where
-  by_event : (slice_get h k ≡ Some (Connect g)) ⊎ (e ≡ Connect g) → IsDue h (Close k)
+  by_event : (slice_get h k ≡ Some (Connect g)) ⊎ (e ≡ Connect g) → IsDue nothing_kept h (Close k)
   by_event (inr same) = absurd (no_connection g e c.calm same)
   by_event (inl was) =
       left (open_before h e c k (slice_get_within h k (Connect g) was) o) was (at_before is_auto_hub h e g (no_hub e c.calm) a).1
@@ -249,12 +256,12 @@ connect_before h e c g d =
     }
 
 -- what was settled stays settled
-settled_quietly : (h : List Event) (e : Event) → IsQuietly h e → IsSettled (h ++ e ∷ [])
+settled_quietly : (h : List Event) (e : Event) → IsQuietly h e → IsSettled nothing_kept (h ++ e ∷ [])
 settled_quietly h e c = record { none = never } where
   unconnected : (g : ℕ) → IsConnectDue h g → ⊥
   unconnected g d = c.settled.none (Connect g) (connecting d)
 
-  never : (x : Event) → IsForced (h ++ e ∷ []) x → ⊥
+  never : (x : Event) → IsForced nothing_kept (h ++ e ∷ []) x → ⊥
   never _ (connecting {g} d) = unconnected g (connect_before h e c g d)
   never x (due w d) = c.settled.none x (due unconnected (due_before h e c x d))
 
@@ -280,13 +287,13 @@ stays h e calm k o = is_open_kept h e k (is_open_within h k o) (no_shut e calm) 
 
 -- what every event that keeps a history settled has
 pub record IsNext (h : List Event) (e : Event) : Type 0 where
-  pub law : IsLawful h
-  pub settled : IsSettled h
-  pub follows : MayFollow h e
+  pub law : IsLawful nothing_kept h
+  pub settled : IsSettled nothing_kept h
+  pub follows : MayFollow nothing_kept h e
   pub unfired : is_fired h (length h) ≡ false
   pub fires : (u : ℕ) → u ≤ length h → is_fired (h ++ e ∷ []) u ≡ is_fired h u
 
-settled_calm : (h : List Event) (e : Event) → IsNext h e → is_calm e ≡ true → IsSettled (h ++ e ∷ [])
+settled_calm : (h : List Event) (e : Event) → IsNext h e → is_calm e ≡ true → IsSettled nothing_kept (h ++ e ∷ [])
 settled_calm h e c calm = settled_quietly h e (record {
   law = c.law;
   settled = c.settled;
@@ -345,7 +352,7 @@ inside h n f o within =
     both_ways (is_within h n f) (not_not (is_within h n f) (and_parts (is_open h f) (not (is_within h n f)) (sym (is_open_outside-close h n f) ∙ o)).1) within
 
 settled_close : (h : List Event) (n : ℕ) → IsNext h (Close n) → at is_root h n ≡ true
-    → ((k : ℕ) → n ≤ k → open_subscribed h k ≡ None) → IsSettled (h ++ Close n ∷ [])
+    → ((k : ℕ) → n ≤ k → open_subscribed h k ≡ None) → IsSettled nothing_kept (h ++ Close n ∷ [])
 settled_close h n c root quiet = settled_quietly h (Close n) (record {
   law = c.law;
   settled = c.settled;
@@ -375,7 +382,7 @@ settled_close h n c root quiet = settled_quietly h (Close n) (record {
     by_case (inr w) = no_parent h k w.0 (is_connect_of g) (connection_alone g) at_k w.1
 
 -- what was settled stays settled after a quiet event
-pub settled_after : (h : List Event) (e : Event) → IsNext h e → IsQuiet h e → IsSettled (h ++ e ∷ [])
+pub settled_after : (h : List Event) (e : Event) → IsNext h e → IsQuiet h e → IsSettled nothing_kept (h ++ e ∷ [])
 settled_after h (Close n) c q = settled_close h n c q.0 q.1
 settled_after h (Open place kind) c q = settled_calm h (Open place kind) c q
 settled_after h (Hub mode) c q = settled_calm h (Hub mode) c q

@@ -7,6 +7,7 @@ use Rattle.std.specs.Option.{option_map_or, option_and_then}
 use Rattle.std.proofs.lemmas.Bool.{cases_Bool, and_parts, both_ways, false≢true, ltb-false, eqb-true}
 use Rattle.std.proofs.lemmas.Option.{slice_get_within, same_Some, none-some, option_and_then_some}
 use Rattle.std.proofs.lemmas.Map.Keys.{any_passes_from_place}
+use Rattle.rx_event.specs.Kept.{nothing_kept}
 use Rattle.rx_note.specs.declared.note.Terminal.{Terminal}
 use Rattle.rx_note.specs.declared.note.Terminal.TheVariants.{Completed, Error}
 use Rattle.rx_event.specs.declared.event.Place.TheVariants.{Root, Source, Inner, Notifier}
@@ -18,6 +19,9 @@ use Rattle.rx_event.specs.Moments.{is_fired, owed}
 use Rattle.rx_event.specs.Forced.{Has, IsConnectDue, IsDue, mirrored, fired, failed, completed, cut, left, IsForced, connecting, due, IsSettled}
 use Rattle.rx_event.proofs.Laws.Parents.{parent_within}
 use Rattle.rx_event.proofs.Laws.Places.{at_within}
+use Rattle.rx_event.specs.Marks.{source_completed}
+use Rattle.rx_event.proofs.Laws.MarksFound.{source_completed_true, source_completed_has}
+use Rattle.rx_event.proofs.Laws.MarksNew.{source_completed_is}
 use Rattle.rx_audit.specs.Rules.{is_key, has_ended, has_failed, has_completed, source_named_at}
 use Rattle.rx_audit.specs.Rules.{hub_subscribed_at, hub_connected_at, is_cut, is_cut_so, ends_child_so}
 use Rattle.rx_audit.specs.Rules.{fails_child, completes_source, open_subscribed, open_connected}
@@ -84,11 +88,11 @@ no_connect_due h none g d = both_ways (any_connect_due h) none (any_connect_due_
 
 -- what the rules ask, as facts -------------------------------------------------------------------------
 
-owes_none : (h : List Event) (f : ℕ) → not (is_owing h f) ≡ true → owed h f ≡ 0
+owes_none : (h : List Event) (f : ℕ) → not (is_owing h f) ≡ true → owed nothing_kept h f ≡ 0
 unfolding is_owing
-owes_none h f e = let l = ltb-false 0 (owed h f) (not_not (nat_lt 0 (owed h f)) e) in omega arith
+owes_none h f e = let l = ltb-false 0 (owed nothing_kept h f) (not_not (nat_lt 0 (owed nothing_kept h f)) e) in omega arith
 
-none_owed : (h : List Event) (f : ℕ) → owed h f ≡ 0 → not (is_owing h f) ≡ true
+none_owed : (h : List Event) (f : ℕ) → owed nothing_kept h f ≡ 0 → not (is_owing h f) ≡ true
 unfolding is_owing
 none_owed h f e = rw e refl
 
@@ -117,15 +121,15 @@ is_left_of h g a none =
     both (at is_auto_hub h g) (not (has_key (open_subscribed h) h g)) a
     (is_false (has_key (open_subscribed h) h g) (subscribed_key h g ∙ none_filtered (λ n. at (is_subscriber_of g) h n && is_open h n) (places h) none))
 
-leaves : (h : List Event) (c g : ℕ) → is_open h c ≡ true → slice_get h c ≡ Some (Connect g) → is_left h g ≡ true → IsDue h (Close c)
+leaves : (h : List Event) (c g : ℕ) → is_open h c ≡ true → slice_get h c ≡ Some (Connect g) → is_left h g ≡ true → IsDue nothing_kept h (Close c)
 leaves h c g o at_c l =
     let w = and_parts (at is_auto_hub h g) (not (has_key (open_subscribed h) h g)) l in
     left o at_c w.0 (filter_none (λ n. at (is_subscriber_of g) h n && is_open h n)
     (places h) (sym (subscribed_key h g) ∙ not_not (has_key (open_subscribed h) h g) w.1))
 
-leaves_at : (h : List Event) (c : ℕ) → is_open h c ≡ true → option_map_or (is_left h) (hub_connected_at h c) false ≡ true → IsDue h (Close c)
+leaves_at : (h : List Event) (c : ℕ) → is_open h c ≡ true → option_map_or (is_left h) (hub_connected_at h c) false ≡ true → IsDue nothing_kept h (Close c)
 leaves_at h c o e = by_hub (hub_connected_at h c) refl e where
-  by_hub : (hub : Option ℕ) → hub_connected_at h c ≡ hub → option_map_or (is_left h) hub false ≡ true → IsDue h (Close c)
+  by_hub : (hub : Option ℕ) → hub_connected_at h c ≡ hub → option_map_or (is_left h) hub false ≡ true → IsDue nothing_kept h (Close c)
   by_hub None is e = absurd (false≢true e)
   by_hub (Some g) is e = leaves h c g o (connection_at h c g is) e
 
@@ -174,11 +178,14 @@ is_source_at h k f e = by_event (slice_get h k) e where
 -- something is due: its event
 pub record SomeDue (h : List Event) : Type 0 where
   pub event : Event
-  pub is : IsDue h event
+  pub is : IsDue nothing_kept h event
 
 -- some rule gives an event, or none does -----------------------------------------------------------------
 
 -- a child that ended with an error is a cause by itself
+pub source_of_completed : (h : List Event) (f : ℕ) → source_completed nothing_kept h f ≡ true → (s : ℕ) × (at (is_source_of f) h s ≡ true) × Has h (End s Completed)
+source_of_completed h f done = source_completed_true nothing_kept h f (sym (source_completed_is nothing_kept h f) ∙ done)
+
 failed_or_completed : (h : List Event) (f s : ℕ) → is_open h f ≡ true → at is_merging h f ≡ true → at (is_source_of f) h s ≡ true
     → has_completed h s ≡ true → not (has_open_child h f) ≡ true → not (is_owing h f) ≡ true → SomeDue h
 failed_or_completed h f s o m at_s done children owing = by_child (cases_Bool (list_any (fails_child h f) h)) where
@@ -186,8 +193,8 @@ failed_or_completed h f s o m at_s done children owing = by_child (cases_Bool (l
   by_child (inl e) = let w = child_failed h f e in record { event = End f (Error w.0); is = failed o m w.1 }
   by_child (inr n) = record {
     event = End f Completed;
-    is = completed o m (λ c d. both_ways (list_any (fails_child h f) h) n (child_failed_of h f c d)) at_s
-        (completed_has h s done) (child_closed h f children) (owes_none h f owing);
+    is = completed o m (λ c d. both_ways (list_any (fails_child h f) h) n (child_failed_of h f c d))
+        (source_completed_has nothing_kept h f s at_s (completed_has h s done)) (child_closed h f children) (owes_none h f owing);
   }
 
 passed_on : (h : List Event) (k p : ℕ) → parent h k ≡ Some p → passes_on h k p ≡ true → SomeDue h
@@ -272,7 +279,7 @@ by_going : (h : List Event) (k : ℕ) → must_go h k ≡ true → makes_due h k
 unfolding makes_due
 by_going h k e = or_right (option_map_or (passes_on h k) (parent h k) false || option_map_or (completes h k) (source_named_at h k) false) (must_go h k) e
 
-pub any_due_of : (h : List Event) (e : Event) → IsDue h e → any_due h ≡ true
+pub any_due_of : (h : List Event) (e : Event) → IsDue nothing_kept h e → any_due h ≡ true
 any_due_of h (End p t) (mirrored o m d) =
     due_at h d.child (parent_within h d.child p d.below)
     (by_passing h d.child p d.below
@@ -290,7 +297,11 @@ any_due_of h (End f (Error c)) (failed o m d) =
     (both (is_open h f) ((at is_mirroring h f && has_ended h d.child) || (at is_merging h f && has_failed h d.child)) o
     (or_right (at is_mirroring h f && has_ended h d.child) (at is_merging h f && has_failed h d.child)
     (both (at is_merging h f) (has_failed h d.child) m (has_failed_of h d.child c d.ended)))))
-any_due_of h (End f Completed) (completed {s = s} o m n at_s done children owing) =
+any_due_of h (End f Completed) (completed o m n completes children owing) =
+    let source = source_of_completed h f completes in
+    let s = source.0 in
+    let at_s = source.1 in
+    let done = source.2 in
     due_at h s (at_within (is_source_of f) h s at_s)
     (by_completing h s f (is_source_at h s f at_s)
     (both (has_completed h s && is_open h f && at is_merging h f && not (has_open_child h f)) (not (is_owing h f))
@@ -319,16 +330,16 @@ any_due_of h (Take r) d = elim d [ ]
 
 -- settled ------------------------------------------------------------------------------------------------
 
-pub settled_when : (h : List Event) → any_connect_due h ≡ false → any_due h ≡ false → IsSettled h
+pub settled_when : (h : List Event) → any_connect_due h ≡ false → any_due h ≡ false → IsSettled nothing_kept h
 settled_when h c d = record { none = λ e f. never e f } where
-  never : (e : Event) → IsForced h e → ⊥
+  never : (e : Event) → IsForced nothing_kept h e → ⊥
   never e (connecting x) = no_connect_due h c _ x
   never e (due n x) = both_ways (any_due h) d (any_due_of h e x)
 
-pub connect_unsettles : (h : List Event) → any_connect_due h ≡ true → IsSettled h → ⊥
+pub connect_unsettles : (h : List Event) → any_connect_due h ≡ true → IsSettled nothing_kept h → ⊥
 connect_unsettles h e s = let w = some_connect_due h e in s.none (Connect w.0) (connecting w.1)
 
-pub due_unsettles : (h : List Event) → any_connect_due h ≡ false → any_due h ≡ true → IsSettled h → ⊥
+pub due_unsettles : (h : List Event) → any_connect_due h ≡ false → any_due h ≡ true → IsSettled nothing_kept h → ⊥
 due_unsettles h c e s = let w = some_due h e in s.none w.event (due (no_connect_due h c) w.is)
 
 -- one event ------------------------------------------------------------------------------------------------
@@ -348,13 +359,13 @@ source_done h f i (Decline g) at_i holds = absurd (false≢true holds)
 source_done h f i (Close m) at_i holds = absurd (false≢true holds)
 source_done h f i (Take r) at_i holds = absurd (false≢true holds)
 
-completion_is_due : (h : List Event) (n : ℕ) → is_open h n ≡ true → completion_due h n ≡ true → IsDue h (End n Completed)
+completion_is_due : (h : List Event) (n : ℕ) → is_open h n ≡ true → completion_due h n ≡ true → IsDue nothing_kept h (End n Completed)
 completion_is_due h n o e =
     by_kind (either (at is_until h n && is_fired h n)
     (at is_merging h n && not (list_any (fails_child h n) h) && list_any (completes_source h n) h && not (has_open_child h n) && not (is_owing h n)) e) where
       by_kind : ((at is_until h n && is_fired h n) ≡ true)
           ⊎ ((at is_merging h n && not (list_any (fails_child h n) h) && list_any (completes_source h n) h && not (has_open_child h n) && not (is_owing h n))
-          ≡ true) → IsDue h (End n Completed)
+          ≡ true) → IsDue nothing_kept h (End n Completed)
       by_kind (inl m) = let v = and_parts (at is_until h n) (is_fired h n) m in fired o v.0 v.1
       by_kind (inr m) =
           let a = and_parts (at is_merging h n && not (list_any (fails_child h n) h) && list_any (completes_source h n) h && not (has_open_child h n))
@@ -365,24 +376,24 @@ completion_is_due h n o e =
           let f = find (completes_source h n) h c.1 in
           let s = source_done h n f.place f.event f.found f.holds in
           completed o d.0 (λ code k. both_ways (list_any (fails_child h n) h) (not_not (list_any (fails_child h n) h) d.1) (child_failed_of h n code k))
-          s.1.0 s.1.1 (child_closed h n b.1) (owes_none h n a.1)
+          (source_completed_has nothing_kept h n s.0 s.1.0 s.1.1) (child_closed h n b.1) (owes_none h n a.1)
 
-kind_is_due : (h : List Event) (n : ℕ) (t : Terminal) → is_open h n ≡ true → end_due_by_kind h n t ≡ true → IsDue h (End n t)
+kind_is_due : (h : List Event) (n : ℕ) (t : Terminal) → is_open h n ≡ true → end_due_by_kind h n t ≡ true → IsDue nothing_kept h (End n t)
 kind_is_due h n Completed o e = completion_is_due h n o e
 kind_is_due h n (Error code) o e = let w = and_parts (at is_merging h n) (list_any (ends_child_so h n (Error code)) h) e in
     failed o w.0 (child_ended h n (Error code) w.1)
 
-pub end_is_due : (h : List Event) (n : ℕ) (t : Terminal) → end_due h n t ≡ true → IsDue h (End n t)
+pub end_is_due : (h : List Event) (n : ℕ) (t : Terminal) → end_due h n t ≡ true → IsDue nothing_kept h (End n t)
 unfolding end_due
 end_is_due h n t e = by_rule (either ((at is_mirroring h n && list_any (ends_child_so h n t) h) || end_due_by_kind h n t) (is_cut_so h n t) w.1) where
   w : (is_open h n ≡ true) × (open_end_due h n t ≡ true)
   w = and_parts (is_open h n) (open_end_due h n t) e
 
-  by_kind : ((at is_mirroring h n && list_any (ends_child_so h n t) h) ≡ true) ⊎ (end_due_by_kind h n t ≡ true) → IsDue h (End n t)
+  by_kind : ((at is_mirroring h n && list_any (ends_child_so h n t) h) ≡ true) ⊎ (end_due_by_kind h n t ≡ true) → IsDue nothing_kept h (End n t)
   by_kind (inl m) = let v = and_parts (at is_mirroring h n) (list_any (ends_child_so h n t) h) m in mirrored w.0 v.0 (child_ended h n t v.1)
   by_kind (inr m) = kind_is_due h n t w.0 m
 
-  by_rule : (((at is_mirroring h n && list_any (ends_child_so h n t) h) || end_due_by_kind h n t) ≡ true) ⊎ (is_cut_so h n t ≡ true) → IsDue h (End n t)
+  by_rule : (((at is_mirroring h n && list_any (ends_child_so h n t) h) || end_due_by_kind h n t) ≡ true) ⊎ (is_cut_so h n t ≡ true) → IsDue nothing_kept h (End n t)
   by_rule (inl m) = by_kind (either (at is_mirroring h n && list_any (ends_child_so h n t) h) (end_due_by_kind h n t) m)
   by_rule (inr m) = cut w.0 (source_ended h n t m)
 
@@ -392,7 +403,7 @@ by_end_kind h n t o e =
     both (is_open h n) (open_end_due h n t) o (or_left ((at is_mirroring h n && list_any (ends_child_so h n t) h) || end_due_by_kind h n t)
     (is_cut_so h n t) (or_right (at is_mirroring h n && list_any (ends_child_so h n t) h) (end_due_by_kind h n t) e))
 
-pub end_due_of : (h : List Event) (n : ℕ) (t : Terminal) → IsDue h (End n t) → end_due h n t ≡ true
+pub end_due_of : (h : List Event) (n : ℕ) (t : Terminal) → IsDue nothing_kept h (End n t) → end_due h n t ≡ true
 unfolding end_due
 end_due_of h n t (mirrored o m d) =
     both (is_open h n) (open_end_due h n t) o
@@ -405,7 +416,11 @@ end_due_of h n Completed (fired o m f) =
     (completes_source h n) h && not (has_open_child h n) && not (is_owing h n)) (both (at is_until h n) (is_fired h n) m f))
 end_due_of h n (Error c) (failed o m d) =
     by_end_kind h n (Error c) o (both (at is_merging h n) (list_any (ends_child_so h n (Error c)) h) m (child_ended_of h n (Error c) d))
-end_due_of h n Completed (completed {s = s} o m none at_s done children owing) =
+end_due_of h n Completed (completed o m none completes children owing) =
+    let source = source_of_completed h n completes in
+    let s = source.0 in
+    let at_s = source.1 in
+    let done = source.2 in
     let unfailed : list_any (fails_child h n) h ≡ false = not_true (list_any (fails_child h n) h) (λ e. let w = child_failed h n e in none w.0 w.1) in
     by_end_kind h n Completed o
     (or_right (at is_until h n && is_fired h n) (at is_merging h n && not (list_any (fails_child h n) h) && list_any (completes_source h n) h && not
@@ -419,11 +434,11 @@ end_due_of h n t (cut o d) =
     both (is_open h n) (open_end_due h n t) o
     (or_right ((at is_mirroring h n && list_any (ends_child_so h n t) h) || end_due_by_kind h n t) (is_cut_so h n t) (source_ended_of h n t d))
 
-pub close_is_due : (h : List Event) (c : ℕ) → close_due h c ≡ true → IsDue h (Close c)
+pub close_is_due : (h : List Event) (c : ℕ) → close_due h c ≡ true → IsDue nothing_kept h (Close c)
 unfolding close_due
 close_is_due h c e = let w = and_parts (is_open h c) (option_map_or (is_left h) (hub_connected_at h c) false) e in leaves_at h c w.0 w.1
 
-pub close_due_of : (h : List Event) (c : ℕ) → IsDue h (Close c) → close_due h c ≡ true
+pub close_due_of : (h : List Event) (c : ℕ) → IsDue nothing_kept h (Close c) → close_due h c ≡ true
 unfolding close_due
 close_due_of h c (left {g = g} o at_c a none) =
     both (is_open h c) (option_map_or (is_left h) (hub_connected_at h c) false) o
@@ -431,7 +446,7 @@ close_due_of h c (left {g = g} o at_c a none) =
 
 -- forced -------------------------------------------------------------------------------------------------
 
-pub forced_is : (h : List Event) (e : Event) → is_forced h e ≡ true → IsForced h e
+pub forced_is : (h : List Event) (e : Event) → is_forced h e ≡ true → IsForced nothing_kept h e
 forced_is h (Connect g) e = connecting (connect_is_due h g e)
 forced_is h (End n t) e = let w = and_parts (not (any_connect_due h)) (end_due h n t) e in
     due (no_connect_due h (not_not (any_connect_due h) w.0)) (end_is_due h n t w.1)
@@ -449,7 +464,7 @@ forced_is h (Take r) e = absurd (false≢true e)
 unconnected : (h : List Event) → ((g : ℕ) → ¬ IsConnectDue h g) → not (any_connect_due h) ≡ true
 unconnected h none = is_false (any_connect_due h) (not_true (any_connect_due h) (λ e. let w = some_connect_due h e in none w.0 w.1))
 
-pub is_forced_of : (h : List Event) (e : Event) → IsForced h e → is_forced h e ≡ true
+pub is_forced_of : (h : List Event) (e : Event) → IsForced nothing_kept h e → is_forced h e ≡ true
 is_forced_of h (Connect g) (connecting d) = connect_due_of h g d
 is_forced_of h (Connect g) (due n d) = elim d [ ]
 is_forced_of h (End n t) (due none d) = both (not (any_connect_due h)) (end_due h n t) (unconnected h none) (end_due_of h n t d)
@@ -463,7 +478,7 @@ is_forced_of h (Item m v) (due none d) = elim d [ ]
 is_forced_of h (Decline f) (due none d) = elim d [ ]
 is_forced_of h (Take r) (due none d) = elim d [ ]
 
-pub settled_test : (h : List Event) (c d : Bool) → c ≡ any_connect_due h → d ≡ any_due h → (IsTrue (not c && not d)) ↔ IsSettled h
+pub settled_test : (h : List Event) (c d : Bool) → c ≡ any_connect_due h → d ≡ any_due h → (IsTrue (not c && not d)) ↔ IsSettled nothing_kept h
 settled_test h false false c d = (λ e. settled_when h (sym c) (sym d), λ s. refl)
 settled_test h true d c e = (λ f. absurd (false≢true f), λ s. absurd (connect_unsettles h (sym c) s))
 settled_test h false true c d = (λ f. absurd (false≢true f), λ s. absurd (due_unsettles h (sym c) (sym d) s))

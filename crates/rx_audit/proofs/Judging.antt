@@ -5,6 +5,7 @@ use Rattle.std.proofs.Math.Bool.{not, ◌&&◌}
 use Rattle.std.specs.Option.{option_map_or, option_and_then}
 use Rattle.std.proofs.lemmas.Bool.{cases_order, and_parts, both_ways, false≢true, eqb-true, eq-eqb}
 use Rattle.std.proofs.lemmas.Option.{slice_get_past, none-some}
+use Rattle.rx_event.specs.Kept.{nothing_kept}
 use Rattle.rx_event.specs.declared.event.Place.{Place}
 use Rattle.rx_event.specs.declared.event.Kind.{Kind}
 use Rattle.rx_event.specs.declared.event.Kind.TheVariants.{Leaf, Pass, Flat, Switch, Until, Sub}
@@ -40,14 +41,14 @@ room_test next n false l e = (λ f g d. absurd (no_connect_due next (sym e) g d)
 -- openings ---------------------------------------------------------------------------------------------
 
 pub open_test : (h next : List Event) (e : Event) (place : Place) (kind : Kind) (b : Bool) → e ≡ Open place kind → next ≡ h ++ e ∷ []
-    → open_allowed h place kind ≡ true → (IsTrue b) ↔ ((g : ℕ) → IsConnectDue next g → length (open_nodes h) + 2 ≤ 1048576) → (IsTrue b) ↔ IsAllowed h e
+    → open_allowed h place kind ≡ true → (IsTrue b) ↔ ((g : ℕ) → IsConnectDue next g → length (open_nodes h) + 2 ≤ 1048576) → (IsTrue b) ↔ IsAllowed nothing_kept h e
 open_test h next e place kind b is_e is_next may w =
     let same : next ≡ h ++ Open place kind ∷ [] = is_next ∙ ap (λ x. h ++ x ∷ []) is_e in
     let v : (IsTrue b) ↔ ((g : ℕ) → IsConnectDue (h ++ Open place kind ∷ []) g → length (open_nodes h) + 2 ≤ 1048576) = rw same at w in
     rw is_e (λ t. open_may h place kind may (v.0 t), λ a. v.1 (open_fits h place kind a))
 
 pub open_refused : (h : List Event) (e : Event) (place : Place) (kind : Kind)
-    → e ≡ Open place kind → open_allowed h place kind ≡ false → (IsTrue false) ↔ IsAllowed h e
+    → e ≡ Open place kind → open_allowed h place kind ≡ false → (IsTrue false) ↔ IsAllowed nothing_kept h e
 open_refused h e place kind is_e refused =
     rw is_e (λ t. absurd (false≢true t), λ a. absurd (both_ways (open_allowed h place kind) refused (open_may_of h place kind a)))
 
@@ -71,16 +72,16 @@ named_after_open h next e place kind is_e is_next named = rw (is_next, is_e) (re
 
 -- items and the rest -------------------------------------------------------------------------------------
 
-pub item_answer : (h : List Event) (e : Event) (l : ℕ) (v : ℤ) (b : Bool) → e ≡ Item l v → b ≡ item_allowed h l → (IsTrue b) ↔ IsAllowed h e
+pub item_answer : (h : List Event) (e : Event) (l : ℕ) (v : ℤ) (b : Bool) → e ≡ Item l v → b ≡ item_allowed h l → (IsTrue b) ↔ IsAllowed nothing_kept h e
 item_answer h e l v b is_e is = rw is_e (λ t. item_may h l v (sym is ∙ t), λ a. is ∙ item_may_of h l v a)
 
 pub simple_answer : (h : List Event) (e : Event) (b : Bool) → ((place : Place) (kind : Kind) → e ≡ Open place kind → ⊥)
-    → ((l : ℕ) (v : ℤ) → e ≡ Item l v → ⊥) → b ≡ allowed_simply h e → (IsTrue b) ↔ IsAllowed h e
+    → ((l : ℕ) (v : ℤ) → e ≡ Item l v → ⊥) → b ≡ allowed_simply h e → (IsTrue b) ↔ IsAllowed nothing_kept h e
 simple_answer h e b no_open no_item is = (λ t. simply_may h e (sym is ∙ t), λ a. is ∙ simply_may_of h e no_open no_item a)
 
 -- what may follow ----------------------------------------------------------------------------------------
 
-pub forced_answer : (h : List Event) (e : Event) → is_forced h e ≡ true → (IsTrue true) ↔ MayFollow h e
+pub forced_answer : (h : List Event) (e : Event) → is_forced h e ≡ true → (IsTrue true) ↔ MayFollow nothing_kept h e
 forced_answer h e f = (λ t. forced (forced_is h e f), λ m. refl)
 
 passes : (e : Event) → opens_pass e ≡ true → (place : Place) × (e ≡ Open place Pass)
@@ -107,7 +108,7 @@ pass_at h n e = by_event (slice_get h n) refl e where
   by_event None is e = absurd (false≢true e)
   by_event (Some x) is e = let w = passes x e in (w.0, is ∙ ap (λ y. Some y) w.1)
 
-opened_first : (h : List Event) (e : Event) → opened_with h e ≡ true → MayFollow h e
+opened_first : (h : List Event) (e : Event) → opened_with h e ≡ true → MayFollow nothing_kept h e
 opened_first h (Accept n tag) e =
     let a = and_parts (at opens_pass h n && (length h == n + 1)) (is_open h n) e in
     let b = and_parts (at opens_pass h n) (length h == n + 1) a.0 in
@@ -131,17 +132,17 @@ first_opened h n place at_n len o =
     (both (at opens_pass h n) (length h == n + 1) (ap (λ o. option_map_or opens_pass o false) at_n) (eq-eqb (length h) (n + 1) len)) o
 
 -- where operators have something left to do, just what is forced and the acceptance after an opening may follow
-pub unsettled_answer : (h : List Event) (e : Event) (b : Bool) → is_forced h e ≡ false → ¬ IsSettled h → b ≡ opened_with h e → (IsTrue b) ↔ MayFollow h e
+pub unsettled_answer : (h : List Event) (e : Event) (b : Bool) → is_forced h e ≡ false → ¬ IsSettled nothing_kept h → b ≡ opened_with h e → (IsTrue b) ↔ MayFollow nothing_kept h e
 unsettled_answer h e b no_force unsettled is = (λ t. opened_first h e (sym is ∙ t), λ m. is ∙ by_way e no_force m) where
-  by_way : (e : Event) → is_forced h e ≡ false → MayFollow h e → opened_with h e ≡ true
+  by_way : (e : Event) → is_forced h e ≡ false → MayFollow nothing_kept h e → opened_with h e ≡ true
   by_way e n (forced f) = absurd (both_ways (is_forced h e) n (is_forced_of h e f))
   by_way e n (allowed s a) = absurd (unsettled s)
   by_way (Accept k tag) n (accepted_with {place = place} at_k len o) = first_opened h k place at_k len o
 
 -- where they have nothing left to do, just what callers may do may follow
-pub settled_answer : (h : List Event) (e : Event) (b : Bool) → IsSettled h → (IsTrue b) ↔ IsAllowed h e → (IsTrue b) ↔ MayFollow h e
+pub settled_answer : (h : List Event) (e : Event) (b : Bool) → IsSettled nothing_kept h → (IsTrue b) ↔ IsAllowed nothing_kept h e → (IsTrue b) ↔ MayFollow nothing_kept h e
 settled_answer h e b settled w = (λ t. allowed settled (w.0 t), λ m. w.1 (by_way e m)) where
-  by_way : (e : Event) → MayFollow h e → IsAllowed h e
+  by_way : (e : Event) → MayFollow nothing_kept h e → IsAllowed nothing_kept h e
   by_way e (forced f) = absurd (settled.none e f)
   by_way e (allowed s a) = a
   by_way (Accept k tag) (accepted_with at_k len o) = accepted o
@@ -153,17 +154,17 @@ get_at [] i d l = absurd (omega arith)
 get_at (x ∷ h) zero d l = refl
 get_at (x ∷ h) (suc i) d l = get_at h i d (omega arith)
 
-pub unlawful_here : (h : List Event) (i : ℕ) (d : Event) (b : Bool) → i < length h → IsLawful (take i h)
-    → b ≡ false → (IsTrue b) ↔ MayFollow (take i h) (get_or h i d) → IsFoundUnlawful h i
+pub unlawful_here : (h : List Event) (i : ℕ) (d : Event) (b : Bool) → i < length h → IsLawful nothing_kept (take i h)
+    → b ≡ false → (IsTrue b) ↔ MayFollow nothing_kept (take i h) (get_or h i d) → IsFoundUnlawful h i
 unlawful_here h i d b l law refused w = record { before = law; event = get_or h i d; found = get_at h i d l; breaks = λ m. both_ways b refused (w.1 m) }
 
-pub lawful_more : (h : List Event) (i : ℕ) (d : Event) (b : Bool) → i < length h → IsLawful (take i h)
-    → b ≡ true → (IsTrue b) ↔ MayFollow (take i h) (get_or h i d) → IsLawful (take (i + 1) h)
-lawful_more h i d b l law follows w = rw (take_more h i d l) (IsLawful-push (take i h) (get_or h i d) law (w.0 follows))
+pub lawful_more : (h : List Event) (i : ℕ) (d : Event) (b : Bool) → i < length h → IsLawful nothing_kept (take i h)
+    → b ≡ true → (IsTrue b) ↔ MayFollow nothing_kept (take i h) (get_or h i d) → IsLawful nothing_kept (take (i + 1) h)
+lawful_more h i d b l law follows w = rw (take_more h i d l) (IsLawful-push nothing_kept (take i h) (get_or h i d) law (w.0 follows))
 
-pub settled_more : (h : List Event) (i : ℕ) (d : Event) (b : Bool) → i < length h → IsLawful (take i h) → IsSettled (take i h) → b ≡ true
-    → (IsTrue b) ↔ MayFollow (take i h) (get_or h i d) → IsQuiet (take i h) (get_or h i d) → is_fired (take i h) (length (take i h)) ≡ false
-    → ((u : ℕ) → u ≤ length (take i h) → is_fired (take i h ++ get_or h i d ∷ []) u ≡ is_fired (take i h) u) → IsSettled (take (i + 1) h)
+pub settled_more : (h : List Event) (i : ℕ) (d : Event) (b : Bool) → i < length h → IsLawful nothing_kept (take i h) → IsSettled nothing_kept (take i h) → b ≡ true
+    → (IsTrue b) ↔ MayFollow nothing_kept (take i h) (get_or h i d) → IsQuiet (take i h) (get_or h i d) → is_fired (take i h) (length (take i h)) ≡ false
+    → ((u : ℕ) → u ≤ length (take i h) → is_fired (take i h ++ get_or h i d ∷ []) u ≡ is_fired (take i h) u) → IsSettled nothing_kept (take (i + 1) h)
 settled_more h i d b l law settled follows w quiet unfired fires =
     rw (take_more h i d l)
     (settled_after (take i h) (get_or h i d) (record { law = law; settled = settled; follows = w.0 follows; unfired = unfired; fires = fires }) quiet)
@@ -175,10 +176,10 @@ found_more h i d size found l same f = rw (take_more h i d l, ← same) f
 pub sized_as : (n size : ℕ) (survey : Survey) → size ≡ n → IsSized size survey → IsSized n survey
 sized_as n size survey same s = rw (← same) s
 
-few_visits : (h : List Event) (l : ℕ) (v : ℤ) → MayFollow h (Item l v) → visits h l ≤ 1048576
+few_visits : (h : List Event) (l : ℕ) (v : ℤ) → MayFollow nothing_kept h (Item l v) → visits h l ≤ 1048576
 unfolding most_visits
 few_visits h l v (forced (due n d)) = elim d [ ]
 few_visits h l v (allowed s (emitted o m few)) = few
 
-pub has_few_visits : (h : List Event) (e : Event) (b : Bool) → b ≡ true → (IsTrue b) ↔ MayFollow h e → HasFewVisits h e
+pub has_few_visits : (h : List Event) (e : Event) (b : Bool) → b ≡ true → (IsTrue b) ↔ MayFollow nothing_kept h e → HasFewVisits h e
 has_few_visits h e b follows w l v is = few_visits h l v (rw is at (w.0 follows))

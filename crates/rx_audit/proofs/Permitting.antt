@@ -7,6 +7,7 @@ use Rattle.std.proofs.lemmas.List.Filters.{length-filter_both}
 use Rattle.std.proofs.lemmas.List.FromFn.{length-range_with_len}
 use Rattle.std.specs.Option.{option_map_or}
 use Rattle.std.proofs.lemmas.Bool.{and_parts, false≢true, ltb-true, lt-ltb, eqb-true, eq-eqb, leb-true, le-leb, lt-leb}
+use Rattle.rx_event.specs.Kept.{nothing_kept}
 use Rattle.rx_note.specs.declared.note.Terminal.{Terminal}
 use Rattle.rx_note.specs.declared.note.Terminal.TheVariants.{Completed, Error}
 use Rattle.rx_event.specs.declared.event.Place.{Place}
@@ -42,27 +43,27 @@ pub no_item : (h : List Event) (l : ℕ) → (is_open h l && at is_leaf h l) ≡
 unfolding item_allowed
 no_item h l o = rw o refl
 
-pub item_may : (h : List Event) (l : ℕ) (v : ℤ) → item_allowed h l ≡ true → IsAllowed h (Item l v)
+pub item_may : (h : List Event) (l : ℕ) (v : ℤ) → item_allowed h l ≡ true → IsAllowed nothing_kept h (Item l v)
 unfolding item_allowed most_visits
 item_may h l v e =
     let a = and_parts (is_open h l && at is_leaf h l) (nat_le (visits h l) 1048576) e in
     let b = and_parts (is_open h l) (at is_leaf h l) a.0 in
     emitted b.0 b.1 (leb-true (visits h l) 1048576 a.1)
 
-pub item_may_of : (h : List Event) (l : ℕ) (v : ℤ) → IsAllowed h (Item l v) → item_allowed h l ≡ true
+pub item_may_of : (h : List Event) (l : ℕ) (v : ℤ) → IsAllowed nothing_kept h (Item l v) → item_allowed h l ≡ true
 unfolding item_allowed most_visits
 item_may_of h l v (emitted o m few) =
     both (is_open h l && at is_leaf h l) (nat_le (visits h l) 1048576) (both (is_open h l) (at is_leaf h l) o m) (le-leb (visits h l) 1048576 few)
 
 -- what is owed -----------------------------------------------------------------------------------------
 
-pub owes : (h : List Event) (f : ℕ) → is_owing h f ≡ true → 0 < owed h f
+pub owes : (h : List Event) (f : ℕ) → is_owing h f ≡ true → 0 < owed nothing_kept h f
 unfolding is_owing
-owes h f e = ltb-true 0 (owed h f) e
+owes h f e = ltb-true 0 (owed nothing_kept h f) e
 
-pub is_owed : (h : List Event) (f : ℕ) → 0 < owed h f → is_owing h f ≡ true
+pub is_owed : (h : List Event) (f : ℕ) → 0 < owed nothing_kept h f → is_owing h f ≡ true
 unfolding is_owing
-is_owed h f l = lt-ltb 0 (owed h f) l
+is_owed h f l = lt-ltb 0 (owed nothing_kept h f) l
 
 -- ends, closings and the rest --------------------------------------------------------------------------
 
@@ -90,21 +91,21 @@ abort_at h n = by_event (slice_get h n) where
   by_event None = refl
   by_event (Some e) = same_abort e
 
-end_may : (h : List Event) (n : ℕ) (t : Terminal) → end_allowed h n t ≡ true → IsAllowed h (End n t)
+end_may : (h : List Event) (n : ℕ) (t : Terminal) → end_allowed h n t ≡ true → IsAllowed nothing_kept h (End n t)
 unfolding end_allowed
 end_may h n t e = by_kind (either (at is_leaf h n) (failing_allowed h n t) w.1) where
   w : (is_open h n ≡ true) × ((at is_leaf h n || failing_allowed h n t) ≡ true)
   w = and_parts (is_open h n) (at is_leaf h n || failing_allowed h n t) e
 
-  by_cause : (c : ℕ) → ((at has_source h n && not (has_open_child h n)) ≡ true) ⊎ ((at is_merging h n && is_owing h n) ≡ true) → IsAllowed h (End n (Error c))
+  by_cause : (c : ℕ) → ((at has_source h n && not (has_open_child h n)) ≡ true) ⊎ ((at is_merging h n && is_owing h n) ≡ true) → IsAllowed nothing_kept h (End n (Error c))
   by_cause c (inl m) = let v = and_parts (at has_source h n) (not (has_open_child h n)) m in aborted w.0 (sym (abort_at h n) ∙ v.0) (child_closed h n v.1)
   by_cause c (inr m) = let v = and_parts (at is_merging h n) (is_owing h n) m in projection_failed w.0 v.0 (owes h n v.1)
 
-  by_terminal : (t : Terminal) → failing_allowed h n t ≡ true → IsAllowed h (End n t)
+  by_terminal : (t : Terminal) → failing_allowed h n t ≡ true → IsAllowed nothing_kept h (End n t)
   by_terminal Completed m = absurd (false≢true m)
   by_terminal (Error c) m = by_cause c (either (at has_source h n && not (has_open_child h n)) (at is_merging h n && is_owing h n) m)
 
-  by_kind : (at is_leaf h n ≡ true) ⊎ (failing_allowed h n t ≡ true) → IsAllowed h (End n t)
+  by_kind : (at is_leaf h n ≡ true) ⊎ (failing_allowed h n t ≡ true) → IsAllowed nothing_kept h (End n t)
   by_kind (inl m) = leaf_ended w.0 m
   by_kind (inr m) = by_terminal t m
 
@@ -112,7 +113,7 @@ failing : (h : List Event) (n c : ℕ) → is_open h n ≡ true → failure_allo
 unfolding end_allowed
 failing h n c o e = both (is_open h n) (at is_leaf h n || failing_allowed h n (Error c)) o (right (at is_leaf h n) (failure_allowed h n) e)
 
-end_may_of : (h : List Event) (n : ℕ) (t : Terminal) → IsAllowed h (End n t) → end_allowed h n t ≡ true
+end_may_of : (h : List Event) (n : ℕ) (t : Terminal) → IsAllowed nothing_kept h (End n t) → end_allowed h n t ≡ true
 unfolding end_allowed
 end_may_of h n t (leaf_ended o m) = both (is_open h n) (at is_leaf h n || failing_allowed h n t) o (left (at is_leaf h n) (failing_allowed h n t) m)
 end_may_of h n (Error c) (aborted o m closed) =
@@ -122,21 +123,21 @@ end_may_of h n (Error c) (projection_failed o m w) =
     failing h n c o (right (at has_source h n && not (has_open_child h n))
     (at is_merging h n && is_owing h n) (both (at is_merging h n) (is_owing h n) m (is_owed h n w)))
 
-close_may : (h : List Event) (n : ℕ) → close_allowed h n ≡ true → IsAllowed h (Close n)
+close_may : (h : List Event) (n : ℕ) → close_allowed h n ≡ true → IsAllowed nothing_kept h (Close n)
 unfolding close_allowed
 close_may h n e = by_kind (either (at is_root h n) (option_map_or (at is_manual_hub h) (hub_connected_at h n) false) w.1) where
   w : (is_open h n ≡ true) × ((at is_root h n || option_map_or (at is_manual_hub h) (hub_connected_at h n) false) ≡ true)
   w = and_parts (is_open h n) (at is_root h n || option_map_or (at is_manual_hub h) (hub_connected_at h n) false) e
 
-  by_hub : (o : Option ℕ) → hub_connected_at h n ≡ o → option_map_or (at is_manual_hub h) o false ≡ true → IsAllowed h (Close n)
+  by_hub : (o : Option ℕ) → hub_connected_at h n ≡ o → option_map_or (at is_manual_hub h) o false ≡ true → IsAllowed nothing_kept h (Close n)
   by_hub None is m = absurd (false≢true m)
   by_hub (Some g) is m = disconnected w.0 (connection_at h n g is) m
 
-  by_kind : (at is_root h n ≡ true) ⊎ (option_map_or (at is_manual_hub h) (hub_connected_at h n) false ≡ true) → IsAllowed h (Close n)
+  by_kind : (at is_root h n ≡ true) ⊎ (option_map_or (at is_manual_hub h) (hub_connected_at h n) false ≡ true) → IsAllowed nothing_kept h (Close n)
   by_kind (inl m) = root_closed w.0 m
   by_kind (inr m) = by_hub (hub_connected_at h n) refl m
 
-close_may_of : (h : List Event) (n : ℕ) → IsAllowed h (Close n) → close_allowed h n ≡ true
+close_may_of : (h : List Event) (n : ℕ) → IsAllowed nothing_kept h (Close n) → close_allowed h n ≡ true
 unfolding close_allowed
 close_may_of h n (root_closed o m) =
     both (is_open h n) (at is_root h n || option_map_or (at is_manual_hub h) (hub_connected_at h n) false) o
@@ -146,7 +147,7 @@ close_may_of h n (disconnected {g = g} o at_n m) =
     (right (at is_root h n) (option_map_or (at is_manual_hub h) (hub_connected_at h n) false)
     (ap (λ o. option_map_or (at is_manual_hub h) o false) (at_connection h n g at_n) ∙ m))
 
-connect_may : (h : List Event) (g : ℕ) → connect_allowed h g ≡ true → IsAllowed h (Connect g)
+connect_may : (h : List Event) (g : ℕ) → connect_allowed h g ≡ true → IsAllowed nothing_kept h (Connect g)
 unfolding connect_allowed most_nodes
 connect_may h g e =
     let a = and_parts (at is_manual_hub h g && not (has_key (open_connected h) h g)) (nat_lt (length (open_nodes h)) 1048576) e in
@@ -154,7 +155,7 @@ connect_may h g e =
     connected b.0 (filter_none (λ n. at (is_connect_of g) h n && is_open h n) (places h)
     (sym (connected_key h g) ∙ not_not (has_key (open_connected h) h g) b.1)) (ltb-true (length (open_nodes h)) 1048576 a.1)
 
-connect_may_of : (h : List Event) (g : ℕ) → IsAllowed h (Connect g) → connect_allowed h g ≡ true
+connect_may_of : (h : List Event) (g : ℕ) → IsAllowed nothing_kept h (Connect g) → connect_allowed h g ≡ true
 unfolding connect_allowed most_nodes
 connect_may_of h g (connected m none few) =
     both (at is_manual_hub h g && not (has_key (open_connected h) h g)) (nat_lt (length (open_nodes h)) 1048576)
@@ -162,24 +163,24 @@ connect_may_of h g (connected m none few) =
     (is_false (has_key (open_connected h) h g) (connected_key h g ∙ none_filtered (λ n. at (is_connect_of g) h n && is_open h n) (places h) none)))
     (lt-ltb (length (open_nodes h)) 1048576 few)
 
-decline_may : (h : List Event) (f : ℕ) → decline_allowed h f ≡ true → IsAllowed h (Decline f)
+decline_may : (h : List Event) (f : ℕ) → decline_allowed h f ≡ true → IsAllowed nothing_kept h (Decline f)
 unfolding decline_allowed
 decline_may h f e = let a = and_parts (is_open h f && at is_merging h f) (is_owing h f) e in
     let b = and_parts (is_open h f) (at is_merging h f) a.0 in declined b.0 b.1 (owes h f a.1)
 
-decline_may_of : (h : List Event) (f : ℕ) → IsAllowed h (Decline f) → decline_allowed h f ≡ true
+decline_may_of : (h : List Event) (f : ℕ) → IsAllowed nothing_kept h (Decline f) → decline_allowed h f ≡ true
 unfolding decline_allowed
 decline_may_of h f (declined o m w) = both (is_open h f && at is_merging h f) (is_owing h f) (both (is_open h f) (at is_merging h f) o m) (is_owed h f w)
 
-hub_may : (h : List Event) (mode : Mode) → nat_lt (length (hubs h)) 1024 ≡ true → IsAllowed h (Hub mode)
+hub_may : (h : List Event) (mode : Mode) → nat_lt (length (hubs h)) 1024 ≡ true → IsAllowed nothing_kept h (Hub mode)
 unfolding most_hubs
 hub_may h mode e = published (ltb-true (length (hubs h)) 1024 e)
 
-hub_may_of : (h : List Event) (mode : Mode) → IsAllowed h (Hub mode) → nat_lt (length (hubs h)) 1024 ≡ true
+hub_may_of : (h : List Event) (mode : Mode) → IsAllowed nothing_kept h (Hub mode) → nat_lt (length (hubs h)) 1024 ≡ true
 unfolding most_hubs
 hub_may_of h mode (published few) = lt-ltb (length (hubs h)) 1024 few
 
-pub simply_may : (h : List Event) (e : Event) → allowed_simply h e ≡ true → IsAllowed h e
+pub simply_may : (h : List Event) (e : Event) → allowed_simply h e ≡ true → IsAllowed nothing_kept h e
 simply_may h (Hub mode) e = hub_may h mode e
 simply_may h (Connect g) e = connect_may h g e
 simply_may h (Accept n tag) e = accepted e
@@ -193,7 +194,7 @@ simply_may h (Open place kind) e = absurd (false≢true e)
 simply_may h (Item l v) e = absurd (false≢true e)
 
 pub simply_may_of : (h : List Event) (e : Event) → ((place : Place) (kind : Kind) → e ≡ Open place kind → ⊥)
-    → ((l : ℕ) (v : ℤ) → e ≡ Item l v → ⊥) → IsAllowed h e → allowed_simply h e ≡ true
+    → ((l : ℕ) (v : ℤ) → e ≡ Item l v → ⊥) → IsAllowed nothing_kept h e → allowed_simply h e ≡ true
 simply_may_of h (Hub mode) no_open no_item a = hub_may_of h mode a
 simply_may_of h (Connect g) no_open no_item a = connect_may_of h g a
 simply_may_of h (Accept n tag) no_open no_item (accepted o) = o
@@ -265,7 +266,7 @@ hubbed_of h place Flat o = refl
 hubbed_of h place Switch o = refl
 hubbed_of h place Until o = refl
 
-free : (h : List Event) (place : Place) → is_free h place ≡ true → IsFree h place
+free : (h : List Event) (place : Place) → is_free h place ≡ true → IsFree nothing_kept h place
 free h Root e = tt
 free h (Source p) e = let a = and_parts (is_open h p && at has_source h p) (not (list_any (is_source_of p) h)) e in
     let b = and_parts (is_open h p) (at has_source h p) a.0 in (b.0, b.1, not_not (list_any (is_source_of p) h) a.1)
@@ -274,7 +275,7 @@ free h (Inner p) e = let a = and_parts (is_open h p && at is_merging h p) (is_ow
 free h (Notifier p) e = let a = and_parts (is_open h p && at is_until h p) (not (list_any (is_notifier_of p) h)) e in
     let b = and_parts (is_open h p) (at is_until h p) a.0 in (b.0, b.1, not_not (list_any (is_notifier_of p) h) a.1)
 
-free_of : (h : List Event) (place : Place) → IsFree h place → is_free h place ≡ true
+free_of : (h : List Event) (place : Place) → IsFree nothing_kept h place → is_free h place ≡ true
 free_of h Root o = refl
 free_of h (Source p) o =
     both (is_open h p && at has_source h p) (not (list_any (is_source_of p) h))
@@ -285,7 +286,7 @@ free_of h (Notifier p) o =
     (both (is_open h p) (at is_until h p) o.0 o.1) (is_false (list_any (is_notifier_of p) h) o.2)
 
 pub open_may : (h : List Event) (place : Place) (kind : Kind) → open_allowed h place kind ≡ true
-    → ((g : ℕ) → IsConnectDue (h ++ Open place kind ∷ []) g → length (open_nodes h) + 2 ≤ 1048576) → IsAllowed h (Open place kind)
+    → ((g : ℕ) → IsConnectDue (h ++ Open place kind ∷ []) g → length (open_nodes h) + 2 ≤ 1048576) → IsAllowed nothing_kept h (Open place kind)
 unfolding open_allowed most_nodes
 open_may h place kind e fits =
     let a = and_parts (is_free h place && is_hubbed h place kind) (nat_lt (length (open_nodes h)) 1048576) e in
@@ -293,13 +294,13 @@ open_may h place kind e fits =
     let few = ltb-true (length (open_nodes h)) 1048576 a.1 in
     opened (free h place b.0) (hubbed h place kind b.1) (omega arith) fits
 
-pub open_may_of : (h : List Event) (place : Place) (kind : Kind) → IsAllowed h (Open place kind) → open_allowed h place kind ≡ true
+pub open_may_of : (h : List Event) (place : Place) (kind : Kind) → IsAllowed nothing_kept h (Open place kind) → open_allowed h place kind ≡ true
 unfolding open_allowed most_nodes
 open_may_of h place kind (opened f o few fits) =
     both (is_free h place && is_hubbed h place kind) (nat_lt (length (open_nodes h)) 1048576)
     (both (is_free h place) (is_hubbed h place kind) (free_of h place f) (hubbed_of h place kind o)) (lt-ltb (length (open_nodes h)) 1048576 (omega arith))
 
-pub open_fits : (h : List Event) (place : Place) (kind : Kind) → IsAllowed h (Open place kind)
+pub open_fits : (h : List Event) (place : Place) (kind : Kind) → IsAllowed nothing_kept h (Open place kind)
     → (g : ℕ) → IsConnectDue (h ++ Open place kind ∷ []) g → length (open_nodes h) + 2 ≤ 1048576
 unfolding most_nodes
 open_fits h place kind (opened f o few fits) = fits

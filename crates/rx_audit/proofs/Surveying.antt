@@ -11,14 +11,13 @@ use Rattle.std.proofs.lemmas.List.FromFn.{length-range_with_len, get_or-range_wi
 use Rattle.std.specs.Option.{option_map_or, option_and_then}
 use Rattle.std.proofs.Math.Bool.{◌||◌, ◌&&◌}
 use Rattle.std.specs.List.{list_any, range_with_len}
+use Rattle.rx_event.specs.Kept.{nothing_kept}
 use Rattle.rx_event.specs.declared.event.Event.{Event}
 use Rattle.rx_event.specs.declared.event.Event.TheVariants.{Open, Hub, Connect, Accept, Use, Remove, Item, Decline, End, Close, Take}
-use Rattle.rx_event.specs.Events.{is_auto_hub, is_manual_hub, hub_connected}
-use Rattle.rx_event.specs.Lawful.{IsLawful, MayFollow, forced, allowed}
-use Rattle.rx_event.specs.Forced.{connecting, due}
+use Rattle.rx_event.specs.Events.{makes_hub, hub_connected}
+use Rattle.rx_event.specs.Lawful.{IsLawful}
 use Rattle.rx_event.specs.Tree.{places, parent, is_open, has_open_child, is_open_child_of}
-use Rattle.rx_event.proofs.Laws.Lawful.{lawful_at}
-use Rattle.rx_event.specs.Allowed.{connected}
+use Rattle.rx_event.proofs.Laws.Sound.{hub_before}
 use Rattle.rx_event.proofs.Laws.Places.{at_within}
 use Rattle.rx_audit.specs.Survey.{AreHubsNamed}
 use Rattle.rx_audit.specs.Tables.{IsMarked, IsTable, marks_with}
@@ -76,18 +75,13 @@ is_connect (End m t) g s = cc
 is_connect (Close m) g s = cc
 is_connect (Take r) g s = cc
 
-connect_below : (h : List Event) (g : ℕ) → MayFollow h (Connect g) → g < length h
-connect_below h g (forced (connecting d)) = at_within is_auto_hub h g d.auto
-connect_below h g (forced (due n d)) = elim d [ ]
-connect_below h g (allowed s (connected m c f)) = at_within is_manual_hub h g m
-
-pub connected_below : (h : List Event) → IsLawful h → (c g : ℕ) → hub_connected_at h c ≡ Some g → g < length h
+pub connected_below : (h : List Event) → IsLawful nothing_kept h → (c g : ℕ) → hub_connected_at h c ≡ Some g → g < length h
 connected_below h law c g e =
     option_and_then_some hub_connected (slice_get h c) g e
-    (λ x a b. let l = connect_below (take c h) g (lawful_at h law c (Connect g) (a ∙ ap (λ y. Some y) (is_connect x g b))) in
+    (λ x a b. let l = at_within makes_hub (take c h) g (hub_before nothing_kept h law c g (a ∙ ap (λ y. Some y) (is_connect x g b))) in
     omega (arith, length-take {A = Event}))
 
-pub hubs_named : (h : List Event) → IsLawful h → AreHubsNamed h
+pub hubs_named : (h : List Event) → IsLawful nothing_kept h → AreHubsNamed h
 hubs_named h law = record { each = connected_below h law }
 
 -- all marks after one key more, where the key is within

@@ -3,6 +3,7 @@ use Rattle.std.specs.Prelude.{◌≡◌, ◌≤◌, ℕ, Bool, true, false, ◌=
 use Rattle.std.proofs.Math.Bool.{not}
 use Rattle.std.specs.List.{list_all, list_any}
 use Rattle.std.specs.Option.{option_and_then, option_map_or}
+use Rattle.rx_event.specs.Kept.{nothing_kept}
 use Rattle.rx_event.specs.declared.event.Place.{Place}
 use Rattle.rx_event.specs.declared.event.Place.TheVariants.{Inner}
 use Rattle.rx_event.specs.declared.event.Kind.{Kind}
@@ -66,7 +67,7 @@ opens h e = makes_node e && option_map_or (stays_open h e) (option_and_then (if_
 
 -- something is owed at f
 unfoldable pub is_owing : List Event → ℕ → Bool
-is_owing h f = nat_lt 0 (owed h f)
+is_owing h f = nat_lt 0 (owed nothing_kept h f)
 
 -- what open nodes stand for --------------------------------------------------------------------------
 

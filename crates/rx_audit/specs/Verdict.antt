@@ -1,5 +1,6 @@
 -- What the audit says of a list of events.
 use Rattle.std.specs.Prelude.{◌≡◌, ℕ, ◌+◌, Bool, true, false, ◌&&◌, ◌==◌, Some, List, take, length, slice_get}
+use Rattle.rx_event.specs.Kept.{nothing_kept}
 use Rattle.rx_event.specs.declared.event.Kind.TheVariants.{Pass}
 use Rattle.rx_event.specs.declared.event.Event.{Event}
 use Rattle.rx_event.specs.declared.event.Event.TheVariants.{Open, Accept}
@@ -15,23 +16,23 @@ use Rattle.rx_audit.specs.declared.verdict.Verdict.TheVariants.{Lawful, Unlawful
 -- each event may follow those before it, operators have nothing left to do, and the lists are those of the open nodes,
 -- the held and the waiting resources, each by rising number
 pub record IsFoundLawful (h : List Event) (nodes kept left_over : List ℕ) : Type 0 where
-  pub lawful : IsLawful h
-  pub settled : IsSettled h
+  pub lawful : IsLawful nothing_kept h
+  pub settled : IsSettled nothing_kept h
   pub live : nodes ≡ open_nodes h
   pub held : kept ≡ held_resources h
   pub waiting : left_over ≡ waiting_resources h
 
 -- each event before the place may follow those before it, and the event at the place may not
 pub record IsFoundUnlawful (h : List Event) (place : ℕ) : Type 0 where
-  pub before : IsLawful (take place h)
+  pub before : IsLawful nothing_kept (take place h)
   pub event : Event
   pub found : slice_get h place ≡ Some event
-  pub breaks : ¬ MayFollow (take place h) event
+  pub breaks : ¬ MayFollow nothing_kept (take place h) event
 
 -- each event may follow those before it, and operators have something left to do
 pub record IsFoundUnsettled (h : List Event) : Type 0 where
-  pub lawful : IsLawful h
-  pub unsettled : ¬ IsSettled h
+  pub lawful : IsLawful nothing_kept h
+  pub unsettled : ¬ IsSettled nothing_kept h
 
 -- the verdict is that of the list
 abbrev pub IsVerdict : List Event → Verdict → Type 0
@@ -51,5 +52,5 @@ opened_with h _ = false
 
 -- the events are lawful, and this was found of all of them
 pub record IsAllFound (h : List Event) (found : Found) : Type 0 where
-  pub lawful : IsLawful h
+  pub lawful : IsLawful nothing_kept h
   pub is : IsFoundHere h found

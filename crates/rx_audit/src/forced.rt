@@ -1,5 +1,6 @@
 //! What operators must do before a caller may go on.
 
+ghost use Rattle.rx_event.specs.Kept.{nothing_kept};
 ghost use Rattle.std.specs.Prelude.{◌≡◌, ◌+◌, ◌<◌, ◌&&◌, ◌||◌, ◌↔◌, IsTrue, false, true, Some, None, length};
 ghost use Rattle.std.specs.List.{list_any};
 ghost use Rattle.rx_event.specs.Tree.{at};
@@ -307,7 +308,7 @@ pub fn is_forced(past: &[Event], found: &Found, survey: &Survey, event: Event) -
 pub fn is_settled(past: &[Event], found: &Found, survey: &Survey) -> bool
     requires found { IsFoundHere past.now found.now }
     requires survey { IsSurveyed past.now survey.now }
-    ensures { IsTrue result ↔ IsSettled past.now }
+    ensures { IsTrue result ↔ IsSettled nothing_kept past.now }
 {
     if any_connect_due(past, survey) {
         return false;

@@ -1,5 +1,6 @@
 //! The verdict on a list of events.
 
+ghost use Rattle.rx_event.specs.Kept.{nothing_kept};
 ghost use Rattle.std.specs.Prelude.{◌≡◌, ℕ, ◌+◌, ◌<◌, ◌≤◌, ◌↔◌, true, false, IsTrue, IfOk, [], ◌∷◌, ◌++◌, Some, None, MatchOption, length};
 ghost use Rattle.rx_event.specs.Tree.{open_nodes};
 ghost use Rattle.rx_event.specs.Resources.{held_resources, waiting_resources};
@@ -101,7 +102,7 @@ fn is_opening_allowed(
     requires found_room { length next.now ≤ length found.now.live.items }
     requires sized { IsSized (length survey.old.parents.items) survey.old }
     requires room { length next.now ≤ length survey.old.parents.items }
-    ensures answer { IfOk result (λ b. IsTrue b ↔ IsAllowed past.now event) }
+    ensures answer { IfOk result (λ b. IsTrue b ↔ IsAllowed nothing_kept past.now event) }
     ensures sized { IsSized (length survey.old.parents.items) survey.new }
 {
     if !is_open_allowed(past, found, place, kind) {
@@ -125,7 +126,7 @@ fn is_allowed(
     requires found_room { length next.now ≤ length found.now.live.items }
     requires sized { IsSized (length survey.old.parents.items) survey.old }
     requires room { length next.now ≤ length survey.old.parents.items }
-    ensures answer { IfOk result (λ b. IsTrue b ↔ IsAllowed past.now event) }
+    ensures answer { IfOk result (λ b. IsTrue b ↔ IsAllowed nothing_kept past.now event) }
     ensures sized { IsSized (length survey.old.parents.items) survey.new }
 {
     match event {
@@ -173,8 +174,8 @@ fn find_settled(past: &[Event], found: &Found, survey: &mut Survey, known: bool)
     requires found { IsFoundHere past.now found.now }
     requires sized { IsSized (length survey.old.parents.items) survey.old }
     requires room { length past.now ≤ length survey.old.parents.items }
-    requires known { known ≡ true → IsSettled past.now }
-    ensures answer { IsTrue result ↔ IsSettled past.now }
+    requires known { known ≡ true → IsSettled nothing_kept past.now }
+    ensures answer { IsTrue result ↔ IsSettled nothing_kept past.now }
     ensures surveyed { result ≡ false → IsSurveyed past.now survey.new }
     ensures sized { IsSized (length survey.old.parents.items) survey.new }
 {
@@ -189,8 +190,8 @@ fn find_settled(past: &[Event], found: &Found, survey: &mut Survey, known: bool)
 fn may_follow_unsettled(past: &[Event], event: Event, found: &Found, survey: &Survey) -> bool
     requires found { IsFoundHere past.now found.now }
     requires survey { IsSurveyed past.now survey.now }
-    requires unsettled { ¬ IsSettled past.now }
-    ensures { IsTrue result ↔ MayFollow past.now event }
+    requires unsettled { ¬ IsSettled nothing_kept past.now }
+    ensures { IsTrue result ↔ MayFollow nothing_kept past.now event }
 {
     if is_forced(past, found, survey, event) {
         return true;
@@ -209,14 +210,14 @@ fn may_follow(
     settled: bool,
 ) -> Result<bool, AllocError>
     requires next { next.now ≡ past.now ++ event ∷ [] }
-    requires lawful { IsLawful past.now }
+    requires lawful { IsLawful nothing_kept past.now }
     requires found { IsFoundHere past.now found.now }
     requires found_room { length next.now ≤ length found.now.live.items }
     requires sized { IsSized (length survey.old.parents.items) survey.old }
     requires room { length next.now ≤ length survey.old.parents.items }
-    requires settled { IsTrue settled ↔ IsSettled past.now }
+    requires settled { IsTrue settled ↔ IsSettled nothing_kept past.now }
     requires surveyed { settled ≡ false → IsSurveyed past.now survey.old }
-    ensures answer { IfOk result (λ b. IsTrue b ↔ MayFollow past.now event) }
+    ensures answer { IfOk result (λ b. IsTrue b ↔ MayFollow nothing_kept past.now event) }
     ensures sized { IsSized (length survey.old.parents.items) survey.new }
 {
     if settled {

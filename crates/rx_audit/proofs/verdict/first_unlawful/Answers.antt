@@ -3,7 +3,7 @@ use Rattle.rx_event.specs.declared.event.Place.TheVariants.{Root}
 use Rattle.rx_event.specs.declared.event.Kind.TheVariants.{Leaf}
 use Rattle.rx_event.specs.declared.event.Event.{Event}
 use Rattle.rx_event.specs.declared.event.Event.TheVariants.{Open}
-use Rattle.rx_event.proofs.Laws.Lawful.{IsLawful_empty}
+use Rattle.rx_event.proofs.Laws.Begin.{IsLawful_nothing}
 use Rattle.std.proofs.lemmas.Bool.{false≢true}
 use Rattle.rx_audit.proofs.Surveying.{hubs_named}
 use Rattle.rx_audit.proofs.Judging.{settled_more, unlawful_here, lawful_more, found_more, sized_as, has_few_visits}
@@ -13,7 +13,7 @@ any_event : Event
 any_event = Open Root Leaf
 
 pub loop-i-init : goal.loop-i-init
-loop-i-init c = record { lawful = IsLawful_empty; found = c.requires.found; sized = c.requires.sized; settled = λ e. absurd (false≢true e) }
+loop-i-init c = record { lawful = IsLawful_nothing; found = c.requires.found; sized = c.requires.sized; settled = λ e. absurd (false≢true e) }
 
 pub returns-then-not-branch-clause-answer : goal.returns-then-not-branch-clause-answer
 unfolding any_event

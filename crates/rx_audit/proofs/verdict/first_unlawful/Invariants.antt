@@ -1,4 +1,5 @@
 use Rattle.std.proofs.Common.{◌≡◌, true, length, take}
+use Rattle.rx_event.specs.Kept.{nothing_kept}
 use Rattle.rx_event.specs.Forced.{IsSettled}
 use Rattle.rx_event.specs.Lawful.{IsLawful}
 use Rattle.rx_audit.specs.Found.{IsFound}
@@ -7,8 +8,8 @@ use Rattle.rx_audit.proofs.verdict.first_unlawful.Given as goal
 
 abbrev pub invariant-loop-i : goal.invariant-loop-i
 invariant-loop-i l = record {
-  lawful : IsLawful (take l.i l.events);
+  lawful : IsLawful nothing_kept (take l.i l.events);
   found : IsFound (take l.i l.events) (length l.events) l.found;
   sized : IsSized (length l.events) l.survey;
-  settled : l.known ≡ true → IsSettled (take l.i l.events);
+  settled : l.known ≡ true → IsSettled nothing_kept (take l.i l.events);
 }

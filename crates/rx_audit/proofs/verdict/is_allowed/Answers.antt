@@ -1,5 +1,6 @@
 use Rattle.std.proofs.Common.{◌≡◌, Bool, IsTrue, ◌↔◌}
 use Rattle.std.proofs.lemmas.Result.{IfOk-weaker}
+use Rattle.rx_event.specs.Kept.{nothing_kept}
 use Rattle.rx_event.specs.Allowed.{IsAllowed}
 use Rattle.rx_audit.specs.Allowing.{item_allowed}
 use Rattle.rx_audit.proofs.Judging.{item_answer, simple_answer}
@@ -8,7 +9,7 @@ use Rattle.rx_audit.proofs.verdict.is_allowed.Goals as goal
 pub returns-in-Item-clause-answer : goal.returns-in-Item-clause-answer
 returns-in-Item-clause-answer c =
     IfOk-weaker c.is_item_allowed.result (λ (b : Bool). b ≡ item_allowed c.args.past.now c.in-Item.leaf)
-    (λ (b : Bool). (IsTrue b) ↔ IsAllowed c.args.past.now c.args.event)
+    (λ (b : Bool). (IsTrue b) ↔ IsAllowed nothing_kept c.args.past.now c.args.event)
     (λ b w. item_answer c.args.past.now c.args.event c.in-Item.leaf c.in-Item.field-1 b c.in-Item.is w) c.is_item_allowed.ensures
 
 pub returns-in_default : goal.returns-in_default

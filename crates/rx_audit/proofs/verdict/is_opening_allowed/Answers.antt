@@ -1,5 +1,6 @@
 use Rattle.std.proofs.Common.{ℕ, ◌+◌, ◌≤◌, Bool, length, sym, IsTrue, ◌↔◌}
 use Rattle.std.proofs.lemmas.Result.{IfOk-weaker}
+use Rattle.rx_event.specs.Kept.{nothing_kept}
 use Rattle.rx_event.specs.Tree.{open_nodes}
 use Rattle.rx_event.specs.Forced.{IsConnectDue}
 use Rattle.rx_event.specs.Allowed.{IsAllowed}
@@ -18,6 +19,6 @@ pub returns-clause-answer : goal.returns-clause-answer
 returns-clause-answer c =
     let h = c.args.past.now in
     let fits : Type 0 = (g : ℕ) → IsConnectDue c.args.next.now g → length (open_nodes h) + 2 ≤ 1048576 in
-    IfOk-weaker c.leaves_room.result (λ (b : Bool). (IsTrue b) ↔ fits) (λ (b : Bool). (IsTrue b) ↔ IsAllowed h c.args.event)
+    IfOk-weaker c.leaves_room.result (λ (b : Bool). (IsTrue b) ↔ fits) (λ (b : Bool). (IsTrue b) ↔ IsAllowed nothing_kept h c.args.event)
     (λ b w. open_test h c.args.next.now c.args.event c.args.place c.args.kind b c.requires.event c.requires.next (sym c.if-not-is_open_allowed.ensures) w)
     c.leaves_room.ensures.answer
