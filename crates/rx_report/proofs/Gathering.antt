@@ -1,10 +1,12 @@
 -- Lists that are copied from a book, one by one, and the lines that are made of them.
-use Rattle.std.proofs.Common.{◌≡◌, ◌<◌, ◌≤◌, ◌+◌, ◌++◌, ◌∷◌, [], ℕ, zero, suc, List, Bool, true, false, map, filter, length, take, get_or, cond, refl, sym, ap, ◌∙◌, append_assoc, append-nil, arith}
-use Rattle.std.specs.Prelude.{Some, None, slice_get, flat_map}
+use Rattle.std.proofs.Common.{◌≡◌, ◌<◌, ◌≤◌, ◌+◌, ◌++◌, ◌∷◌, [], ℕ, zero, suc, List, Bool, true, false, map, filter, length, take, get_or, cond, refl, sym, ap, ◌∙◌, append_assoc, append-nil, arith, inl, inr, ◌⊎◌}
+use Rattle.std.specs.Prelude.{Some, None, slice_get, flat_map, nat_lt, if◌then◌else◌}
 use Rattle.std.proofs.lemmas.List.{take_more, take_all, map-append}
-use Rattle.std.proofs.lemmas.Option.{get_or_from_slice_get}
+use Rattle.std.proofs.lemmas.Bool.{cases_Bool, ltb-true}
+use Rattle.std.proofs.lemmas.Option.{get_or_from_slice_get, none-some}
 use Rattle.std.proofs.lemmas.Grind.{flat_map-append}
 use Rattle.rx_event.specs.declared.event.Event.{Event}
+use Rattle.rx_event.specs.Kept.{Kept, nothing_kept, event_since}
 use Rattle.rx_event.specs.Tree.{at, is_open}
 use Rattle.rx_note.specs.declared.note.Note.{Note}
 use Rattle.rx_event.specs.Notes.{notes, notes_to}
@@ -40,8 +42,19 @@ front_next xs front pushed n x is found is_pushed = is_pushed ∙ ap (λ l. l ++
 pub front_all : {A : Type 0} (xs front : List A) (n : ℕ) → front ≡ take n xs → None ≡ slice_get xs n → front ≡ xs
 front_all xs front n is missing = is ∙ take_all n xs (slice_get-past xs n (sym missing))
 
-pub event_within : (h : List Event) (n : ℕ) (e : Event) → Some e ≡ slice_get h n → n < length h
-event_within h n e found = slice_get-within h n e (sym found)
+-- where the base is empty each event is there
+pub from_start : (base : Kept) (h : List Event) (n : ℕ) → base ≡ nothing_kept → event_since base h n ≡ slice_get h n
+from_start base h n none = ap (λ (b : Kept). event_since b h n) none ∙ ap (λ b. if b then None else slice_get h n) (by_test (cases_Bool (nat_lt n 0)))
+  where
+    by_test : (nat_lt n 0 ≡ true) ⊎ (nat_lt n 0 ≡ false) → nat_lt n 0 ≡ false
+    by_test (inl less) = absurd (let l = ltb-true n 0 less in omega arith)
+    by_test (inr past) = past
+
+pub event_within : (base : Kept) (h : List Event) (n : ℕ) (e : Event) → Some e ≡ event_since base h n → n < length h
+event_within base h n e found = by_test (nat_lt n base.at_length) (sym found) where
+  by_test : (b : Bool) → (if b then None else slice_get h n) ≡ Some e → n < length h
+  by_test true none = absurd (none-some e none)
+  by_test false there = slice_get-within h n e there
 
 -- one line more
 filter-push : {A : Type 0} (p : A → Bool) (xs : List A) (x : A) → filter p (xs ++ x ∷ []) ≡ filter p xs ++ cond (p x) (x ∷ []) []

@@ -7,6 +7,7 @@ use Rattle.rx_event.specs.declared.event.Event.{Event}
 use Rattle.rx_event.specs.declared.event.Event.TheVariants.{Open}
 use Rattle.rx_event.specs.Events.{makes_node}
 use Rattle.rx_event.specs.Tree.{at, is_open}
+use Rattle.rx_event.specs.Kept.{Kept, nothing_kept}
 use Rattle.rx_event.specs.Resources.{is_held, is_taken, uses}
 use Rattle.rx_event.specs.Notes.{notes_to}
 use Rattle.rx_event.specs.Totals.{open_count, accepted_count, held_count, waiting_count, taken_count}
@@ -41,14 +42,14 @@ abbrev pub whereabouts : List Event → ℕ → Whereabouts
 whereabouts h r = if is_held h r then Held else if is_taken h r then Taken else Waiting
 
 abbrev pub account_of : List Event → ℕ → Account
-account_of h r = record { tag = unwrap_or (option_and_then accepted_tag (slice_get h r)) 0; uses = uses h r; whereabouts = whereabouts h r }
+account_of h r = record { tag = unwrap_or (option_and_then accepted_tag (slice_get h r)) 0; uses = uses nothing_kept h r; whereabouts = whereabouts h r }
 
--- a resource that the scenario handed in
+-- a resource that the scenario handed in; what happened is told from its beginning
 abbrev pub res_shown : List Event → Binding → List ℕ
 res_shown h b = res_line b.name (account_of h b.number)
 
 abbrev pub res_lines : List Event → List Binding → List ℕ
 res_lines h resources = flat_map (res_shown h) resources
 
-abbrev pub totals_of : List Event → Totals
-totals_of h = record { nodes = count_by makes_node h; open_nodes = open_count h; accepted = accepted_count h; held = held_count h; waiting = waiting_count h; taken = taken_count h }
+abbrev pub totals_of : Kept → List Event → Totals
+totals_of base h = record { nodes = count_by makes_node h; open_nodes = open_count h; accepted = accepted_count base h; held = held_count h; waiting = waiting_count h; taken = taken_count base h }

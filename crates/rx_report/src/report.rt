@@ -24,6 +24,7 @@ use std::alloc::{AllocError, Global};
 pub fn events_of<R: Resource>(alloc: Global, book: &Book<R>) -> Result<Vec<Event>, AllocError>
     ensures { IfOk result (λ v. v.items ≡ book.now.history) }
 {
+    book.promise();
     let mut events = Vec::new(alloc);
     while let Some(event) = book.event(events.len() as u64) {
         events.push(event)?;
@@ -211,7 +212,7 @@ pub fn push_resources<R: Resource>(
 /// The counts.
 pub fn totals_of<R: Resource>(events: &[Event], book: &Book<R>) -> Totals
     requires { events.now ≡ book.now.history }
-    ensures { result ≡ totals_of book.now.history }
+    ensures { result ≡ totals_of book.now.base book.now.history }
 {
     Totals {
         nodes: events.iter().filter(|event| makes_node(event)).count() as u64,

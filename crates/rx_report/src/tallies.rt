@@ -1,5 +1,6 @@
 //! What each resource and each node met, in one pass over all that happened.
 
+ghost use Rattle.rx_event.specs.Kept.{nothing_kept};
 ghost use Rattle.std.specs.Prelude.{◌≡◌, ◌==◌, [], ℕ, map, filter, nat_eq, unwrap_or, IfOk};
 ghost use Rattle.std.specs.List.{list_any};
 ghost use Rattle.std.specs.Option.{option_map_or};
@@ -47,7 +48,7 @@ impl Tallies {
 // How often each resource was used; one that was not has no entry.
 #[tactic(auto, unfolding(rx_event::specs::Resources::uses))]
 fn uses_in(alloc: Global, events: &[Event]) -> Result<HashMap<u64, u64>, AllocError>
-    ensures { IfOk result (λ m. (r : ℕ) → unwrap_or (get nat_eq m r) 0 ≡ uses events.now r) }
+    ensures { IfOk result (λ m. (r : ℕ) → unwrap_or (get nat_eq m r) 0 ≡ uses nothing_kept events.now r) }
 {
     let mut counts = HashMap::new(alloc);
     for event in events {

@@ -5,10 +5,12 @@ use Rattle.std.specs.List.{All}
 use Rattle.rx_event.specs.declared.event.Event.{Event}
 use Rattle.rx_event.specs.declared.refusal.Refusal.{Refusal}
 use Rattle.rx_event.specs.declared.refusal.Refusal.TheVariants.{Gone}
+use Rattle.rx_event.specs.Kept.{Kept}
 use Rattle.rx_event.specs.Totals.{taken_count}
+use Rattle.rx_event.specs.Calls.{Call, IsStepOf}
 use Rattle.rx_event.specs.Refusals.{first_cause}
 use Rattle.rx_book.specs.State.{State, IsPromised, Continues}
-use Rattle.rx_register.specs.Causes.{by_key}
+use Rattle.rx_register.specs.Causes.{by_key, causes}
 use Rattle.rx_book.specs.Requests.{Request, stands}
 use Rattle.rx_book.specs.Answers.{Accepts}
 use Rattle.rx_agenda.specs.declared.answer.Answer.{Answer}
@@ -17,7 +19,7 @@ use Rattle.rx_agenda.specs.declared.answer.Cause.{Cause}
 use Rattle.rx_agenda.specs.declared.answer.Cause.TheVariants.{Book}
 use Rattle.rx_script.specs.declared.engine.Engine.{Engine}
 use Rattle.rx_scenario.specs.Scenario.{Command, drain}
-use Rattle.rx_script.specs.Stage.{Stage, own_cause, call_of, after}
+use Rattle.rx_script.specs.Stage.{Stage, own_cause, call_of, after, front_is_fresh}
 use Rattle.rx_book.specs.Drains.{Drains}
 use Rattle.rx_script.specs.Course.{Executes, refused, refused_by_book, accepted, drained, book_cause}
 use Rattle.rx_script.specs.Shelf.{Shelf}
@@ -35,7 +37,12 @@ first_cause-by_key false stand gone = let stands_gone : stand Gone ≡ true = go
 -- the step makes the call that is asked for, and the first of the book's causes against it by keys is that by numbers
 pub record Agrees (s : State) (asked : Request) (stage : Stage) (step : Command) : Type 0 where
   pub called : call_of stage step ≡ Some asked.call
-  pub same : first_cause (stands s asked) ≡ book_cause s.limit stage asked.call
+  pub same : first_cause (stands s asked) ≡ first_cause (causes s.base stage.history s.limit (front_is_fresh stage) asked.call)
+
+-- and as the book begins with nothing it is the first cause of a course
+cause_from_start : {R : Type 0} (e : Engine R) (call : Call) → IsSound e →
+    book_cause e.book.limit (stage_of e) call ≡ first_cause (causes e.book.base e.book.history e.book.limit (front_is_fresh (stage_of e)) call)
+cause_from_start e call sound = ap (λ (b : Kept). first_cause (causes b e.book.history e.book.limit (front_is_fresh (stage_of e)) call)) (sym sound.base)
 
 -- the engine with another book and stock
 abbrev pub with : {R : Type 0} → Engine R → State → Shelf → Engine R
@@ -47,7 +54,7 @@ pub unchanged : {R : Type 0} (e : Engine R) (step : Command) (answer : Answer) (
 unchanged {R} e step answer book stock sound same_book same_stock executes =
     let at_book : Carries e step answer (with e e.book stock) = record {
       executes = subst (λ wares. Executes e.book.limit (stage_of e) step answer (record { history = e.book.history; nodes = (stage_of e).nodes; hubs = (stage_of e).hubs; resources = (stage_of e).resources; stock = wares })) (sym same_stock) executes;
-      sound = record { kept = sound.kept; nodes = sound.nodes; resources = sound.resources; faults = sound.faults };
+      sound = record { kept = sound.kept; nodes = sound.nodes; resources = sound.resources; faults = sound.faults; base = sound.base };
       limit = refl;
       given = refl;
     } in
@@ -61,7 +68,8 @@ pub refused_there : {R : Type 0} (e : Engine R) (step : Command) (asked : Reques
     → own_cause (stage_of e) step ≡ None → Agrees e.book asked (stage_of e) step
     → first_cause (stands e.book asked) ≡ Some why → Carries e step (Refused (Book why)) (with e book stock)
 refused_there e step asked why book stock sound same_book same_stock own agrees cause =
-    unchanged e step (Refused (Book why)) book stock sound same_book same_stock (refused_by_book own agrees.called (sym agrees.same ∙ cause))
+    unchanged e step (Refused (Book why)) book stock sound same_book same_stock (refused_by_book own agrees.called (cause_from_start e asked.call sound ∙
+    sym agrees.same ∙ cause))
 
 -- an accepted call, after which the names are these
 pub accepted_to : {R : Type 0} (e new : Engine R) (step : Command) (asked : Request) → IsSound e → IsPromised new.book
@@ -71,12 +79,17 @@ pub accepted_to : {R : Type 0} (e new : Engine R) (step : Command) (asked : Requ
     → All (λ n. IsNodeKey new.book n.key) new.nodes → All (λ n. IsHeldKey new.book n.key) new.resources → new.faults ≡ e.faults
     → Carries e step Accepted new
 accepted_to e new step asked sound kept own agrees accepts staged nodes resources same_faults = record {
-  executes = subst (λ s. Executes e.book.limit (stage_of e) step Accepted s) (sym staged) (accepted own agrees.called (sym agrees.same ∙ accepts.no_cause) accepts.step);
+  executes = subst (λ s. Executes e.book.limit (stage_of e) step Accepted s) (sym staged) (accepted own agrees.called
+      (cause_from_start e asked.call sound ∙ sym agrees.same ∙ accepts.no_cause)
+      (subst (λ (b : Kept). IsStepOf b e.book.history asked.call new.book.history) sound.base accepts.step));
   sound = record {
     kept = kept;
     nodes = nodes;
     resources = resources;
-    faults = let taken = step_taken e.book.history new.book.history asked.call accepts.step in let faults = sound.faults in omega arith;
+    faults = let taken = step_taken e.book.base e.book.history new.book.history asked.call accepts.step in
+        let over = ap (λ (b : Kept). taken_count b new.book.history) accepts.base in
+        let faults = sound.faults in omega arith;
+    base = accepts.base ∙ sound.base;
   };
   limit = accepts.limit;
   given = accepts.given;
@@ -94,8 +107,8 @@ accepted_plain e step asked book sound kept own agrees accepts plain =
     (node_keys_kept e.book book e.nodes sound.kept kept goes sound.nodes) (held_keys_kept e.book book e.resources sound.kept kept goes sound.resources) refl
 
 -- taking and releasing all that waits
-pub drained_to : {R : Type 0} (e new : Engine R) (released : ℕ) → IsSound e → IsPromised new.book → Drains e.book.history new.book.history → Continues e.book new.book
-    → new.nodes ≡ e.nodes → new.hubs ≡ e.hubs → new.resources ≡ e.resources → new.stock ≡ e.stock → taken_count new.book.history ≡ taken_count e.book.history + released → new.faults ≤ e.faults + released
+pub drained_to : {R : Type 0} (e new : Engine R) (released : ℕ) → IsSound e → IsPromised new.book → Drains e.book.base e.book.history new.book.history → Continues e.book new.book
+    → new.nodes ≡ e.nodes → new.hubs ≡ e.hubs → new.resources ≡ e.resources → new.stock ≡ e.stock → taken_count new.book.base new.book.history ≡ taken_count e.book.base e.book.history + released → new.faults ≤ e.faults + released
     → Carries e drain Accepted new
 drained_to e new released sound kept drains goes same_nodes same_hubs same_resources same_stock rose faults =
     let staged : stage_of new ≡ after (stage_of e) drain new.book.history =
@@ -105,12 +118,13 @@ drained_to e new released sound kept drains goes same_nodes same_hubs same_resou
     ∙ ap (λ s. record { history = new.book.history; nodes = map node_binding e.nodes; hubs = map number_binding e.hubs; resources = map res_binding e.resources; stock = s.wares }) same_stock in
     let before = sound.faults in
     record {
-      executes = subst (λ s. Executes e.book.limit (stage_of e) drain Accepted s) (sym staged) (drained drains);
+      executes = subst (λ s. Executes e.book.limit (stage_of e) drain Accepted s) (sym staged) (drained (subst (λ (b : Kept). Drains b e.book.history new.book.history) sound.base drains));
       sound = record {
         kept = kept;
         nodes = subst (λ n. All (λ x. IsNodeKey new.book x.key) n) (sym same_nodes) (node_keys_kept e.book new.book e.nodes sound.kept kept goes sound.nodes);
         resources = subst (λ r. All (λ x. IsHeldKey new.book x.key) r) (sym same_resources) (held_keys_kept e.book new.book e.resources sound.kept kept goes sound.resources);
         faults = omega arith;
+        base = goes.base ∙ sound.base;
       };
       limit = goes.limit;
       given = goes.given;

@@ -3,6 +3,7 @@ use Rattle.std.proofs.Common.{◌≡◌, ℕ, ℤ, List, Bool, true, false, refl
 use Rattle.std.specs.Prelude.{◌≢◌, Some, None, Result, Ok, Err, IfOk, is_none, option_map}
 use Rattle.std.proofs.Math.Bool.{not}
 use Rattle.std.specs.declared.alloc.AllocError.{AllocError}
+use Rattle.rx_event.specs.Kept.{Kept}
 use Rattle.rx_note.specs.declared.note.Terminal.{Terminal}
 use Rattle.rx_event.specs.declared.event.Event.{Event}
 use Rattle.rx_event.specs.declared.refusal.Refusal.{Refusal}
@@ -49,27 +50,28 @@ pub record IsNodeStep (step : Command) (name : Name) (call : ℕ → Call) : Typ
   pub own : (s : Stage) → own_cause s step ≡ cond (is_unbound s.nodes name) (Some NoName) None
   pub called : (s : Stage) → call_of s step ≡ option_map call (bound s.nodes name)
   pub binds_none : (s : Stage) (k : List Event) → after s step k ≡ record s { history = k }
-  pub gone : (h : List Event) (limit : ℕ) (is_fresh : Bool) (n : ℕ) → causes h limit is_fresh (call n) Gone ≡ not (is_open h n)
+  pub gone : (base : Kept) (h : List Event) (limit : ℕ) (is_fresh : Bool) (n : ℕ) → causes base h limit is_fresh (call n) Gone ≡ not (is_open h n)
   pub by_node : (n : ℕ) (known : Bool) (stand : Refusal → Bool) → by_key_of (call n) known stand ≡ by_key known stand
-  pub any_front : (h : List Event) (limit : ℕ) (is_fresh : Bool) (n : ℕ) → causes h limit true (call n) ≡ causes h limit is_fresh (call n)
+  pub any_front : (base : Kept) (h : List Event) (limit : ℕ) (is_fresh : Bool) (n : ℕ) →
+      causes base h limit true (call n) ≡ causes base h limit is_fresh (call n)
 
 pub next_step : (node : Name) (value : ℤ) → IsNodeStep (next node value) node (λ n. Emitting n value)
-next_step node value = record { own = λ s. refl; called = λ s. refl; binds_none = λ s k. refl; gone = λ h limit f n. refl; by_node = λ n known stand. refl; any_front = λ h limit f n. refl }
+next_step node value = record { own = λ s. refl; called = λ s. refl; binds_none = λ s k. refl; gone = λ b h limit f n. refl; by_node = λ n known stand. refl; any_front = λ b h limit f n. refl }
 
 pub end_step : (node : Name) (t : Terminal) → IsNodeStep (end node t) node (λ n. Ending n t)
-end_step node t = record { own = λ s. refl; called = λ s. refl; binds_none = λ s k. refl; gone = λ h limit f n. refl; by_node = λ n known stand. refl; any_front = λ h limit f n. refl }
+end_step node t = record { own = λ s. refl; called = λ s. refl; binds_none = λ s k. refl; gone = λ b h limit f n. refl; by_node = λ n known stand. refl; any_front = λ b h limit f n. refl }
 
 pub abort_step : (node : Name) (code : ℕ) → IsNodeStep (abort node code) node (λ n. Aborting n code)
-abort_step node code = record { own = λ s. refl; called = λ s. refl; binds_none = λ s k. refl; gone = λ h limit f n. refl; by_node = λ n known stand. refl; any_front = λ h limit f n. refl }
+abort_step node code = record { own = λ s. refl; called = λ s. refl; binds_none = λ s k. refl; gone = λ b h limit f n. refl; by_node = λ n known stand. refl; any_front = λ b h limit f n. refl }
 
 pub decline_step : (node : Name) → IsNodeStep (decline node) node Declining
-decline_step node = record { own = λ s. refl; called = λ s. refl; binds_none = λ s k. refl; gone = λ h limit f n. refl; by_node = λ n known stand. refl; any_front = λ h limit f n. refl }
+decline_step node = record { own = λ s. refl; called = λ s. refl; binds_none = λ s k. refl; gone = λ b h limit f n. refl; by_node = λ n known stand. refl; any_front = λ b h limit f n. refl }
 
 pub fail_step : (node : Name) (code : ℕ) → IsNodeStep (fail node code) node (λ n. Failing n code)
-fail_step node code = record { own = λ s. refl; called = λ s. refl; binds_none = λ s k. refl; gone = λ h limit f n. refl; by_node = λ n known stand. refl; any_front = λ h limit f n. refl }
+fail_step node code = record { own = λ s. refl; called = λ s. refl; binds_none = λ s k. refl; gone = λ b h limit f n. refl; by_node = λ n known stand. refl; any_front = λ b h limit f n. refl }
 
 pub dispose_step : (node : Name) → IsNodeStep (dispose node) node Disposing
-dispose_step node = record { own = λ s. refl; called = λ s. refl; binds_none = λ s k. refl; gone = λ h limit f n. refl; by_node = λ n known stand. refl; any_front = λ h limit f n. refl }
+dispose_step node = record { own = λ s. refl; called = λ s. refl; binds_none = λ s k. refl; gone = λ b h limit f n. refl; by_node = λ n known stand. refl; any_front = λ b h limit f n. refl }
 
 module _ {R : Type 0} (e : Engine R) {step : Command} {name : Name} {call : ℕ → Call} (is_step : IsNodeStep step name call) (sound : IsSound e) where
   pub node_nameless : key_of e.nodes name ≡ None → Carries e step (Refused NoName) (with e e.book e.stock)
@@ -94,10 +96,10 @@ module _ {R : Type 0} (e : Engine R) {step : Command} {name : Name} {call : ℕ 
     agrees = record {
       called = is_step.called (stage_of e) ∙ ap (option_map call) number_named;
       same =
-          ap first_cause (is_step.by_node k.number (has_key e.book.keys k) (causes e.book.history e.book.limit true (call k.number)))
-          ∙ ap (λ stand. first_cause (by_key (has_key e.book.keys k) stand)) (is_step.any_front e.book.history e.book.limit (front_is_fresh (stage_of e)) k.number)
-          ∙ first_cause-by_key (has_key e.book.keys k) (causes e.book.history e.book.limit (front_is_fresh (stage_of e)) (call k.number))
-          (λ unknown. is_step.gone e.book.history e.book.limit (front_is_fresh (stage_of e)) k.number ∙ ap not (sym known ∙ unknown));
+          ap first_cause (is_step.by_node k.number (has_key e.book.keys k) (causes e.book.base e.book.history e.book.limit true (call k.number)))
+          ∙ ap (λ stand. first_cause (by_key (has_key e.book.keys k) stand)) (is_step.any_front e.book.base e.book.history e.book.limit (front_is_fresh (stage_of e)) k.number)
+          ∙ first_cause-by_key (has_key e.book.keys k) (causes e.book.base e.book.history e.book.limit (front_is_fresh (stage_of e)) (call k.number))
+          (λ unknown. is_step.gone e.book.base e.book.history e.book.limit (front_is_fresh (stage_of e)) k.number ∙ ap not (sym known ∙ unknown));
     }
 
     pub node_refused : (book : State) (why : Refusal) → book ≡ e.book → IsRefusal (stands e.book (node_request e.book k (call k.number))) why → why ≢ NoMemory → Carries e step (Refused (Book why)) (with e book e.stock)
@@ -114,15 +116,15 @@ pub record IsResStep (step : Command) (name : Name) (call : ℕ → Call) : Type
   pub called : (s : Stage) → call_of s step ≡ option_map call (bound s.resources name)
   pub binds_none : (s : Stage) (k : List Event) → after s step k ≡ record s { history = k }
   -- to look for the key is to look whether the resource is held
-  pub same_cause : (known : Bool) (h : List Event) (limit : ℕ) (is_fresh : Bool) (n : ℕ) → known ≡ is_held h n → first_cause (by_key_of (call n) known (causes h limit true (call n))) ≡ first_cause (causes h limit is_fresh (call n))
+  pub same_cause : (known : Bool) (base : Kept) (h : List Event) (limit : ℕ) (is_fresh : Bool) (n : ℕ) → known ≡ is_held h n → first_cause (by_key_of (call n) known (causes base h limit true (call n))) ≡ first_cause (causes base h limit is_fresh (call n))
 
-apply_same_cause : (known : Bool) (h : List Event) (limit : ℕ) (is_fresh : Bool) (n : ℕ) → known ≡ is_held h n → first_cause (by_res_key known (causes h limit true (Applying n))) ≡ first_cause (causes h limit is_fresh (Applying n))
-apply_same_cause true h limit f n same = refl
-apply_same_cause false h limit f n same = let not_held : is_held h n ≡ false = sym same in rw not_held refl
+apply_same_cause : (known : Bool) (base : Kept) (h : List Event) (limit : ℕ) (is_fresh : Bool) (n : ℕ) → known ≡ is_held h n → first_cause (by_res_key known (causes base h limit true (Applying n))) ≡ first_cause (causes base h limit is_fresh (Applying n))
+apply_same_cause true base h limit f n same = refl
+apply_same_cause false base h limit f n same = let not_held : is_held h n ≡ false = sym same in rw not_held refl
 
-remove_same_cause : (known : Bool) (h : List Event) (limit : ℕ) (is_fresh : Bool) (n : ℕ) → known ≡ is_held h n → first_cause (by_res_key known (causes h limit true (Removing n))) ≡ first_cause (causes h limit is_fresh (Removing n))
-remove_same_cause true h limit f n same = refl
-remove_same_cause false h limit f n same = let not_held : is_held h n ≡ false = sym same in rw not_held refl
+remove_same_cause : (known : Bool) (base : Kept) (h : List Event) (limit : ℕ) (is_fresh : Bool) (n : ℕ) → known ≡ is_held h n → first_cause (by_res_key known (causes base h limit true (Removing n))) ≡ first_cause (causes base h limit is_fresh (Removing n))
+remove_same_cause true base h limit f n same = refl
+remove_same_cause false base h limit f n same = let not_held : is_held h n ≡ false = sym same in rw not_held refl
 
 pub apply_step : (res : Name) (word : ℕ) → IsResStep (apply res word) res Applying
 apply_step res word = record { own = λ s. refl; called = λ s. refl; binds_none = λ s k. refl; same_cause = apply_same_cause }
@@ -152,7 +154,7 @@ module _ {R : Type 0} (e : Engine R) {step : Command} {name : Name} {call : ℕ 
     res_agrees : Agrees e.book res_asked (stage_of e) step
     res_agrees = record {
       called = is_step.called (stage_of e) ∙ ap (option_map call) res_number;
-      same = is_step.same_cause (has_res_key e.book.res_keys k) e.book.history e.book.limit (front_is_fresh (stage_of e)) k.number res_known;
+      same = is_step.same_cause (has_res_key e.book.res_keys k) e.book.base e.book.history e.book.limit (front_is_fresh (stage_of e)) k.number res_known;
     }
 
     pub res_refused : (book : State) (why : Refusal) → book ≡ e.book → IsRefusal (stands e.book (res_request e.book k (call k.number))) why → why ≢ NoMemory → Carries e step (Refused (Book why)) (with e book e.stock)

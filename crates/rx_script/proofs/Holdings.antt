@@ -22,7 +22,6 @@ use Rattle.rx_script.specs.declared.engine.Engine.{Engine}
 use Rattle.rx_scenario.specs.Scenario.{Name, Site, using, hold}
 use Rattle.rx_script.specs.Stage.{Ware, is_empty, own_cause, front, front_is_fresh}
 use Rattle.rx_agenda.specs.Bindings.{bound, is_unbound, with_binding}
-use Rattle.rx_script.specs.Course.{book_cause}
 use Rattle.rx_script.specs.Shelf.{Shelf}
 use Rattle.rx_agenda.specs.Names.{name_of, key_of}
 use Rattle.rx_report.specs.Keys.{node_binding, res_binding, IsNodeKey, IsHeldKey}
@@ -52,10 +51,10 @@ module _ {R : Type 0} (e : Engine R) (w : Ware) (rest : List Ware) (stocked : e.
   rest_stocked = ap (drop 1) stocked
 
   -- the causes look at that resource
-  pub same_stocked : (known : Bool) (call : Call) → (known ≡ false → causes e.book.history e.book.limit w.is_fresh call Gone ≡ true)
-      → first_cause (by_key known (causes e.book.history e.book.limit w.is_fresh call)) ≡ book_cause e.book.limit (stage_of e) call
+  pub same_stocked : (known : Bool) (call : Call) → (known ≡ false → causes e.book.base e.book.history e.book.limit w.is_fresh call Gone ≡ true)
+      → first_cause (by_key known (causes e.book.base e.book.history e.book.limit w.is_fresh call)) ≡ first_cause (causes e.book.base e.book.history e.book.limit (front_is_fresh (stage_of e)) call)
   same_stocked known call gone =
-      first_cause-by_key known (causes e.book.history e.book.limit w.is_fresh call) gone ∙ ap (λ f. first_cause (causes e.book.history e.book.limit f call)) (sym fresh_stocked)
+      first_cause-by_key known (causes e.book.base e.book.history e.book.limit w.is_fresh call) gone ∙ ap (λ f. first_cause (causes e.book.base e.book.history e.book.limit f call)) (sym fresh_stocked)
 
 -- opening with a resource --------------------------------------------------------------------------
 

@@ -116,7 +116,7 @@ module _ {R : Type 0} (e : Engine R) (name : Name) (site : Site) (sort : Sort) (
           agrees : Agrees e.book asked (stage_of e) (open_node name site sort)
           agrees = record {
             called = ap (option_and_then (λ p. option_map (Opening p) (kind_at (stage_of e) sort))) facts.placed ∙ ap (option_map (Opening (place_of place))) known.meant;
-            same = first_cause-by_key (is_known_place e.book.keys place) (causes e.book.history e.book.limit true (Opening (place_of place) kind)) facts.gone;
+            same = first_cause-by_key (is_known_place e.book.keys place) (causes e.book.base e.book.history e.book.limit true (Opening (place_of place) kind)) facts.gone;
           }
 
           pub open_refused : (book : State) (why : Refusal) → book ≡ e.book → IsRefusal (stands e.book (open_request e.book place kind)) why → why ≢ NoMemory

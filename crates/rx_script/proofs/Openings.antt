@@ -121,13 +121,13 @@ site_nameless e (notifier name) at = below_nameless e notifier_below name at
 pub new_node_key : (old new : State) (asked : Request) (k : Key) → Accepts old asked new → k.number ≡ length old.history → 0 < length (outside_of old.history asked.call)
     → IsTrue (has_key new.keys k) → IsNodeKey new k
 new_node_key old new asked k accepts number some listed =
-    let longer = step_longer old.history new.history asked.call accepts.step in
+    let longer = step_longer old.base old.history new.history asked.call accepts.step in
     record { within = omega arith; found = λ open_now. has_key-contained new.keys k listed }
 
 pub new_held_key : (old new : State) (asked : Request) (k : ResKey) (place : ℕ) → Accepts old asked new → k.number ≡ length old.history + place → place < length (outside_of old.history asked.call)
     → IsTrue (has_res_key new.res_keys k) → IsHeldKey new k
 new_held_key old new asked k place accepts number some listed =
-    let longer = step_longer old.history new.history asked.call accepts.step in
+    let longer = step_longer old.base old.history new.history asked.call accepts.step in
     record { within = omega arith; found = λ held_now. has_res_key-contained new.res_keys k listed }
 
 pub nodes_bound : (xs ys : List (Named Key)) (x : Named Key) (number : ℕ) → ys ≡ xs ++ x ∷ [] → x.key.number ≡ number → map node_binding ys ≡ with_binding (map node_binding xs) (name_of x) number

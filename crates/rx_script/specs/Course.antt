@@ -1,6 +1,7 @@
 -- The courses that a scenario may take: its executed steps with their answers, in the order of virtual time, and what they make of a
 -- history.
 use Rattle.std.specs.Prelude.{◌≡◌, ℕ, Option, Some, None, List, [], ◌∷◌, ◌++◌}
+use Rattle.rx_event.specs.Kept.{nothing_kept}
 use Rattle.rx_event.specs.declared.event.Event.{Event}
 use Rattle.rx_event.specs.declared.refusal.Refusal.{Refusal}
 use Rattle.rx_event.specs.Calls.{Call, IsStepOf}
@@ -17,14 +18,14 @@ use Rattle.rx_agenda.specs.Agenda.{Agenda, empty_agenda, with_steps, followed_by
 
 -- the first cause that stands against a step's call of the book
 abbrev pub book_cause : ℕ → Stage → Call → Option Refusal
-book_cause limit s call = first_cause (causes s.history limit (front_is_fresh s) call)
+book_cause limit s call = first_cause (causes nothing_kept s.history limit (front_is_fresh s) call)
 
 -- a step, where the book has so many events at most, its answer, and what follows
 pub data Executes (limit : ℕ) (s : Stage) : Command → Answer → Stage → Type 0 where
   refused : {step : Command} {why : Cause} → own_cause s step ≡ Some why → Executes limit s step (Refused why) s
   refused_by_book : {step : Command} {call : Call} {why : Refusal} → own_cause s step ≡ None → call_of s step ≡ Some call → book_cause limit s call ≡ Some why → Executes limit s step (Refused (Book why)) s
-  accepted : {step : Command} {call : Call} {k : List Event} → own_cause s step ≡ None → call_of s step ≡ Some call → book_cause limit s call ≡ None → IsStepOf s.history call k → Executes limit s step Accepted (after s step k)
-  drained : {k : List Event} → Drains s.history k → Executes limit s drain Accepted (after s drain k)
+  accepted : {step : Command} {call : Call} {k : List Event} → own_cause s step ≡ None → call_of s step ≡ Some call → book_cause limit s call ≡ None → IsStepOf nothing_kept s.history call k → Executes limit s step Accepted (after s step k)
+  drained : {k : List Event} → Drains nothing_kept s.history k → Executes limit s drain Accepted (after s drain k)
 
 -- where a run is: what it has done, and what is to come
 pub record Progress : Type 0 where

@@ -4,6 +4,7 @@ use Rattle.std.specs.Str.{bytes_eq}
 use Rattle.std.specs.Option.{option_map_or}
 use Rattle.std.specs.declared.alloc.Global.{Global}
 use Rattle.std.specs.List.{All}
+use Rattle.rx_event.specs.Kept.{nothing_kept}
 use Rattle.rx_event.specs.declared.event.Kind.{Kind}
 use Rattle.rx_event.specs.declared.event.Kind.TheVariants.{Leaf, Pass, Flat, Switch, Until, Sub}
 use Rattle.rx_event.specs.Totals.{taken_count}
@@ -67,7 +68,9 @@ pub record IsSound {R : Type 0} (e : Engine R) : Type 0 where
   pub kept : IsPromised e.book
   pub nodes : All (λ n. IsNodeKey e.book n.key) e.nodes
   pub resources : All (λ n. IsHeldKey e.book n.key) e.resources
-  pub faults : e.faults ≤ taken_count e.book.history
+  pub faults : e.faults ≤ taken_count e.book.base e.book.history
+  -- a scenario makes no checkpoint
+  pub base : e.book.base ≡ nothing_kept
 
 -- the step was executed with this answer, and all else is as before
 pub record Carries {R : Type 0} (old : Engine R) (step : Command) (answer : Answer) (new : Engine R) : Type 0 where

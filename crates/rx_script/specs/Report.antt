@@ -1,5 +1,6 @@
 -- The report of a course, and its dump.
 use Rattle.std.specs.Prelude.{ℕ, ◌+◌, List, ◌++◌}
+use Rattle.rx_event.specs.Kept.{nothing_kept}
 use Rattle.rx_event.specs.Totals.{held_count, waiting_count}
 use Rattle.rx_dump.specs.Dump.{dump}
 use Rattle.rx_agenda.specs.declared.answer.Answer.{Answer}
@@ -12,7 +13,7 @@ use Rattle.rx_script.specs.Course.{Course}
 
 -- all lines but the last
 unfoldable pub unclosed_report : List Answer → Stage → List ℕ
-unclosed_report answers s = refused_lines answers ++ node_lines s.history s.nodes ++ res_lines s.history s.resources ++ totals_line (totals_of s.history)
+unclosed_report answers s = refused_lines answers ++ node_lines s.history s.nodes ++ res_lines s.history s.resources ++ totals_line (totals_of nothing_kept s.history)
 
 -- the text, where so many releases of the whole run met a fault. What is held or waits after the last step is released then
 unfoldable pub report : Course → ℕ → List ℕ

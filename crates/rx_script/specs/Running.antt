@@ -1,6 +1,7 @@
 -- What a run makes of its input, said of the bytes that a reader had and has left, and of those that a writer held and holds.
 use Rattle.std.specs.Prelude.{◌≡◌, ℕ, ◌≤◌, Some, None, Option, List}
 use Rattle.serde_json.specs.Data.{Data}
+use Rattle.rx_event.specs.Kept.{nothing_kept}
 use Rattle.rx_event.specs.Totals.{accepted_count}
 use Rattle.rx_device.specs.Input.{GivesJson}
 use Rattle.rx_scenario.specs.Scenario.{Script}
@@ -18,7 +19,7 @@ pub record IsOutputOf (value : Data) (stock : List Ware) (form : Form) (text : L
   pub course : Course
   pub possible : IsCourseOf script stock course
   pub faults : ℕ
-  pub few_faults : faults ≤ accepted_count course.last.history
+  pub few_faults : faults ≤ accepted_count nothing_kept course.last.history
   pub lines : text ≡ output form course faults
 
 -- the reader gave a scenario, and what is to be written of it was written in this way: whole, or a front of it

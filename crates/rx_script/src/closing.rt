@@ -12,8 +12,10 @@ pub fn close<R: Resource>(book: &mut Book<R>) -> Closed
     ensures none_open { book.new.keys ≡ [] }
     ensures none_held { book.new.held ≡ [] }
     ensures none_waits { book.new.waiting ≡ [] }
-    ensures taken { taken_count book.new.history ≡ taken_count book.old.history + result.released }
-    ensures accepted { accepted_count book.new.history ≡ accepted_count book.old.history }
+    ensures base { book.new.base ≡ book.old.base }
+    ensures taken { taken_count book.new.base book.new.history ≡ taken_count book.old.base book.old.history +
+        result.released }
+    ensures accepted { accepted_count book.new.base book.new.history ≡ accepted_count book.old.base book.old.history }
     ensures released { result.released ≡ held_count book.old.history + waiting_count book.old.history }
     ensures faults { result.faults ≤ result.released }
 {

@@ -1,5 +1,6 @@
 //! From a scenario's bytes to its report or its dump.
 
+ghost use Rattle.rx_event.specs.Kept.{nothing_kept};
 ghost use Rattle.std.specs.Prelude.{◌≡◌, ◌≢◌, ◌≤◌, ◌⊎◌, ◌++◌, ℕ, List, None, false, true, map, string_bytes, IfOk, IfErr, OnOk, IsErrOf};
 ghost use Rattle.std.specs.Io.KnownBytes.{Appends};
 ghost use Rattle.serde_json.specs.View.{view};
@@ -46,6 +47,7 @@ fn unclosed_report<S: Resource>(
     requires sound { IsSound engine.old }
     requires given { engine.old.book.given ≡ 0 }
     ensures ok { IfOk result (λ s. string_bytes s ≡ unclosed_report answers.now (stage_of engine.old)) }
+    ensures base { OnOk result (engine.new.book.base ≡ engine.old.book.base) }
     ensures history { OnOk result (engine.new.book.history ≡ engine.old.book.history) }
     ensures faults { OnOk result (engine.new.faults ≡ engine.old.faults) }
 {
@@ -76,7 +78,7 @@ fn unclosed_report<S: Resource>(
 
 // The dump.
 fn dump_of<S: Resource>(alloc: Global, book: &Book<S>) -> Result<String, AllocError>
-    ensures { IfOk result (λ s. string_bytes s ≡ dump book.now.history) }
+    ensures { IfOk result (λ s. book.now.base ≡ nothing_kept → string_bytes s ≡ dump book.now.history) }
 {
     let events = events_of(alloc, book)?;
     let mut text = String::new(alloc);
@@ -94,6 +96,7 @@ fn unclosed_output<S: Resource>(
     requires sound { IsSound engine.old }
     requires given { engine.old.book.given ≡ 0 }
     ensures ok { IfOk result (λ s. string_bytes s ≡ unclosed_output form answers.now (stage_of engine.old)) }
+    ensures base { OnOk result (engine.new.book.base ≡ engine.old.book.base) }
     ensures history { OnOk result (engine.new.book.history ≡ engine.old.book.history) }
     ensures faults { OnOk result (engine.new.faults ≡ engine.old.faults) }
 {
@@ -116,7 +119,8 @@ fn carry_out<S: Resource>(
     requires ends { until ≤ 1000000000000000 }
     ensures ok { IfOk result (λ s. (answers : List Answer) × (last : Stage) × Ends engine.old.book.limit until
         (record { stage = stage_of engine.old; agenda = with_steps (map step_of steps.items) empty_agenda }) answers last
-        × (last.history ≡ engine.new.book.history) × (engine.new.faults ≤ taken_count last.history) × (string_bytes s ≡ unclosed_output form answers last)) }
+        × (last.history ≡ engine.new.book.history) × (engine.new.faults ≤ taken_count engine.new.book.base last.history) × (string_bytes s ≡ unclosed_output form answers last)
+        × (engine.new.book.base ≡ nothing_kept)) }
 {
     let answers = run_course(alloc, engine, steps, until)?;
     unclosed_output(alloc, engine, answers.as_slice(), form)
@@ -142,7 +146,7 @@ fn text_of<S: Resource>(
     requires limited { scenario.events ≤ 4294967295 }
     requires ends { scenario.until ≤ 1000000000000000 }
     ensures { IfOk result (λ s. (c : Course) × (faults : ℕ) × IsCourseOf (script_of scenario) (map (ware_of S.Resource) stock.items) c
-        × (faults ≤ accepted_count c.last.history) × (string_bytes s ≡ output form c faults)) }
+        × (faults ≤ accepted_count nothing_kept c.last.history) × (string_bytes s ≡ output form c faults)) }
 {
     let Scenario {
         steps,

@@ -7,4 +7,5 @@ returns-clause-sound g c = record {
   nodes = search rules;
   resources = search rules;
   faults = omega arith;
+  base = search rules;
 }
