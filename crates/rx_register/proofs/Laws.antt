@@ -5,3 +5,4 @@ pub mod Fits
 pub mod Paid
 pub mod Calls
 pub mod Empty
+pub mod SameCauses

@@ -213,6 +213,11 @@ causes base h limit is_fresh (Disconnecting hub) why = disconnecting_causes h hu
 -- one that waits is taken: none is refused
 causes base h limit is_fresh (Taking resource) why = false
 
+-- the causes where a history is never full
+abbrev pub unlimited : (Refusal → Bool) → Refusal → Bool
+unlimited stands Full = false
+unlimited stands why = stands why
+
 -- where a key is unknown --------------------------------------------------------------------------------------------------------
 
 -- where a node's key is no open node's: that the node is gone, and of the rest an unknown hub alone

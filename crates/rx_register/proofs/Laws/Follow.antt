@@ -66,7 +66,7 @@ in_order_at h g p none a k within connects =
     let here : at (connects_up_to g) h a ≡ false = none_has (at (connects_up_to g) h) (ancestors h p) a within none in
     ltb-true g k (not-false (nat_lt g k) (sym (ap (λ (o : Option Event). option_map_or (connects_up_to g) o false) connects) ∙ here))
 
-in_order : (h : List Event) (place : Place) (g : ℕ) → is_out_of_order h place (Sub g) ≡ false → IsInOrder h g place
+pub in_order : (h : List Event) (place : Place) (g : ℕ) → is_out_of_order h place (Sub g) ≡ false → IsInOrder h g place
 in_order h Root g none = tt
 in_order h (Source p) g none = in_order_at h g p none
 in_order h (Inner p) g none = in_order_at h g p none
