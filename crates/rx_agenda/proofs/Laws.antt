@@ -10,6 +10,9 @@ use Rattle.rx_agenda.specs.declared.names.Named.{Named}
 use Rattle.rx_agenda.specs.Names.{name_of, key_of}
 use Rattle.rx_agenda.specs.Bindings.{Binding, bound}
 use Rattle.rx_agenda.specs.Shown.{number_binding}
+use Rattle.rx_agenda.proofs.FoundAtTheEnd.{or_last, find-push}
+pub use Rattle.rx_agenda.proofs.RunsInOrder.{runs_in_order}
+pub use Rattle.rx_agenda.proofs.OneOrder.{Agrees, determined, determined_so_far, cancel_alike}
 
 find-map : {A B : Type 0} (p : B → Bool) (f : A → B) (xs : List A) → find p (map f xs) ≡ option_map f (find (λ x. p (f x)) xs)
 find-map p f [] = refl
@@ -55,15 +58,6 @@ unfolding bound key_of
 bound-numbers names name = ap (option_map (λ b. b.number)) (find-map (λ b. bytes_eq b.name name) number_binding names) ∙ numbers_number _
 
 -- one more name is bound ---------------------------------------------------------------------------
-
--- the last where none was found before
-abbrev pub or_last : {A : Type 0} → (A → Bool) → A → Option A → Option A
-or_last p x (Some y) = Some y
-or_last p x None = cond (p x) (Some x) None
-
-find-push : {A : Type 0} (p : A → Bool) (xs : List A) (x : A) → find p (xs ++ x ∷ []) ≡ or_last p x (find p xs)
-find-push p [] x = refl
-find-push p (y ∷ ys) x = elim (p y) as (λ b. cond b (Some y) (find p (ys ++ x ∷ [])) ≡ or_last p x (cond b (Some y) (find p ys))) [ true ↦ refl | false ↦ find-push p ys x ]
 
 module _ {K : Type 0} (n : Named K) where
   -- where the name stood for nothing, it stands for the new key, and every other name for what it stood for

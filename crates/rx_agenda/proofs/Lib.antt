@@ -1,3 +1,15 @@
+pub mod FoundAtTheEnd
 pub mod Laws
 pub mod Tying
 pub mod Planning
+pub mod Members
+pub mod ComesBeforeIsAnOrder
+pub mod PlacedSteps
+pub mod EntriesRise
+pub mod StepsJoin
+pub mod LeastStepLeaves
+pub mod HeldAndCancelled
+pub mod StaysInOrder
+pub mod RunsInOrder
+pub mod OneOrder
+pub mod ExamplesOfOrder

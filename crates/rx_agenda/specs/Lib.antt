@@ -3,3 +3,6 @@ pub mod Ties
 pub mod Bindings
 pub mod Agenda
 pub mod Shown
+pub mod Order
+pub mod Come
+pub mod Claims

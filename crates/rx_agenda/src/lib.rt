@@ -15,6 +15,10 @@
 //!
 //! - `specs/Agenda` defines what is to come after each call, and which step comes next; each call says
 //!   what it makes of the agenda that `agenda_of` of `specs/Shown` shows.
+//! - In which order that is, `specs/Order` says by comparison, with no queue: turns go by moment, then by the
+//!   order of scheduling, and so do the steps of a turn; and missing are just the steps below a refused
+//!   one, those after the end, the cancelled ones, and what is below those. [`runs_are_in_order`] says
+//!   that every run of an agenda keeps to it, and [`order_is_determined`] that there is one such order.
 //! - [`next_step`] and [`cancel`] take no memory. A call that answers want of memory may have lost the
 //!   step that was handed in: its scenario ends there.
 //! - That a name is found in a number of steps that does not grow with how many there are is no clause.
@@ -23,7 +27,9 @@
 mod agenda;
 mod answer;
 mod names;
+mod theorems;
 
 pub use agenda::{Agenda, add, add_all, cancel, empty_agenda, follow, next_step};
 pub use answer::{Answer, Cause};
 pub use names::{Named, Names};
+pub use theorems::{heads_come_first, order_is_determined, runs_are_in_order};

@@ -1,0 +1,13 @@
+-- What is found once one more stands at the end.
+use Rattle.std.proofs.Common.{◌≡◌, List, [], ◌∷◌, ◌++◌, Bool, true, false, cond, refl}
+use Rattle.std.specs.Prelude.{Option, Some, None, find}
+
+-- the last where none was found before
+abbrev pub or_last : {A : Type 0} → (A → Bool) → A → Option A → Option A
+or_last p x (Some y) = Some y
+or_last p x None = cond (p x) (Some x) None
+
+pub find-push : {A : Type 0} (p : A → Bool) (xs : List A) (x : A) → find p (xs ++ x ∷ []) ≡ or_last p x (find p xs)
+find-push p [] x = refl
+find-push p (y ∷ ys) x = elim (p y) as (λ b. cond b (Some y) (find p (ys ++ x ∷ [])) ≡ or_last p x
+    (cond b (Some y) (find p ys))) [ true ↦ refl | false ↦ find-push p ys x ]
