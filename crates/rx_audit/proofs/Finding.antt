@@ -35,7 +35,7 @@ firing_cons u (Some (Delivery n)) rest = refl
 firing_cons u (Some (Projection f)) rest = refl
 firing_cons u (Some (Firing v)) rest = refl
 
-firing_stops : (s : ℕ → Option Stop) (u : ℕ) (nodes : List ℕ)
+pub firing_stops : (s : ℕ → Option Stop) (u : ℕ) (nodes : List ℕ)
     → list_any (is_firing_of u) (filter_map s nodes) ≡ list_any (λ n. is_key (option_and_then fired_by (s n)) u) nodes
 firing_stops s u [] = refl
 firing_stops s u (n ∷ nodes) = firing_cons u (s n) (filter_map s nodes) ∙ ap (λ b. is_key (option_and_then fired_by (s n)) u || b) (firing_stops s u nodes)
@@ -47,7 +47,7 @@ projection_cons f (Some (Delivery n)) rest = sum_by-cons (λ x. cond (is_project
 projection_cons f (Some (Projection g)) rest = sum_by-cons (λ x. cond (is_projection_to f x) 1 0) (Projection g) rest
 projection_cons f (Some (Firing v)) rest = sum_by-cons (λ x. cond (is_projection_to f x) 1 0) (Firing v) rest
 
-projection_stops : (s : ℕ → Option Stop) (f : ℕ) (nodes : List ℕ)
+pub projection_stops : (s : ℕ → Option Stop) (f : ℕ) (nodes : List ℕ)
     → count_by (is_projection_to f) (filter_map s nodes) ≡ count_by (λ n. is_key (option_and_then projected_by (s n)) f) nodes
 projection_stops s f [] = refl
 projection_stops s f (n ∷ nodes) =
@@ -85,14 +85,14 @@ any_log q (v ∷ log) often = by_first (any_log q log (λ i u e. often (suc i) u
       let t : v.count * 0 + sum_by (times (λ n. cond (q n) 1 0)) log ≡ sum_by (times (λ n. cond (q n) 1 0)) log = omega arith in
       ap (λ b. b || list_any (λ v. q v.node) log) z ∙ rest ∙ sym (ap (nat_lt 0) (s ∙ t))
 
-same_any : (h : List Event) (leaf : ℕ) (log : List Visit) (q : ℕ → Bool) → IsReached h leaf log → list_any (λ v. q v.node) log ≡ list_any q (climb h leaf)
+pub same_any : (h : List Event) (leaf : ℕ) (log : List Visit) (q : ℕ → Bool) → IsReached h leaf log → list_any (λ v. q v.node) log ≡ list_any q (climb h leaf)
 same_any h leaf log q r = any_log q log r.often ∙ ap (nat_lt 0) (r.sums (λ n. cond (q n) 1 0)) ∙ sym (any_count q (climb h leaf))
 
 cond_times : (b : Bool) (c : ℕ) → cond b c 0 ≡ c * cond b 1 0
 cond_times true c = omega arith
 cond_times false c = omega arith
 
-times_cond : (q : ℕ → Bool) (log : List Visit) → sum_by (λ v. cond (q v.node) v.count 0) log ≡ sum_by (times (λ n. cond (q n) 1 0)) log
+pub times_cond : (q : ℕ → Bool) (log : List Visit) → sum_by (λ v. cond (q v.node) v.count 0) log ≡ sum_by (times (λ n. cond (q n) 1 0)) log
 times_cond q [] = refl
 times_cond q (v ∷ log) =
     sum_by-cons (λ v. cond (q v.node) v.count 0) v log ∙ ap (λ (k : ℕ). k + sum_by (λ v. cond (q v.node) v.count 0) log) (cond_times (q v.node) v.count)

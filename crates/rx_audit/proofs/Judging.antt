@@ -9,26 +9,29 @@ use Rattle.rx_event.specs.Kept.{nothing_kept}
 use Rattle.rx_event.specs.declared.event.Place.{Place}
 use Rattle.rx_event.specs.declared.event.Kind.{Kind}
 use Rattle.rx_event.specs.declared.event.Kind.TheVariants.{Leaf, Pass, Flat, Switch, Until, Sub}
+use Rattle.rx_note.specs.declared.note.Terminal.{Terminal}
 use Rattle.rx_event.specs.declared.event.Event.{Event}
 use Rattle.rx_event.specs.declared.event.Event.TheVariants.{Open, Hub, Connect, Accept, Use, Remove, Item, Decline, End, Close, Take}
 use Rattle.rx_event.specs.Tree.{at, is_open, open_nodes}
-use Rattle.rx_event.specs.Forced.{IsConnectDue, IsSettled, due}
+use Rattle.rx_event.specs.Forced.{IsForced, IsConnectDue, IsSettled, due}
 use Rattle.rx_event.specs.Allowed.{IsAllowed, emitted, accepted}
 use Rattle.rx_event.specs.Lawful.{IsLawful, MayFollow, forced, allowed, opened_with as accepted_with}
 use Rattle.rx_event.proofs.Laws.Lawful.{IsLawful-push}
 use Rattle.rx_event.proofs.Laws.Places.{slice_get-append, slice_get_last}
 use Rattle.rx_event.specs.Moments.{is_fired}
-use Rattle.rx_event.specs.Events.{hub_connected}
+use Rattle.rx_event.specs.Events.{hub_connected, makes_node, is_item}
 use Rattle.rx_audit.specs.Rules.{any_connect_due, is_forced, hub_connected_at, IsQuiet}
 use Rattle.rx_audit.proofs.Calming.{settled_after}
 use Rattle.rx_audit.specs.Survey.{AreHubsNamed, IsSized}
 use Rattle.std.proofs.lemmas.List.{take_more}
 use Rattle.rx_audit.specs.declared.found.Found.{Found}
+use Rattle.rx_audit.specs.declared.hubless.Nodes.{Nodes}
+use Rattle.rx_audit.specs.Hubless.{IsFollowed}
 use Rattle.rx_audit.specs.declared.survey.Survey.{Survey}
 use Rattle.rx_audit.specs.Found.{IsFound, HasFewVisits}
 use Rattle.rx_event.specs.Climb.{visits, most_visits}
 use Rattle.rx_audit.specs.Verdict.{IsFoundUnlawful, opens_pass, opened_with}
-use Rattle.rx_audit.specs.Allowing.{allowed_simply, item_allowed, open_allowed}
+use Rattle.rx_audit.specs.Allowing.{allowed_simply, end_allowed, item_allowed, open_allowed}
 use Rattle.rx_audit.proofs.Deciding.{both}
 use Rattle.rx_audit.proofs.Due.{some_connect_due, no_connect_due, forced_is, is_forced_of}
 use Rattle.rx_audit.proofs.Permitting.{open_may, open_may_of, open_fits, item_may, item_may_of, simply_may, simply_may_of}
@@ -183,3 +186,23 @@ few_visits h l v (allowed s (emitted o m few)) = few
 
 pub has_few_visits : (h : List Event) (e : Event) (b : Bool) → b ≡ true → (IsTrue b) ↔ MayFollow nothing_kept h e → HasFewVisits h e
 has_few_visits h e b follows w l v is = few_visits h l v (rw is at (w.0 follows))
+
+pub followed_more : (h : List Event) (i : ℕ) (d : Event) (size : ℕ) (nodes : Nodes) → i < length h → size ≡ length h
+    → IsFollowed (take i h ++ get_or h i d ∷ []) size nodes → IsFollowed (take (i + 1) h) (length h) nodes
+followed_more h i d size nodes l same f = rw (take_more h i d l, ← same) f
+
+-- the same by what is forced
+pub forced_answer_by_marks : (h : List Event) (e : Event) → IsForced nothing_kept h e → (IsTrue true) ↔ MayFollow nothing_kept h e
+forced_answer_by_marks h e f = (λ t. forced f, λ m. refl)
+
+pub unforced_answer_by_marks : (h : List Event) (e : Event) (b : Bool) → (IsForced nothing_kept h e → ⊥) → ¬ IsSettled nothing_kept h → b ≡ opened_with h e → (IsTrue b) ↔ MayFollow nothing_kept h e
+unforced_answer_by_marks h e b no_force unsettled is = (λ t. opened_first h e (sym is ∙ t), λ m. is ∙ by_way e no_force m) where
+  by_way : (e : Event) → (IsForced nothing_kept h e → ⊥) → MayFollow nothing_kept h e → opened_with h e ≡ true
+  by_way e n (forced f) = absurd (n f)
+  by_way e n (allowed s a) = absurd (unsettled s)
+  by_way (Accept k tag) n (accepted_with {place = place} at_k len o) = first_opened h k place at_k len o
+
+-- an end that a caller asks for
+pub end_answer : (h : List Event) (e : Event) (n : ℕ) (t : Terminal) (b : Bool) → e ≡ End n t → b ≡ end_allowed h n t → (IsTrue b) ↔ IsAllowed nothing_kept h e
+end_answer h e n t b same is = rw same (simple_answer h (End n t) b
+    (λ place kind q. both_ways (makes_node (End n t)) refl (ap makes_node q)) (λ l v q. both_ways (is_item (End n t)) refl (ap is_item q)) is)

@@ -12,3 +12,10 @@ pub mod Logging
 pub mod Counting
 pub mod Chaining
 pub mod Calming
+pub mod Latest
+pub mod ClosingBelow
+pub mod Marking
+pub mod Covering
+pub mod WithoutHubs
+pub mod Visiting
+pub mod Passing

@@ -7,3 +7,6 @@ pub mod Allowing
 pub mod Verdict
 pub mod Flow
 pub mod Chain
+pub mod Latest
+pub mod Marking
+pub mod Hubless

@@ -4,9 +4,10 @@ ghost use Rattle.std.specs.Prelude.{◌≡◌, ◌<◌, ◌≤◌, ◌&&◌, ◌
 ghost use Rattle.std.specs.Option.{option_and_then};
 ghost use Rattle.std.proofs.Math.Bool.{not};
 ghost use Rattle.rx_event.specs.Events.{is_leaf, makes_resource, node_of_accept};
-ghost use Rattle.rx_event.specs.Tree.{at, is_open, open_nodes, hubs};
+ghost use Rattle.rx_event.specs.Tree.{at, is_open, open_nodes, hubs, has_open_child};
 ghost use Rattle.rx_event.specs.Resources.{is_held, is_waiting};
 ghost use Rattle.rx_audit.specs.Known.{IsFoundHere, IsSurveyed};
+ghost use Rattle.rx_audit.specs.Marking.{IsKept};
 ghost use Rattle.rx_audit.specs.Survey.{AreHubsNamed, IsSized};
 ghost use Rattle.rx_audit.specs.Rules.{was_removed, was_taken};
 ghost use Rattle.rx_audit.specs.Allowing.{connects_later, is_in_order_at, is_in_order, is_hubbed, is_free};
@@ -16,10 +17,11 @@ ghost use Rattle.rx_audit.specs.Allowing.{decline_allowed, allowed_simply, item_
 use crate::event_tests::at;
 use crate::found::{self, Found};
 use crate::marks::is_marked;
+use crate::nodes::marks_at;
 use crate::openness::parent_of;
 use crate::reach::reached;
 use crate::survey::{self, Survey, hub_connected_at, look};
-use rx_event::{Event, Kind, Place, Terminal};
+use rx_event::{Event, Kind, Marks, Place, Terminal};
 use std::alloc::{AllocError, Global};
 
 /// How many nodes may be open.
@@ -245,12 +247,87 @@ pub fn is_allowed_simply(past: &[Event], found: &Found, survey: &mut Survey, eve
         Event::Accept(n, _) => is_marked(found.live.as_slice(), n),
         Event::Use(r) | Event::Remove(r) => is_held(past, found, r),
         Event::Decline(f) => decline_allowed(past, found, f),
-        Event::End(n, t) => {
-            look(past, found.live.as_slice(), survey);
-            end_allowed(past, found, survey, n, t)
-        }
+        Event::End(n, t) => end_allowed_here(past, found, survey, n, t),
         Event::Close(n) => close_allowed(past, found, n),
         Event::Take(r) => is_waiting(past, found, r),
+    }
+}
+
+/// Whether a caller may end node `n` so. The nodes are surveyed where an operator is to fail.
+#[tactic(auto, unfolding(crate::specs::Allowing::end_allowed))]
+fn end_allowed_here(
+    past: &[Event],
+    found: &Found,
+    survey: &mut Survey,
+    n: u64,
+    terminal: Terminal,
+) -> bool
+    requires named { AreHubsNamed past.now }
+    requires found { IsFoundHere past.now found.now }
+    requires sized { IsSized (length survey.old.parents.items) survey.old }
+    requires room { length past.now ≤ length survey.old.parents.items }
+    ensures answer { result ≡ end_allowed past.now n terminal }
+    ensures sized { IsSized (length survey.old.parents.items) survey.new }
+{
+    if is_open_leaf(past, found, n) {
+        return true;
+    }
+    look(past, found.live.as_slice(), survey);
+    end_allowed(past, found, survey, n, terminal)
+}
+
+/// Whether node `n`, which is open, has an open child, by what it remembers.
+fn has_child(past: &[Event], marks: &Vec<Marks>, n: u64) -> bool
+    requires kept { IsKept past.now marks.now.items }
+    requires here { is_open past.now n ≡ true }
+    ensures { result ≡ has_open_child past.now n }
+{
+    let _ = past;
+    marks_at(marks, n).open_children > 0
+}
+
+/// Whether a caller may end node `n`, which is open, with an error, though it is no leaf.
+fn failure_allowed_by_marks(past: &[Event], found: &Found, marks: &Vec<Marks>, n: u64) -> bool
+    requires found { IsFoundHere past.now found.now }
+    requires kept { IsKept past.now marks.now.items }
+    requires here { is_open past.now n ≡ true }
+    ensures { result ≡ failure_allowed past.now n }
+{
+    at(Event::has_source, past, n) && !has_child(past, marks, n)
+        || at(Event::is_merging, past, n) && found::is_owing(past, found, n)
+}
+
+/// Whether node `n` is open.
+fn is_open_node(past: &[Event], found: &Found, n: u64) -> bool
+    requires { IsFoundHere past.now found.now }
+    ensures { result ≡ is_open past.now n }
+{
+    let _ = past;
+    is_marked(found.live.as_slice(), n)
+}
+
+/// Whether a caller may end node `n` so, by what the nodes remember.
+#[tactic(auto, unfolding(crate::specs::Allowing::end_allowed))]
+pub fn end_allowed_by_marks(
+    past: &[Event],
+    found: &Found,
+    marks: &Vec<Marks>,
+    n: u64,
+    terminal: Terminal,
+) -> bool
+    requires found { IsFoundHere past.now found.now }
+    requires kept { IsKept past.now marks.now.items }
+    ensures { result ≡ end_allowed past.now n terminal }
+{
+    if is_open_leaf(past, found, n) {
+        return true;
+    }
+    if !is_open_node(past, found, n) {
+        return false;
+    }
+    match terminal {
+        Terminal::Completed => false,
+        Terminal::Error(_) => failure_allowed_by_marks(past, found, marks, n),
     }
 }
 

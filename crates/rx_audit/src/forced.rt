@@ -20,7 +20,7 @@ use crate::survey::{self, Survey, hub_connected_at, hub_subscribed_at};
 use rx_event::{Event, Terminal};
 
 /// Whether the ends are the same.
-fn same_terminal(one: Terminal, other: Terminal) -> bool
+pub fn same_terminal(one: Terminal, other: Terminal) -> bool
     ensures { result ≡ same_terminal one other }
 {
     match (one, other) {

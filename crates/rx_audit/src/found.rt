@@ -1,5 +1,6 @@
 //! What was found of the events so far.
 
+ghost use Rattle.rx_event.specs.Kept.{nothing_kept};
 ghost use Rattle.std.specs.Prelude.{◌≡◌, ℕ, ◌+◌, ◌*◌, ◌^◌, ◌<◌, ◌≤◌, ◌||◌, false, [], ◌∷◌, ◌++◌, IfOk, OnOk, length, slice_index_or, sum_by, replicate};
 ghost use Rattle.std.specs.List.{list_any};
 ghost use Rattle.std.specs.Option.{option_and_then};
@@ -7,14 +8,16 @@ ghost use Rattle.rx_event.specs.Events.{is_source_of, is_notifier_of};
 ghost use Rattle.rx_event.specs.Tree.{is_open};
 ghost use Rattle.rx_event.specs.Climb.{stop_at, visits};
 ghost use Rattle.rx_event.specs.Moments.{is_fired, projections};
+ghost use Rattle.rx_event.specs.Lawful.{IsLawful, MayFollow};
+ghost use Rattle.rx_audit.specs.Hubless.{IsFollowed};
 ghost use Rattle.rx_audit.specs.Found.{IsFound, HasStops, HasFewVisits};
 ghost use Rattle.rx_audit.specs.Flow.{times};
 ghost use Rattle.rx_audit.specs.Rules.{fired_by, projected_by, is_key, has_ended, has_failed, has_completed, was_removed, was_taken, is_owing};
 ghost use Rattle.rx_audit.specs.Tables.{IsMarked, IsTable, IsTally, IsTold, IsCounted};
 
 use crate::climb::{fired_at, projected_at};
+use crate::hubless::{Nodes, advance};
 use crate::marks::{count, count_more, count_of, is_marked, mark};
-use crate::openness::mark_open;
 use crate::reach::{Visit, reached};
 use rx_event::Event;
 use std::alloc::{AllocError, Global};
@@ -172,7 +175,11 @@ pub fn follow(
     past: &[Event],
     event: Event,
     found: &mut Found,
+    nodes: &mut Nodes,
 ) -> Result<bool, AllocError>
+    requires lawful { IsLawful nothing_kept past.now }
+    requires next { MayFollow nothing_kept past.now event }
+    requires followed { IsFollowed past.now (length found.old.live.items) nodes.old }
     requires found { IsFound past.now (length found.old.live.items) found.old }
     requires room { length past.now < length found.old.live.items }
     requires visits { HasFewVisits past.now event }
@@ -180,6 +187,7 @@ pub fn follow(
     ensures fires { IfOk result
         (λ fires. fires ≡ false → (u : ℕ) → u ≤ length past.now
         → is_fired (past.now ++ event ∷ []) u ≡ is_fired past.now u) }
+    ensures followed { OnOk result (IsFollowed (past.now ++ event ∷ []) (length found.old.live.items) nodes.new) }
 {
     let fires = find_item(
         alloc,
@@ -189,7 +197,7 @@ pub fn follow(
         found.fired.as_mut_slice(),
         found.projected.as_mut_slice(),
     )?;
-    mark_open(past, event, found.live.as_mut_slice());
+    advance(alloc, past, event, found.live.as_mut_slice(), nodes)?;
     mark(found.ended.as_mut_slice(), event.ended());
     mark(found.failed.as_mut_slice(), event.failed());
     mark(found.completed.as_mut_slice(), event.completed());

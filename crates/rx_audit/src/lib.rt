@@ -26,11 +26,16 @@
 #![tactic(auto)]
 
 mod allowed;
+mod children;
 mod climb;
+mod closing;
+mod duties;
 mod event_tests;
 mod forced;
 mod found;
+mod hubless;
 mod marks;
+mod nodes;
 mod openness;
 mod reach;
 mod subscribers;

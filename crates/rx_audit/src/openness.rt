@@ -102,7 +102,7 @@ fn close_shut(past: &[Event], event: Event, marks: &mut [bool])
 }
 
 /// The node above the one that the event makes as number `n`.
-fn parent_of_new(event: Event, n: u64) -> Option<u64>
+pub fn parent_of_new(event: Event, n: u64) -> Option<u64>
     ensures { result ≡ option_and_then (if_less n) (parent_named event) }
 {
     match event {
@@ -115,7 +115,7 @@ fn parent_of_new(event: Event, n: u64) -> Option<u64>
 }
 
 /// Whether the node that the event makes is open.
-fn opens(past: &[Event], event: Event, marks: &[bool]) -> bool
+pub fn opens(past: &[Event], event: Event, marks: &[bool]) -> bool
     requires { IsMarked marks.now (stays_open past.now event) }
     ensures { result ≡ opens past.now event }
 {

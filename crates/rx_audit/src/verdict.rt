@@ -9,18 +9,21 @@ ghost use Rattle.rx_event.specs.Forced.{IsConnectDue, IsSettled};
 ghost use Rattle.rx_event.specs.Moments.{is_fired};
 ghost use Rattle.rx_audit.specs.Rules.{IsQuiet, open_subscribed};
 ghost use Rattle.rx_event.specs.Lawful.{IsLawful, MayFollow};
+ghost use Rattle.rx_audit.specs.Hubless.{IsFollowed};
 ghost use Rattle.rx_audit.specs.Known.{IsFoundHere, IsSurveyed};
 ghost use Rattle.rx_audit.specs.Survey.{AreHubsNamed, IsSized};
 ghost use Rattle.rx_audit.specs.Found.{IsFound};
 ghost use Rattle.rx_audit.specs.Verdict.{IsVerdict, IsFoundUnlawful, IsAllFound, opens_pass, opened_with};
 
 use crate::allowed::{
-    MOST_NODES, is_allowed_simply, is_held, is_item_allowed, is_open_allowed, is_waiting,
-    open_count,
+    MOST_NODES, end_allowed_by_marks, is_allowed_simply, is_held, is_item_allowed, is_open_allowed,
+    is_waiting, open_count,
 };
+use crate::duties::settle;
 use crate::event_tests::{at, is_calm};
 use crate::forced::{any_connect_due, is_forced, is_settled};
 use crate::found::{self, Found, follow, nothing_found};
+use crate::hubless::{Nodes, is_forced_by_marks, no_nodes};
 use crate::marks::is_marked;
 use crate::openness::mark_open;
 use crate::survey::{Survey, look, new_survey, open_subscribed};
@@ -138,6 +141,34 @@ fn is_allowed(
     }
 }
 
+/// The same. In a history without hubs an end is judged by what the node remembers, with no survey.
+fn is_allowed_here(
+    alloc: Global,
+    past: &[Event],
+    next: &[Event],
+    event: Event,
+    found: &Found,
+    survey: &mut Survey,
+    nodes: &Nodes,
+) -> Result<bool, AllocError>
+    requires next { next.now ≡ past.now ++ event ∷ [] }
+    requires named { AreHubsNamed past.now }
+    requires found { IsFoundHere past.now found.now }
+    requires found_room { length next.now ≤ length found.now.live.items }
+    requires sized { IsSized (length survey.old.parents.items) survey.old }
+    requires room { length next.now ≤ length survey.old.parents.items }
+    requires followed { IsFollowed past.now (length found.now.live.items) nodes.now }
+    ensures answer { IfOk result (λ b. IsTrue b ↔ IsAllowed nothing_kept past.now event) }
+    ensures sized { IsSized (length survey.old.parents.items) survey.new }
+{
+    if nodes.hubless {
+        if let Event::End(n, terminal) = event {
+            return Ok(end_allowed_by_marks(past, found, &nodes.marks, n, terminal));
+        }
+    }
+    is_allowed(alloc, past, next, event, found, survey)
+}
+
 /// Whether the event opens a mirroring node.
 fn opens_pass(event: Event) -> bool
     ensures { result ≡ opens_pass event }
@@ -207,6 +238,7 @@ fn may_follow(
     event: Event,
     found: &Found,
     survey: &mut Survey,
+    nodes: &Nodes,
     settled: bool,
 ) -> Result<bool, AllocError>
     requires next { next.now ≡ past.now ++ event ∷ [] }
@@ -216,14 +248,61 @@ fn may_follow(
     requires sized { IsSized (length survey.old.parents.items) survey.old }
     requires room { length next.now ≤ length survey.old.parents.items }
     requires settled { IsTrue settled ↔ IsSettled nothing_kept past.now }
-    requires surveyed { settled ≡ false → IsSurveyed past.now survey.old }
+    requires surveyed { nodes.now.hubless ≡ false → settled ≡ false → IsSurveyed past.now survey.old }
+    requires followed { IsFollowed past.now (length found.now.live.items) nodes.now }
     ensures answer { IfOk result (λ b. IsTrue b ↔ MayFollow nothing_kept past.now event) }
     ensures sized { IsSized (length survey.old.parents.items) survey.new }
 {
     if settled {
-        return is_allowed(alloc, past, next, event, found, survey);
+        return is_allowed_here(alloc, past, next, event, found, survey, nodes);
+    }
+    if nodes.hubless {
+        return Ok(may_follow_by_marks(past, event, found, nodes));
     }
     Ok(may_follow_unsettled(past, event, found, survey))
+}
+
+/// Whether operators have nothing left to do. In a history without hubs that is told by what the nodes
+/// remember, with no survey.
+fn is_settled_here(
+    past: &[Event],
+    found: &Found,
+    survey: &mut Survey,
+    nodes: &mut Nodes,
+    known: bool,
+) -> bool
+    requires named { AreHubsNamed past.now }
+    requires lawful { IsLawful nothing_kept past.now }
+    requires found { IsFoundHere past.now found.now }
+    requires sized { IsSized (length survey.old.parents.items) survey.old }
+    requires room { length past.now ≤ length survey.old.parents.items }
+    requires known { known ≡ true → IsSettled nothing_kept past.now }
+    requires followed { IsFollowed past.now (length found.now.live.items) nodes.old }
+    ensures answer { IsTrue result ↔ IsSettled nothing_kept past.now }
+    ensures surveyed { nodes.old.hubless ≡ false → result ≡ false → IsSurveyed past.now survey.new }
+    ensures sized { IsSized (length survey.old.parents.items) survey.new }
+    ensures followed { IsFollowed past.now (length found.now.live.items) nodes.new }
+    ensures hubless { nodes.new.hubless ≡ nodes.old.hubless }
+{
+    if nodes.hubless {
+        return settle(past, found.live.as_slice(), &nodes.marks, &mut nodes.due);
+    }
+    find_settled(past, found, survey, known)
+}
+
+/// Whether the event may come next, where operators have something left to do and there is no hub.
+fn may_follow_by_marks(past: &[Event], event: Event, found: &Found, nodes: &Nodes) -> bool
+    requires lawful { IsLawful nothing_kept past.now }
+    requires found { IsFoundHere past.now found.now }
+    requires unsettled { ¬ IsSettled nothing_kept past.now }
+    requires followed { IsFollowed past.now (length found.now.live.items) nodes.now }
+    requires hubless { nodes.now.hubless ≡ true }
+    ensures { IsTrue result ↔ MayFollow nothing_kept past.now event }
+{
+    if is_forced_by_marks(past, found.live.as_slice(), &nodes.marks, event) {
+        return true;
+    }
+    is_opened_with(past, found, event)
 }
 
 /// Whether a node at this place or after it is an open subscriber.
@@ -261,6 +340,18 @@ fn is_quiet_here(past: &[Event], found: &Found, event: Event) -> bool
     is_quiet(past, found, event) && !found::is_fired(past, found, past.len() as u64)
 }
 
+/// The same. It is not asked in a history without hubs, where it saves nothing.
+fn is_quiet_now(past: &[Event], found: &Found, event: Event, hubless: bool) -> bool
+    requires found { IsFoundHere past.now found.now }
+    requires room { length past.now < length found.now.live.items }
+    ensures { result ≡ true → IsQuiet past.now event × (is_fired past.now (length past.now) ≡ false) }
+{
+    if hubless {
+        return false;
+    }
+    is_quiet_here(past, found, event)
+}
+
 /// Whether a history is known to be settled: it was, and the event was quiet and fired nothing.
 fn stays_settled(settled: bool, quiet: bool, fires: bool) -> bool
     ensures { result ≡ true → (settled ≡ true) × (quiet ≡ true) × (fires ≡ false) }
@@ -275,7 +366,9 @@ fn first_unlawful(
     events: &[Event],
     found: &mut Found,
     survey: &mut Survey,
+    nodes: &mut Nodes,
 ) -> Result<Option<u64>, AllocError>
+    requires followed { IsFollowed [] (length events.now) nodes.old }
     requires found { IsFound [] (length events.now) found.old }
     requires sized { IsSized (length events.now) survey.old }
     ensures answer { IfOk result
@@ -287,12 +380,12 @@ fn first_unlawful(
         let past = &events[..i];
         let next = &events[..i + 1];
         let event = events[i];
-        let settled = find_settled(past, found, survey, known);
-        if !may_follow(alloc, past, next, event, found, survey, settled)? {
+        let settled = is_settled_here(past, found, survey, nodes, known);
+        if !may_follow(alloc, past, next, event, found, survey, nodes, settled)? {
             return Ok(Some(i as u64));
         }
-        let quiet = is_quiet_here(past, found, event);
-        let fires = follow(alloc, past, event, found)?;
+        let quiet = is_quiet_now(past, found, event, nodes.hubless);
+        let fires = follow(alloc, past, event, found, nodes)?;
         known = stays_settled(settled, quiet, fires);
     }
     Ok(None)
@@ -356,7 +449,8 @@ fn judge(alloc: Global, events: &[Event]) -> Result<Verdict, AllocError>
 {
     let mut found = nothing_found(alloc, events.len())?;
     let mut survey = new_survey(alloc, events.len())?;
-    match first_unlawful(alloc, events, &mut found, &mut survey)? {
+    let mut nodes = no_nodes(alloc, events.len())?;
+    match first_unlawful(alloc, events, &mut found, &mut survey, &mut nodes)? {
         Some(place) => Ok(Verdict::Unlawful { place }),
         None => judge_lawful(alloc, events, &found, &mut survey),
     }

@@ -31,10 +31,10 @@ returns-clause-found c =
     let fired_same : length c.find_item.new.fired ≡ length f.fired.items = c.in_ok-fires.ensures.fired_len ∙ ap length c.as_mut_slice.ensures.value in
     let projected_same : length c.find_item.new.projected ≡ length f.projected.items =
     c.in_ok-fires.ensures.projected_len ∙ ap length c.as_mut_slice-2.ensures.value in
-    let live_same : length c.mark_open.new.marks ≡ length f.live.items = c.mark_open.auto.marks ∙ ap length c.as_mut_slice-3.ensures.value in
+    let live_same : length c.advance.new.live ≡ length f.live.items = c.advance.auto.live ∙ ap length c.as_mut_slice-3.ensures.value in
     record {
-      live = rw (back f.live.len c.mark_open.new.marks f.live.items f.live.ok.0 live_same) c.mark_open.ensures;
-      live_size = rw (back f.live.len c.mark_open.new.marks f.live.items f.live.ok.0 live_same) (live_same ∙ r.live_size);
+      live = rw (back f.live.len c.advance.new.live f.live.items f.live.ok.0 live_same) c.in_ok-advance.ensures.live;
+      live_size = rw (back f.live.len c.advance.new.live f.live.items f.live.ok.0 live_same) (live_same ∙ r.live_size);
       ended = ended.0;
       ended_size = ended.1;
       failed = failed.0;

@@ -1,0 +1,453 @@
+-- A pass that closes what stands below closed nodes.
+use Rattle.std.proofs.Common.{◌≡◌, ℕ, zero, suc, ◌+◌, ◌-◌, ◌<◌, ◌≤◌, Bool, true, false, List, [], ◌∷◌, ◌++◌, length, Option, Some, None, refl, sym, ap, ◌∙◌, arith, cond, inl, inr, ◌⊎◌}
+use Rattle.std.proofs.Common.{get_or, set, get_or-set_other, get_or-set_same, ◌≢◌, length-append}
+use Rattle.std.proofs.Math.ListN.{length-set, get_or-append}
+use Rattle.std.proofs.lemmas.List.{get_or_push}
+use Rattle.std.proofs.lemmas.List.Sums.{sum_by-set}
+use Rattle.std.proofs.lemmas.Bool.{cases_Bool, cases_order, both_ways, false≢true}
+use Rattle.rx_event.specs.declared.event.Event.{Event}
+use Rattle.std.proofs.Common.{drop, slice_get, ◌==◌, nat_lt}
+use Rattle.std.proofs.Math.Bool.{◌&&◌, ◌||◌}
+use Rattle.std.proofs.lemmas.Bool.{and_parts, and_from, eq-eqb, eqb-true, ltb-true, lt-ltb}
+use Rattle.std.proofs.lemmas.Option.{none-some, same_Some}
+use Rattle.std.specs.List.{list_any}
+use Rattle.std.specs.Option.{option_and_then, option_map_or}
+use Rattle.rx_event.specs.declared.event.Place.TheVariants.{Root, Source, Inner, Notifier}
+use Rattle.rx_event.specs.declared.event.Event.TheVariants.{Open}
+use Rattle.rx_event.specs.Events.{inner_named, is_switch, is_inner_of, makes_node}
+use Rattle.rx_event.specs.Tree.{parent, is_open, is_shut, is_switched_inner, at, shuts}
+use Rattle.rx_event.proofs.Laws.Parents.{parent-lt}
+use Rattle.rx_event.proofs.Laws.Openness.{parent_open, is_open_step, is_open_within}
+use Rattle.rx_audit.specs.Tables.{IsMarked}
+use Rattle.rx_audit.specs.Rules.{stays_open}
+use Rattle.rx_audit.specs.Latest.{last_below, keyed, IsNoted, mark_count, IsClosingBelow, inner_named_at, ShutsNone, IsShutAlone}
+use Rattle.rx_audit.proofs.Latest.{last_none, last_holds, key_is, is_key_of}
+use Rattle.rx_audit.proofs.StaysOpen.{stays_closed, shut_closed, below_closed, below_open, top_open}
+
+pub within_marks : (ms : List Bool) (n : ℕ) → get_or ms n false ≡ true → n < length ms
+within_marks [] n e = absurd (false≢true e)
+within_marks (m ∷ ms) zero e = omega arith
+within_marks (m ∷ ms) (suc n) e = let r = within_marks ms n e in omega arith
+
+pub count_cleared : (ms : List Bool) (c : ℕ) → get_or ms c false ≡ true → mark_count (set ms c false) + 1 ≡ mark_count ms
+count_cleared ms c y =
+    let s = sum_by-set (λ (b : Bool). cond {A = ℕ} b 1 0) ms c false false (within_marks ms c y) in
+    let one : cond {A = ℕ} (get_or ms c false) 1 0 ≡ 1 = ap (λ b. cond {A = ℕ} b 1 0) y in
+    omega arith
+
+-- a mark that was taken away, and the others
+cleared : (ms : List Bool) (c n : ℕ) → get_or (set ms c false) n false ≡ true → (n ≢ c) × (get_or ms n false ≡ true)
+cleared ms c n e = by_order (cases_order n c) where
+  other : (n ≡ c → ⊥) → (n ≢ c) × (get_or ms n false ≡ true)
+  other ne = (ne, sym (get_or-set_other ms c n false false ne) ∙ e)
+
+  by_length : (c < length ms) ⊎ (length ms ≤ c) → get_or (set ms c false) c false ≡ false
+  by_length (inl l) = get_or-set_same ms c false false l
+  by_length (inr g) = by_mark (cases_Bool (get_or (set ms c false) c false)) where
+    by_mark : (get_or (set ms c false) c false ≡ true) ⊎ (get_or (set ms c false) c false ≡ false) → get_or (set ms c false) c false ≡ false
+    by_mark (inl y) = let w = within_marks (set ms c false) c y in let s : length (set ms c false) ≡ length ms = length-set ms c false in absurd (omega arith)
+    by_mark (inr n) = n
+
+  length_cases : (c < length ms) ⊎ (length ms ≤ c)
+  length_cases = by_three (cases_order c (length ms)) where
+    by_three : (c ≡ length ms) ⊎ ((c < length ms) ⊎ (length ms < c)) → (c < length ms) ⊎ (length ms ≤ c)
+    by_three (inl s) = inr (omega arith)
+    by_three (inr (inl l)) = inl l
+    by_three (inr (inr g)) = inr (omega arith)
+
+  by_order : (n ≡ c) ⊎ ((n < c) ⊎ (c < n)) → (n ≢ c) × (get_or ms n false ≡ true)
+  by_order (inl same) = absurd (both_ways (get_or (set ms c false) n false) (rw same (by_length length_cases)) e)
+  by_order (inr (inl l)) = other (omega arith)
+  by_order (inr (inr l)) = other (omega arith)
+
+-- where a mark is gone, it was this one's or gone before
+uncleared : (ms : List Bool) (c n : ℕ) → get_or (set ms c false) n false ≡ false → (n ≡ c) ⊎ (get_or ms n false ≡ false)
+uncleared ms c n e = by_order (cases_order n c) where
+  by_order : (n ≡ c) ⊎ ((n < c) ⊎ (c < n)) → (n ≡ c) ⊎ (get_or ms n false ≡ false)
+  by_order (inl same) = inl same
+  by_order (inr (inl l)) = let ne : n ≢ c = omega arith in inr (sym (get_or-set_other ms c n false false ne) ∙ e)
+  by_order (inr (inr l)) = let ne : n ≢ c = omega arith in inr (sym (get_or-set_other ms c n false false ne) ∙ e)
+
+gone_is : (ms : List Bool) (c : ℕ) → get_or ms c false ≡ true → get_or (set ms c false) c false ≡ false
+gone_is ms c y = get_or-set_same ms c false false (within_marks ms c y)
+
+stays_gone : (ms : List Bool) (c n : ℕ) → get_or ms n false ≡ false → get_or (set ms c false) n false ≡ false
+stays_gone ms c n e = by_mark (cases_Bool (get_or (set ms c false) n false)) where
+  by_mark : (get_or (set ms c false) n false ≡ true) ⊎ (get_or (set ms c false) n false ≡ false) → get_or (set ms c false) n false ≡ false
+  by_mark (inl y) = absurd (both_ways (get_or ms n false) e (cleared ms c n y).1)
+  by_mark (inr z) = z
+
+pub noted_more : (from : ℕ) (todo : List ℕ) (c n : ℕ) → IsNoted from todo n → IsNoted from (todo ++ c ∷ []) n
+noted_more from todo c n w = let a = w.within in let l = length-append todo (c ∷ []) in record {
+  at = w.at;
+  after = w.after;
+  within = omega arith;
+  is = get_or-append todo (c ∷ []) 0 w.at w.within ∙ w.is;
+}
+
+pub noted_last : (from : ℕ) (todo : List ℕ) (c : ℕ) → from ≤ length todo → IsNoted from (todo ++ c ∷ []) c
+noted_last from todo c m = let l = length-append todo (c ∷ []) in record {
+  at = length todo;
+  after = m;
+  within = omega arith;
+  is = get_or_push todo c 0 (length todo) refl;
+}
+
+pub closing_none : (h : List Event) (p bound : ℕ) (ms : List Bool) (todo : List ℕ) → ((c : ℕ) → parent h c ≡ Some p → c < bound)
+    → IsClosingBelow h p bound ms ms todo todo
+closing_none h p bound ms todo all = record {
+  size = refl;
+  kept = λ n y. y;
+  below = λ n y z. absurd (both_ways (get_or ms n false) z y);
+  noted = λ n y z. absurd (both_ways (get_or ms n false) z y);
+  same = λ k l. refl;
+  longer = omega arith;
+  closed = λ k l m. absurd (omega arith);
+  within = λ k l m. absurd (omega arith);
+  balance = refl;
+  gone = λ c below y. all c below;
+}
+
+-- one child more is closed and noted
+pub closing_note : (h : List Event) (p bound c : ℕ) (old new : List Bool) (before after : List ℕ) → IsClosingBelow h p bound old new before after
+    → c < length h → parent h c ≡ Some p → get_or new c false ≡ true → IsClosingBelow h p bound old (set new c false) before (after ++ c ∷ [])
+closing_note h p bound c old new before after w inside below y =
+    let more : length (after ++ c ∷ []) ≡ length after + 1 = length-append after (c ∷ []) in
+    let long = w.longer in
+    let count = count_cleared new c y in
+    let balance = w.balance in
+    record {
+      size = length-set new c false ∙ w.size;
+      kept = λ n e. w.kept n (cleared new c n e).1;
+      below = λ n was gone. by_below n was (uncleared new c n gone);
+      noted = λ n was gone. by_noted n was (uncleared new c n gone);
+      same = λ k l. get_or-append after (c ∷ []) 0 k (omega arith) ∙ w.same k l;
+      longer = omega arith;
+      closed = λ k l m. by_closed k l (cases_order k (length after)) m;
+      within = λ k l m. by_within k l (cases_order k (length after)) m;
+      balance = omega arith;
+      gone = λ d under e. w.gone d under (cleared new c d e).1;
+    }
+  where
+    by_below : (n : ℕ) → get_or old n false ≡ true → (n ≡ c) ⊎ (get_or new n false ≡ false) → parent h n ≡ Some p
+    by_below n was (inl same) = ap (parent h) same ∙ below
+    by_below n was (inr gone) = w.below n was gone
+
+    by_noted : (n : ℕ) → get_or old n false ≡ true → (n ≡ c) ⊎ (get_or new n false ≡ false) → IsNoted (length before) (after ++ c ∷ []) n
+    by_noted n was (inl same) = rw same (noted_last (length before) after c w.longer)
+    by_noted n was (inr gone) = noted_more (length before) after c n (w.noted n was gone)
+
+    old_entry : (k : ℕ) → k < length after → get_or (after ++ c ∷ []) k 0 ≡ get_or after k 0
+    old_entry k l = get_or-append after (c ∷ []) 0 k l
+
+    by_closed : (k : ℕ) → length before ≤ k → (k ≡ length after) ⊎ ((k < length after) ⊎ (length after < k)) → k < length (after ++ c ∷ [])
+        → get_or (set new c false) (get_or (after ++ c ∷ []) k 0) false ≡ false
+    by_closed k l (inl e) m = ap (λ n. get_or (set new c false) n false) (get_or_push after c 0 k (sym e)) ∙ gone_is new c y
+    by_closed k l (inr (inl b)) m = ap (λ n. get_or (set new c false) n false) (old_entry k b) ∙ stays_gone new c (get_or after k 0) (w.closed k l b)
+    by_closed k l (inr (inr g)) m = absurd (let s : length (after ++ c ∷ []) ≡ length after + 1 = length-append after (c ∷ []) in omega arith)
+
+    by_within : (k : ℕ) → length before ≤ k → (k ≡ length after) ⊎ ((k < length after) ⊎ (length after < k)) → k < length (after ++ c ∷ [])
+        → get_or (after ++ c ∷ []) k 0 < length h
+    by_within k l (inl e) m = rw (get_or_push after c 0 k (sym e)) inside
+    by_within k l (inr (inl b)) m = rw (old_entry k b) (w.within k l b)
+    by_within k l (inr (inr g)) m = absurd (let s : length (after ++ c ∷ []) ≡ length after + 1 = length-append after (c ∷ []) in omega arith)
+
+-- where child c is closed, the next older one is the bound
+pub closing_next : (h : List Event) (p c v : ℕ) (old new : List Bool) (before after : List ℕ) → IsClosingBelow h p (suc c) old new before after
+    → get_or new c false ≡ false → v ≡ last_below (keyed (parent h) p) c → IsClosingBelow h p v old new before after
+closing_next h p c v old new before after w closed is = record {
+  size = w.size;
+  kept = w.kept;
+  below = w.below;
+  noted = w.noted;
+  same = w.same;
+  longer = w.longer;
+  closed = w.closed;
+  within = w.within;
+  balance = w.balance;
+  gone = λ d under e. by_order d under e (cases_order d v) (cases_order d c);
+} where
+  by_order : (d : ℕ) → parent h d ≡ Some p → get_or new d false ≡ true → (d ≡ v) ⊎ ((d < v) ⊎ (v < d)) → (d ≡ c) ⊎ ((d < c) ⊎ (c < d)) → d < v
+  by_order d under e (inr (inl l)) q = l
+  by_order d under e o (inl same) = absurd (both_ways (get_or new d false) (ap (λ k. get_or new k false) same ∙ closed) e)
+  by_order d under e o (inr (inr g)) = absurd (let l = w.gone d under e in omega arith)
+  by_order d under e (inl s) (inr (inl l)) = absurd (both_ways (keyed (parent h) p d) (last_none (keyed (parent h) p) c d (omega arith) l) (key_is (parent h d) p under))
+  by_order d under e (inr (inr g)) (inr (inl l)) = absurd (both_ways (keyed (parent h) p d) (last_none (keyed (parent h) p) c d (omega arith) l) (key_is (parent h d) p under))
+
+pub gone_here : (ms : List Bool) (c : ℕ) → get_or ms c false ≡ true → get_or (set ms c false) c false ≡ false
+gone_here ms c y = gone_is ms c y
+
+-- where the table's word is v, each child before k is before v, and there is one at v - 1
+pub child_below : (h : List Event) (p k v : ℕ) → v ≡ last_below (keyed (parent h) p) k → (d : ℕ) → parent h d ≡ Some p → d < k → d < v
+child_below h p k v is d below l = by_order (cases_order d v) where
+  none : v ≤ d → d < v
+  none m = absurd (both_ways (keyed (parent h) p d) (last_none (keyed (parent h) p) k d (omega arith) l) (key_is (parent h d) p below))
+
+  by_order : (d ≡ v) ⊎ ((d < v) ⊎ (v < d)) → d < v
+  by_order (inl same) = none (omega arith)
+  by_order (inr (inl m)) = m
+  by_order (inr (inr g)) = none (omega arith)
+
+pub here_is : (h : List Event) (p k v : ℕ) → v ≡ last_below (keyed (parent h) p) k → 0 < v → parent h (v - 1) ≡ Some p
+here_is h p k v is some =
+    let last : last_below (keyed (parent h) p) k ≡ suc (v - 1) = omega arith in
+    is_key_of (parent h (v - 1)) p (last_holds (keyed (parent h) p) k (v - 1) last)
+
+-- the pass over what is noted ---------------------------------------------------------------------
+
+-- what is noted before place i is done with
+pub record IsPassing (h : List Event) (e : Event) (i : ℕ) (marks : List Bool) (todo : List ℕ) : Type 0 where
+  pub kept : (n : ℕ) → get_or marks n false ≡ true → is_open h n ≡ true
+  pub sound : (n : ℕ) → get_or marks n false ≡ false → stays_open h e n ≡ false
+  pub unshut : (n : ℕ) → get_or marks n false ≡ true → shuts h n e ≡ false
+  pub pending : (c q : ℕ) → parent h c ≡ Some q → get_or marks c false ≡ true → (get_or marks q false ≡ true) ⊎ IsNoted i todo q
+  pub closed : (k : ℕ) → k < length todo → get_or marks (get_or todo k 0) false ≡ false
+  pub within : (k : ℕ) → k < length todo → get_or todo k 0 < length h
+
+not_true : (b : Bool) → (b ≡ true → ⊥) → b ≡ false
+not_true true n = absurd (n refl)
+not_true false n = refl
+
+pub passing_starts : (h : List Event) (e : Event) (marks : List Bool) (top : ℕ) → IsMarked marks (is_open h) → top < length h
+    → shuts h top e ≡ true → ((n : ℕ) → is_open h n ≡ true → shuts h n e ≡ true → n ≡ top) → IsPassing h e 0 (set marks top false) (top ∷ [])
+passing_starts h e marks top tied inside shut alone = record {
+  kept = λ n y. sym (tied n) ∙ (cleared marks top n y).1;
+  sound = λ n z. by_gone n (uncleared marks top n z);
+  unshut = λ n y. let w = cleared marks top n y in not_true (shuts h n e) (λ s. w.0 (alone n (sym (tied n) ∙ w.1) s));
+  pending = λ c q below y. by_parent q (above c q below y);
+  closed = λ k l. by_first k l;
+  within = λ k l. in_first k l;
+} where
+  by_gone : (n : ℕ) → (n ≡ top) ⊎ (get_or marks n false ≡ false) → stays_open h e n ≡ false
+  by_gone n (inl same) = rw same (shut_closed h e top shut)
+  by_gone n (inr z) = stays_closed h e n (sym (tied n) ∙ z)
+
+  -- the node above an open one is open
+  above : (c q : ℕ) → parent h c ≡ Some q → get_or (set marks top false) c false ≡ true → get_or marks q false ≡ true
+  above c q below y = tied q ∙ parent_open h c q (sym (tied c) ∙ (cleared marks top c y).1) below
+
+  other : (q : ℕ) → q ≢ top → get_or marks q false ≡ true → get_or (set marks top false) q false ≡ true
+  other q ne y = get_or-set_other marks top q false false ne ∙ y
+
+  first : IsNoted 0 (top ∷ []) top
+  first = record { at = 0; after = omega arith; within = omega arith; is = refl }
+
+  by_parent : (q : ℕ) → get_or marks q false ≡ true → (get_or (set marks top false) q false ≡ true) ⊎ IsNoted 0 (top ∷ []) q
+  by_parent q y = by_order (cases_order q top) where
+    by_order : (q ≡ top) ⊎ ((q < top) ⊎ (top < q)) → (get_or (set marks top false) q false ≡ true) ⊎ IsNoted 0 (top ∷ []) q
+    by_order (inl same) = inr (rw same first)
+    by_order (inr (inl l)) = inl (other q (omega arith) y)
+    by_order (inr (inr g)) = inl (other q (omega arith) y)
+
+  by_first : (k : ℕ) → k < length (top ∷ []) → get_or (set marks top false) (get_or (top ∷ []) k 0) false ≡ false
+  by_first zero l = not_true (get_or (set marks top false) top false) (λ y. (cleared marks top top y).0 refl)
+  by_first (suc k) l = absurd (omega arith)
+
+  in_first : (k : ℕ) → k < length (top ∷ []) → get_or (top ∷ []) k 0 < length h
+  in_first zero l = inside
+  in_first (suc k) l = absurd (omega arith)
+
+split_at : (k i : ℕ) → (k < i) ⊎ (i ≤ k)
+split_at k i = by_order (cases_order k i) where
+  by_order : (k ≡ i) ⊎ ((k < i) ⊎ (i < k)) → (k < i) ⊎ (i ≤ k)
+  by_order (inl same) = inr (omega arith)
+  by_order (inr (inl l)) = inl l
+  by_order (inr (inr g)) = inr (omega arith)
+
+pub passing_more : (h : List Event) (e : Event) (i p : ℕ) (old new : List Bool) (before after : List ℕ) → i < length before → p ≡ get_or before i 0
+    → IsPassing h e i old before → IsClosingBelow h p 0 old new before after → IsPassing h e (i + 1) new after
+passing_more h e i p old new before after l is so_far w = record {
+  kept = λ n y. so_far.kept n (w.kept n y);
+  sound = λ n z. by_old n z (cases_Bool (get_or old n false));
+  unshut = λ n y. so_far.unshut n (w.kept n y);
+  pending = λ c q below y. by_pending c q below y (so_far.pending c q below (w.kept c y));
+  closed = λ k m. by_closed k m (split_at k (length before));
+  within = λ k m. by_within k m (split_at k (length before));
+} where
+  gone_p : get_or old p false ≡ false
+  gone_p = ap (λ q. get_or old q false) is ∙ so_far.closed i l
+
+  by_old : (n : ℕ) → get_or new n false ≡ false → (get_or old n false ≡ true) ⊎ (get_or old n false ≡ false) → stays_open h e n ≡ false
+  by_old n z (inl y) = below_closed h e n p (w.below n y z) (so_far.sound p gone_p)
+  by_old n z (inr g) = so_far.sound n g
+
+  long : length before ≤ length after
+  long = w.longer
+
+  by_pending : (c q : ℕ) → parent h c ≡ Some q → get_or new c false ≡ true → (get_or old q false ≡ true) ⊎ IsNoted i before q
+      → (get_or new q false ≡ true) ⊎ IsNoted (i + 1) after q
+  by_pending c q below y (inl was) = by_new (cases_Bool (get_or new q false)) where
+    by_new : (get_or new q false ≡ true) ⊎ (get_or new q false ≡ false) → (get_or new q false ≡ true) ⊎ IsNoted (i + 1) after q
+    by_new (inl stays) = inl stays
+    by_new (inr gone) = let n = w.noted q was gone in let a = n.after in inr (record { at = n.at; after = omega arith; within = n.within; is = n.is })
+  by_pending c q below y (inr n) = by_place (cases_order n.at i) where
+    later : i < n.at → (get_or new q false ≡ true) ⊎ IsNoted (i + 1) after q
+    later g = let m = n.within in inr (record { at = n.at; after = omega arith; within = omega arith; is = w.same n.at n.within ∙ n.is })
+
+    by_place : (n.at ≡ i) ⊎ ((n.at < i) ⊎ (i < n.at)) → (get_or new q false ≡ true) ⊎ IsNoted (i + 1) after q
+    by_place (inl same) =
+        let q_is_p : q ≡ p = sym n.is ∙ ap (λ k. get_or before k 0) same ∙ sym is in
+        absurd (let none = w.gone c (below ∙ ap Some q_is_p) y in omega arith)
+    by_place (inr (inl less)) = absurd (let a = n.after in omega arith)
+    by_place (inr (inr g)) = later g
+
+  by_closed : (k : ℕ) → k < length after → (k < length before) ⊎ (length before ≤ k) → get_or new (get_or after k 0) false ≡ false
+  by_closed k m (inl b) = ap (λ n. get_or new n false) (w.same k b) ∙ not_true (get_or new (get_or before k 0) false)
+      (λ y. both_ways (get_or old (get_or before k 0) false) (so_far.closed k b) (w.kept (get_or before k 0) y))
+  by_closed k m (inr g) = w.closed k g m
+
+  by_within : (k : ℕ) → k < length after → (k < length before) ⊎ (length before ≤ k) → get_or after k 0 < length h
+  by_within k m (inl b) = rw (w.same k b) (so_far.within k b)
+  by_within k m (inr g) = w.within k g m
+
+-- a mark that is left, where the pass is over, is of a node that stays open
+stays_up : (h : List Event) (e : Event) (i : ℕ) (marks : List Bool) (todo : List ℕ) → length todo ≤ i → IsPassing h e i marks todo
+    → (bound n : ℕ) → n < bound → get_or marks n false ≡ true → stays_open h e n ≡ true
+stays_up h e i marks todo over w zero n l y = absurd (omega arith)
+stays_up h e i marks todo over w (suc bound) n l y = by_parent (parent h n) refl (λ p m z. stays_up h e i marks todo over w bound p m z) where
+  by_parent : (o : Option ℕ) → parent h n ≡ o → ((p : ℕ) → p < bound → get_or marks p false ≡ true → stays_open h e p ≡ true) → stays_open h e n ≡ true
+  by_parent None top before = top_open h e n top (w.unshut n y) ∙ w.kept n y
+  by_parent (Some p) below before = by_pending (w.pending n p below y) where
+    by_pending : (get_or marks p false ≡ true) ⊎ IsNoted i todo p → stays_open h e n ≡ true
+    by_pending (inl open_above) =
+        let m = parent-lt h n p below in
+        below_open h e n p below (before p (omega arith) open_above) (w.unshut n y) ∙ w.kept n y
+    by_pending (inr noted) = absurd (let a = noted.after in let b = noted.within in omega arith)
+
+pub passing_ends : (h : List Event) (e : Event) (i : ℕ) (marks : List Bool) (todo : List ℕ) → length todo ≤ i → IsPassing h e i marks todo
+    → IsMarked marks (stays_open h e)
+passing_ends h e i marks todo over w n = by_mark (cases_Bool (get_or marks n false)) where
+  by_mark : (get_or marks n false ≡ true) ⊎ (get_or marks n false ≡ false) → get_or marks n false ≡ stays_open h e n
+  by_mark (inl y) = y ∙ sym (stays_up h e i marks todo over w (suc n) n (omega arith) y)
+  by_mark (inr z) = z ∙ sym (w.sound n z)
+
+-- what an event takes away itself -----------------------------------------------------------------
+
+any_at : (p : Event → Bool) (h : List Event) (i : ℕ) (e : Event) → slice_get h i ≡ Some e → p e ≡ true → list_any p h ≡ true
+any_at p [] i e at_i y = absurd (none-some e at_i)
+any_at p (x ∷ h) zero e at_i y = rw (same_Some x e at_i, y) refl
+any_at p (x ∷ h) (suc i) e at_i y = rw (any_at p h i e at_i y) (or_yes (p x)) where
+  or_yes : (b : Bool) → (b || true) ≡ true
+  or_yes true = refl
+  or_yes false = refl
+
+at_drop : (h : List Event) (n i : ℕ) → slice_get (drop n h) i ≡ slice_get h (n + i)
+at_drop h zero i = let same : 0 + i ≡ i = omega arith in ap (slice_get h) (sym same)
+at_drop [] (suc n) i = refl
+at_drop (x ∷ h) (suc n) i = let same : suc n + i ≡ suc (n + i) = omega arith in at_drop h n i ∙ ap (slice_get (x ∷ h)) (sym same)
+
+shut_after : (h : List Event) (n c : ℕ) (e : Event) → n < c → slice_get h c ≡ Some e → shuts h n e ≡ true → is_shut h n ≡ true
+unfolding is_shut
+shut_after h n c e l at_c y =
+    let place : suc n + (c - suc n) ≡ c = omega arith in
+    any_at (shuts h n) (drop (suc n) h) (c - suc n) e (at_drop h (suc n) (c - suc n) ∙ ap (slice_get h) place ∙ at_c) y
+
+-- an older inner of a Switch is closed
+pub older_closed : (h : List Event) (f n c : ℕ) → n < c → inner_named_at h c ≡ Some f → is_switched_inner h f n ≡ true → is_open h n ≡ false
+older_closed h f n c l inner shut = by_event (slice_get h c) refl inner where
+  by_event : (o : Option Event) → slice_get h c ≡ o → option_and_then inner_named o ≡ Some f → is_open h n ≡ false
+  by_event None at_c named = absurd (none-some f named)
+  by_event (Some (Open (Inner g) kind)) at_c named =
+      let gone = shut_after h n c (Open (Inner g) kind) l at_c (ap (λ k. is_switched_inner h k n) (same_Some g f named) ∙ shut) in
+      is_open_step h n ∙ rw gone (and_not (at makes_node h n))
+    where
+      and_not : (b : Bool) → ((b && false) && option_map_or (is_open h) (parent h n) true) ≡ false
+      and_not true = refl
+      and_not false = refl
+  by_event (Some (Open Root kind)) at_c named = absurd (none-some f named)
+  by_event (Some (Open (Source g) kind)) at_c named = absurd (none-some f named)
+  by_event (Some (Open (Notifier g) kind)) at_c named = absurd (none-some f named)
+  by_event (Some _) at_c named = absurd (none-some f named)
+
+inner_at : (h : List Event) (f n : ℕ) → at (is_inner_of f) h n ≡ true → inner_named_at h n ≡ Some f
+inner_at h f n y = by_event (slice_get h n) y where
+  by_event : (o : Option Event) → option_map_or (is_inner_of f) o false ≡ true → option_and_then inner_named o ≡ Some f
+  by_event None inner = absurd (false≢true inner)
+  by_event (Some (Open (Inner g) kind)) inner = ap Some (eqb-true g f inner)
+  by_event (Some (Open Root kind)) inner = absurd (false≢true inner)
+  by_event (Some (Open (Source g) kind)) inner = absurd (false≢true inner)
+  by_event (Some (Open (Notifier g) kind)) inner = absurd (false≢true inner)
+  by_event (Some _) inner = absurd (false≢true inner)
+
+inner_of_named : (h : List Event) (f n : ℕ) → inner_named_at h n ≡ Some f → at (is_inner_of f) h n ≡ true
+inner_of_named h f n y = by_event (slice_get h n) y where
+  by_event : (o : Option Event) → option_and_then inner_named o ≡ Some f → option_map_or (is_inner_of f) o false ≡ true
+  by_event None named = absurd (none-some f named)
+  by_event (Some (Open (Inner g) kind)) named = eq-eqb g f (same_Some g f named)
+  by_event (Some (Open Root kind)) named = absurd (none-some f named)
+  by_event (Some (Open (Source g) kind)) named = absurd (none-some f named)
+  by_event (Some (Open (Notifier g) kind)) named = absurd (none-some f named)
+  by_event (Some _) named = absurd (none-some f named)
+
+-- it is no Switch
+pub flat_none : (h : List Event) (f : ℕ) → at is_switch h f ≡ false → ShutsNone h (λ n. is_switched_inner h f n)
+flat_none h f flat n o = rw flat (none (nat_lt f n)) where
+  none : (b : Bool) → ((b && false) && at (is_inner_of f) h n) ≡ false
+  none true = refl
+  none false = refl
+
+-- no inner of it, or a youngest one that is closed or no younger than it
+pub inner_none : (h : List Event) (f v : ℕ) → v ≡ last_below (keyed (inner_named_at h) f) (length h)
+    → (0 < v → f < v - 1 → is_open h (v - 1) ≡ false) → ShutsNone h (λ n. is_switched_inner h f n)
+inner_none h f v is shut n o = not_true (is_switched_inner h f n) refute where
+  refute : is_switched_inner h f n ≡ true → ⊥
+  refute s =
+      let parts = and_parts (nat_lt f n && at is_switch h f) (at (is_inner_of f) h n) s in
+      let first = and_parts (nat_lt f n) (at is_switch h f) parts.0 in
+      let below : f < n = ltb-true f n first.0 in
+      let named : inner_named_at h n ≡ Some f = inner_at h f n parts.1 in
+      let inside : n < length h = is_open_within h n o in
+      by_order below inside named (cases_order n v) (cases_order n (v - 1))
+    where
+      by_order : f < n → n < length h → inner_named_at h n ≡ Some f → (n ≡ v) ⊎ ((n < v) ⊎ (v < n)) → (n ≡ v - 1) ⊎ ((n < v - 1) ⊎ (v - 1 < n)) → ⊥
+      by_order below inside named (inr (inr g)) q = both_ways (keyed (inner_named_at h) f n) (last_none (keyed (inner_named_at h) f) (length h) n (omega arith) inside) (key_is (inner_named_at h n) f named)
+      by_order below inside named (inl e) q = both_ways (keyed (inner_named_at h) f n) (last_none (keyed (inner_named_at h) f) (length h) n (omega arith) inside) (key_is (inner_named_at h n) f named)
+      by_order below inside named (inr (inl l)) (inl e) = both_ways (is_open h n) (ap (is_open h) e ∙ shut (omega arith) (omega arith)) o
+      by_order below inside named (inr (inl l)) (inr (inl m)) =
+          let last : last_below (keyed (inner_named_at h) f) (length h) ≡ suc (v - 1) = omega arith in
+          let named_last = is_key_of (inner_named_at h (v - 1)) f (last_holds (keyed (inner_named_at h) f) (length h) (v - 1) last) in
+          both_ways (is_open h n) (older_closed h f n (v - 1) m named_last s) o
+      by_order below inside named (inr (inl l)) (inr (inr g)) = absurd (omega arith)
+
+-- or an open one, which is the only one
+pub inner_alone : (h : List Event) (f v : ℕ) → at is_switch h f ≡ true → v ≡ last_below (keyed (inner_named_at h) f) (length h)
+    → 0 < v → f < v - 1 → is_open h (v - 1) ≡ true → IsShutAlone h (λ n. is_switched_inner h f n) (v - 1)
+inner_alone h f v switch is some below here =
+    let last : last_below (keyed (inner_named_at h) f) (length h) ≡ suc (v - 1) = omega arith in
+    let named = is_key_of (inner_named_at h (v - 1)) f (last_holds (keyed (inner_named_at h) f) (length h) (v - 1) last) in
+    record {
+      within = is_open_within h (v - 1) here;
+      open_before = here;
+      shut = and_from (nat_lt f (v - 1) && at is_switch h f) (at (is_inner_of f) h (v - 1)) (and_from (nat_lt f (v - 1)) (at is_switch h f) (lt-ltb f (v - 1) below) switch) (inner_of_named h f (v - 1) named);
+      alone = λ n o s. by_order n o s named (cases_order n (v - 1));
+    }
+  where
+    by_order : (n : ℕ) → is_open h n ≡ true → is_switched_inner h f n ≡ true → inner_named_at h (v - 1) ≡ Some f → (n ≡ v - 1) ⊎ ((n < v - 1) ⊎ (v - 1 < n)) → n ≡ v - 1
+    by_order n o s named (inl e) = e
+    by_order n o s named (inr (inl l)) = absurd (both_ways (is_open h n) (older_closed h f n (v - 1) l named s) o)
+    by_order n o s named (inr (inr g)) =
+        let inner = inner_at h f n (and_parts (nat_lt f n && at is_switch h f) (at (is_inner_of f) h n) s).1 in
+        let inside : n < length h = is_open_within h n o in
+        absurd (both_ways (keyed (inner_named_at h) f n) (last_none (keyed (inner_named_at h) f) (length h) n (omega arith) inside) (key_is (inner_named_at h n) f inner))
+
+-- where nothing open is shut, all stays as it was
+pub all_stays : (h : List Event) (e : Event) (marks : List Bool) → IsMarked marks (is_open h) → ShutsNone h (λ n. shuts h n e) → IsMarked marks (stays_open h e)
+all_stays h e marks tied none = passing_ends h e 0 marks [] (omega arith) (record {
+  kept = λ n y. sym (tied n) ∙ y;
+  sound = λ n z. stays_closed h e n (sym (tied n) ∙ z);
+  unshut = λ n y. none n (sym (tied n) ∙ y);
+  pending = λ c q below y. inl (tied q ∙ parent_open h c q (sym (tied c) ∙ y) below);
+  closed = λ k l. absurd (omega arith);
+  within = λ k l. absurd (omega arith);
+})
+
+pub alone_number : (h : List Event) (n : ℕ) → is_open h n ≡ true → IsShutAlone h (λ k. n == k) n
+alone_number h n o = record {
+  within = is_open_within h n o;
+  open_before = o;
+  shut = eq-eqb n n refl;
+  alone = λ k here same. sym (eqb-true n k same);
+}
+
+pub none_number : (h : List Event) (n : ℕ) → is_open h n ≡ false → ShutsNone h (λ k. n == k)
+none_number h n closed k o = not_true (n == k) (λ same. both_ways (is_open h k) (ap (is_open h) (sym (eqb-true n k same)) ∙ closed) o)

@@ -1,0 +1,147 @@
+-- The list of the nodes that may have to end.
+use Rattle.std.proofs.Common.{◌≡◌, ℕ, ◌<◌, Bool, true, false, List, [], ◌∷◌, ◌++◌, length, take, Option, Some, None, refl, sym, ap, ◌∙◌, arith, inl, inr, ◌⊎◌, slice_get, length-append}
+use Rattle.std.proofs.Math.Bool.{◌&&◌}
+use Rattle.std.proofs.lemmas.Bool.{cases_Bool, cases_order, both_ways, false≢true, and_parts}
+use Rattle.std.proofs.lemmas.Option.{none-some, same_Some}
+use Rattle.std.specs.List.{list_any}
+use Rattle.std.specs.Option.{option_map, option_map_or}
+use Rattle.std.specs.Prelude.{is_some}
+use Rattle.rx_event.specs.Kept.{nothing_kept}
+use Rattle.rx_note.specs.declared.note.Terminal.{Terminal}
+use Rattle.rx_event.specs.declared.event.Event.{Event}
+use Rattle.rx_event.specs.declared.event.Event.TheVariants.{End}
+use Rattle.rx_event.specs.declared.marks.Marks.{Marks}
+use Rattle.rx_event.specs.Events.{makes_hub}
+use Rattle.std.proofs.Common.{cond, nat_lt, zero-add, ◌+◌}
+use Rattle.std.proofs.Math.Bool.{◌||◌}
+use Rattle.std.specs.List.{count_by}
+use Rattle.std.proofs.lemmas.Bool.{lt-ltb}
+use Rattle.std.proofs.lemmas.List.Sums.{sum_by-cons}
+use Rattle.rx_event.specs.Tree.{is_open, has_open_child, is_open_child_of, places}
+use Rattle.rx_event.specs.Marks.{open_children}
+use Rattle.rx_event.specs.Marks.{marks_of, terminal_due, due_at}
+use Rattle.rx_event.specs.Forced.{IsSettled}
+use Rattle.rx_event.specs.Lawful.{IsLawful, MayFollow}
+use Rattle.rx_event.proofs.Laws.Openness.{is_open_within}
+use Rattle.rx_event.proofs.Laws.OneEnd.{open_old}
+use Rattle.rx_event.proofs.Laws.Places.{slice_get-append, slice_get_last}
+use Rattle.rx_event.proofs.Laws.Stands.{event_at}
+use Rattle.rx_event.proofs.Laws.MarksTouched.{quiet_new}
+use Rattle.rx_event.proofs.Laws.MarksDue.{settled_hubless, forced_hubless}
+use Rattle.rx_audit.specs.Latest.{IsNoted}
+use Rattle.rx_audit.specs.Marking.{IsUntouched, touched_by, due_made, node_due, IsCovered}
+use Rattle.rx_audit.proofs.ClosingBelow.{noted_more, noted_last}
+use Rattle.rx_audit.proofs.Marking.{marks_apart}
+
+pub due_closed : (h : List Event) (n : ℕ) → is_open h n ≡ false → node_due h n ≡ false
+unfolding node_due
+due_closed h n closed = rw closed refl
+
+pub due_nowhere : (h : List Event) (n : ℕ) → slice_get h n ≡ None → node_due h n ≡ false
+unfolding node_due
+due_nowhere h n none = rw none (and_no (is_open h n)) where
+  and_no : (b : Bool) → (b && false) ≡ false
+  and_no true = refl
+  and_no false = refl
+
+pub due_made_at : (h : List Event) (n : ℕ) (made : Event) → is_open h n ≡ true → slice_get h n ≡ Some made → node_due h n ≡ due_made h n made
+unfolding node_due
+due_made_at h n made o is = rw (o, is) refl
+
+pub due_parts : (h : List Event) (n : ℕ) → node_due h n ≡ true → (is_open h n ≡ true) × (option_map_or (due_made h n) (slice_get h n) false ≡ true)
+unfolding node_due
+due_parts h n y = and_parts (is_open h n) (option_map_or (due_made h n) (slice_get h n) false) y
+
+-- the terminal that is due, and the event
+some_due : (made : Event) (m : Marks) (n : ℕ) → is_some (terminal_due made m) ≡ true → (t : Terminal) × (due_at made m n ≡ Some (End n t))
+some_due made m n = by_terminal (terminal_due made m) where
+  by_terminal : (o : Option Terminal) → is_some o ≡ true → (t : Terminal) × (option_map (λ t. End n t) o ≡ Some (End n t))
+  by_terminal None some = absurd (false≢true some)
+  by_terminal (Some t) some = (t, refl)
+
+none_is_due : (made : Event) (m : Marks) (n : ℕ) → is_some (terminal_due made m) ≡ false → due_at made m n ≡ None
+none_is_due made m n = by_terminal (terminal_due made m) where
+  by_terminal : (o : Option Terminal) → is_some o ≡ false → option_map (λ t. End n t) o ≡ None
+  by_terminal None none = refl
+  by_terminal (Some t) none = absurd (false≢true (sym none))
+
+quiet_is : (made : Event) (m : Marks) (n : ℕ) → due_at made m n ≡ None → is_some (terminal_due made m) ≡ false
+quiet_is made m n = by_terminal (terminal_due made m) where
+  by_terminal : (o : Option Terminal) → option_map (λ t. End n t) o ≡ None → is_some o ≡ false
+  by_terminal None none = refl
+  by_terminal (Some t) none = absurd (none-some (End n t) (sym none))
+
+-- a node that has to end leaves the history unsettled
+pub due_unsettled : (h : List Event) (n : ℕ) → list_any makes_hub h ≡ false → node_due h n ≡ true → IsSettled nothing_kept h → ⊥
+due_unsettled h n hubless y settled =
+    let parts = due_parts h n y in
+    let made = event_at h n (is_open_within h n parts.0) in
+    let found = some_due made.0 (marks_of nothing_kept h n) n (sym (due_made_at h n made.0 parts.0 made.1) ∙ y) in
+    settled.none (End n found.0) (forced_hubless nothing_kept h hubless n made.0 (End n found.0) parts.0 made.1 found.1)
+
+-- where none is listed, it is settled
+pub none_settled : (h : List Event) → IsLawful nothing_kept h → list_any makes_hub h ≡ false → ((n : ℕ) → node_due h n ≡ true → ⊥) → IsSettled nothing_kept h
+none_settled h law hubless none = settled_hubless nothing_kept h law hubless (λ n made o is. by_test n made o is (cases_Bool (due_made h n made))) where
+  by_test : (n : ℕ) (made : Event) → is_open h n ≡ true → slice_get h n ≡ Some made → (due_made h n made ≡ true) ⊎ (due_made h n made ≡ false) → due_at made (marks_of nothing_kept h n) n ≡ None
+  by_test n made o is (inl y) = absurd (none n (due_made_at h n made o is ∙ y))
+  by_test n made o is (inr z) = none_is_due made (marks_of nothing_kept h n) n z
+
+pub noted_none : (xs : List ℕ) (n k : ℕ) → k ≡ 0 → IsNoted 0 (take k xs) n → ⊥
+noted_none xs n k zero_of w = let l = w.within in let none : length (take k xs) ≡ 0 = rw zero_of refl in omega arith
+
+-- what is due after the event was due before, or is touched
+due_before : (h : List Event) (e : Event) → IsLawful nothing_kept h → MayFollow nothing_kept h e → IsUntouched h e → (n : ℕ) → (touched_by h e ≡ Some n → ⊥)
+    → node_due (h ++ e ∷ []) n ≡ true → node_due h n ≡ true
+due_before h e law next no_item n differs y = by_place (cases_order n (length h)) where
+  parts : (is_open (h ++ e ∷ []) n ≡ true) × (option_map_or (due_made (h ++ e ∷ []) n) (slice_get (h ++ e ∷ []) n) false ≡ true)
+  parts = due_parts (h ++ e ∷ []) n y
+
+  at_last : n ≡ length h → node_due h n ≡ true
+  at_last same =
+      let here : is_open (h ++ e ∷ []) (length h) ≡ true = ap (is_open (h ++ e ∷ [])) (sym same) ∙ parts.0 in
+      let quiet = quiet_is e (marks_of nothing_kept (h ++ e ∷ []) (length h)) (length h) (quiet_new nothing_kept h e law next) in
+      let due : due_made (h ++ e ∷ []) (length h) e ≡ true =
+      sym (due_made_at (h ++ e ∷ []) (length h) e here (slice_get_last h e)) ∙ ap (node_due (h ++ e ∷ [])) (sym same) ∙ y in
+      absurd (both_ways _ quiet due)
+
+  before : n < length h → node_due h n ≡ true
+  before l =
+      let o : is_open h n ≡ true = open_old h e n l parts.0 in
+      let made = event_at h n l in
+      let same = marks_apart h e law next no_item n l parts.0 differs in
+      due_made_at h n made.0 o made.1 ∙ ap (λ m. is_some (terminal_due made.0 m)) (sym same)
+      ∙ sym (due_made_at (h ++ e ∷ []) n made.0 parts.0 (slice_get-append h (e ∷ []) n l ∙ made.1)) ∙ y
+
+  by_place : (n ≡ length h) ⊎ ((n < length h) ⊎ (length h < n)) → node_due h n ≡ true
+  by_place (inl same) = at_last same
+  by_place (inr (inl l)) = before l
+  by_place (inr (inr g)) = absurd (let l = is_open_within (h ++ e ∷ []) n parts.0 in omega (arith, length-append h (e ∷ [])))
+
+pub covered_more : (h : List Event) (e : Event) (due : List ℕ) (p : ℕ) → IsLawful nothing_kept h → MayFollow nothing_kept h e → IsUntouched h e → touched_by h e ≡ Some p
+    → IsCovered h due → IsCovered (h ++ e ∷ []) (due ++ p ∷ [])
+covered_more h e due p law next no_item named covered n y = by_order (cases_order n p) where
+  other : (n ≡ p → ⊥) → IsNoted 0 (due ++ p ∷ []) n
+  other ne = noted_more 0 due p n (covered n (due_before h e law next no_item n (λ at_n. ne (same_Some n p (sym at_n ∙ named))) y))
+
+  by_order : (n ≡ p) ⊎ ((n < p) ⊎ (p < n)) → IsNoted 0 (due ++ p ∷ []) n
+  by_order (inl same) = rw same (noted_last 0 due p (omega arith))
+  by_order (inr (inl l)) = other (λ s. omega arith)
+  by_order (inr (inr l)) = other (λ s. omega arith)
+
+pub covered_same : (h : List Event) (e : Event) (due : List ℕ) → IsLawful nothing_kept h → MayFollow nothing_kept h e → IsUntouched h e → touched_by h e ≡ None
+    → IsCovered h due → IsCovered (h ++ e ∷ []) due
+covered_same h e due law next no_item none covered n y = covered n (due_before h e law next no_item n (λ at_n. none-some n (sym none ∙ at_n)) y)
+
+-- an open child is counted by the mark ---------------------------------------------------------------
+
+any_counted : {X : Type 0} (p : X → Bool) (xs : List X) → list_any p xs ≡ nat_lt 0 (count_by p xs)
+any_counted p [] = refl
+any_counted {X = X} p (x ∷ xs) = by_test (any_counted p xs) (p x) refl where
+  by_test : list_any p xs ≡ nat_lt 0 (count_by p xs) → (b : Bool) → p x ≡ b → (b || list_any p xs) ≡ nat_lt 0 (count_by p (x ∷ xs))
+  by_test rest true e = sym (lt-ltb 0 (count_by p (x ∷ xs)) (rw (sum_by-cons (λ y. cond {A = ℕ} (p y) 1 0) x xs, e) (omega arith)))
+  by_test rest false e = rest ∙
+      ap (nat_lt 0) (sym (sum_by-cons (λ y. cond {A = ℕ} (p y) 1 0) x xs ∙ ap (λ b. cond {A = ℕ} b 1 0 + count_by p xs) e ∙ zero-add (count_by p xs)))
+
+pub child_marked : (h : List Event) (n : ℕ) (m : Marks) → m ≡ marks_of nothing_kept h n → has_open_child h n ≡ nat_lt 0 m.open_children
+unfolding open_children
+child_marked h n m is = any_counted (is_open_child_of h n) (places h) ∙ ap (λ (x : Marks). nat_lt 0 x.open_children) (sym is)

@@ -1,0 +1,199 @@
+-- The last number with a key.
+use Rattle.std.proofs.Common.{◌≡◌, ℕ, zero, suc, ◌<◌, ◌≤◌, Bool, true, false, List, Option, Some, None, refl, sym, ap, ◌∙◌, arith, cond, inl, inr, ◌⊎◌, ◌==◌}
+use Rattle.std.proofs.lemmas.Bool.{cases_Bool, cases_order, false≢true, eq-eqb, eqb-true, ne_eqb, ltb-true}
+use Rattle.std.proofs.lemmas.Option.{none-some, same_Some}
+use Rattle.rx_audit.specs.Rules.{is_key}
+use Rattle.std.proofs.Common.{[], ◌∷◌, ◌++◌, length, get_or, set, get_or-set_other, get_or-set_same, ◌≢◌, length-append}
+use Rattle.std.proofs.Math.ListN.{length-set}
+use Rattle.std.specs.Option.{option_and_then}
+use Rattle.rx_event.specs.declared.event.Event.{Event}
+use Rattle.rx_event.specs.Events.{parent_named, inner_named}
+use Rattle.rx_event.specs.Tree.{parent, if_less}
+use Rattle.rx_event.proofs.Laws.Places.{slice_get-append, slice_get_last}
+use Rattle.rx_event.proofs.Laws.Parents.{parent-append}
+use Rattle.rx_audit.specs.Latest.{last_below, keyed, IsLatest, IsLinked, inner_named_at, table_with, link_with, AreChildren}
+use Rattle.rx_audit.specs.declared.children.Children.{Children}
+use Rattle.std.proofs.Common.{nat_lt}
+use Rattle.std.proofs.lemmas.List.{set_past}
+
+pub last_le : (p : ℕ → Bool) (k : ℕ) → last_below p k ≤ k
+last_le p zero = omega arith
+last_le p (suc k) = by_test (cases_Bool (p k)) (last_le p k) where
+  by_test : (p k ≡ true) ⊎ (p k ≡ false) → last_below p k ≤ k → cond (p k) (suc k) (last_below p k) ≤ suc k
+  by_test (inl y) before = rw y (omega arith)
+  by_test (inr n) before = rw n (omega arith)
+
+pub last_holds : (p : ℕ → Bool) (k v : ℕ) → last_below p k ≡ suc v → p v ≡ true
+last_holds p zero v e = absurd (omega arith)
+last_holds p (suc k) v e = by_test (λ f. last_holds p k v f) (cases_Bool (p k)) where
+  by_test : (last_below p k ≡ suc v → p v ≡ true) → (p k ≡ true) ⊎ (p k ≡ false) → p v ≡ true
+  by_test before (inl y) =
+      let s : suc k ≡ suc v = ap (λ b. cond b (suc k) (last_below p k)) (sym y) ∙ e in
+      let same : v ≡ k = omega arith in
+      rw same y
+  by_test before (inr n) = before (ap (λ b. cond b (suc k) (last_below p k)) (sym n) ∙ e)
+
+pub last_none : (p : ℕ → Bool) (k j : ℕ) → last_below p k ≤ j → j < k → p j ≡ false
+last_none p zero j l m = absurd (omega arith)
+last_none p (suc k) j l m = by_test (λ a b. last_none p k j a b) (cases_Bool (p k)) where
+  by_test : (last_below p k ≤ j → j < k → p j ≡ false) → (p k ≡ true) ⊎ (p k ≡ false) → p j ≡ false
+  by_test before (inl y) =
+      let s : last_below p (suc k) ≡ suc k = ap (λ b. cond b (suc k) (last_below p k)) y in
+      absurd (omega arith)
+  by_test before (inr n) = by_place (cases_order j k) where
+    less : last_below p k ≤ j
+    less = let s : last_below p (suc k) ≡ last_below p k = ap (λ b. cond b (suc k) (last_below p k)) n in omega arith
+
+    by_place : (j ≡ k) ⊎ ((j < k) ⊎ (k < j)) → p j ≡ false
+    by_place (inl e) = rw e n
+    by_place (inr (inl b)) = before less b
+    by_place (inr (inr g)) = absurd (omega arith)
+
+pub last_same : (p q : ℕ → Bool) (k : ℕ) → ((j : ℕ) → j < k → p j ≡ q j) → last_below p k ≡ last_below q k
+last_same p q zero same = refl
+last_same p q (suc k) same =
+    let e : p k ≡ q k = same k (omega arith) in
+    let r : last_below p k ≡ last_below q k = last_same p q k (λ j l. same j (omega arith)) in
+    ap (λ b. cond b (suc k) (last_below p k)) e ∙ ap (λ v. cond (q k) (suc k) v) r
+
+pub key_is : (o : Option ℕ) (n : ℕ) → o ≡ Some n → is_key o n ≡ true
+key_is o n e = ap (λ x. is_key x n) e ∙ eq-eqb n n refl
+
+pub is_key_of : (o : Option ℕ) (n : ℕ) → is_key o n ≡ true → o ≡ Some n
+is_key_of None n e = absurd (false≢true e)
+is_key_of (Some r) n e = ap Some (eqb-true r n e)
+
+-- one number more ---------------------------------------------------------------------------------
+
+-- which has no key
+pub latest_none : (table : List ℕ) (key more : ℕ → Option ℕ) (bound : ℕ) → IsLatest table key bound → ((k : ℕ) → k < bound → more k ≡ key k)
+    → more bound ≡ None → IsLatest table more (suc bound)
+latest_none table key more bound tied same none n l =
+    tied n l ∙ sym (ap (λ o. cond (is_key o n) (suc bound) (last_below (keyed more n) bound)) none
+    ∙ last_same (keyed more n) (keyed key n) bound (λ j m. ap (λ o. is_key o n) (same j m)))
+
+-- or this key
+pub latest_some : (table : List ℕ) (key more : ℕ → Option ℕ) (bound p : ℕ) → IsLatest table key bound → ((k : ℕ) → k < bound → more k ≡ key k)
+    → more bound ≡ Some p → p < length table → IsLatest (set table p (suc bound)) more (suc bound)
+latest_some table key more bound p tied same is inside n l = by_order (cases_order n p) where
+  step : last_below (keyed more n) (suc bound) ≡ cond (p == n) (suc bound) (last_below (keyed more n) bound)
+  step = ap (λ o. cond (is_key o n) (suc bound) (last_below (keyed more n) bound)) is
+
+  before : last_below (keyed more n) bound ≡ last_below (keyed key n) bound
+  before = last_same (keyed more n) (keyed key n) bound (λ j m. ap (λ o. is_key o n) (same j m))
+
+  within : n < length table
+  within = let s : length (set table p (suc bound)) ≡ length table = length-set table p (suc bound) in omega arith
+
+  other : n ≢ p → get_or (set table p (suc bound)) n 0 ≡ last_below (keyed more n) (suc bound)
+  other ne =
+      let apart : (p == n) ≡ false = ne_eqb p n (λ e. ne (sym e)) in
+      get_or-set_other table p n (suc bound) 0 ne ∙ tied n within
+      ∙ sym (step ∙ ap (λ b. cond b (suc bound) (last_below (keyed more n) bound)) apart ∙ before)
+
+  by_order : (n ≡ p) ⊎ ((n < p) ⊎ (p < n)) → get_or (set table p (suc bound)) n 0 ≡ last_below (keyed more n) (suc bound)
+  by_order (inl e) =
+      let yes_so : (p == n) ≡ true = eq-eqb p n (sym e) in
+      ap (λ k. get_or (set table p (suc bound)) k 0) e ∙ get_or-set_same table p (suc bound) 0 inside
+      ∙ sym (step ∙ ap (λ b. cond b (suc bound) (last_below (keyed more n) bound)) yes_so)
+  by_order (inr (inl m)) = other (omega arith)
+  by_order (inr (inr m)) = other (omega arith)
+
+pub linked_none : (next : List ℕ) (key more : ℕ → Option ℕ) (bound : ℕ) → IsLinked next key bound → ((k : ℕ) → k < bound → more k ≡ key k)
+    → more bound ≡ None → IsLinked next more (suc bound)
+linked_none next key more bound tied same none k n l is = by_order (cases_order k bound) where
+  by_order : (k ≡ bound) ⊎ ((k < bound) ⊎ (bound < k)) → get_or next k 0 ≡ last_below (keyed more n) k
+  by_order (inl e) = absurd (none-some n (sym none ∙ sym (ap more e) ∙ is))
+  by_order (inr (inl m)) = tied k n m (sym (same k m) ∙ is) ∙ sym (last_same (keyed more n) (keyed key n) k (λ j i. ap (λ o. is_key o n) (same j (omega arith))))
+  by_order (inr (inr m)) = absurd (omega arith)
+
+pub linked_some : (next : List ℕ) (key more : ℕ → Option ℕ) (bound p v : ℕ) → IsLinked next key bound → ((k : ℕ) → k < bound → more k ≡ key k)
+    → more bound ≡ Some p → bound < length next → v ≡ last_below (keyed key p) bound → IsLinked (set next bound v) more (suc bound)
+linked_some next key more bound p v tied same has inside value k n l is = by_order (cases_order k bound) where
+  before : (j : ℕ) → j ≤ bound → last_below (keyed more n) j ≡ last_below (keyed key n) j
+  before j m = last_same (keyed more n) (keyed key n) j (λ i q. ap (λ o. is_key o n) (same i (omega arith)))
+
+  by_order : (k ≡ bound) ⊎ ((k < bound) ⊎ (bound < k)) → get_or (set next bound v) k 0 ≡ last_below (keyed more n) k
+  by_order (inl e) =
+      let p_is : p ≡ n = same_Some p n (sym has ∙ sym (ap more e) ∙ is) in
+      ap (λ j. get_or (set next bound v) j 0) e ∙ get_or-set_same next bound v 0 inside ∙ value ∙ ap (λ q. last_below (keyed key q) bound) p_is
+      ∙ sym (ap (last_below (keyed more n)) e ∙ before bound (omega arith))
+  by_order (inr (inl m)) =
+      let ne : k ≢ bound = omega arith in
+      get_or-set_other next bound k v 0 ne ∙ tied k n m (sym (same k m) ∙ is) ∙ sym (before k (omega arith))
+  by_order (inr (inr m)) = absurd (omega arith)
+
+-- what stands at the last place
+pub parent_last : (h : List Event) (e : Event) → parent (h ++ e ∷ []) (length h) ≡ option_and_then (if_less (length h)) (parent_named e)
+unfolding parent
+parent_last h e = rw (slice_get_last h e) refl
+
+pub inner_last : (h : List Event) (e : Event) → inner_named_at (h ++ e ∷ []) (length h) ≡ inner_named e
+inner_last h e = rw (slice_get_last h e) refl
+
+pub inner_same : (h : List Event) (e : Event) (k : ℕ) → k < length h → inner_named_at (h ++ e ∷ []) k ≡ inner_named_at h k
+inner_same h e k l = rw (slice_get-append h (e ∷ []) k l) refl
+
+pub one_longer : (h : List Event) (e : Event) → length (h ++ e ∷ []) ≡ suc (length h)
+one_longer h e = omega (arith, length-append h (e ∷ []))
+
+pub latest_with : (table : List ℕ) (key more : ℕ → Option ℕ) (bound : ℕ) (o : Option ℕ) → IsLatest table key bound → ((k : ℕ) → k < bound → more k ≡ key k)
+    → more bound ≡ o → IsLatest (table_with table o (suc bound)) more (suc bound)
+latest_with table key more bound None tied same is = latest_none table key more bound tied same is
+latest_with table key more bound (Some p) tied same is = by_place (cases_order p (length table)) where
+  past : length table ≤ p → IsLatest (set table p (suc bound)) more (suc bound)
+  past g = rw (set_past table p (suc bound) g) (λ n l. tied n l ∙ sym (last_other n l)) where
+    last_other : (n : ℕ) → n < length table → last_below (keyed more n) (suc bound) ≡ last_below (keyed key n) bound
+    last_other n l =
+        let apart : (p == n) ≡ false = ne_eqb p n (λ e. absurd (omega arith)) in
+        ap (λ o. cond (is_key o n) (suc bound) (last_below (keyed more n) bound)) is
+        ∙ ap (λ b. cond b (suc bound) (last_below (keyed more n) bound)) apart
+        ∙ last_same (keyed more n) (keyed key n) bound (λ j m. ap (λ o. is_key o n) (same j m))
+
+  by_place : (p ≡ length table) ⊎ ((p < length table) ⊎ (length table < p)) → IsLatest (set table p (suc bound)) more (suc bound)
+  by_place (inl e) = past (omega arith)
+  by_place (inr (inl l)) = latest_some table key more bound p tied same is l
+  by_place (inr (inr g)) = past (omega arith)
+
+pub linked_with : (next last : List ℕ) (key more : ℕ → Option ℕ) (bound : ℕ) (o : Option ℕ) → IsLinked next key bound → IsLatest last key bound
+    → ((k : ℕ) → k < bound → more k ≡ key k) → more bound ≡ o → bound < length next → ((p : ℕ) → o ≡ Some p → p < length last)
+    → IsLinked (link_with next last o bound) more (suc bound)
+linked_with next last key more bound None tied from same is inside within = linked_none next key more bound tied same is
+linked_with next last key more bound (Some p) tied from same is inside within =
+    linked_some next key more bound p (get_or last p 0) tied same is inside (from p (within p refl))
+
+pub length-table_with : (table : List ℕ) (o : Option ℕ) (value : ℕ) → length (table_with table o value) ≡ length table
+length-table_with table None value = refl
+length-table_with table (Some p) value = length-set table p value
+
+pub length-link_with : (next last : List ℕ) (o : Option ℕ) (n : ℕ) → length (link_with next last o n) ≡ length next
+length-link_with next last None n = refl
+length-link_with next last (Some p) n = length-set next n (get_or last p 0)
+
+pub less_than : (n : ℕ) (o : Option ℕ) (p : ℕ) → option_and_then (if_less n) o ≡ Some p → p < n
+less_than n None p e = absurd (none-some p e)
+less_than n (Some q) p e = by_test (cases_Bool (nat_lt q n)) where
+  by_test : (nat_lt q n ≡ true) ⊎ (nat_lt q n ≡ false) → p < n
+  by_test (inl y) =
+      let same : q ≡ p = same_Some q p (sym (ap (λ b. cond b (Some q) None) y) ∙ e) in
+      rw (← same) (ltb-true q n y)
+  by_test (inr z) = absurd (none-some p (sym (ap (λ b. cond b (Some q) None) z) ∙ e))
+
+pub children_more : (h : List Event) (e : Event) (size : ℕ) (old new : Children) → AreChildren h size old → length h < size
+    → new.older.items ≡ link_with old.older.items old.youngest.items (option_and_then (if_less (length h)) (parent_named e)) (length h)
+    → new.youngest.items ≡ table_with old.youngest.items (option_and_then (if_less (length h)) (parent_named e)) (suc (length h))
+    → new.inner.items ≡ table_with old.inner.items (inner_named e) (suc (length h)) → AreChildren (h ++ e ∷ []) size new
+children_more h e size old new w room older youngest inner =
+    let above = option_and_then (if_less (length h)) (parent_named e) in
+    let same : (k : ℕ) → k < length h → parent (h ++ e ∷ []) k ≡ parent h k = λ k l. parent-append h (e ∷ []) k l in
+    let a = w.youngest_size in
+    let b = w.older_size in
+    record {
+      youngest = rw (youngest, one_longer h e) (latest_with old.youngest.items (parent h) (parent (h ++ e ∷ [])) (length h) above w.youngest same (parent_last h e));
+      youngest_size = ap length youngest ∙ length-table_with old.youngest.items above (suc (length h)) ∙ w.youngest_size;
+      older = rw (older, one_longer h e) (linked_with old.older.items old.youngest.items (parent h) (parent (h ++ e ∷ [])) (length h) above w.older w.youngest same
+          (parent_last h e) (omega arith) (λ p is. let l = less_than (length h) (parent_named e) p is in omega arith));
+      older_size = ap length older ∙ length-link_with old.older.items old.youngest.items above (length h) ∙ w.older_size;
+      inner = rw (inner, one_longer h e) (latest_with old.inner.items (inner_named_at h) (inner_named_at (h ++ e ∷ [])) (length h) (inner_named e) w.inner (inner_same h e) (inner_last h e));
+      inner_size = ap length inner ∙ length-table_with old.inner.items (inner_named e) (suc (length h)) ∙ w.inner_size;
+    }

@@ -1,0 +1,161 @@
+-- What the visits of an item do to the marks of nodes.
+use Rattle.std.proofs.Common.{◌≡◌, ℕ, zero, suc, ◌+◌, ◌<◌, Bool, true, false, List, [], ◌∷◌, ◌++◌, length, take, Option, Some, None, refl, sym, ap, ◌∙◌, arith, inl, inr, ◌⊎◌, ◌==◌, ◌≢◌, get_or, get_or-set_other, get_or-set_same, cond, add-zero}
+use Rattle.std.proofs.Math.Bool.{◌||◌}
+use Rattle.std.proofs.Math.ListN.{length-set}
+use Rattle.std.proofs.lemmas.Bool.{cases_order, false≢true, eq-eqb, eqb-true, ne_eqb, or_cases}
+use Rattle.std.specs.List.{list_any, sum_by}
+use Rattle.std.proofs.lemmas.List.Folds.{list_any_more}
+use Rattle.std.proofs.lemmas.List.Sums.{sum_by_more}
+use Rattle.rx_event.specs.declared.event.Event.{Event}
+use Rattle.rx_event.specs.declared.marks.Marks.{Marks}
+use Rattle.rx_event.specs.Marks.{blank_marks}
+use Rattle.rx_audit.specs.declared.reach.Visit.{Visit}
+use Rattle.rx_audit.specs.Rules.{is_key}
+use Rattle.rx_audit.specs.Latest.{IsNoted}
+use Rattle.rx_audit.specs.Marking.{fired_key, projected_key, fired_marks, owing, owed_marks, noted_with, visited_marks, IsVisited}
+use Rattle.rx_audit.proofs.ClosingBelow.{noted_more, noted_last}
+use Rattle.rx_audit.proofs.Latest.{is_key_of}
+
+or_false : (b : Bool) → (b || false) ≡ b
+or_false true = refl
+or_false false = refl
+
+or_true : (b : Bool) → (b || true) ≡ true
+or_true true = refl
+or_true false = refl
+
+or_assoc : (a b c : Bool) → ((a || b) || c) ≡ (a || (b || c))
+or_assoc true b c = refl
+or_assoc false b c = refl
+
+-- marks with these two fields
+abbrev pub with_two : Marks → Bool → ℕ → Marks
+with_two m b k = record m { fired = b; owed = k }
+
+pub same_two : (m : Marks) (a b : Bool) (c d : ℕ) → a ≡ b → ◌≡◌ {A = ℕ} c d → with_two m a c ≡ with_two m b d
+same_two m a b c d e f = λ i. record m { fired = e i; owed = f i }
+
+fired_at_key : (ms : List Marks) (key : Option ℕ) (n : ℕ) → n < length ms
+    → get_or (fired_marks ms key) n blank_marks ≡ with_two (get_or ms n blank_marks) ((get_or ms n blank_marks).fired || is_key key n) (get_or ms n blank_marks).owed
+fired_at_key ms None n l = same_two (get_or ms n blank_marks) _ _ _ _ (sym (or_false (get_or ms n blank_marks).fired)) refl
+fired_at_key ms (Some u) n l = by_order (cases_order n u) where
+  m : Marks
+  m = get_or ms n blank_marks
+
+  other : (n ≡ u → ⊥) → get_or (fired_marks ms (Some u)) n blank_marks ≡ with_two (get_or ms n blank_marks) ((get_or ms n blank_marks).fired || (u == n)) (get_or ms n blank_marks).owed
+  other d =
+      let ne : n ≢ u = d in
+      let apart : (u == n) ≡ false = ne_eqb u n (λ e. d (sym e)) in
+      get_or-set_other ms u n _ blank_marks ne
+      ∙ same_two (get_or ms n blank_marks) _ _ _ _ (sym (ap (λ b. (get_or ms n blank_marks).fired || b) apart ∙ or_false (get_or ms n blank_marks).fired)) refl
+
+  by_order : (n ≡ u) ⊎ ((n < u) ⊎ (u < n)) → get_or (fired_marks ms (Some u)) n blank_marks ≡ with_two (get_or ms n blank_marks) ((get_or ms n blank_marks).fired || (u == n)) (get_or ms n blank_marks).owed
+  by_order (inl same) =
+      let same_key : (u == n) ≡ true = eq-eqb u n (sym same) in
+      ap (λ k. get_or (fired_marks ms (Some u)) k blank_marks) same ∙ get_or-set_same ms u _ blank_marks (omega arith)
+      ∙ ap (λ k. with_two (get_or ms k blank_marks) true (get_or ms k blank_marks).owed) (sym same)
+      ∙ same_two (get_or ms n blank_marks) _ _ _ _ (sym (ap (λ b. (get_or ms n blank_marks).fired || b) same_key ∙ or_true (get_or ms n blank_marks).fired)) refl
+  by_order (inr (inl l)) = other (λ e. omega arith)
+  by_order (inr (inr g)) = other (λ e. omega arith)
+
+owed_at_key : (ms : List Marks) (key : Option ℕ) (count n : ℕ) → n < length ms
+    → get_or (owed_marks ms key count) n blank_marks ≡ with_two (get_or ms n blank_marks) (get_or ms n blank_marks).fired ((get_or ms n blank_marks).owed + cond (is_key key n) count 0)
+owed_at_key ms None count n l = same_two (get_or ms n blank_marks) _ _ _ _ refl (sym (add-zero (get_or ms n blank_marks).owed))
+owed_at_key ms (Some f) count n l = by_order (cases_order n f) where
+  other : (n ≡ f → ⊥) → get_or (owed_marks ms (Some f) count) n blank_marks ≡ with_two (get_or ms n blank_marks) (get_or ms n blank_marks).fired ((get_or ms n blank_marks).owed + cond (f == n) count 0)
+  other d =
+      let ne : n ≢ f = d in
+      let apart : (f == n) ≡ false = ne_eqb f n (λ e. d (sym e)) in
+      get_or-set_other ms f n _ blank_marks ne
+      ∙ same_two (get_or ms n blank_marks) _ _ _ _ refl (sym (ap (λ b. (get_or ms n blank_marks).owed + cond {A = ℕ} b count 0) apart ∙ add-zero (get_or ms n blank_marks).owed))
+
+  by_order : (n ≡ f) ⊎ ((n < f) ⊎ (f < n)) → get_or (owed_marks ms (Some f) count) n blank_marks ≡ with_two (get_or ms n blank_marks) (get_or ms n blank_marks).fired ((get_or ms n blank_marks).owed + cond (f == n) count 0)
+  by_order (inl same) =
+      let same_key : (f == n) ≡ true = eq-eqb f n (sym same) in
+      ap (λ k. get_or (owed_marks ms (Some f) count) k blank_marks) same ∙ get_or-set_same ms f _ blank_marks (omega arith)
+      ∙ ap (λ k. owing count (get_or ms k blank_marks)) (sym same)
+      ∙ same_two (get_or ms n blank_marks) _ _ _ _ refl (sym (ap (λ b. (get_or ms n blank_marks).owed + cond {A = ℕ} b count 0) same_key))
+  by_order (inr (inl l)) = other (λ e. omega arith)
+  by_order (inr (inr g)) = other (λ e. omega arith)
+
+length-fired : (ms : List Marks) (key : Option ℕ) → length (fired_marks ms key) ≡ length ms
+length-fired ms None = refl
+length-fired ms (Some u) = length-set ms u _
+
+length-owed : (ms : List Marks) (key : Option ℕ) (count : ℕ) → length (owed_marks ms key count) ≡ length ms
+length-owed ms None count = refl
+length-owed ms (Some f) count = length-set ms f _
+
+noted_kept : (due : List ℕ) (key : Option ℕ) (n : ℕ) → IsNoted 0 due n → IsNoted 0 (noted_with due key) n
+noted_kept due None n w = w
+noted_kept due (Some u) n w = noted_more 0 due u n w
+
+noted_new : (due : List ℕ) (key : Option ℕ) (n : ℕ) → is_key key n ≡ true → IsNoted 0 (noted_with due key) n
+noted_new due None n e = absurd (false≢true e)
+noted_new due (Some u) n e = let same : Some u ≡ Some n = is_key_of (Some u) n e in by_same (eqb_same u n e) where
+  eqb_same : (u n : ℕ) → (u == n) ≡ true → n ≡ u
+  eqb_same u n e = sym (eqb-true u n e)
+
+  by_same : n ≡ u → IsNoted 0 (due ++ u ∷ []) n
+  by_same same = rw same (noted_last 0 due u (omega arith))
+
+abbrev fires_at : List Event → ℕ → Visit → Bool
+fires_at h n x = is_key (fired_key h x.node) n
+
+abbrev owes_at : List Event → ℕ → Visit → ℕ
+owes_at h n x = cond (is_key (projected_key h x.node) n) x.count 0
+
+pub visited_none : (h : List Event) (ms : List Marks) (due : List ℕ) → IsVisited h [] ms ms due due
+visited_none h ms due = record {
+  size = refl;
+  marks = λ n l. same_two (get_or ms n blank_marks) _ _ _ _ (sym (or_false (get_or ms n blank_marks).fired)) (sym (add-zero (get_or ms n blank_marks).owed));
+  noted = λ n e. absurd (false≢true e);
+  kept = λ n w. w;
+}
+
+pub visited_more : (h : List Event) (log : List Visit) (i : ℕ) (v : Visit) (old ms : List Marks) (before todo : List ℕ) → i < length log → v ≡ get_or log i v
+    → IsVisited h (take i log) old ms before todo
+    → IsVisited h (take (i + 1) log) old (owed_marks (fired_marks ms (fired_key h v.node)) (projected_key h v.node) v.count) before (noted_with todo (fired_key h v.node))
+visited_more h log i v old ms before todo l e w = record {
+  size = length-owed (fired_marks ms fkey) pkey v.count ∙ length-fired ms fkey ∙ w.size;
+  marks = λ n m. marked n m;
+  noted = λ n y. by_new n (or_cases (list_any (fires_at h n) (take i log)) (is_key fkey n) (sym (any_more n) ∙ y));
+  kept = λ n k. noted_kept todo fkey n (w.kept n k);
+} where
+  fkey : Option ℕ
+  fkey = fired_key h v.node
+
+  pkey : Option ℕ
+  pkey = projected_key h v.node
+
+  any_more : (n : ℕ) → list_any (fires_at h n) (take (i + 1) log) ≡ (list_any (fires_at h n) (take i log) || is_key (fired_key h v.node) n)
+  any_more n = list_any_more (fires_at h n) log i v l ∙ ap (λ b. list_any (fires_at h n) (take i log) || b) (ap (fires_at h n) (sym e))
+
+  sum_more : (n : ℕ) → sum_by (owes_at h n) (take (i + 1) log) ≡ sum_by (owes_at h n) (take i log) + cond (is_key (projected_key h v.node) n) v.count 0
+  sum_more n = sum_by_more (owes_at h n) log i v l ∙ ap (λ (k : ℕ). sum_by (owes_at h n) (take i log) + k) (ap (owes_at h n) (sym e))
+
+  by_new : (n : ℕ) → (list_any (fires_at h n) (take i log) ≡ true) ⊎ (is_key (fired_key h v.node) n ≡ true) → IsNoted 0 (noted_with todo (fired_key h v.node)) n
+  by_new n (inl was) = noted_kept todo (fired_key h v.node) n (w.noted n was)
+  by_new n (inr now) = noted_new todo (fired_key h v.node) n now
+
+  marked : (n : ℕ) → n < length old → get_or (owed_marks (fired_marks ms (fired_key h v.node)) (projected_key h v.node) v.count) n blank_marks
+      ≡ visited_marks h (take (i + 1) log) n (get_or old n blank_marks)
+  marked n m =
+      let o = get_or old n blank_marks in
+      let size = w.size in
+      let within : n < length ms = omega arith in
+      let fsize = length-fired ms (fired_key h v.node) in
+      let one = owed_at_key (fired_marks ms (fired_key h v.node)) (projected_key h v.node) v.count n (omega arith) in
+      let two = fired_at_key ms (fired_key h v.node) n within in
+      let three = w.marks n m in
+      one
+      ∙ ap (λ (x : Marks). with_two x x.fired (x.owed + cond (is_key (projected_key h v.node) n) v.count 0)) two
+      ∙ ap (λ (x : Marks). with_two x (x.fired || is_key (fired_key h v.node) n) (x.owed + cond (is_key (projected_key h v.node) n) v.count 0)) three
+      ∙ same_two o _ _ _ _
+      (or_assoc o.fired (list_any (fires_at h n) (take i log)) (is_key (fired_key h v.node) n) ∙ ap (λ b. o.fired || b) (sym (any_more n)))
+      (let s = sum_more n in omega arith)
+
+pub same_default : {X : Type 0} (xs : List X) (i : ℕ) (d e : X) → i < length xs → get_or xs i d ≡ get_or xs i e
+same_default [] i d e l = absurd (omega arith)
+same_default (x ∷ xs) zero d e l = refl
+same_default (x ∷ xs) (suc i) d e l = same_default xs i d e (omega arith)

@@ -1,0 +1,14 @@
+use Rattle.std.proofs.Common.{◌≡◌, suc, ◌+◌, length, ap, ◌∙◌, arith}
+use Rattle.rx_audit.specs.Latest.{table_with, link_with}
+use Rattle.rx_audit.proofs.Latest.{children_more}
+use Rattle.rx_audit.proofs.children.link_child.Goals as goal
+
+pub returns : goal.returns
+returns c =
+    let h = c.args.past.now in
+    let old = c.args.children.now in
+    let next : length h + 1 ≡ suc (length h) = omega arith in
+    children_more h c.args.event (length old.youngest.items) old _ c.requires.children c.requires.room
+    (c.put_link.ensures ∙ ap (λ o. link_with old.older.items old.youngest.items o (length h)) c.parent_of_new-above.ensures)
+    (c.put.ensures ∙ ap (λ o. table_with old.youngest.items o (length h + 1)) c.parent_of_new-above.ensures ∙ ap (table_with old.youngest.items _) next)
+    (c.put-2.ensures ∙ ap (λ o. table_with old.inner.items o (length h + 1)) c.inner_of.ensures ∙ ap (table_with old.inner.items _) next)

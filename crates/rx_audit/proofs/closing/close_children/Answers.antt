@@ -1,0 +1,63 @@
+use Rattle.std.proofs.Common.{◌≡◌, suc, ◌-◌, false, Some, length, ◌∙◌, arith, set}
+use Rattle.std.proofs.lemmas.List.{get_or_read}
+use Rattle.rx_event.specs.Tree.{parent}
+use Rattle.rx_event.proofs.Laws.Parents.{parent_within}
+use Rattle.rx_audit.specs.Latest.{last_below, keyed, IsClosingBelow}
+use Rattle.rx_audit.proofs.Latest.{last_le}
+use Rattle.rx_audit.proofs.ClosingBelow.{closing_none, closing_note, closing_next, gone_here, child_below, here_is}
+use Rattle.rx_audit.proofs.closing.close_children.Goals as goal
+use Rattle.rx_audit.proofs.closing.close_children.Goals.{then-marks-c+in_ok-push, else-marks-c}
+
+pub loop-next-init : goal.loop-next-init
+loop-next-init c =
+    let h = c.args.past.now in
+    let p = c.args.p in
+    let v = c.index-next.result.now in
+    let r = c.requires.children in
+    let size = r.youngest_size in
+    let is : v ≡ last_below (keyed (parent h) p) (length h) = get_or_read c.args.children.now.youngest.items p v (omega arith) c.index-next.ensures 0 ∙ r.youngest p (omega arith) in
+    record {
+      closing = closing_none h p v c.args.marks.now c.args.todo.now.items (λ d below. child_below h p (length h) v is d below (parent_within h d p below));
+      here = here_is h p (length h) v is;
+      within = let l = last_le (keyed (parent h) p) (length h) in omega arith;
+    }
+
+pub loop-next-smaller : goal.loop-next-smaller
+loop-next-smaller c =
+    let h = c.args.past.now in
+    let p = c.args.p in
+    let k = c.loop-next.next - 1 in
+    let v = c.index-next-in-loop-next.result.now in
+    let r = c.requires.children in
+    let size = r.older_size in
+    let w = c.loop-next.invariant.within in
+    let below : parent h k ≡ Some p = c.loop-next.invariant.here (omega arith) in
+    let is : v ≡ last_below (keyed (parent h) p) k = get_or_read c.args.children.now.older.items k v (omega arith) c.index-next-in-loop-next.ensures 0 ∙ r.older k p (omega arith) below in
+    let l = last_le (keyed (parent h) p) k in
+    omega arith
+
+pub loop-next-preserved : goal.loop-next-preserved
+loop-next-preserved c =
+    let h = c.args.past.now in
+    let p = c.args.p in
+    let k = c.loop-next.next - 1 in
+    let next : c.loop-next.next ≡ suc k = omega arith in
+    let v = c.index-next-in-loop-next.result.now in
+    let r = c.requires.children in
+    let size = r.older_size in
+    let w = c.loop-next.invariant.within in
+    let below : parent h k ≡ Some p = c.loop-next.invariant.here (omega arith) in
+    let is : v ≡ last_below (keyed (parent h) p) k = get_or_read c.args.children.now.older.items k v (omega arith) c.index-next-in-loop-next.ensures 0 ∙ r.older k p (omega arith) below in
+    let so_far : IsClosingBelow h p (suc k) c.args.marks.now c.loop-next.marks c.args.todo.now.items c.loop-next.todo.items = rw (← next) c.loop-next.invariant.closing in
+    record {
+      closing = elim c.if-marks-c.branch [
+        | then-marks-c+in_ok-push w ↦
+            rw (w.marks-is, w.todo-is, w.in_ok-push.ensures.items) (closing_next h p k v c.args.marks.now (set c.loop-next.marks k false) c.args.todo.now.items _
+            (closing_note h p (suc k) k c.args.marks.now c.loop-next.marks c.args.todo.now.items c.loop-next.todo.items so_far (omega arith) below w.if-marks-c.true)
+            (gone_here c.loop-next.marks k w.if-marks-c.true) is)
+        | else-marks-c w ↦
+            rw (w.marks-is, w.todo-is) (closing_next h p k v c.args.marks.now c.loop-next.marks c.args.todo.now.items c.loop-next.todo.items so_far w.if-marks-c.false is)
+      ];
+      here = here_is h p k v is;
+      within = let l = last_le (keyed (parent h) p) k in omega arith;
+    }

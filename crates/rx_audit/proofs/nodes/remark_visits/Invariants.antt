@@ -1,0 +1,6 @@
+use Rattle.std.proofs.Common.{take}
+use Rattle.rx_audit.specs.Marking.{IsVisited}
+use Rattle.rx_audit.proofs.nodes.remark_visits.Given as goal
+
+abbrev pub invariant-loop-visit : goal.invariant-loop-visit
+invariant-loop-visit l = IsVisited l.past (take l.visit-index l.log) l.initial.marks.items l.marks.items l.initial.due.items l.due.items
