@@ -98,7 +98,8 @@ child_after h e p t d =
 
 -- a node that ended is in the history
 ended_low : (h : List Event) → IsLawful nothing_kept h → (c : ℕ) (t : Terminal) → Has h (End c t) → c < length h
-ended_low h law c t has = let a = ended_after nothing_kept h law has.place c t has.found in let b = slice_get_within h has.place (End c t) has.found in omega arith
+ended_low h law c t has = let a = ended_after nothing_kept h law has.place c t has.found in let b = slice_get_within h has.place (End c t)
+    has.found in omega arith
 
 child_before : (h : List Event) (e : Event) → IsLawful nothing_kept h → is_end e ≡ false
     → (p : ℕ) (t : Terminal) → ChildEnded (h ++ e ∷ []) p t → (p < length h) × ChildEnded h p t
@@ -194,7 +195,8 @@ fired_before h e c u o f = by_place (cases_order u (length h)) where
 
 owed_before : (h : List Event) (e : Event) → IsQuietly h e → (f : ℕ) → owed nothing_kept (h ++ e ∷ []) f ≡ 0 → owed nothing_kept h f ≡ 0
 owed_before h e c f none =
-    let sums : owed nothing_kept (h ++ e ∷ []) f + cond (pays f e) 1 0 ≡ owed nothing_kept h f + count_by (is_projection_to f) (stops_of h e) = owed-push nothing_kept h e c.law c.follows f in
+    let sums : owed nothing_kept (h ++ e ∷ []) f + cond (pays f e) 1 0 ≡ owed nothing_kept h f + count_by (is_projection_to f) (stops_of h e) =
+    owed-push nothing_kept h e c.law c.follows f in
     let paid : ◌≡◌ {A = ℕ} (cond (pays f e) 1 0) 0 = ap (λ (b : Bool). cond {A = ℕ} b 1 0) (no_pay f e c.calm) in
     omega arith
 

@@ -18,9 +18,9 @@ use Rattle.rx_event.specs.Events.{inner_named, is_switch, is_inner_of, makes_nod
 use Rattle.rx_event.specs.Tree.{parent, is_open, is_shut, is_switched_inner, at, shuts}
 use Rattle.rx_event.proofs.Laws.Parents.{parent-lt}
 use Rattle.rx_event.proofs.Laws.Openness.{parent_open, is_open_step, is_open_within}
-use Rattle.rx_audit.specs.Tables.{IsMarked}
+use Rattle.rx_audit.specs.Tables.{IsMarked, mark_count}
 use Rattle.rx_audit.specs.Rules.{stays_open}
-use Rattle.rx_audit.specs.Latest.{last_below, keyed, IsNoted, mark_count, IsClosingBelow, inner_named_at, ShutsNone, IsShutAlone}
+use Rattle.rx_audit.specs.Latest.{last_below, keyed, IsNoted, IsClosingBelow, inner_named_at, ShutsNone, IsShutAlone}
 use Rattle.rx_audit.proofs.Latest.{last_none, last_holds, key_is, is_key_of}
 use Rattle.rx_audit.proofs.StaysOpen.{stays_closed, shut_closed, below_closed, below_open, top_open}
 
@@ -33,6 +33,13 @@ pub count_cleared : (ms : List Bool) (c : ℕ) → get_or ms c false ≡ true �
 count_cleared ms c y =
     let s = sum_by-set (λ (b : Bool). cond {A = ℕ} b 1 0) ms c false false (within_marks ms c y) in
     let one : cond {A = ℕ} (get_or ms c false) 1 0 ≡ 1 = ap (λ b. cond {A = ℕ} b 1 0) y in
+    omega arith
+
+-- a place that had no mark
+pub count_set : (ms : List Bool) (n : ℕ) (b : Bool) → n < length ms → get_or ms n false ≡ false → mark_count (set ms n b) ≡ mark_count ms + cond {A = ℕ} b 1 0
+count_set ms n b l unmarked =
+    let s = sum_by-set (λ (b : Bool). cond {A = ℕ} b 1 0) ms n b false l in
+    let none : cond {A = ℕ} (get_or ms n false) 1 0 ≡ 0 = ap (λ b. cond {A = ℕ} b 1 0) unmarked in
     omega arith
 
 -- a mark that was taken away, and the others
@@ -171,8 +178,10 @@ closing_next h p c v old new before after w closed is = record {
   by_order d under e (inr (inl l)) q = l
   by_order d under e o (inl same) = absurd (both_ways (get_or new d false) (ap (λ k. get_or new k false) same ∙ closed) e)
   by_order d under e o (inr (inr g)) = absurd (let l = w.gone d under e in omega arith)
-  by_order d under e (inl s) (inr (inl l)) = absurd (both_ways (keyed (parent h) p d) (last_none (keyed (parent h) p) c d (omega arith) l) (key_is (parent h d) p under))
-  by_order d under e (inr (inr g)) (inr (inl l)) = absurd (both_ways (keyed (parent h) p d) (last_none (keyed (parent h) p) c d (omega arith) l) (key_is (parent h d) p under))
+  by_order d under e (inl s) (inr (inl l)) = absurd
+      (both_ways (keyed (parent h) p d) (last_none (keyed (parent h) p) c d (omega arith) l) (key_is (parent h d) p under))
+  by_order d under e (inr (inr g)) (inr (inl l)) = absurd
+      (both_ways (keyed (parent h) p d) (last_none (keyed (parent h) p) c d (omega arith) l) (key_is (parent h d) p under))
 
 pub gone_here : (ms : List Bool) (c : ℕ) → get_or ms c false ≡ true → get_or (set ms c false) c false ≡ false
 gone_here ms c y = gone_is ms c y
@@ -400,8 +409,10 @@ inner_none h f v is shut n o = not_true (is_switched_inner h f n) refute where
       by_order below inside named (cases_order n v) (cases_order n (v - 1))
     where
       by_order : f < n → n < length h → inner_named_at h n ≡ Some f → (n ≡ v) ⊎ ((n < v) ⊎ (v < n)) → (n ≡ v - 1) ⊎ ((n < v - 1) ⊎ (v - 1 < n)) → ⊥
-      by_order below inside named (inr (inr g)) q = both_ways (keyed (inner_named_at h) f n) (last_none (keyed (inner_named_at h) f) (length h) n (omega arith) inside) (key_is (inner_named_at h n) f named)
-      by_order below inside named (inl e) q = both_ways (keyed (inner_named_at h) f n) (last_none (keyed (inner_named_at h) f) (length h) n (omega arith) inside) (key_is (inner_named_at h n) f named)
+      by_order below inside named (inr (inr g)) q = both_ways (keyed (inner_named_at h) f n)
+          (last_none (keyed (inner_named_at h) f) (length h) n (omega arith) inside) (key_is (inner_named_at h n) f named)
+      by_order below inside named (inl e) q = both_ways (keyed (inner_named_at h) f n)
+          (last_none (keyed (inner_named_at h) f) (length h) n (omega arith) inside) (key_is (inner_named_at h n) f named)
       by_order below inside named (inr (inl l)) (inl e) = both_ways (is_open h n) (ap (is_open h) e ∙ shut (omega arith) (omega arith)) o
       by_order below inside named (inr (inl l)) (inr (inl m)) =
           let last : last_below (keyed (inner_named_at h) f) (length h) ≡ suc (v - 1) = omega arith in
@@ -418,17 +429,20 @@ inner_alone h f v switch is some below here =
     record {
       within = is_open_within h (v - 1) here;
       open_before = here;
-      shut = and_from (nat_lt f (v - 1) && at is_switch h f) (at (is_inner_of f) h (v - 1)) (and_from (nat_lt f (v - 1)) (at is_switch h f) (lt-ltb f (v - 1) below) switch) (inner_of_named h f (v - 1) named);
+      shut = and_from (nat_lt f (v - 1) && at is_switch h f) (at (is_inner_of f) h (v - 1))
+          (and_from (nat_lt f (v - 1)) (at is_switch h f) (lt-ltb f (v - 1) below) switch) (inner_of_named h f (v - 1) named);
       alone = λ n o s. by_order n o s named (cases_order n (v - 1));
     }
   where
-    by_order : (n : ℕ) → is_open h n ≡ true → is_switched_inner h f n ≡ true → inner_named_at h (v - 1) ≡ Some f → (n ≡ v - 1) ⊎ ((n < v - 1) ⊎ (v - 1 < n)) → n ≡ v - 1
+    by_order : (n : ℕ) → is_open h n ≡ true → is_switched_inner h f n ≡ true → inner_named_at h (v - 1) ≡ Some f
+        → (n ≡ v - 1) ⊎ ((n < v - 1) ⊎ (v - 1 < n)) → n ≡ v - 1
     by_order n o s named (inl e) = e
     by_order n o s named (inr (inl l)) = absurd (both_ways (is_open h n) (older_closed h f n (v - 1) l named s) o)
     by_order n o s named (inr (inr g)) =
         let inner = inner_at h f n (and_parts (nat_lt f n && at is_switch h f) (at (is_inner_of f) h n) s).1 in
         let inside : n < length h = is_open_within h n o in
-        absurd (both_ways (keyed (inner_named_at h) f n) (last_none (keyed (inner_named_at h) f) (length h) n (omega arith) inside) (key_is (inner_named_at h n) f inner))
+        absurd (both_ways (keyed (inner_named_at h) f n) (last_none (keyed (inner_named_at h) f) (length h) n (omega arith) inside)
+        (key_is (inner_named_at h n) f inner))
 
 -- where nothing open is shut, all stays as it was
 pub all_stays : (h : List Event) (e : Event) (marks : List Bool) → IsMarked marks (is_open h) → ShutsNone h (λ n. shuts h n e) → IsMarked marks (stays_open h e)

@@ -82,7 +82,8 @@ due_unsettled h n hubless y settled =
 -- where none is listed, it is settled
 pub none_settled : (h : List Event) → IsLawful nothing_kept h → list_any makes_hub h ≡ false → ((n : ℕ) → node_due h n ≡ true → ⊥) → IsSettled nothing_kept h
 none_settled h law hubless none = settled_hubless nothing_kept h law hubless (λ n made o is. by_test n made o is (cases_Bool (due_made h n made))) where
-  by_test : (n : ℕ) (made : Event) → is_open h n ≡ true → slice_get h n ≡ Some made → (due_made h n made ≡ true) ⊎ (due_made h n made ≡ false) → due_at made (marks_of nothing_kept h n) n ≡ None
+  by_test : (n : ℕ) (made : Event) → is_open h n ≡ true → slice_get h n ≡ Some made → (due_made h n made ≡ true) ⊎ (due_made h n made ≡ false)
+      → due_at made (marks_of nothing_kept h n) n ≡ None
   by_test n made o is (inl y) = absurd (none n (due_made_at h n made o is ∙ y))
   by_test n made o is (inr z) = none_is_due made (marks_of nothing_kept h n) n z
 
@@ -117,7 +118,8 @@ due_before h e law next no_item n differs y = by_place (cases_order n (length h)
   by_place (inr (inl l)) = before l
   by_place (inr (inr g)) = absurd (let l = is_open_within (h ++ e ∷ []) n parts.0 in omega (arith, length-append h (e ∷ [])))
 
-pub covered_more : (h : List Event) (e : Event) (due : List ℕ) (p : ℕ) → IsLawful nothing_kept h → MayFollow nothing_kept h e → IsUntouched h e → touched_by h e ≡ Some p
+pub covered_more : (h : List Event) (e : Event) (due : List ℕ) (p : ℕ) → IsLawful nothing_kept h → MayFollow nothing_kept h e → IsUntouched h e
+    → touched_by h e ≡ Some p
     → IsCovered h due → IsCovered (h ++ e ∷ []) (due ++ p ∷ [])
 covered_more h e due p law next no_item named covered n y = by_order (cases_order n p) where
   other : (n ≡ p → ⊥) → IsNoted 0 (due ++ p ∷ []) n

@@ -183,7 +183,8 @@ pub record SomeDue (h : List Event) : Type 0 where
 -- some rule gives an event, or none does -----------------------------------------------------------------
 
 -- a child that ended with an error is a cause by itself
-pub source_of_completed : (h : List Event) (f : ℕ) → source_completed nothing_kept h f ≡ true → (s : ℕ) × (at (is_source_of f) h s ≡ true) × Has h (End s Completed)
+pub source_of_completed : (h : List Event) (f : ℕ) → source_completed nothing_kept h f ≡ true
+    → (s : ℕ) × (at (is_source_of f) h s ≡ true) × Has h (End s Completed)
 source_of_completed h f done = source_completed_true nothing_kept h f (sym (source_completed_is nothing_kept h f) ∙ done)
 
 failed_or_completed : (h : List Event) (f s : ℕ) → is_open h f ≡ true → at is_merging h f ≡ true → at (is_source_of f) h s ≡ true
@@ -393,7 +394,8 @@ end_is_due h n t e = by_rule (either ((at is_mirroring h n && list_any (ends_chi
   by_kind (inl m) = let v = and_parts (at is_mirroring h n) (list_any (ends_child_so h n t) h) m in mirrored w.0 v.0 (child_ended h n t v.1)
   by_kind (inr m) = kind_is_due h n t w.0 m
 
-  by_rule : (((at is_mirroring h n && list_any (ends_child_so h n t) h) || end_due_by_kind h n t) ≡ true) ⊎ (is_cut_so h n t ≡ true) → IsDue nothing_kept h (End n t)
+  by_rule : (((at is_mirroring h n && list_any (ends_child_so h n t) h) || end_due_by_kind h n t) ≡ true) ⊎ (is_cut_so h n t ≡ true)
+      → IsDue nothing_kept h (End n t)
   by_rule (inl m) = by_kind (either (at is_mirroring h n && list_any (ends_child_so h n t) h) (end_due_by_kind h n t) m)
   by_rule (inr m) = cut w.0 (source_ended h n t m)
 

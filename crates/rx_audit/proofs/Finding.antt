@@ -17,7 +17,7 @@ use Rattle.rx_event.proofs.Laws.Counts.{projections-push}
 use Rattle.rx_event.proofs.Laws.MarksAfter.{is_fired-push}
 use Rattle.rx_event.specs.Tree.{is_open}
 use Rattle.rx_event.proofs.Laws.Openness.{is_open_past}
-use Rattle.rx_audit.specs.Tables.{IsMarked, IsTable, IsTally, IsTold, IsCounted, marks_with, counts_with}
+use Rattle.rx_audit.specs.Tables.{IsMarked, IsTable, IsTally, IsTold, IsCounted, marks_with, counts_with, mark_count}
 use Rattle.rx_audit.specs.Rules.{is_key, fired_by, projected_by, is_owing, was_sourced, was_notified}
 use Rattle.rx_audit.specs.Found.{payments, HasStops}
 use Rattle.rx_audit.specs.declared.reach.Visit.{Visit}
@@ -211,6 +211,13 @@ pub no_table : (size : ℕ) (f : ℕ → Bool) → ((n : ℕ) → f n ≡ false)
 no_table zero f none n = sym (none n)
 no_table (suc size) f none zero = sym (none zero)
 no_table (suc size) f none (suc n) = no_table size (λ k. f (suc k)) (λ k. none (suc k)) n
+
+pub none_marked : (size : ℕ) → 0 ≡ mark_count (replicate size false)
+none_marked zero = refl
+none_marked (suc size) =
+    let rest = none_marked size in
+    let s = sum_by-cons (λ (b : Bool). cond {A = ℕ} b 1 0) false (replicate size false) in
+    omega arith
 
 pub no_tally : (size n : ℕ) → ◌≡◌ {A = ℕ} (get_or (replicate {A = ℕ} size 0) n 0) 0
 no_tally zero n = refl

@@ -44,7 +44,8 @@ room_test next n false l e = (λ f g d. absurd (no_connect_due next (sym e) g d)
 -- openings ---------------------------------------------------------------------------------------------
 
 pub open_test : (h next : List Event) (e : Event) (place : Place) (kind : Kind) (b : Bool) → e ≡ Open place kind → next ≡ h ++ e ∷ []
-    → open_allowed h place kind ≡ true → (IsTrue b) ↔ ((g : ℕ) → IsConnectDue next g → length (open_nodes h) + 2 ≤ 1048576) → (IsTrue b) ↔ IsAllowed nothing_kept h e
+    → open_allowed h place kind ≡ true → (IsTrue b) ↔ ((g : ℕ) → IsConnectDue next g → length (open_nodes h) + 2 ≤ 1048576)
+    → (IsTrue b) ↔ IsAllowed nothing_kept h e
 open_test h next e place kind b is_e is_next may w =
     let same : next ≡ h ++ Open place kind ∷ [] = is_next ∙ ap (λ x. h ++ x ∷ []) is_e in
     let v : (IsTrue b) ↔ ((g : ℕ) → IsConnectDue (h ++ Open place kind ∷ []) g → length (open_nodes h) + 2 ≤ 1048576) = rw same at w in
@@ -135,7 +136,8 @@ first_opened h n place at_n len o =
     (both (at opens_pass h n) (length h == n + 1) (ap (λ o. option_map_or opens_pass o false) at_n) (eq-eqb (length h) (n + 1) len)) o
 
 -- where operators have something left to do, just what is forced and the acceptance after an opening may follow
-pub unsettled_answer : (h : List Event) (e : Event) (b : Bool) → is_forced h e ≡ false → ¬ IsSettled nothing_kept h → b ≡ opened_with h e → (IsTrue b) ↔ MayFollow nothing_kept h e
+pub unsettled_answer : (h : List Event) (e : Event) (b : Bool) → is_forced h e ≡ false → ¬ IsSettled nothing_kept h → b ≡ opened_with h e
+    → (IsTrue b) ↔ MayFollow nothing_kept h e
 unsettled_answer h e b no_force unsettled is = (λ t. opened_first h e (sym is ∙ t), λ m. is ∙ by_way e no_force m) where
   by_way : (e : Event) → is_forced h e ≡ false → MayFollow nothing_kept h e → opened_with h e ≡ true
   by_way e n (forced f) = absurd (both_ways (is_forced h e) n (is_forced_of h e f))
@@ -143,7 +145,8 @@ unsettled_answer h e b no_force unsettled is = (λ t. opened_first h e (sym is �
   by_way (Accept k tag) n (accepted_with {place = place} at_k len o) = first_opened h k place at_k len o
 
 -- where they have nothing left to do, just what callers may do may follow
-pub settled_answer : (h : List Event) (e : Event) (b : Bool) → IsSettled nothing_kept h → (IsTrue b) ↔ IsAllowed nothing_kept h e → (IsTrue b) ↔ MayFollow nothing_kept h e
+pub settled_answer : (h : List Event) (e : Event) (b : Bool) → IsSettled nothing_kept h → (IsTrue b) ↔ IsAllowed nothing_kept h e
+    → (IsTrue b) ↔ MayFollow nothing_kept h e
 settled_answer h e b settled w = (λ t. allowed settled (w.0 t), λ m. w.1 (by_way e m)) where
   by_way : (e : Event) → MayFollow nothing_kept h e → IsAllowed nothing_kept h e
   by_way e (forced f) = absurd (settled.none e f)
@@ -165,7 +168,8 @@ pub lawful_more : (h : List Event) (i : ℕ) (d : Event) (b : Bool) → i < leng
     → b ≡ true → (IsTrue b) ↔ MayFollow nothing_kept (take i h) (get_or h i d) → IsLawful nothing_kept (take (i + 1) h)
 lawful_more h i d b l law follows w = rw (take_more h i d l) (IsLawful-push nothing_kept (take i h) (get_or h i d) law (w.0 follows))
 
-pub settled_more : (h : List Event) (i : ℕ) (d : Event) (b : Bool) → i < length h → IsLawful nothing_kept (take i h) → IsSettled nothing_kept (take i h) → b ≡ true
+pub settled_more : (h : List Event) (i : ℕ) (d : Event) (b : Bool) → i < length h → IsLawful nothing_kept (take i h)
+    → IsSettled nothing_kept (take i h) → b ≡ true
     → (IsTrue b) ↔ MayFollow nothing_kept (take i h) (get_or h i d) → IsQuiet (take i h) (get_or h i d) → is_fired (take i h) (length (take i h)) ≡ false
     → ((u : ℕ) → u ≤ length (take i h) → is_fired (take i h ++ get_or h i d ∷ []) u ≡ is_fired (take i h) u) → IsSettled nothing_kept (take (i + 1) h)
 settled_more h i d b l law settled follows w quiet unfired fires =
@@ -195,7 +199,8 @@ followed_more h i d size nodes l same f = rw (take_more h i d l, ← same) f
 pub forced_answer_by_marks : (h : List Event) (e : Event) → IsForced nothing_kept h e → (IsTrue true) ↔ MayFollow nothing_kept h e
 forced_answer_by_marks h e f = (λ t. forced f, λ m. refl)
 
-pub unforced_answer_by_marks : (h : List Event) (e : Event) (b : Bool) → (IsForced nothing_kept h e → ⊥) → ¬ IsSettled nothing_kept h → b ≡ opened_with h e → (IsTrue b) ↔ MayFollow nothing_kept h e
+pub unforced_answer_by_marks : (h : List Event) (e : Event) (b : Bool) → (IsForced nothing_kept h e → ⊥) → ¬ IsSettled nothing_kept h
+    → b ≡ opened_with h e → (IsTrue b) ↔ MayFollow nothing_kept h e
 unforced_answer_by_marks h e b no_force unsettled is = (λ t. opened_first h e (sym is ∙ t), λ m. is ∙ by_way e no_force m) where
   by_way : (e : Event) → (IsForced nothing_kept h e → ⊥) → MayFollow nothing_kept h e → opened_with h e ≡ true
   by_way e n (forced f) = absurd (n f)

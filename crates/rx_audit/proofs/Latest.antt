@@ -104,7 +104,8 @@ pub linked_none : (next : List ℕ) (key more : ℕ → Option ℕ) (bound : ℕ
 linked_none next key more bound tied same none k n l is = by_order (cases_order k bound) where
   by_order : (k ≡ bound) ⊎ ((k < bound) ⊎ (bound < k)) → get_or next k 0 ≡ last_below (keyed more n) k
   by_order (inl e) = absurd (none-some n (sym none ∙ sym (ap more e) ∙ is))
-  by_order (inr (inl m)) = tied k n m (sym (same k m) ∙ is) ∙ sym (last_same (keyed more n) (keyed key n) k (λ j i. ap (λ o. is_key o n) (same j (omega arith))))
+  by_order (inr (inl m)) = tied k n m (sym (same k m) ∙ is)
+      ∙ sym (last_same (keyed more n) (keyed key n) k (λ j i. ap (λ o. is_key o n) (same j (omega arith))))
   by_order (inr (inr m)) = absurd (omega arith)
 
 pub linked_some : (next : List ℕ) (key more : ℕ → Option ℕ) (bound p v : ℕ) → IsLinked next key bound → ((k : ℕ) → k < bound → more k ≡ key k)
@@ -189,11 +190,14 @@ children_more h e size old new w room older youngest inner =
     let a = w.youngest_size in
     let b = w.older_size in
     record {
-      youngest = rw (youngest, one_longer h e) (latest_with old.youngest.items (parent h) (parent (h ++ e ∷ [])) (length h) above w.youngest same (parent_last h e));
+      youngest = rw (youngest, one_longer h e)
+          (latest_with old.youngest.items (parent h) (parent (h ++ e ∷ [])) (length h) above w.youngest same (parent_last h e));
       youngest_size = ap length youngest ∙ length-table_with old.youngest.items above (suc (length h)) ∙ w.youngest_size;
-      older = rw (older, one_longer h e) (linked_with old.older.items old.youngest.items (parent h) (parent (h ++ e ∷ [])) (length h) above w.older w.youngest same
+      older = rw (older, one_longer h e)
+          (linked_with old.older.items old.youngest.items (parent h) (parent (h ++ e ∷ [])) (length h) above w.older w.youngest same
           (parent_last h e) (omega arith) (λ p is. let l = less_than (length h) (parent_named e) p is in omega arith));
       older_size = ap length older ∙ length-link_with old.older.items old.youngest.items above (length h) ∙ w.older_size;
-      inner = rw (inner, one_longer h e) (latest_with old.inner.items (inner_named_at h) (inner_named_at (h ++ e ∷ [])) (length h) (inner_named e) w.inner (inner_same h e) (inner_last h e));
+      inner = rw (inner, one_longer h e)
+          (latest_with old.inner.items (inner_named_at h) (inner_named_at (h ++ e ∷ [])) (length h) (inner_named e) w.inner (inner_same h e) (inner_last h e));
       inner_size = ap length inner ∙ length-table_with old.inner.items (inner_named e) (suc (length h)) ∙ w.inner_size;
     }

@@ -52,16 +52,19 @@ owes_same : (h : List Event) (leaf n : ℕ) (log : List Visit) → IsReached h l
     → sum_by (λ v. cond (is_key (projected_key h v.node) n) v.count 0) log ≡ count_by (is_projection_to n) (stops h leaf)
 unfolding stops
 owes_same h leaf n log r =
-    times_cond (λ m. is_key (projected_key h m) n) log ∙ r.sums (λ m. cond (is_key (projected_key h m) n) 1 0) ∙ sym (projection_stops (stop_at h) n (climb h leaf))
+    times_cond (λ m. is_key (projected_key h m) n) log ∙ r.sums (λ m. cond (is_key (projected_key h m) n) 1 0)
+    ∙ sym (projection_stops (stop_at h) n (climb h leaf))
 
-kept_visit : (h : List Event) (leaf : ℕ) (v : ℤ) (log : List Visit) (old new : List Marks) (before after : List ℕ) → IsLawful nothing_kept h → MayFollow nothing_kept h (Item leaf v)
+kept_visit : (h : List Event) (leaf : ℕ) (v : ℤ) (log : List Visit) (old new : List Marks) (before after : List ℕ) → IsLawful nothing_kept h
+    → MayFollow nothing_kept h (Item leaf v)
     → IsReached h leaf log → IsKept h old → length h < length old → IsVisited h log old new before after → IsKept (h ++ Item leaf v ∷ []) new
 kept_visit h leaf v log old new before after law next r kept room w n o =
     let here : is_open h n ≡ true = open_before h (Item leaf v) n refl o in
     let l : n < length h = is_open_within h n here in
     w.marks n (omega arith)
     ∙ ap (visited_marks h log n) (kept n here)
-    ∙ same_two (marks_of nothing_kept h n) _ _ _ _ (ap (λ b. is_fired h n || b) (fires_same h leaf n log r)) (ap (λ (k : ℕ). owed nothing_kept h n + k) (owes_same h leaf n log r))
+    ∙ same_two (marks_of nothing_kept h n) _ _ _ _ (ap (λ b. is_fired h n || b) (fires_same h leaf n log r))
+    (ap (λ (k : ℕ). owed nothing_kept h n + k) (owes_same h leaf n log r))
     ∙ sym (marks-item nothing_kept h leaf v law next n l)
 
 -- what more is owed makes nothing due
@@ -103,7 +106,8 @@ or_false : (b : Bool) → (b || false) ≡ b
 or_false true = refl
 or_false false = refl
 
-covered_visit : (h : List Event) (leaf : ℕ) (v : ℤ) (log : List Visit) (old new : List Marks) (before after : List ℕ) → IsLawful nothing_kept h → MayFollow nothing_kept h (Item leaf v)
+covered_visit : (h : List Event) (leaf : ℕ) (v : ℤ) (log : List Visit) (old new : List Marks) (before after : List ℕ) → IsLawful nothing_kept h
+    → MayFollow nothing_kept h (Item leaf v)
     → IsReached h leaf log → IsCovered h before → IsVisited h log old new before after → IsCovered (h ++ Item leaf v ∷ []) after
 covered_visit h leaf v log old new before after law next r covered w n y = by_fired (cases_Bool (list_any (is_firing_of n) (stops h leaf))) where
   by_fired : (list_any (is_firing_of n) (stops h leaf) ≡ true) ⊎ (list_any (is_firing_of n) (stops h leaf) ≡ false) → IsNoted 0 after n
@@ -117,17 +121,20 @@ covered_visit h leaf v log old new before after law next r covered w n y = by_fi
       sym (due_made_at (h ++ Item leaf v ∷ []) n made.0 parts.0 (slice_get-append h (Item leaf v ∷ []) n l ∙ made.1)) ∙ y in
       let same = marks-item nothing_kept h leaf v law next n l
       ∙ same_two (marks_of nothing_kept h n) _ _ _ _ (ap (λ b. is_fired h n || b) quiet ∙ or_false (is_fired h n)) refl in
-      let was = still_due made.0 (marks_of nothing_kept h n) (count_by (is_projection_to n) (stops h leaf)) (ap (λ m. is_some (terminal_due made.0 m)) (sym same) ∙ now) in
+      let was = still_due made.0 (marks_of nothing_kept h n) (count_by (is_projection_to n) (stops h leaf))
+      (ap (λ m. is_some (terminal_due made.0 m)) (sym same) ∙ now) in
       w.kept n (covered n (due_made_at h n made.0 here made.1 ∙ was))
 
-pub item_kept : (h : List Event) (e : Event) (leaf : ℕ) (log : List Visit) (old new : List Marks) (before after : List ℕ) → IsLawful nothing_kept h → MayFollow nothing_kept h e → leaf_of e ≡ Some leaf
+pub item_kept : (h : List Event) (e : Event) (leaf : ℕ) (log : List Visit) (old new : List Marks) (before after : List ℕ) → IsLawful nothing_kept h
+    → MayFollow nothing_kept h e → leaf_of e ≡ Some leaf
     → IsReached h leaf log → IsKept h old → length h < length old → IsVisited h log old new before after → IsKept (h ++ e ∷ []) new
 item_kept h e leaf log old new before after law next is r kept room w =
     let found = item_of e leaf is in
     let now : MayFollow nothing_kept h (Item leaf found.0) = rw (← found.1) next in
     rw found.1 (kept_visit h leaf found.0 log old new before after law now r kept room w)
 
-pub item_covered : (h : List Event) (e : Event) (leaf : ℕ) (log : List Visit) (old new : List Marks) (before after : List ℕ) → IsLawful nothing_kept h → MayFollow nothing_kept h e → leaf_of e ≡ Some leaf
+pub item_covered : (h : List Event) (e : Event) (leaf : ℕ) (log : List Visit) (old new : List Marks) (before after : List ℕ) → IsLawful nothing_kept h
+    → MayFollow nothing_kept h e → leaf_of e ≡ Some leaf
     → IsReached h leaf log → IsCovered h before → IsVisited h log old new before after → IsCovered (h ++ e ∷ []) after
 item_covered h e leaf log old new before after law next is r covered w =
     let found = item_of e leaf is in

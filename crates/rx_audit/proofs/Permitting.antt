@@ -1,10 +1,9 @@
 -- The tests that compute decide which events callers may add.
-use Rattle.std.proofs.Common.{◌≡◌, ℕ, ℤ, ◌+◌, ◌<◌, ◌≤◌, Bool, true, false, List, [], ◌∷◌, ◌++◌, length, Option}
+use Rattle.std.proofs.Common.{◌≡◌, ℕ, ℤ, zero, suc, cond, count_by, get_or, ◌+◌, ◌<◌, ◌≤◌, Bool, true, false, List, [], ◌∷◌, ◌++◌, length, Option}
 use Rattle.std.proofs.Common.{Some, None, refl, sym, ap, ◌∙◌, arith, ◌==◌, slice_get, inl, inr, ◌⊎◌, nat_lt, nat_le, is_some, MatchOption}
 use Rattle.std.proofs.Math.Bool.{not, ◌&&◌, ◌||◌}
-use Rattle.std.specs.List.{list_any, list_all, filter}
-use Rattle.std.proofs.lemmas.List.Filters.{length-filter_both}
-use Rattle.std.proofs.lemmas.List.FromFn.{length-range_with_len}
+use Rattle.std.specs.List.{list_any, list_all, filter, range_with_len}
+use Rattle.std.proofs.lemmas.List.Sums.{sum_by-cons, length-filter}
 use Rattle.std.specs.Option.{option_map_or}
 use Rattle.std.proofs.lemmas.Bool.{and_parts, false≢true, ltb-true, lt-ltb, eqb-true, eq-eqb, leb-true, le-leb, lt-leb}
 use Rattle.rx_event.specs.Kept.{nothing_kept}
@@ -19,12 +18,14 @@ use Rattle.rx_event.specs.declared.event.Event.{Event}
 use Rattle.rx_event.specs.declared.event.Event.TheVariants.{Open, Hub, Connect, Accept, Use, Remove, Item, Decline, End, Close, Take}
 use Rattle.rx_event.specs.Events.{makes_hub, has_source, is_leaf, is_merging, is_until, is_root, is_manual_hub, is_source_of, is_notifier_of, is_connect_of}
 use Rattle.rx_event.specs.Tree.{at, places, hubs, is_open, open_nodes, ancestors, has_open_child}
+use Rattle.rx_event.proofs.Laws.Openness.{is_open_past}
 use Rattle.rx_event.specs.Climb.{visits, most_visits}
 use Rattle.rx_event.specs.Moments.{owed}
 use Rattle.rx_event.specs.Forced.{IsConnectDue}
 use Rattle.rx_event.specs.Allowed.{most_nodes, most_hubs, IsFree, IsInOrderAt, IsInOrder, IsHubbed, may_abort, IsAllowed, opened}
 use Rattle.rx_event.specs.Allowed.{published, connected, accepted, used, removed, emitted, declined, leaf_ended, aborted, projection_failed, root_closed}
 use Rattle.rx_event.specs.Allowed.{disconnected, taken}
+use Rattle.rx_audit.specs.Tables.{IsMarked, mark_count}
 use Rattle.rx_audit.specs.Rules.{hub_connected_at, has_key, open_connected, is_owing}
 use Rattle.rx_audit.specs.Allowing.{connects_later, is_in_order_at, is_in_order, is_hubbed, is_free, failure_allowed}
 use Rattle.rx_audit.specs.Allowing.{failing_allowed, end_allowed, close_allowed, connect_allowed, decline_allowed, allowed_simply, item_allowed, open_allowed}
@@ -97,7 +98,8 @@ end_may h n t e = by_kind (either (at is_leaf h n) (failing_allowed h n t) w.1) 
   w : (is_open h n ≡ true) × ((at is_leaf h n || failing_allowed h n t) ≡ true)
   w = and_parts (is_open h n) (at is_leaf h n || failing_allowed h n t) e
 
-  by_cause : (c : ℕ) → ((at has_source h n && not (has_open_child h n)) ≡ true) ⊎ ((at is_merging h n && is_owing h n) ≡ true) → IsAllowed nothing_kept h (End n (Error c))
+  by_cause : (c : ℕ) → ((at has_source h n && not (has_open_child h n)) ≡ true) ⊎ ((at is_merging h n && is_owing h n) ≡ true)
+      → IsAllowed nothing_kept h (End n (Error c))
   by_cause c (inl m) = let v = and_parts (at has_source h n) (not (has_open_child h n)) m in aborted w.0 (sym (abort_at h n) ∙ v.0) (child_closed h n v.1)
   by_cause c (inr m) = let v = and_parts (at is_merging h n) (is_owing h n) m in projection_failed w.0 v.0 (owes h n v.1)
 
@@ -305,10 +307,27 @@ pub open_fits : (h : List Event) (place : Place) (kind : Kind) → IsAllowed not
 unfolding most_nodes
 open_fits h place kind (opened f o few fits) = fits
 
--- no more nodes are open than there are events
-pub few_open : (h : List Event) → length (open_nodes h) ≤ length h
-few_open h =
-    let both : length (filter (is_open h) (places h)) + length (filter (λ k. not (is_open h k)) (places h)) ≡ length (places h) =
-    length-filter_both (is_open h) (λ k. not (is_open h k)) (λ k. refl) (places h) in
-    let all : length (places h) ≡ length h = length-range_with_len 0 (length h) in
+-- as many nodes are open as are marked
+marks_counted : (f : ℕ → Bool) (ms : List Bool) (m from : ℕ) → m ≤ length ms → ((n k : ℕ) → k ≡ from + n → get_or ms n false ≡ f k)
+    → ((k : ℕ) → from + m ≤ k → f k ≡ false) → mark_count ms ≡ count_by f (range_with_len from m)
+marks_counted f [] zero from l same none = refl
+marks_counted f [] (suc m) from l same none = absurd (omega arith)
+marks_counted f (x ∷ ms) zero from l same none =
+    let unmarked : x ≡ false = same zero from (omega arith) ∙ none from (omega arith) in
+    let rest : mark_count ms ≡ 0 = marks_counted f ms zero (from + 1) (omega arith) (λ n k e. same (suc n) k (omega arith)) (λ k m. none k (omega arith)) in
+    let first : cond {A = ℕ} x 1 0 ≡ 0 = ap (λ b. cond {A = ℕ} b 1 0) unmarked in
+    let s = sum_by-cons (λ (b : Bool). cond {A = ℕ} b 1 0) x ms in
     omega arith
+marks_counted f (x ∷ ms) (suc m) from l same none =
+    let rest = marks_counted f ms m (from + 1) (omega arith) (λ n k e. same (suc n) k (omega arith)) (λ k le. none k (omega arith)) in
+    let first : cond {A = ℕ} x 1 0 ≡ cond {A = ℕ} (f from) 1 0 = ap (λ b. cond {A = ℕ} b 1 0) (same zero from (omega arith)) in
+    let s = sum_by-cons (λ (b : Bool). cond {A = ℕ} b 1 0) x ms in
+    let t : count_by f (range_with_len from (suc m)) ≡ cond {A = ℕ} (f from) 1 0 + count_by f (range_with_len (from + 1) m) =
+    sum_by-cons (λ (k : ℕ). cond {A = ℕ} (f k) 1 0) from (range_with_len (from + 1) m) in
+    omega arith
+
+pub open_counted : (h : List Event) (ms : List Bool) → IsMarked ms (is_open h) → length h ≤ length ms → mark_count ms ≡ length (open_nodes h)
+open_counted h ms tied room =
+    marks_counted (is_open h) ms (length h) 0 room (λ n k e. let same : k ≡ n = omega arith in tied n ∙ ap (is_open h) (sym same))
+    (λ k m. is_open_past h k (omega arith))
+    ∙ sym (length-filter (is_open h) (places h))

@@ -57,56 +57,6 @@ below_open h e n p below stays s = stays_open_step h e n ∙ rw (below, stays, s
 pub top_open : (h : List Event) (e : Event) (n : ℕ) → parent h n ≡ None → shuts h n e ≡ false → stays_open h e n ≡ is_open h n
 top_open h e n below s = stays_open_step h e n ∙ rw (below, s) (and_true _ ∙ and_true (is_open h n))
 
--- a pass over the marks: those before i are f, the rest g
-pub done_cleared : (f : ℕ → Bool) (ms : List Bool) (i : ℕ) → i < length ms → ((k : ℕ) → k < i → get_or ms k false ≡ f k)
-    → f i ≡ false → (k : ℕ) → k < i + 1 → get_or (set ms i false) k false ≡ f k
-done_cleared f ms i l done gone = below_more _ _ (λ k m. let ne : k ≢ i = omega arith in rw get_or-set_other (done k m)) (rw get_or-set_same (sym gone))
-
-pub rest_cleared : (g : ℕ → Bool) (ms : List Bool) (i : ℕ) → ((k : ℕ) → i ≤ k → get_or ms k false ≡ g k)
-    → (k : ℕ) → i + 1 ≤ k → get_or (set ms i false) k false ≡ g k
-rest_cleared g ms i rest k m = let ne : k ≢ i = omega arith in rw get_or-set_other (rest k (omega arith))
-
-pub done_kept : (f g : ℕ → Bool) (ms : List Bool) (i : ℕ) → ((k : ℕ) → k < i → get_or ms k false ≡ f k)
-    → ((k : ℕ) → i ≤ k → get_or ms k false ≡ g k) → f i ≡ g i → (k : ℕ) → k < i + 1 → get_or ms k false ≡ f k
-done_kept f g ms i done rest same = below_more _ _ done (rest i (omega arith) ∙ sym same)
-
--- both parts, where the pass is over
-pub all_done : (h : List Event) (e : Event) (ms : List Bool) (i : ℕ) → length h ≤ i → ((k : ℕ) → k < i → get_or ms k false ≡ stays_open h e k)
-    → ((k : ℕ) → i ≤ k → get_or ms k false ≡ is_open h k) → IsMarked ms (stays_open h e)
-all_done h e ms i l done rest k = by_place (cases_order k i) where
-  past : i ≤ k → get_or ms k false ≡ stays_open h e k
-  past m = let closed : is_open h k ≡ false = is_open_past h k (omega arith) in rest k m ∙ closed ∙ sym (stays_closed h e k closed)
-
-  by_place : (k ≡ i) ⊎ ((k < i) ⊎ (i < k)) → get_or ms k false ≡ stays_open h e k
-  by_place (inl same) = past (omega arith)
-  by_place (inr (inl m)) = done k m
-  by_place (inr (inr m)) = past (omega arith)
-
-list_all_yes : {X : Type 0} (p : X → Bool) → ((x : X) → p x ≡ true) → (xs : List X) → list_all p xs ≡ true
-list_all_yes p holds [] = refl
-list_all_yes p holds (x ∷ xs) = rw (holds x) (list_all_yes p holds xs)
-
-not_shut : (h : List Event) (n : ℕ) (e : Event) → shuts_none e ≡ true → shuts h n e ≡ false
-not_shut h n (End m u) s = cc
-not_shut h n (Close m) s = cc
-not_shut h n (Open (Inner f) kind) s = cc
-not_shut h n (Open Root kind) s = refl
-not_shut h n (Open (Source f) kind) s = refl
-not_shut h n (Open (Notifier f) kind) s = refl
-not_shut h n (Hub mode) s = refl
-not_shut h n (Connect g) s = refl
-not_shut h n (Accept m tag) s = refl
-not_shut h n (Use r) s = refl
-not_shut h n (Remove r) s = refl
-not_shut h n (Item m v) s = refl
-not_shut h n (Decline f) s = refl
-not_shut h n (Take r) s = refl
-
--- an event that shuts nothing leaves each node open
-pub stays_as_open : (h : List Event) (e : Event) (n : ℕ) → shuts_none e ≡ true → stays_open h e n ≡ is_open h n
-unfolding stays_open
-stays_as_open h e n s = rw (list_all_yes (λ a. not (shuts h a e)) (λ a. ap not (not_shut h a e s)) (ancestors h n)) (and_true (is_open h n))
-
 -- an older node is open after the event where it stays open
 is_open_older : (h : List Event) (e : Event) (n : ℕ) → n < length h → is_open (h ++ e ∷ []) n ≡ stays_open h e n
 unfolding stays_open
@@ -140,18 +90,3 @@ marked_after h e ms tied room n = by_place (cases_order n (length h)) where
       let ne : n ≢ length h = omega arith in
       rw get_or-set_other (tied n ∙ stays_closed h e n (is_open_past h n (omega arith))
       ∙ sym (is_open_past (h ++ e ∷ []) n (omega (arith, length-append {A = Event}))))
-
-pub no_shut : (b : Bool) → false ≡ not b → b ≡ true
-no_shut true e = refl
-no_shut false e = absurd (false≢true e)
-
-list_all_within : {X : Type 0} (P : X → Type 0) (p : X → Bool) → ((x : X) → P x → p x ≡ true) → (xs : List X) → AllByRecursion P xs → list_all p xs ≡ true
-list_all_within P p holds [] a = refl
-list_all_within P p holds (x ∷ xs) a = rw (holds x a.0) (list_all_within P p holds xs a.1)
-
--- before the first node that the event takes away each stays as it is
-pub stays_before : (h : List Event) (e : Event) (first : ℕ) → ((k : ℕ) → k < first → shuts h k e ≡ false) → (n : ℕ) → n < first → stays_open h e n ≡ is_open h n
-unfolding stays_open
-stays_before h e first none n l =
-    rw (list_all_within (λ a. a ≤ n) (λ a. not (shuts h a e)) (λ a le. ap not (none a (omega arith))) (ancestors h n) (ancestors-le h n))
-    (and_true (is_open h n))

@@ -36,40 +36,50 @@ pub same_two : (m : Marks) (a b : Bool) (c d : ℕ) → a ≡ b → ◌≡◌ {A
 same_two m a b c d e f = λ i. record m { fired = e i; owed = f i }
 
 fired_at_key : (ms : List Marks) (key : Option ℕ) (n : ℕ) → n < length ms
-    → get_or (fired_marks ms key) n blank_marks ≡ with_two (get_or ms n blank_marks) ((get_or ms n blank_marks).fired || is_key key n) (get_or ms n blank_marks).owed
+    → get_or (fired_marks ms key) n blank_marks ≡ with_two (get_or ms n blank_marks) ((get_or ms n blank_marks).fired || is_key key n)
+    (get_or ms n blank_marks).owed
 fired_at_key ms None n l = same_two (get_or ms n blank_marks) _ _ _ _ (sym (or_false (get_or ms n blank_marks).fired)) refl
 fired_at_key ms (Some u) n l = by_order (cases_order n u) where
   m : Marks
   m = get_or ms n blank_marks
 
-  other : (n ≡ u → ⊥) → get_or (fired_marks ms (Some u)) n blank_marks ≡ with_two (get_or ms n blank_marks) ((get_or ms n blank_marks).fired || (u == n)) (get_or ms n blank_marks).owed
+  other : (n ≡ u → ⊥) → get_or (fired_marks ms (Some u)) n blank_marks ≡ with_two (get_or ms n blank_marks)
+      ((get_or ms n blank_marks).fired || (u == n)) (get_or ms n blank_marks).owed
   other d =
       let ne : n ≢ u = d in
       let apart : (u == n) ≡ false = ne_eqb u n (λ e. d (sym e)) in
       get_or-set_other ms u n _ blank_marks ne
       ∙ same_two (get_or ms n blank_marks) _ _ _ _ (sym (ap (λ b. (get_or ms n blank_marks).fired || b) apart ∙ or_false (get_or ms n blank_marks).fired)) refl
 
-  by_order : (n ≡ u) ⊎ ((n < u) ⊎ (u < n)) → get_or (fired_marks ms (Some u)) n blank_marks ≡ with_two (get_or ms n blank_marks) ((get_or ms n blank_marks).fired || (u == n)) (get_or ms n blank_marks).owed
+  by_order : (n ≡ u) ⊎ ((n < u) ⊎ (u < n))
+      → get_or (fired_marks ms (Some u)) n blank_marks ≡ with_two (get_or ms n blank_marks) ((get_or ms n blank_marks).fired || (u == n))
+      (get_or ms n blank_marks).owed
   by_order (inl same) =
       let same_key : (u == n) ≡ true = eq-eqb u n (sym same) in
       ap (λ k. get_or (fired_marks ms (Some u)) k blank_marks) same ∙ get_or-set_same ms u _ blank_marks (omega arith)
       ∙ ap (λ k. with_two (get_or ms k blank_marks) true (get_or ms k blank_marks).owed) (sym same)
-      ∙ same_two (get_or ms n blank_marks) _ _ _ _ (sym (ap (λ b. (get_or ms n blank_marks).fired || b) same_key ∙ or_true (get_or ms n blank_marks).fired)) refl
+      ∙ same_two (get_or ms n blank_marks) _ _ _ _
+      (sym (ap (λ b. (get_or ms n blank_marks).fired || b) same_key ∙ or_true (get_or ms n blank_marks).fired)) refl
   by_order (inr (inl l)) = other (λ e. omega arith)
   by_order (inr (inr g)) = other (λ e. omega arith)
 
 owed_at_key : (ms : List Marks) (key : Option ℕ) (count n : ℕ) → n < length ms
-    → get_or (owed_marks ms key count) n blank_marks ≡ with_two (get_or ms n blank_marks) (get_or ms n blank_marks).fired ((get_or ms n blank_marks).owed + cond (is_key key n) count 0)
+    → get_or (owed_marks ms key count) n blank_marks ≡ with_two (get_or ms n blank_marks) (get_or ms n blank_marks).fired
+    ((get_or ms n blank_marks).owed + cond (is_key key n) count 0)
 owed_at_key ms None count n l = same_two (get_or ms n blank_marks) _ _ _ _ refl (sym (add-zero (get_or ms n blank_marks).owed))
 owed_at_key ms (Some f) count n l = by_order (cases_order n f) where
-  other : (n ≡ f → ⊥) → get_or (owed_marks ms (Some f) count) n blank_marks ≡ with_two (get_or ms n blank_marks) (get_or ms n blank_marks).fired ((get_or ms n blank_marks).owed + cond (f == n) count 0)
+  other : (n ≡ f → ⊥) → get_or (owed_marks ms (Some f) count) n blank_marks ≡ with_two (get_or ms n blank_marks) (get_or ms n blank_marks).fired
+      ((get_or ms n blank_marks).owed + cond (f == n) count 0)
   other d =
       let ne : n ≢ f = d in
       let apart : (f == n) ≡ false = ne_eqb f n (λ e. d (sym e)) in
       get_or-set_other ms f n _ blank_marks ne
-      ∙ same_two (get_or ms n blank_marks) _ _ _ _ refl (sym (ap (λ b. (get_or ms n blank_marks).owed + cond {A = ℕ} b count 0) apart ∙ add-zero (get_or ms n blank_marks).owed))
+      ∙ same_two (get_or ms n blank_marks) _ _ _ _ refl
+      (sym (ap (λ b. (get_or ms n blank_marks).owed + cond {A = ℕ} b count 0) apart ∙ add-zero (get_or ms n blank_marks).owed))
 
-  by_order : (n ≡ f) ⊎ ((n < f) ⊎ (f < n)) → get_or (owed_marks ms (Some f) count) n blank_marks ≡ with_two (get_or ms n blank_marks) (get_or ms n blank_marks).fired ((get_or ms n blank_marks).owed + cond (f == n) count 0)
+  by_order : (n ≡ f) ⊎ ((n < f) ⊎ (f < n))
+      → get_or (owed_marks ms (Some f) count) n blank_marks ≡ with_two (get_or ms n blank_marks) (get_or ms n blank_marks).fired
+      ((get_or ms n blank_marks).owed + cond (f == n) count 0)
   by_order (inl same) =
       let same_key : (f == n) ≡ true = eq-eqb f n (sym same) in
       ap (λ k. get_or (owed_marks ms (Some f) count) k blank_marks) same ∙ get_or-set_same ms f _ blank_marks (omega arith)
@@ -115,7 +125,8 @@ visited_none h ms due = record {
 
 pub visited_more : (h : List Event) (log : List Visit) (i : ℕ) (v : Visit) (old ms : List Marks) (before todo : List ℕ) → i < length log → v ≡ get_or log i v
     → IsVisited h (take i log) old ms before todo
-    → IsVisited h (take (i + 1) log) old (owed_marks (fired_marks ms (fired_key h v.node)) (projected_key h v.node) v.count) before (noted_with todo (fired_key h v.node))
+    → IsVisited h (take (i + 1) log) old (owed_marks (fired_marks ms (fired_key h v.node)) (projected_key h v.node) v.count) before
+    (noted_with todo (fired_key h v.node))
 visited_more h log i v old ms before todo l e w = record {
   size = length-owed (fired_marks ms fkey) pkey v.count ∙ length-fired ms fkey ∙ w.size;
   marks = λ n m. marked n m;

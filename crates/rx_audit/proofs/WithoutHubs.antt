@@ -44,7 +44,8 @@ any_holds p (x ∷ h) zero e at_i y = or_left (p x) (list_any p h) (ap p (same_S
 any_holds p (x ∷ h) (suc i) e at_i y = or_yes (p x) (list_any p h) (any_holds p h i e at_i y)
 
 -- no event of the history is of a narrower sort either
-never_at : (p : Event → Bool) → ((e : Event) → p e ≡ true → makes_hub e ≡ true) → (h : List Event) → list_any makes_hub h ≡ false → (n : ℕ) → at p h n ≡ true → ⊥
+never_at : (p : Event → Bool) → ((e : Event) → p e ≡ true → makes_hub e ≡ true) → (h : List Event) → list_any makes_hub h ≡ false → (n : ℕ)
+    → at p h n ≡ true → ⊥
 never_at p narrow h hubless n y = by_event (slice_get h n) refl y where
   by_event : (o : Option Event) → slice_get h n ≡ o → option_map_or p o false ≡ true → ⊥
   by_event None is holds = false≢true holds
@@ -92,7 +93,8 @@ forced_nowhere h n t none = rw none (and_no (is_open h n)) where
   and_no true = refl
   and_no false = refl
 
-pub forced_made : (h : List Event) (n : ℕ) (t : Terminal) (made : Event) → is_open h n ≡ true → slice_get h n ≡ Some made → forced_end h n t ≡ ends_so made (marks_of nothing_kept h n) t
+pub forced_made : (h : List Event) (n : ℕ) (t : Terminal) (made : Event) → is_open h n ≡ true → slice_get h n ≡ Some made
+    → forced_end h n t ≡ ends_so made (marks_of nothing_kept h n) t
 unfolding forced_end
 forced_made h n t made o is = rw (o, is) refl
 
@@ -104,9 +106,11 @@ end_forced : (h : List Event) (n : ℕ) (t : Terminal) → list_any makes_hub h 
 end_forced h n t hubless y =
     let o = forced_parts h n t y in
     let made = event_at h n (is_open_within h n o) in
-    forced_hubless nothing_kept h hubless n made.0 (End n t) o made.1 (due_ends made.0 (marks_of nothing_kept h n) n t (sym (forced_made h n t made.0 o made.1) ∙ y))
+    forced_hubless nothing_kept h hubless n made.0 (End n t) o made.1
+    (due_ends made.0 (marks_of nothing_kept h n) n t (sym (forced_made h n t made.0 o made.1) ∙ y))
 
-due_forced : (h : List Event) (n : ℕ) (t : Terminal) → IsLawful nothing_kept h → list_any makes_hub h ≡ false → IsDue nothing_kept h (End n t) → forced_end h n t ≡ true
+due_forced : (h : List Event) (n : ℕ) (t : Terminal) → IsLawful nothing_kept h → list_any makes_hub h ≡ false → IsDue nothing_kept h (End n t)
+    → forced_end h n t ≡ true
 due_forced h n t law hubless d =
     let o = due_open nothing_kept d in
     let made = event_at h n (is_open_within h n o) in
@@ -121,7 +125,8 @@ no_close : (h : List Event) (c : ℕ) → list_any makes_hub h ≡ false → IsD
 no_close h c hubless (left {g = g} o at_c a n) = never_at is_auto_hub auto_makes_hub h hubless g a
 
 -- what is forced in such a history, as a test
-pub forced_both_ways : (h : List Event) (e : Event) → IsLawful nothing_kept h → list_any makes_hub h ≡ false → (forced_by_marks h e ≡ true → IsForced nothing_kept h e) × (IsForced nothing_kept h e → forced_by_marks h e ≡ true)
+pub forced_both_ways : (h : List Event) (e : Event) → IsLawful nothing_kept h → list_any makes_hub h ≡ false
+    → (forced_by_marks h e ≡ true → IsForced nothing_kept h e) × (IsForced nothing_kept h e → forced_by_marks h e ≡ true)
 forced_both_ways h (End n t) law hubless = (end_forced h n t hubless, by_forced) where
   by_forced : IsForced nothing_kept h (End n t) → forced_end h n t ≡ true
   by_forced (due none d) = due_forced h n t law hubless d

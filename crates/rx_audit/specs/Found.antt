@@ -8,7 +8,7 @@ use Rattle.rx_event.specs.Climb.{climb, stop_at, visits}
 use Rattle.rx_event.specs.Tree.{is_open}
 use Rattle.rx_event.specs.Moments.{is_fired, projections}
 use Rattle.rx_audit.specs.declared.found.Found.{Found}
-use Rattle.rx_audit.specs.Tables.{IsMarked, IsTable, IsTally}
+use Rattle.rx_audit.specs.Tables.{IsMarked, IsTable, IsTally, mark_count}
 use Rattle.rx_event.specs.Events.{paid_of}
 use Rattle.rx_audit.specs.Rules.{has_ended, has_failed, has_completed, was_removed, was_taken, was_sourced, was_notified, is_key, fired_by, projected_by}
 
@@ -20,6 +20,7 @@ payments h f = count_by (λ e. is_key (paid_of e) f) h
 pub record IsFound (h : List Event) (size : ℕ) (found : Found) : Type 0 where
   pub live : IsMarked found.live.items (is_open h)
   pub live_size : length found.live.items ≡ size
+  pub live_count : found.live_count ≡ mark_count found.live.items
   pub ended : IsTable found.ended.items (has_ended h)
   pub ended_size : length found.ended.items ≡ size
   pub failed : IsTable found.failed.items (has_failed h)

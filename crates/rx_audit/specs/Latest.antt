@@ -1,10 +1,11 @@
 -- The last number with a key, as tables tell it: one more than the number, and 0 where there is none.
-use Rattle.std.specs.Prelude.{◌≡◌, ℕ, zero, suc, ◌+◌, ◌≤◌, ◌<◌, Bool, true, false, Option, Some, None, List, length, slice_get, slice_index_or, slice_set, count_by, if◌then◌else◌}
+use Rattle.std.specs.Prelude.{◌≡◌, ℕ, zero, suc, ◌+◌, ◌≤◌, ◌<◌, Bool, true, false, Option, Some, None, List, length, slice_get, slice_index_or, slice_set, if◌then◌else◌}
 use Rattle.std.specs.Option.{option_and_then}
 use Rattle.rx_event.specs.declared.event.Event.{Event}
 use Rattle.rx_event.specs.Events.{inner_named}
 use Rattle.rx_event.specs.Tree.{parent, is_open}
 use Rattle.rx_audit.specs.declared.children.Children.{Children}
+use Rattle.rx_audit.specs.Tables.{mark_count}
 use Rattle.rx_audit.specs.Rules.{is_key}
 
 -- one more than the last number below the bound that passes the test
@@ -51,9 +52,6 @@ pub record IsNoted (from : ℕ) (todo : List ℕ) (n : ℕ) : Type 0 where
   pub after : from ≤ at
   pub within : at < length todo
   pub is : slice_index_or todo at 0 ≡ n
-
-abbrev pub mark_count : List Bool → ℕ
-mark_count marks = count_by (λ b. b) marks
 
 -- marks of children of p were taken away, of all from the bound on, and each that was is noted at the end of the list
 pub record IsClosingBelow (h : List Event) (p bound : ℕ) (old new : List Bool) (before after : List ℕ) : Type 0 where

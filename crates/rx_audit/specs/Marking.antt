@@ -78,7 +78,11 @@ noted_with due (Some u) = due ++ u ∷ []
 
 -- the marks of node n after these visits
 abbrev pub visited_marks : List Event → List Visit → ℕ → Marks → Marks
-visited_marks h log n m = record m { fired = m.fired || list_any (λ v. is_key (fired_key h v.node) n) log; owed = m.owed + sum_by (λ v. if is_key (projected_key h v.node) n then v.count else 0) log }
+visited_marks h log n m = record m {
+  fired = m.fired || list_any (λ v. is_key (fired_key h v.node) n) log;
+  owed = m.owed + sum_by
+      (λ v. if is_key (projected_key h v.node) n then v.count else 0) log;
+}
 
 -- the visits of an item changed the marks so, and what they fired is noted
 pub record IsVisited (h : List Event) (log : List Visit) (old new : List Marks) (before after : List ℕ) : Type 0 where

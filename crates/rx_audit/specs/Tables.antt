@@ -1,11 +1,15 @@
 -- What the audit keeps of the events so far, in lists by number.
-use Rattle.std.specs.Prelude.{◌||◌, sum_by, if◌then◌else◌, ◌≡◌, ℕ, ◌+◌, ◌<◌, Bool, true, false, Option, Some, None, List, length, slice_index_or, slice_set}
+use Rattle.std.specs.Prelude.{◌||◌, sum_by, count_by, if◌then◌else◌, ◌≡◌, ℕ, ◌+◌, ◌<◌, Bool, true, false, Option, Some, None, List, length, slice_index_or, slice_set}
 use Rattle.std.specs.List.{list_any}
 use Rattle.rx_audit.specs.declared.reach.Visit.{Visit}
 
 -- the list says the test of each number, and false past its end
 abbrev pub IsMarked : List Bool → (ℕ → Bool) → Type 0
 IsMarked marks test = (n : ℕ) → slice_index_or marks n false ≡ test n
+
+-- how many marks are set
+abbrev pub mark_count : List Bool → ℕ
+mark_count marks = count_by (λ b. b) marks
 
 -- the list says the test of each number that it has
 abbrev pub IsTable : List Bool → (ℕ → Bool) → Type 0

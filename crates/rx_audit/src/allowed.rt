@@ -35,19 +35,15 @@ pub fn open_count(past: &[Event], found: &Found) -> usize
     requires { IsFoundHere past.now found.now }
     ensures { result ≡ length (open_nodes past.now) }
 {
-    (0..past.len() as u64)
-        .filter(|k| is_marked(found.live.as_slice(), *k))
-        .count()
+    let _ = past;
+    found.live_count
 }
 
-/// Whether one node more may be open. No more nodes are open than there are events.
+/// Whether one node more may be open.
 fn has_room(past: &[Event], found: &Found) -> bool
     requires { IsFoundHere past.now found.now }
     ensures { result ≡ nat_lt (length (open_nodes past.now)) 1048576 }
 {
-    if past.len() < MOST_NODES {
-        return true;
-    }
     open_count(past, found) < MOST_NODES
 }
 

@@ -1,15 +1,16 @@
 //! What an event closes, found by going down from the node that it takes away, over nothing else.
 
-ghost use Rattle.std.specs.Prelude.{◌≡◌, ℕ, ◌<◌, ◌≤◌, true, false, Some, OnOk, IfOk, MatchOption, length, slice_index_or, ◌==◌};
+ghost use Rattle.std.specs.Prelude.{◌≡◌, ℕ, ◌+◌, ◌<◌, ◌≤◌, true, false, Some, [], ◌∷◌, ◌++◌, OnOk, IfOk, MatchOption, if◌then◌else◌, length, slice_index_or, ◌==◌};
 ghost use Rattle.rx_event.specs.Events.{is_switch};
 ghost use Rattle.rx_event.specs.Tree.{at, is_open, shuts, is_switched_inner};
 ghost use Rattle.rx_audit.specs.Latest.{AreChildren, IsClosingBelow, ShutsNone, IsShutAlone};
-ghost use Rattle.rx_audit.specs.Tables.{IsMarked};
+ghost use Rattle.rx_audit.specs.Tables.{IsMarked, mark_count};
 ghost use Rattle.rx_audit.specs.Rules.{stays_open};
 
 use crate::children::Children;
 use crate::event_tests::at;
 use crate::marks::is_marked;
+use crate::openness::opens;
 use rx_event::{Event, Place};
 use std::alloc::{AllocError, Global};
 
@@ -39,8 +40,8 @@ fn close_children(
     Ok(())
 }
 
-/// Takes away the mark of the one node that the event itself takes away, and of all below it. Each
-/// is listed once, and its children are gone over once.
+/// Takes away the mark of the one node that the event itself takes away, and of all below it, and
+/// answers how many had one. Each is listed once, and its children are gone over once.
 fn close_from(
     past: &[Event],
     event: Event,
@@ -48,15 +49,17 @@ fn close_from(
     marks: &mut [bool],
     todo: &mut Vec<usize>,
     top: usize,
-) -> Result<(), AllocError>
+) -> Result<usize, AllocError>
     requires children { AreChildren past.now (length children.now.youngest.items) children.now }
     requires room { length past.now ≤ length children.now.youngest.items }
     requires marks { length past.now ≤ length marks.old }
     requires tied { IsMarked marks.old (is_open past.now) }
+    requires here { is_open past.now top ≡ true }
     requires within { top < length past.now }
     requires shut { shuts past.now top event ≡ true }
     requires alone { (n : ℕ) → is_open past.now n ≡ true → shuts past.now n event ≡ true → n ≡ top }
     ensures closed { OnOk result (IsMarked marks.new (stays_open past.now event)) }
+    ensures count { IfOk result (λ closed. mark_count marks.new + closed ≡ mark_count marks.old) }
     ensures len { length marks.new ≡ length marks.old }
 {
     let _ = event;
@@ -69,7 +72,7 @@ fn close_from(
         close_children(past, children, p, marks, todo)?;
         i += 1;
     }
-    Ok(())
+    Ok(todo.len())
 }
 
 /// Whether node `f` is a Switch.
@@ -136,23 +139,57 @@ pub fn shut_top(past: &[Event], event: Event, children: &Children, marks: &[bool
     }
 }
 
-/// Takes away the marks of the nodes that the event takes away, and of all below them.
-pub fn close_shut(
+/// Takes away the mark of the node that the event takes away, and of all below it, and answers how
+/// many had one.
+fn close_shut(
     past: &[Event],
     event: Event,
     children: &Children,
     marks: &mut [bool],
     todo: &mut Vec<usize>,
-) -> Result<(), AllocError>
+) -> Result<usize, AllocError>
     requires children { AreChildren past.now (length children.now.youngest.items) children.now }
     requires room { length past.now ≤ length children.now.youngest.items }
     requires marks { length past.now ≤ length marks.old }
     requires tied { IsMarked marks.old (is_open past.now) }
     ensures closed { OnOk result (IsMarked marks.new (stays_open past.now event)) }
+    ensures count { IfOk result (λ closed. mark_count marks.new + closed ≡ mark_count marks.old) }
     ensures len { length marks.new ≡ length marks.old }
 {
     match shut_top(past, event, children, marks) {
         Some(top) => close_from(past, event, children, marks, todo, top),
-        None => Ok(()),
+        None => Ok(0),
     }
+}
+
+/// One, where that is so, and none else.
+fn one_if(so: bool) -> usize
+    ensures { result ≡ if so then 1 else 0 }
+{
+    if so { 1 } else { 0 }
+}
+
+/// The marks of the open nodes, and their number, with one event more.
+pub fn mark_open(
+    past: &[Event],
+    event: Event,
+    children: &Children,
+    marks: &mut [bool],
+    todo: &mut Vec<usize>,
+    count: &mut usize,
+) -> Result<(), AllocError>
+    requires children { AreChildren past.now (length children.now.youngest.items) children.now }
+    requires room { length past.now ≤ length children.now.youngest.items }
+    requires marks { length past.now < length marks.old }
+    requires tied { IsMarked marks.old (is_open past.now) }
+    requires count { count.old ≡ mark_count marks.old }
+    ensures marked { OnOk result (IsMarked marks.new (is_open (past.now ++ event ∷ []))) }
+    ensures count { OnOk result (count.new ≡ mark_count marks.new) }
+    ensures len { length marks.new ≡ length marks.old }
+{
+    let closed = close_shut(past, event, children, marks, todo)?;
+    let opened = opens(past, event, marks);
+    marks[past.len()] = opened;
+    *count = *count - closed + one_if(opened);
+    Ok(())
 }

@@ -2,7 +2,6 @@
 
 ghost use Rattle.std.specs.Prelude.{◌≡◌, false, slice_get};
 ghost use Rattle.std.specs.Option.{MatchOption};
-ghost use Rattle.rx_event.specs.Events.{is_inner_of};
 ghost use Rattle.rx_audit.specs.Rules.{calm_place, calm_kind, is_calm};
 
 use rx_event::{Event, Kind, Place};
@@ -39,19 +38,6 @@ pub fn is_calm(event: Event) -> bool
         | Event::Remove(_)
         | Event::Item(_, _)
         | Event::Take(_) => true,
-        _ => false,
-    }
-}
-
-/// Whether the event opens an inner observable of this node.
-pub fn is_inner_of(node: u64, event: Event) -> bool
-    ensures { result ≡ is_inner_of node event }
-{
-    match event {
-        Event::Open {
-            place: Place::Inner(n),
-            ..
-        } => n == node,
         _ => false,
     }
 }

@@ -28,6 +28,8 @@ use std::alloc::{AllocError, Global};
 pub struct Found {
     /// The node is open.
     pub live: Vec<bool>,
+    /// How many nodes are open.
+    pub live_count: usize,
     /// The node ended.
     pub ended: Vec<bool>,
     /// The node ended with an error.
@@ -70,6 +72,7 @@ pub fn nothing_found(alloc: Global, size: usize) -> Result<Found, AllocError>
 {
     Ok(Found {
         live: unmarked(alloc, size)?,
+        live_count: 0,
         ended: unmarked(alloc, size)?,
         failed: unmarked(alloc, size)?,
         completed: unmarked(alloc, size)?,
@@ -197,7 +200,14 @@ pub fn follow(
         found.fired.as_mut_slice(),
         found.projected.as_mut_slice(),
     )?;
-    advance(alloc, past, event, found.live.as_mut_slice(), nodes)?;
+    advance(
+        alloc,
+        past,
+        event,
+        found.live.as_mut_slice(),
+        &mut found.live_count,
+        nodes,
+    )?;
     mark(found.ended.as_mut_slice(), event.ended());
     mark(found.failed.as_mut_slice(), event.failed());
     mark(found.completed.as_mut_slice(), event.completed());

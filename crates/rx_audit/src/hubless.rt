@@ -6,19 +6,18 @@ ghost use Rattle.std.specs.List.{list_any};
 ghost use Rattle.rx_event.specs.Tree.{is_open};
 ghost use Rattle.rx_event.specs.Marks.{blank_marks};
 ghost use Rattle.rx_event.specs.Lawful.{IsLawful, MayFollow};
-ghost use Rattle.rx_audit.specs.Tables.{IsMarked};
+ghost use Rattle.rx_audit.specs.Tables.{IsMarked, mark_count};
 ghost use Rattle.rx_audit.specs.Latest.{AreChildren};
 ghost use Rattle.rx_audit.specs.Found.{HasFewVisits};
 ghost use Rattle.rx_audit.specs.Marking.{IsKept, IsCovered, leaf_of, ends_so};
 ghost use Rattle.rx_audit.specs.Hubless.{IsFollowed, forced_end, forced_by_marks};
 
 use crate::children::{Children, link_child, no_children};
-use crate::closing::{close_shut, shut_top};
+use crate::closing::{mark_open, shut_top};
 use crate::duties::{event_at, note_touched};
 use crate::forced::same_terminal;
 use crate::marks::is_marked;
 use crate::nodes::{marks_at, remark, remark_visits};
-use crate::openness::opens;
 use crate::reach::reached;
 use rx_event::{Event, Marks};
 use rx_note::Terminal;
@@ -187,21 +186,24 @@ fn keep(
     }
 }
 
-/// The marks of the open nodes and what is kept of them, with one event more.
+/// The marks of the open nodes, their number and what is kept of them, with one event more.
 pub fn advance(
     alloc: Global,
     past: &[Event],
     event: Event,
     live: &mut [bool],
+    live_count: &mut usize,
     nodes: &mut Nodes,
 ) -> Result<(), AllocError>
     requires lawful { IsLawful nothing_kept past.now }
     requires next { MayFollow nothing_kept past.now event }
     requires visits { HasFewVisits past.now event }
     requires live { IsMarked live.old (is_open past.now) }
+    requires live_count { live_count.old ≡ mark_count live.old }
     requires room { length past.now < length live.old }
     requires followed { IsFollowed past.now (length live.old) nodes.old }
     ensures live { OnOk result (IsMarked live.new (is_open (past.now ++ event ∷ []))) }
+    ensures live_count { OnOk result (live_count.new ≡ mark_count live.new) }
     ensures followed { OnOk result (IsFollowed (past.now ++ event ∷ []) (length live.old) nodes.new) }
     ensures len { length live.new ≡ length live.old }
 {
@@ -210,8 +212,14 @@ pub fn advance(
         keep(alloc, past, event, live, nodes)?;
     }
     nodes.hubless = hubless;
-    close_shut(past, event, &nodes.children, live, &mut nodes.todo)?;
-    live[past.len()] = opens(past, event, live);
+    mark_open(
+        past,
+        event,
+        &nodes.children,
+        live,
+        &mut nodes.todo,
+        live_count,
+    )?;
     link_child(past, event, &mut nodes.children);
     Ok(())
 }

@@ -19,13 +19,13 @@ use crate::allowed::{
     MOST_NODES, end_allowed_by_marks, is_allowed_simply, is_held, is_item_allowed, is_open_allowed,
     is_waiting, open_count,
 };
+use crate::closing::mark_open;
 use crate::duties::settle;
 use crate::event_tests::{at, is_calm};
 use crate::forced::{any_connect_due, is_forced, is_settled};
 use crate::found::{self, Found, follow, nothing_found};
 use crate::hubless::{Nodes, is_forced_by_marks, no_nodes};
 use crate::marks::is_marked;
-use crate::openness::mark_open;
 use crate::survey::{Survey, look, new_survey, open_subscribed};
 use rx_event::{Event, Kind, Place};
 use std::alloc::{AllocError, Global};
@@ -64,6 +64,7 @@ fn leaves_room(
     event: Event,
     found: &Found,
     survey: &mut Survey,
+    nodes: &Nodes,
 ) -> Result<bool, AllocError>
     requires next { next.now ≡ past.now ++ event ∷ [] }
     requires named { AreHubsNamed next.now }
@@ -71,18 +72,25 @@ fn leaves_room(
     requires found_room { length next.now ≤ length found.now.live.items }
     requires sized { IsSized (length survey.old.parents.items) survey.old }
     requires room { length next.now ≤ length survey.old.parents.items }
+    requires followed { IsFollowed past.now (length found.now.live.items) nodes.now }
     ensures answer { IfOk result
         (λ b. IsTrue b ↔ ((g : ℕ) → IsConnectDue next.now g → length (open_nodes past.now) + 2 ≤ 1048576)) }
     ensures sized { IsSized (length survey.old.parents.items) survey.new }
 {
-    if past.len() <= MOST_NODES - 2 {
-        return Ok(true);
-    }
     if open_count(past, found) <= MOST_NODES - 2 {
         return Ok(true);
     }
     let mut live = Vec::from_slice(alloc, found.live.as_slice())?;
-    mark_open(past, event, live.as_mut_slice());
+    let mut todo = Vec::new(alloc);
+    let mut count = found.live_count;
+    mark_open(
+        past,
+        event,
+        &nodes.children,
+        live.as_mut_slice(),
+        &mut todo,
+        &mut count,
+    )?;
     look(next, live.as_slice(), survey);
     Ok(!any_connect_due(next, survey))
 }
@@ -97,6 +105,7 @@ fn is_opening_allowed(
     kind: Kind,
     found: &Found,
     survey: &mut Survey,
+    nodes: &Nodes,
 ) -> Result<bool, AllocError>
     requires event { event ≡ Event.Open place kind }
     requires next { next.now ≡ past.now ++ event ∷ [] }
@@ -105,13 +114,14 @@ fn is_opening_allowed(
     requires found_room { length next.now ≤ length found.now.live.items }
     requires sized { IsSized (length survey.old.parents.items) survey.old }
     requires room { length next.now ≤ length survey.old.parents.items }
+    requires followed { IsFollowed past.now (length found.now.live.items) nodes.now }
     ensures answer { IfOk result (λ b. IsTrue b ↔ IsAllowed nothing_kept past.now event) }
     ensures sized { IsSized (length survey.old.parents.items) survey.new }
 {
     if !is_open_allowed(past, found, place, kind) {
         return Ok(false);
     }
-    leaves_room(alloc, past, next, event, found, survey)
+    leaves_room(alloc, past, next, event, found, survey, nodes)
 }
 
 /// Whether a caller's event may come next.
@@ -122,6 +132,7 @@ fn is_allowed(
     event: Event,
     found: &Found,
     survey: &mut Survey,
+    nodes: &Nodes,
 ) -> Result<bool, AllocError>
     requires next { next.now ≡ past.now ++ event ∷ [] }
     requires named { AreHubsNamed past.now }
@@ -129,12 +140,13 @@ fn is_allowed(
     requires found_room { length next.now ≤ length found.now.live.items }
     requires sized { IsSized (length survey.old.parents.items) survey.old }
     requires room { length next.now ≤ length survey.old.parents.items }
+    requires followed { IsFollowed past.now (length found.now.live.items) nodes.now }
     ensures answer { IfOk result (λ b. IsTrue b ↔ IsAllowed nothing_kept past.now event) }
     ensures sized { IsSized (length survey.old.parents.items) survey.new }
 {
     match event {
         Event::Open { place, kind } => {
-            is_opening_allowed(alloc, past, next, event, place, kind, found, survey)
+            is_opening_allowed(alloc, past, next, event, place, kind, found, survey, nodes)
         }
         Event::Item(leaf, _) => is_item_allowed(alloc, past, found, leaf),
         _ => Ok(is_allowed_simply(past, found, survey, event)),
@@ -166,7 +178,7 @@ fn is_allowed_here(
             return Ok(end_allowed_by_marks(past, found, &nodes.marks, n, terminal));
         }
     }
-    is_allowed(alloc, past, next, event, found, survey)
+    is_allowed(alloc, past, next, event, found, survey, nodes)
 }
 
 /// Whether the event opens a mirroring node.

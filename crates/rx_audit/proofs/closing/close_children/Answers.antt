@@ -15,7 +15,8 @@ loop-next-init c =
     let v = c.index-next.result.now in
     let r = c.requires.children in
     let size = r.youngest_size in
-    let is : v ≡ last_below (keyed (parent h) p) (length h) = get_or_read c.args.children.now.youngest.items p v (omega arith) c.index-next.ensures 0 ∙ r.youngest p (omega arith) in
+    let is : v ≡ last_below (keyed (parent h) p) (length h) = get_or_read c.args.children.now.youngest.items p v (omega arith) c.index-next.ensures 0
+    ∙ r.youngest p (omega arith) in
     record {
       closing = closing_none h p v c.args.marks.now c.args.todo.now.items (λ d below. child_below h p (length h) v is d below (parent_within h d p below));
       here = here_is h p (length h) v is;
@@ -32,7 +33,8 @@ loop-next-smaller c =
     let size = r.older_size in
     let w = c.loop-next.invariant.within in
     let below : parent h k ≡ Some p = c.loop-next.invariant.here (omega arith) in
-    let is : v ≡ last_below (keyed (parent h) p) k = get_or_read c.args.children.now.older.items k v (omega arith) c.index-next-in-loop-next.ensures 0 ∙ r.older k p (omega arith) below in
+    let is : v ≡ last_below (keyed (parent h) p) k = get_or_read c.args.children.now.older.items k v (omega arith) c.index-next-in-loop-next.ensures 0
+    ∙ r.older k p (omega arith) below in
     let l = last_le (keyed (parent h) p) k in
     omega arith
 
@@ -47,16 +49,21 @@ loop-next-preserved c =
     let size = r.older_size in
     let w = c.loop-next.invariant.within in
     let below : parent h k ≡ Some p = c.loop-next.invariant.here (omega arith) in
-    let is : v ≡ last_below (keyed (parent h) p) k = get_or_read c.args.children.now.older.items k v (omega arith) c.index-next-in-loop-next.ensures 0 ∙ r.older k p (omega arith) below in
-    let so_far : IsClosingBelow h p (suc k) c.args.marks.now c.loop-next.marks c.args.todo.now.items c.loop-next.todo.items = rw (← next) c.loop-next.invariant.closing in
+    let is : v ≡ last_below (keyed (parent h) p) k = get_or_read c.args.children.now.older.items k v (omega arith) c.index-next-in-loop-next.ensures 0
+    ∙ r.older k p (omega arith) below in
+    let so_far : IsClosingBelow h p (suc k) c.args.marks.now c.loop-next.marks c.args.todo.now.items c.loop-next.todo.items = rw (← next)
+    c.loop-next.invariant.closing in
     record {
       closing = elim c.if-marks-c.branch [
         | then-marks-c+in_ok-push w ↦
-            rw (w.marks-is, w.todo-is, w.in_ok-push.ensures.items) (closing_next h p k v c.args.marks.now (set c.loop-next.marks k false) c.args.todo.now.items _
-            (closing_note h p (suc k) k c.args.marks.now c.loop-next.marks c.args.todo.now.items c.loop-next.todo.items so_far (omega arith) below w.if-marks-c.true)
+            rw (w.marks-is, w.todo-is, w.in_ok-push.ensures.items)
+            (closing_next h p k v c.args.marks.now (set c.loop-next.marks k false) c.args.todo.now.items _
+            (closing_note h p (suc k) k c.args.marks.now c.loop-next.marks c.args.todo.now.items c.loop-next.todo.items so_far (omega arith) below
+            w.if-marks-c.true)
             (gone_here c.loop-next.marks k w.if-marks-c.true) is)
         | else-marks-c w ↦
-            rw (w.marks-is, w.todo-is) (closing_next h p k v c.args.marks.now c.loop-next.marks c.args.todo.now.items c.loop-next.todo.items so_far w.if-marks-c.false is)
+            rw (w.marks-is, w.todo-is) (closing_next h p k v c.args.marks.now c.loop-next.marks c.args.todo.now.items c.loop-next.todo.items so_far
+            w.if-marks-c.false is)
       ];
       here = here_is h p k v is;
       within = let l = last_le (keyed (parent h) p) k in omega arith;

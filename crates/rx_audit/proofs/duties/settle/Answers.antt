@@ -4,8 +4,11 @@ use Rattle.rx_audit.proofs.Covering.{due_unsettled, none_settled, noted_none}
 use Rattle.rx_audit.proofs.duties.settle.Goals as goal
 
 pub returns-then-node_due-clause-answer : goal.returns-then-node_due-clause-answer
-returns-then-node_due-clause-answer c =
-    (λ no_so. absurd (false≢true no_so), λ settled. absurd (due_unsettled c.args.past.now c.index-n.result.now c.requires.hubless (sym c.if-node_due.ensures) settled))
+returns-then-node_due-clause-answer c = (
+  λ no_so. absurd (false≢true no_so),
+  λ settled. absurd
+      (due_unsettled c.args.past.now c.index-n.result.now c.requires.hubless (sym c.if-node_due.ensures) settled),
+)
 
 pub returns-clause-answer : goal.returns-clause-answer
 returns-clause-answer c = (

@@ -35,6 +35,7 @@ returns-clause-found c =
     record {
       live = rw (back f.live.len c.advance.new.live f.live.items f.live.ok.0 live_same) c.in_ok-advance.ensures.live;
       live_size = rw (back f.live.len c.advance.new.live f.live.items f.live.ok.0 live_same) (live_same ∙ r.live_size);
+      live_count = rw (back f.live.len c.advance.new.live f.live.items f.live.ok.0 live_same) c.in_ok-advance.ensures.live_count;
       ended = ended.0;
       ended_size = ended.1;
       failed = failed.0;

@@ -1,12 +1,13 @@
 use Rattle.std.proofs.Common.{false, length, arith, refl, sym, ap, ◌∙◌}
 use Rattle.std.proofs.lemmas.List.{length-replicate}
-use Rattle.rx_audit.proofs.Finding.{no_table, no_tally, nothing_fired, nothing_projected, nothing_live}
+use Rattle.rx_audit.proofs.Finding.{no_table, none_marked, no_tally, nothing_fired, nothing_projected, nothing_live}
 use Rattle.rx_audit.proofs.found.nothing_found.Goals as goal
 
 pub returns : goal.returns
 returns c = record {
   live = rw c.in_ok-unmarked.ensures (no_table c.args.size _ nothing_live);
   live_size = ap length c.in_ok-unmarked.ensures ∙ length-replicate c.args.size false;
+  live_count = rw c.in_ok-unmarked.ensures (none_marked c.args.size);
   ended = rw c.in_ok-unmarked-2.ensures (λ n l. no_table c.args.size (λ n. false) (λ n. refl) n);
   ended_size = ap length c.in_ok-unmarked-2.ensures ∙ length-replicate c.args.size false;
   failed = rw c.in_ok-unmarked-3.ensures (λ n l. no_table c.args.size (λ n. false) (λ n. refl) n);

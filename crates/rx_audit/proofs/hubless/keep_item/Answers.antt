@@ -7,17 +7,21 @@ use Rattle.rx_audit.proofs.hubless.keep_item.Goals as goal
 pub returns-clause-kept : goal.returns-clause-kept
 returns-clause-kept c =
     let r : IsReached c.args.past.now c.args.leaf c.in-Some.log.items = rw c.in-Some.is at c.in_ok-log.ensures in
-    let w : IsVisited c.args.past.now c.in-Some.log.items c.args.nodes.now.marks.items c.remark_visits.new.marks.items c.args.nodes.now.due.items c.remark_visits.new.due.items =
+    let w : IsVisited c.args.past.now c.in-Some.log.items c.args.nodes.now.marks.items c.remark_visits.new.marks.items c.args.nodes.now.due.items
+    c.remark_visits.new.due.items =
     rw c.as_slice.ensures.value at c.in_ok-remark_visits-in-Some.ensures in
     let size = c.requires.followed.marks_size in
     let room = c.requires.room in
     item_kept c.args.past.now c.args.event c.args.leaf c.in-Some.log.items c.args.nodes.now.marks.items c.remark_visits.new.marks.items
-    c.args.nodes.now.due.items c.remark_visits.new.due.items c.requires.lawful c.requires.next c.requires.item r (c.requires.followed.kept c.requires.hubless) (omega arith) w
+    c.args.nodes.now.due.items c.remark_visits.new.due.items c.requires.lawful c.requires.next c.requires.item r
+    (c.requires.followed.kept c.requires.hubless) (omega arith) w
 
 pub returns-clause-covered : goal.returns-clause-covered
 returns-clause-covered c =
     let r : IsReached c.args.past.now c.args.leaf c.in-Some.log.items = rw c.in-Some.is at c.in_ok-log.ensures in
-    let w : IsVisited c.args.past.now c.in-Some.log.items c.args.nodes.now.marks.items c.remark_visits.new.marks.items c.args.nodes.now.due.items c.remark_visits.new.due.items =
+    let w : IsVisited c.args.past.now c.in-Some.log.items c.args.nodes.now.marks.items c.remark_visits.new.marks.items c.args.nodes.now.due.items
+    c.remark_visits.new.due.items =
     rw c.as_slice.ensures.value at c.in_ok-remark_visits-in-Some.ensures in
     item_covered c.args.past.now c.args.event c.args.leaf c.in-Some.log.items c.args.nodes.now.marks.items c.remark_visits.new.marks.items
-    c.args.nodes.now.due.items c.remark_visits.new.due.items c.requires.lawful c.requires.next c.requires.item r (c.requires.followed.covered c.requires.hubless) w
+    c.args.nodes.now.due.items c.remark_visits.new.due.items c.requires.lawful c.requires.next c.requires.item r
+    (c.requires.followed.covered c.requires.hubless) w

@@ -13,7 +13,14 @@ any_event : Event
 any_event = Open Root Leaf
 
 pub loop-i-init : goal.loop-i-init
-loop-i-init c = record { lawful = IsLawful_nothing; found = c.requires.found; followed = c.requires.followed; sized = c.requires.sized; settled = λ e. absurd (false≢true e) }
+loop-i-init c = record {
+  lawful = IsLawful_nothing;
+  found = c.requires.found;
+  followed = c.requires.followed;
+  sized = c.requires.sized;
+  settled =
+      λ e. absurd (false≢true e);
+}
 
 pub returns-then-not-branch-clause-answer : goal.returns-then-not-branch-clause-answer
 unfolding any_event

@@ -1,11 +1,7 @@
 use Rattle.std.proofs.Common.{arith, length, refl}
 use Rattle.rx_event.specs.Tree.{open_nodes}
 use Rattle.rx_audit.proofs.Judging.{room_test}
-use Rattle.rx_audit.proofs.Permitting.{few_open}
 use Rattle.rx_audit.proofs.verdict.leaves_room.Goals as goal
 
 pub returns-clause-answer : goal.returns-clause-answer
 returns-clause-answer c = room_test c.args.next.now (length (open_nodes c.args.past.now)) c.any_connect_due.result (omega arith) c.any_connect_due.ensures
-
-pub returns-then-past-clause-answer : goal.returns-then-past-clause-answer
-returns-then-past-clause-answer c = let few = few_open c.args.past.now in (λ t. (λ g d. (omega arith)), λ f. refl)

@@ -13,5 +13,6 @@ is_allowed_here-requires-clause-named c = hubs_named c.args.past.now c.requires.
 pub returns-then-settled-clause-answer : goal.returns-then-settled-clause-answer
 returns-then-settled-clause-answer c =
     let h = c.args.past.now in
-    IfOk-weaker c.is_allowed_here.result (λ (b : Bool). (IsTrue b) ↔ IsAllowed nothing_kept h c.args.event) (λ (b : Bool). (IsTrue b) ↔ MayFollow nothing_kept h c.args.event)
+    IfOk-weaker c.is_allowed_here.result (λ (b : Bool). (IsTrue b) ↔ IsAllowed nothing_kept h c.args.event)
+    (λ (b : Bool). (IsTrue b) ↔ MayFollow nothing_kept h c.args.event)
     (λ b w. settled_answer h c.args.event b (c.requires.settled.0 c.if-settled.true) w) c.is_allowed_here.ensures.answer

@@ -7,7 +7,9 @@ use Rattle.rx_audit.proofs.verdict.may_follow_by_marks.Goals as goal
 
 pub returns-then-is_forced_by_marks : goal.returns-then-is_forced_by_marks
 returns-then-is_forced_by_marks c =
-    forced_answer_by_marks c.args.past.now c.args.event ((forced_both_ways c.args.past.now c.args.event c.requires.lawful (c.requires.followed.hubless c.requires.hubless)).0 (sym c.if-is_forced_by_marks.ensures))
+    forced_answer_by_marks c.args.past.now c.args.event
+    ((forced_both_ways c.args.past.now c.args.event c.requires.lawful (c.requires.followed.hubless c.requires.hubless)).0
+    (sym c.if-is_forced_by_marks.ensures))
 
 pub returns : goal.returns
 returns c =
