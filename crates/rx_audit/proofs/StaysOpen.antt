@@ -1,19 +1,17 @@
 -- The marks of nodes that stay open.
-use Rattle.std.proofs.Common.{◌≡◌, ℕ, ◌+◌, ◌<◌, ◌≤◌, Bool, true, false, List, [], ◌∷◌, ◌++◌, length, Option, Some, None, refl}
-use Rattle.std.proofs.Common.{sym, ap, ◌∙◌, arith, ◌≢◌, get_or, set, get_or-set_other, get_or-set_same, below_more, ◌⊎◌, inl, inr, length-append, nat_lt}
+use Rattle.std.proofs.Common.{◌≡◌, ℕ, ◌<◌, Bool, true, false, List, [], ◌∷◌, ◌++◌, length, Option, Some, None, refl}
+use Rattle.std.proofs.Common.{sym, ◌∙◌, arith, ◌≢◌, get_or, set, get_or-set_other, get_or-set_same, ◌⊎◌, inl, inr, length-append, nat_lt}
 use Rattle.std.proofs.Math.Bool.{not, ◌&&◌}
-use Rattle.std.proofs.lemmas.Bool.{cases_order, ltb-true, false≢true}
+use Rattle.std.proofs.lemmas.Bool.{cases_order, ltb-true}
 use Rattle.std.proofs.lemmas.Option.{cond_some, option_and_then_some}
-use Rattle.std.specs.List.{list_all, AllByRecursion}
+use Rattle.std.specs.List.{list_all}
 use Rattle.std.specs.Option.{option_map_or, option_and_then}
-use Rattle.rx_event.specs.declared.event.Place.TheVariants.{Root, Source, Inner, Notifier}
 use Rattle.rx_event.specs.declared.event.Event.{Event}
-use Rattle.rx_event.specs.declared.event.Event.TheVariants.{Open, Hub, Connect, Accept, Use, Remove, Item, Decline, End, Close, Take}
 use Rattle.rx_event.specs.Events.{makes_node, parent_named}
 use Rattle.rx_event.specs.Tree.{parent, ancestors, is_open, is_standing, shuts, if_less}
 use Rattle.rx_event.proofs.Laws.Places.{slice_get_last}
-use Rattle.rx_event.proofs.Laws.Parents.{ancestors-le, ancestors_step, option_map_or-same}
-use Rattle.rx_event.proofs.Laws.Openness.{is_open_step, is_open-push, is_open_past, is_shut_last, shuts_none}
+use Rattle.rx_event.proofs.Laws.Parents.{ancestors_step, option_map_or-same}
+use Rattle.rx_event.proofs.Laws.Openness.{is_open_step, is_open-push, is_open_past, is_shut_last}
 use Rattle.rx_audit.specs.Tables.{IsMarked}
 use Rattle.rx_audit.specs.Rules.{stays_open, opens}
 

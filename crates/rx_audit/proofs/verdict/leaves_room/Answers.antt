@@ -1,4 +1,4 @@
-use Rattle.std.proofs.Common.{arith, length, refl}
+use Rattle.std.proofs.Common.{arith, length}
 use Rattle.rx_event.specs.Tree.{open_nodes}
 use Rattle.rx_audit.proofs.Judging.{room_test}
 use Rattle.rx_audit.proofs.verdict.leaves_room.Goals as goal
