@@ -1,5 +1,5 @@
 -- What is known of a device that is watched, and of the bytes that went through it.
-use Rattle.std.specs.Prelude.{◌≡◌, ℕ, ◌≤◌, ◌⊎◌, Bool, true, false, List, length, take, Option}
+use Rattle.std.specs.Prelude.{◌≡◌, ℕ, ◌≤◌, ◌⊎◌, ◌||◌, ◌==◌, Bool, true, false, List, length, take, Option}
 use Rattle.std.specs.Io.KnownBytes.{Appends}
 use Rattle.std.specs.Borrow.{MutBor}
 use Rattle.rx_device.specs.declared.watched.Watched.{Watched}
@@ -27,6 +27,16 @@ has_failed w = w.failed
 -- some call of it moved no byte: a reader at its end, a writer that takes none
 abbrev pub has_stopped : {D : Type 0} → Watched D → Bool
 has_stopped w = w.stopped
+
+-- what is known after one call more, which moved so many bytes
+pub record NotesMoved {D : Type 0} (old new : Watched D) (n : ℕ) : Type 0 where
+  pub failed : has_failed new ≡ has_failed old
+  pub stopped : has_stopped new ≡ (has_stopped old || n == 0)
+
+-- what is known after one call more, which failed
+pub record NotesFailed {D : Type 0} (old new : Watched D) : Type 0 where
+  pub failed : has_failed new ≡ true
+  pub stopped : has_stopped new ≡ has_stopped old
 
 -- nothing was asked of it yet
 pub record IsFresh {D : Type 0} (w : Watched D) : Type 0 where

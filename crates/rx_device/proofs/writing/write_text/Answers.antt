@@ -7,6 +7,6 @@ pub loop-done-preserved : goal.loop-done-preserved
 loop-done-preserved g c = record {
   same = c.write.ensures.same_device ∙ c.loop-done.invariant.same;
   within = grind (arith, common_steps);
-  written = written_more _ _ _ _ _ _ c.loop-done.invariant.written c.in-Some.ensures.written;
-  unhurt = c.in-Some.ensures.unhurt ∙ c.loop-done.invariant.unhurt;
+  written = written_more _ _ _ _ _ _ c.loop-done.invariant.written c.in-Some.ensures.bytes;
+  unhurt = c.in-Some.ensures.ok.failed ∙ c.loop-done.invariant.unhurt;
 }
