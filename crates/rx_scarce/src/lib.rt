@@ -12,13 +12,13 @@
 //! can say what memory is left: that a request is then refused. The tests of this crate show it.
 #![tactic(auto)]
 
-ghost use Rattle.std.specs.Prelude.{◌≡◌, ℕ, ◌-◌, ◌<◌, ◌≤◌, ◌↔◌, IsTrue, IfOk, vec_len};
+ghost use Rattle.std.specs.Prelude.{◌≡◌, ℕ, ◌-◌, ◌<◌, ◌≤◌, ◌↔◌, IsTrue, IfOk, OnOk, OnErr, vec_len};
 ghost use Rattle.rx_scarce.specs.declared.TheConstants.{MOST_BLOCKS};
 
 use std::alloc::{AllocError, Global};
 use std::marker::Model;
 
-/// The most blocks that a [`Scarce`] holds.
+/// How many blocks are enough to say that memory is not scarce: a [`Scarce`] holds fewer.
 pub const MOST_BLOCKS: usize = 100_000;
 
 // The binary logarithm of the first request in bytes, half of what a process can address.
@@ -53,7 +53,7 @@ impl Model for Scarce {
 
     ghost view = { λ s. vec_len s.blocks };
 
-    ghost invariant = { λ s. vec_len s.blocks ≤ MOST_BLOCKS };
+    ghost invariant = { λ s. vec_len s.blocks < MOST_BLOCKS };
 }
 
 impl Scarce {
@@ -63,7 +63,7 @@ impl Scarce {
     /// is left once [`MOST_BLOCKS`] are taken; all that was taken is then free again.
     pub fn new(alloc: Global) -> Result<Scarce, AllocError>
         ensures ok { IfOk result (λ blocks. 0 < blocks) }
-        ensures at_most { IfOk result (λ blocks. blocks ≤ MOST_BLOCKS) }
+        ensures below { IfOk result (λ blocks. blocks < MOST_BLOCKS) }
     {
         let mut blocks = Vec::with_capacity(alloc, MOST_BLOCKS)?;
         for power in (LISTED_POWER..=LARGEST_POWER).rev() {
@@ -81,7 +81,7 @@ impl Scarce {
     /// The number of blocks that are held.
     pub fn block_count(&self) -> usize
         ensures count { result ≡ self.now }
-        ensures at_most { result ≤ MOST_BLOCKS }
+        ensures below { result < MOST_BLOCKS }
     {
         self.blocks.len()
     }
@@ -98,7 +98,8 @@ impl Scarce {
 // Takes blocks of one size until memory is refused; Err where the list has no room for a further one.
 fn take_all(alloc: Global, blocks: &mut Vec<Vec<u8>>, size: usize) -> Result<(), AllocError>
     requires { vec_len blocks.old ≤ MOST_BLOCKS }
-    ensures { vec_len blocks.new ≤ MOST_BLOCKS }
+    ensures ok { OnOk result (vec_len blocks.new < MOST_BLOCKS) }
+    ensures err { OnErr result (vec_len blocks.new ≤ MOST_BLOCKS) }
 {
     while blocks.len() < MOST_BLOCKS {
         match Vec::with_capacity(alloc, size) {
