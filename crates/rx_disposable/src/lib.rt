@@ -26,7 +26,7 @@
 //! what the place is afterwards, so that each value which was inside or was handed in is inside
 //! afterwards, or came back with a refusal, or came out: just one of these.
 //!
-//! Only [`Group::add`] asks for memory. Every other call succeeds in want of it.
+//! Every call but [`Group::add`] succeeds in want of memory. That none of them asks for any is tested.
 //!
 //! # What is not
 //!

@@ -9,6 +9,9 @@ use std::alloc::{AllocError, Global};
 use std::process::Abort;
 use std::test::Fail;
 
+// The size of a block in bytes that the allocator keeps in no list of one size.
+const BLOCK: usize = 4096;
+
 // The answer, with a refusal as a pair that can be compared.
 fn told<U, T>(answer: Result<U, Back<T>>) -> Result<U, (Why, T)> {
     match answer {
@@ -193,4 +196,50 @@ fn all_else_needs_no_memory(rt: HostRuntime) -> Result<(), Fail> {
         same(&rt, told(group.add(number)), Ok(number));
     }
     use_all(&rt, rt.alloc(), &mut group)
+}
+
+// Whether a block of this many bytes can be had.
+fn is_had(alloc: Global, bytes: usize) -> bool {
+    let block: Result<Vec<u8>, AllocError> = Vec::with_capacity(alloc, bytes);
+    block.is_ok()
+}
+
+// Calls each but `add`, and compares what they answer. What came out is dropped by the caller.
+fn call_all_but_add(
+    rt: &impl Abort,
+    group: &mut Group<u64>,
+    numbers: u64,
+) -> (Members<u64>, Members<u64>) {
+    same(rt, group.len() as u64, numbers);
+    assert!(rt; !group.is_empty());
+    same(rt, value_of(group, 1), Some(1));
+    same(rt, value_of(group, numbers), None);
+    same(rt, group.remove(1), Some(1));
+    same(rt, group.remove(1), None);
+    let cleared = group.clear();
+    same(rt, cleared.len() as u64, numbers.saturating_sub(1));
+    (cleared, group.dispose())
+}
+
+// Calls all where one block is left, which a request would break up: a small piece that is given back is
+// kept for requests of its size.
+fn call_at_one_block(rt: &impl Abort, alloc: Global, numbers: u64) -> Result<(), Fail> {
+    let mut group = Group::new(alloc);
+    for number in 0..numbers {
+        same(rt, told(group.add(number)), Ok(number));
+    }
+    let block: Vec<u8> = Vec::with_capacity(alloc, BLOCK)?;
+    let _scarce = Scarce::new(alloc)?;
+    drop(block);
+    let _out = call_all_but_add(rt, &mut group, numbers);
+    assert!(rt; is_had(alloc, BLOCK));
+    assert!(rt; is_had(alloc, 64));
+    assert!(rt; !is_had(alloc, BLOCK));
+    Ok(())
+}
+
+#[test]
+fn a_group_asks_for_memory_in_add_alone(rt: HostRuntime) -> Result<(), Fail> {
+    call_at_one_block(&rt, rt.alloc(), 3)?;
+    call_at_one_block(&rt, rt.alloc(), 10)
 }

@@ -1,0 +1,118 @@
+//! Streams that count how often they were asked: a failure is the stream's own, and none is made up.
+
+use super::same::same;
+use rx_device::{ScriptError, Watched, WriteFault, read_value, write_text};
+use std::alloc::Global;
+use std::io::{Error, ErrorKind, Read, Write};
+
+const TEXT: &[u8] = b"[1,2,3,4]";
+
+// Gives its bytes three at a time, and fails when it is asked for the time of this number, from 0.
+#[derive(Drop)]
+struct Source<'a> {
+    bytes: &'a [u8],
+    asked: u64,
+    fails_at: u64,
+}
+
+impl Read for Source<'_> {
+    fn read(&mut self, buf: &mut [u8]) -> std::io::Result<usize> {
+        let asked = self.asked;
+        self.asked = asked.saturating_add(1);
+        if asked == self.fails_at {
+            return Err(Error::from(ErrorKind::Other));
+        }
+        let end = self.bytes.len().min(buf.len()).min(3);
+        let (piece, rest) = self.bytes.split_at(end);
+        buf[..end].copy_from_slice(piece);
+        self.bytes = rest;
+        Ok(end)
+    }
+}
+
+// Takes three bytes at a time; when it is asked for the time of this number, from 0, it fails, or takes none.
+#[derive(Drop)]
+struct Sink {
+    taken: Vec<u8>,
+    asked: u64,
+    stops_at: u64,
+    fails: bool,
+}
+
+impl Write for Sink {
+    fn write(&mut self, buf: &[u8]) -> std::io::Result<usize> {
+        let asked = self.asked;
+        self.asked = asked.saturating_add(1);
+        if asked == self.stops_at && self.fails {
+            return Err(Error::from(ErrorKind::Other));
+        }
+        let end = if asked == self.stops_at {
+            0
+        } else {
+            buf.len().min(3)
+        };
+        self.taken.extend_from_slice(&buf[..end])?;
+        Ok(end)
+    }
+
+    fn flush(&mut self) -> std::io::Result<()> {
+        Ok(())
+    }
+}
+
+// The fault of reading a source, if there was one, and how often the source was asked.
+fn read_once(alloc: Global, fails_at: u64) -> (Option<ScriptError>, u64) {
+    let mut source = Source {
+        bytes: TEXT,
+        asked: 0,
+        fails_at,
+    };
+    let fault = read_value(alloc, &mut Watched::new(&mut source)).err();
+    (fault, source.asked)
+}
+
+#[test]
+fn a_reader_fails_where_it_was_asked_and_failed(rt: HostRuntime) {
+    let (fault, asked) = read_once(rt.alloc(), u64::MAX);
+    assert!(rt; fault.is_none());
+    same(&rt, asked, 4);
+    for fails_at in 0..4 {
+        let (fault, asked) = read_once(rt.alloc(), fails_at);
+        assert!(rt; matches!(fault, Some(ScriptError::Read)));
+        same(&rt, asked, fails_at + 1);
+    }
+}
+
+// What came of writing to a sink, how often the sink was asked, and how many bytes it took.
+fn write_once(alloc: Global, stops_at: u64, fails: bool) -> (Result<(), WriteFault>, u64, usize) {
+    let mut sink = Sink {
+        taken: Vec::new(alloc),
+        asked: 0,
+        stops_at,
+        fails,
+    };
+    let written = write_text(&mut Watched::new(&mut sink), TEXT);
+    (written, sink.asked, sink.taken.len())
+}
+
+#[test]
+fn a_writer_fails_where_it_was_asked_and_failed_or_took_none(rt: HostRuntime) {
+    for fails in [true, false] {
+        same(&rt, write_once(rt.alloc(), u64::MAX, fails), (Ok(()), 3, 9));
+        same(
+            &rt,
+            write_once(rt.alloc(), 0, fails),
+            (Err(WriteFault), 1, 0),
+        );
+        same(
+            &rt,
+            write_once(rt.alloc(), 1, fails),
+            (Err(WriteFault), 2, 3),
+        );
+        same(
+            &rt,
+            write_once(rt.alloc(), 2, fails),
+            (Err(WriteFault), 3, 6),
+        );
+    }
+}
