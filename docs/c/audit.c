@@ -27,14 +27,33 @@ static uint8_t answer(call *made, struct text input, struct text *output) {
   }
 }
 
+/* The status where a stream failed, as the program rxbook has it. */
+enum { STREAM_FAULT = 1 };
+
+/* Says why there is no verdict. */
+static int fail(uint8_t status, const char *why) {
+  fprintf(stderr, "audit: %s\n", why);
+  return status;
+}
+
+/* Says so by the status of a call. */
+static int fail_by(uint8_t status) {
+  return fail(status, status == RX_FAULTY_INPUT ? "faulty input" : "out of memory");
+}
+
 int main(void) {
-  struct text scenario = {calloc(1, 1 << 20), 0}, dump, verdict;
-  if (scenario.bytes == NULL) return RX_OUT_OF_MEMORY;
-  scenario.length = fread(scenario.bytes, 1, 1 << 20, stdin);
+  /* One byte more than an input may have, so that one that is too long is seen to be faulty. */
+  const size_t most = 16777216 + 1;
+  struct text scenario = {calloc(most, 1), 0}, dump, verdict;
+  if (scenario.bytes == NULL) return fail_by(RX_OUT_OF_MEMORY);
+  scenario.length = fread(scenario.bytes, 1, most, stdin);
+  if (ferror(stdin)) return fail(STREAM_FAULT, "read fault");
 
   uint8_t status = answer(rx_run_dump, scenario, &dump);
-  if (status != RX_DONE) return status;
+  if (status != RX_DONE) return fail_by(status);
   status = answer(rx_audit, dump, &verdict);
-  fwrite(verdict.bytes, 1, verdict.length, stdout);
+  if (status != RX_DONE && status != RX_NOT_LAWFUL) return fail_by(status);
+  if (fwrite(verdict.bytes, 1, verdict.length, stdout) != verdict.length || fflush(stdout) != 0)
+    return fail(STREAM_FAULT, "write fault");
   return status;
 }
