@@ -21,7 +21,8 @@ const RUN_USAGE: &str = "rxbook run [OPTIONS] < FILE";
 const AUDIT_USAGE: &str = "rxbook audit < FILE";
 
 const NOTES: &str = "\
-Standard input is read to its end, but by a storm, and no file is opened: hand it in, as in
+Standard input is read to its end, unless it is longer than 16777216 bytes; a storm reads nothing. No file is
+opened: hand it in, as in
   rxbook < first-run.json
   rxbook run --dump < first-run.json
   rxbook audit < dispose-twice.dump

@@ -221,7 +221,8 @@ Options:
   -h, --help     Print help
   -V, --version  Print version
 
-Standard input is read to its end, but by a storm, and no file is opened: hand it in, as in
+Standard input is read to its end, unless it is longer than 16777216 bytes; a storm reads nothing. No file is
+opened: hand it in, as in
   rxbook < first-run.json
   rxbook run --dump < first-run.json
   rxbook audit < dispose-twice.dump
