@@ -21,7 +21,7 @@
 //! # Promised, and not
 //!
 //! - A `Handed` is live, and its release makes it released whatever the resource answers, and does not
-//!   use it.
+//!   use it. A resource is released once: its `release` asks for a live one.
 //! - No call of a `Handed` takes memory or waits, beside what the resource's own call does.
 //! - Nothing is promised of the word that `apply` answers, nor of what `release` answers: an
 //!   implementation is free in both. That [`Released`] passes on what the resource answered is tested.
@@ -90,7 +90,11 @@ pub trait Resource: Send + Drop {
 
     /// Releases the resource. Err has the code of a fault that it met; it is released all the same.
     /// A release is no use.
+    ///
+    /// It may be called while the resource is live, so once: a program that releases a resource a
+    /// second time does not compile.
     fn release(&mut self) -> Result<(), u32>
+        requires live { life_of self.old ≡ Life.Live }
         ensures released { life_of self.new ≡ Life.Released }
         ensures kept_tag { tag_of self.new ≡ tag_of self.old }
         ensures kept_uses { uses_of self.new ≡ uses_of self.old };

@@ -84,6 +84,7 @@ impl Resource for Sample {
 
     /// Answers the fault that the resource was made with, if it was made with one.
     fn release(&mut self) -> Result<(), u32>
+        requires live { self.old.life ≡ Life.Live }
         ensures ok { IsOk result ↔ (self.old.fault ≡ None) }
         ensures fault { IfErr result (λ code. self.old.fault ≡ Some code) }
         ensures released { self.new ≡ record self.old { life = Life.Released } }

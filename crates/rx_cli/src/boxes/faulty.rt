@@ -1,5 +1,6 @@
 //! A resource whose release meets a fault.
 ghost use Rattle.std.specs.Prelude.{◌≡◌, ◌+◌, ◌<◌, ◌^◌};
+ghost use Rattle.rx_resource.specs.declared.Life.{Life};
 ghost use Rattle.rx_cli.specs.Marks.{Marks, fresh, used, released};
 
 use rx_resource::{Life, Resource};
@@ -64,6 +65,7 @@ impl Resource for Faulty {
 
     /// Answers the fault of code 2.
     fn release(&mut self) -> Result<(), u32>
+        requires live { self.old.life ≡ Life.Live }
         ensures fault { result ≡ Err 2 }
         ensures released { self.new ≡ released self.old }
     {

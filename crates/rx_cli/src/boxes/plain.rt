@@ -1,5 +1,6 @@
 //! A resource that answers each word as it came.
 ghost use Rattle.std.specs.Prelude.{◌≡◌, ◌+◌, ◌<◌, ◌^◌};
+ghost use Rattle.rx_resource.specs.declared.Life.{Life};
 ghost use Rattle.rx_cli.specs.Marks.{Marks, fresh, used, released};
 
 use rx_resource::{Life, Resource};
@@ -63,6 +64,7 @@ impl Resource for Plain {
 
     /// Answers `Ok`.
     fn release(&mut self) -> Result<(), u32>
+        requires live { self.old.life ≡ Life.Live }
         ensures ok { result ≡ Ok tt }
         ensures released { self.new ≡ released self.old }
     {

@@ -81,6 +81,7 @@ impl Resource for Stocked {
 
     /// Answers the fault of code 2 where the kind is `Faulty`, else `Ok`.
     fn release(&mut self) -> Result<(), u32>
+        requires live { (marks_of self.old).life ≡ Life.Live }
         ensures answer { result ≡ release_of (kind_of self.old) }
         ensures released { shown self.new ≡ (kind_of self.old, released (marks_of self.old)) }
     {

@@ -1,5 +1,6 @@
 //! A resource that keeps the exclusive or of its words.
 ghost use Rattle.std.specs.Prelude.{◌≡◌, ◌+◌, ◌<◌, ◌^◌, bit_xor};
+ghost use Rattle.rx_resource.specs.declared.Life.{Life};
 ghost use Rattle.rx_cli.specs.Marks.{TallyMarks, fresh, used, released};
 
 use rx_resource::{Life, Resource};
@@ -72,6 +73,7 @@ impl Resource for Tally {
 
     /// Answers `Ok`.
     fn release(&mut self) -> Result<(), u32>
+        requires live { self.old.marks.life ≡ Life.Live }
         ensures ok { result ≡ Ok tt }
         ensures kept { self.new.kept ≡ self.old.kept }
         ensures released { self.new.marks ≡ released self.old.marks }
