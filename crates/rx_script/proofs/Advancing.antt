@@ -10,7 +10,8 @@ use Rattle.rx_agenda.specs.declared.agenda.Agenda.{Agenda as AgendaInCode}
 use Rattle.rx_agenda.specs.declared.answer.Answer.{Answer}
 use Rattle.rx_script.specs.declared.engine.Engine.{Engine}
 use Rattle.rx_agenda.specs.Agenda.{Cancels, followed_by, next_step}
-use Rattle.rx_script.specs.Course.{Progress, Performs, executes, cancels, Advances, Leads, advanced}
+use Rattle.rx_script.specs.Course.{limited}
+use Rattle.rx_script.specs.Progress.{Progress, Performs, executes, cancels, Advances, Leads, advanced}
 use Rattle.rx_script.specs.Engine.{IsSound, Carries, Performed, Followed, progress_of}
 use Rattle.rx_agenda.specs.Shown.{agenda_of, size_of, size_left}
 
@@ -55,8 +56,8 @@ module _ {R : Type 0} where
 
   module _ (e new : Engine R) (before between : AgendaInCode) (s : StepInCode) (answer : Answer)
       (done : Performed e before (out-Step s).action answer new between) where
-    performs_step : Performs e.book.limit (progress_of e before) (step_of s).action answer (progress_of new between)
-    performs_step = subst (λ t. Performs e.book.limit (progress_of e before) t.action answer (progress_of new between)) (sym (step_of-parts s)) done.performs
+    performs_step : Performs (limited e.book.limit) (progress_of e before) (step_of s).action answer (progress_of new between)
+    performs_step = subst (λ t. Performs (limited e.book.limit) (progress_of e before) t.action answer (progress_of new between)) (sym (step_of-parts s)) done.performs
 
     pub followed : (now : AgendaInCode) → agenda_of now ≡ followed_by answer (map step_of (out-Step s).then.items) (agenda_of between)
         → size_left now ≤ size_left between + sum_by size_of (out-Step s).then.items
@@ -78,15 +79,15 @@ module _ {R : Type 0} where
 
   pub leads_more : (limit until : ℕ) (first : Progress) (e new : Engine R) (before between now : AgendaInCode) (s : StepInCode)
       (answers pushed : List Answer) (answer : Answer)
-      → Leads limit until first answers (progress_of e before) → e.book.limit ≡ limit → next_step until (agenda_of before) ≡ Some (step_of s, agenda_of between)
-      → Followed e between s answer new now → pushed ≡ answers ++ answer ∷ [] → Leads limit until first pushed (progress_of new now)
+      → Leads (limited limit) until first answers (progress_of e before) → e.book.limit ≡ limit → next_step until (agenda_of before) ≡ Some (step_of s, agenda_of between)
+      → Followed e between s answer new now → pushed ≡ answers ++ answer ∷ [] → Leads (limited limit) until first pushed (progress_of new now)
   leads_more limit until first e new before between now s answers pushed answer leads same comes after is_pushed =
-      let advances : Advances limit until (progress_of e before) answer (progress_of new now) = record {
+      let advances : Advances (limited limit) until (progress_of e before) answer (progress_of new now) = record {
         step = step_of s;
         rest = agenda_of between;
         comes = comes;
         done = after.done;
-        performs = subst (λ n. Performs n (progress_of e between) (step_of s).action answer after.done) same after.performs;
+        performs = subst (λ n. Performs (limited n) (progress_of e between) (step_of s).action answer after.done) same after.performs;
         stage = after.stage;
         follows = after.follows;
       } in

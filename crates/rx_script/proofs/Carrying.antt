@@ -21,7 +21,7 @@ use Rattle.rx_script.specs.declared.engine.Engine.{Engine}
 use Rattle.rx_scenario.specs.Scenario.{Command, drain}
 use Rattle.rx_script.specs.Stage.{Stage, own_cause, call_of, after, front_is_fresh}
 use Rattle.rx_book.specs.Drains.{Drains}
-use Rattle.rx_script.specs.Course.{Executes, refused, refused_by_book, accepted, drained, book_cause}
+use Rattle.rx_script.specs.Course.{limited, Executes, refused, refused_by_book, accepted, drained, book_cause}
 use Rattle.rx_script.specs.Shelf.{Shelf}
 use Rattle.rx_report.specs.Keys.{node_binding, res_binding, IsNodeKey, IsHeldKey}
 use Rattle.rx_agenda.specs.Shown.{number_binding}
@@ -50,10 +50,10 @@ with e book stock = record { book = book; nodes = e.nodes; hubs = e.hubs; resour
 
 -- nothing was changed
 pub unchanged : {R : Type 0} (e : Engine R) (step : Command) (answer : Answer) (book : State) (stock : Shelf) → IsSound e → book ≡ e.book → stock.wares ≡ e.stock.wares
-    → Executes e.book.limit (stage_of e) step answer (stage_of e) → Carries e step answer (with e book stock)
+    → Executes (limited e.book.limit) (stage_of e) step answer (stage_of e) → Carries e step answer (with e book stock)
 unchanged {R} e step answer book stock sound same_book same_stock executes =
     let at_book : Carries e step answer (with e e.book stock) = record {
-      executes = subst (λ wares. Executes e.book.limit (stage_of e) step answer (record { history = e.book.history; nodes = (stage_of e).nodes; hubs = (stage_of e).hubs; resources = (stage_of e).resources; stock = wares })) (sym same_stock) executes;
+      executes = subst (λ wares. Executes (limited e.book.limit) (stage_of e) step answer (record { history = e.book.history; nodes = (stage_of e).nodes; hubs = (stage_of e).hubs; resources = (stage_of e).resources; stock = wares })) (sym same_stock) executes;
       sound = record { kept = sound.kept; nodes = sound.nodes; resources = sound.resources; faults = sound.faults; base = sound.base };
       limit = refl;
       given = refl;
@@ -79,7 +79,7 @@ pub accepted_to : {R : Type 0} (e new : Engine R) (step : Command) (asked : Requ
     → All (λ n. IsNodeKey new.book n.key) new.nodes → All (λ n. IsHeldKey new.book n.key) new.resources → new.faults ≡ e.faults
     → Carries e step Accepted new
 accepted_to e new step asked sound kept own agrees accepts staged nodes resources same_faults = record {
-  executes = subst (λ s. Executes e.book.limit (stage_of e) step Accepted s) (sym staged) (accepted own agrees.called
+  executes = subst (λ s. Executes (limited e.book.limit) (stage_of e) step Accepted s) (sym staged) (accepted new.book.history own agrees.called
       (cause_from_start e asked.call sound ∙ sym agrees.same ∙ accepts.no_cause)
       (subst (λ (b : Kept). IsStepOf b e.book.history asked.call new.book.history) sound.base accepts.step));
   sound = record {
@@ -118,7 +118,7 @@ drained_to e new released sound kept drains goes same_nodes same_hubs same_resou
     ∙ ap (λ s. record { history = new.book.history; nodes = map node_binding e.nodes; hubs = map number_binding e.hubs; resources = map res_binding e.resources; stock = s.wares }) same_stock in
     let before = sound.faults in
     record {
-      executes = subst (λ s. Executes e.book.limit (stage_of e) drain Accepted s) (sym staged) (drained (subst (λ (b : Kept). Drains b e.book.history new.book.history) sound.base drains));
+      executes = subst (λ s. Executes (limited e.book.limit) (stage_of e) drain Accepted s) (sym staged) (drained (subst (λ (b : Kept). Drains b e.book.history new.book.history) sound.base drains));
       sound = record {
         kept = kept;
         nodes = subst (λ n. All (λ x. IsNodeKey new.book x.key) n) (sym same_nodes) (node_keys_kept e.book new.book e.nodes sound.kept kept goes sound.nodes);

@@ -7,4 +7,17 @@ pub mod Openings
 pub mod Nodes
 pub mod Holdings
 pub mod Publishing
+pub mod CoursesInOrder
+pub mod Calling
+pub mod OneCourse
+pub mod Ordering
+pub mod Renaming
+pub mod SameStages
+pub mod SameAfter
+pub mod SameSteps
+pub mod SameReports
+pub mod Remaining
+pub mod EachCourse
+pub mod PossibleCourse
 pub mod Reporting
+mod Examples

@@ -24,7 +24,8 @@ use Rattle.rx_agenda.specs.Shown.{number_binding, agenda_of, size_of, size_left}
 use Rattle.rx_report.specs.Keys.{node_binding, res_binding, IsNodeKey, IsHeldKey}
 use Rattle.rx_script.specs.Stage.{Stage}
 use Rattle.rx_agenda.specs.Agenda.{followed_by}
-use Rattle.rx_script.specs.Course.{Executes, Progress, Performs}
+use Rattle.rx_script.specs.Course.{limited, Executes}
+use Rattle.rx_script.specs.Progress.{Progress, Performs}
 
 -- names --------------------------------------------------------------------------------------------
 
@@ -74,7 +75,7 @@ pub record IsSound {R : Type 0} (e : Engine R) : Type 0 where
 
 -- the step was executed with this answer, and all else is as before
 pub record Carries {R : Type 0} (old : Engine R) (step : Command) (answer : Answer) (new : Engine R) : Type 0 where
-  pub executes : Executes old.book.limit (stage_of old) step answer (stage_of new)
+  pub executes : Executes (limited old.book.limit) (stage_of old) step answer (stage_of new)
   pub sound : IsSound new
   pub limit : new.book.limit ≡ old.book.limit
   pub given : new.book.given ≡ old.book.given
@@ -87,7 +88,7 @@ progress_of e a = record { stage = stage_of e; agenda = agenda_of a }
 -- what a step does was done with this answer, and all else is as before
 pub record Performed {R : Type 0} (old : Engine R) (before : AgendaInCode) (action : ActionInCode) (answer : Answer)
     (new : Engine R) (now : AgendaInCode) : Type 0 where
-  pub performs : Performs old.book.limit (progress_of old before) (action_of action) answer (progress_of new now)
+  pub performs : Performs (limited old.book.limit) (progress_of old before) (action_of action) answer (progress_of new now)
   pub sound : IsSound new
   pub limit : new.book.limit ≡ old.book.limit
   pub given : new.book.given ≡ old.book.given
@@ -98,7 +99,7 @@ pub record Performed {R : Type 0} (old : Engine R) (before : AgendaInCode) (acti
 pub record Followed {R : Type 0} (old : Engine R) (before : AgendaInCode) (step : StepInCode) (answer : Answer)
     (new : Engine R) (now : AgendaInCode) : Type 0 where
   pub done : Progress
-  pub performs : Performs old.book.limit (progress_of old before) (step_of step).action answer done
+  pub performs : Performs (limited old.book.limit) (progress_of old before) (step_of step).action answer done
   pub stage : stage_of new ≡ done.stage
   pub follows : agenda_of now ≡ followed_by answer (list_of (step_of step).followers) done.agenda
   pub sound : IsSound new

@@ -1,5 +1,6 @@
 pub mod Stage
 pub mod Course
+pub mod Progress
 pub mod Report
 pub mod Outputs
 pub mod Shelf

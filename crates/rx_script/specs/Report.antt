@@ -1,5 +1,5 @@
 -- The report of a course, and its dump.
-use Rattle.std.specs.Prelude.{ℕ, ◌+◌, List, ◌++◌}
+use Rattle.std.specs.Prelude.{◌≡◌, ℕ, ◌+◌, List, ◌++◌}
 use Rattle.rx_event.specs.Kept.{nothing_kept}
 use Rattle.rx_event.specs.Totals.{held_count, waiting_count}
 use Rattle.rx_dump.specs.Dump.{dump}
@@ -8,8 +8,9 @@ use Rattle.rx_report.specs.Text.{totals_line, closed_line}
 use Rattle.rx_report.specs.Lines.{refused_lines, node_lines, res_lines, totals_of}
 use Rattle.rx_script.specs.declared.Form.{Form}
 use Rattle.rx_script.specs.declared.Form.TheVariants.{Report, Dump}
-use Rattle.rx_script.specs.Stage.{Stage}
-use Rattle.rx_script.specs.Course.{Course}
+use Rattle.rx_scenario.specs.Scenario.{Script}
+use Rattle.rx_script.specs.Stage.{Ware, Stage}
+use Rattle.rx_script.specs.Course.{Course, HasNoFull, IsCourseOf}
 
 -- all lines but the last
 unfoldable pub unclosed_report : List Answer → Stage → List ℕ
@@ -18,6 +19,13 @@ unclosed_report answers s = refused_lines answers ++ node_lines s.history s.node
 -- the text, where so many releases of the whole run met a fault. What is held or waits after the last step is released then
 unfoldable pub report : Course → ℕ → List ℕ
 report c faults = unclosed_report c.answers c.last ++ closed_line (held_count c.last.history + waiting_count c.last.history) faults
+
+-- two courses of a scenario with a stock, neither cut short by a full history, are reported the same, whatever the order of what was
+-- forced and drained in each
+abbrev pub AreReportedAlike : Type 0
+AreReportedAlike =
+    (script : Script) (stock : List Ware) (c d : Course) → IsCourseOf script stock c → HasNoFull c.answers → IsCourseOf script stock d → HasNoFull d.answers
+    → (faults : ℕ) → report c faults ≡ report d faults
 
 -- what is written of a course, in this form: its report, or the dump of its history before the closing
 abbrev pub output : Form → Course → ℕ → List ℕ

@@ -7,9 +7,18 @@ use Rattle.rx_device.specs.Input.{GivesJson}
 use Rattle.rx_scenario.specs.Scenario.{Script}
 use Rattle.rx_scenario.specs.Reading.{scenario_of}
 use Rattle.rx_script.specs.declared.Form.{Form}
+use Rattle.rx_script.specs.declared.Form.TheVariants.{Report}
 use Rattle.rx_script.specs.Stage.{Ware}
-use Rattle.rx_script.specs.Course.{Course, IsCourseOf}
-use Rattle.rx_script.specs.Report.{output}
+use Rattle.rx_script.specs.Course.{Course, HasNoFull, IsCourseOf, HasOneCourse}
+use Rattle.rx_script.specs.Report.{report, output}
+
+-- the course, of which the text is written, is reported as the one canonical course of the scenario with this stock: so but for the
+-- count of faults the report rests on nothing but the scenario, the tags of the resources, and which of them a book takes
+pub record IsReportedCanonically (script : Script) (stock : List Ware) (form : Form) (course : Course) (text : List ℕ) (faults : ℕ) : Type 0 where
+  pub one : HasOneCourse script stock
+  pub same_answers : one.course.answers ≡ course.answers
+  pub same_report : (n : ℕ) → report one.course n ≡ report course n
+  pub lines : form ≡ Report → text ≡ report one.course faults
 
 -- the text is what is written in this form of some course of the scenario that the JSON value is, with this stock, where at most as
 -- many releases met a fault as resources were accepted
@@ -21,6 +30,8 @@ pub record IsOutputOf (value : Data) (stock : List Ware) (form : Form) (text : L
   pub faults : ℕ
   pub few_faults : faults ≤ accepted_count nothing_kept course.last.history
   pub lines : text ≡ output form course faults
+  -- where no step was refused because the history was full
+  pub canonical : HasNoFull course.answers → IsReportedCanonically script stock form course text faults
 
 -- the reader gave a scenario, and what is to be written of it was written in this way: whole, or a front of it
 pub record Runs (stock : List Ware) (form : Form) (given left : Option (List ℕ)) (Writes : List ℕ → Type 0) : Type 0 where

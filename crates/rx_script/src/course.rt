@@ -2,7 +2,8 @@
 
 ghost use Rattle.std.specs.Prelude.{◌≡◌, ◌≤◌, map, IfOk, OnOk};
 ghost use Rattle.rx_scenario.specs.Scenario.{step_of};
-ghost use Rattle.rx_script.specs.Course.{Ends};
+ghost use Rattle.rx_script.specs.Course.{limited};
+ghost use Rattle.rx_script.specs.Progress.{Ends};
 ghost use Rattle.rx_agenda.specs.Agenda.{with_steps, empty_agenda};
 ghost use Rattle.rx_script.specs.Engine.{stage_of, progress_of, IsSound, Performed, Followed};
 
@@ -54,7 +55,7 @@ fn take_all<R: Resource>(
     requires sound { IsSound engine.old }
     requires ends { until ≤ 1000000000000000 }
     requires clock { agenda.old.timeline.clock ≤ until }
-    ensures course { IfOk result (λ v. Ends engine.old.book.limit until (progress_of engine.old agenda.old) v.items (stage_of engine.new)) }
+    ensures course { IfOk result (λ v. Ends (limited engine.old.book.limit) until (progress_of engine.old agenda.old) v.items (stage_of engine.new)) }
     ensures sound { OnOk result (IsSound engine.new) }
     ensures given { OnOk result (engine.new.book.given ≡ engine.old.book.given) }
 {
@@ -74,7 +75,7 @@ pub fn run_course<R: Resource>(
 ) -> Result<Vec<Answer>, AllocError>
     requires sound { IsSound engine.old }
     requires ends { until ≤ 1000000000000000 }
-    ensures course { IfOk result (λ v. Ends engine.old.book.limit until
+    ensures course { IfOk result (λ v. Ends (limited engine.old.book.limit) until
         (record { stage = stage_of engine.old; agenda = with_steps (map step_of steps.items) empty_agenda }) v.items (stage_of engine.new)) }
     ensures sound { OnOk result (IsSound engine.new) }
     ensures given { OnOk result (engine.new.book.given ≡ engine.old.book.given) }

@@ -31,6 +31,10 @@
 //!   written is the report of a course of the scenario that its bytes are, or the dump of that course's
 //!   history, and nothing else. Each error comes only for its cause, and a cause of `Syntax` or `Shape`
 //!   is never passed over. With an error nothing was written, but for a front of the text with `Write`.
+//! - Where no step was refused `Full`, that report is, but for the count of faults, the one of the
+//!   **canonical course**, of which a scenario with a stock has just one: it has no limit of events,
+//!   what is forced comes in one order in it, and it drains by rising number. So no report shows an order
+//!   that the code chose ([`courses_are_reported_alike`]).
 //! - [`close`] leaves nothing open, held or waiting, and takes no memory.
 //! - `run` closes its book in every outcome and before the first byte is written; that it does so where
 //!   it answers an error is tested and not proved. So it is that `Memory` is given only where memory
@@ -48,11 +52,13 @@ mod course;
 mod engine;
 mod execute;
 mod hubs;
+mod laws;
 mod opening;
 mod running;
 mod stock;
 
 pub use closing::close;
+pub use laws::{courses_are_reported_alike, each_scenario_has_one_canonical_course};
 pub use running::run;
 pub use rx_book::Closed;
 pub use rx_device::{MOST_BYTES, MOST_TURNS, ScriptError, Watched, WriteFault, write_text};

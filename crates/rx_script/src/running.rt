@@ -11,13 +11,14 @@ ghost use Rattle.rx_scenario.specs.Scenario.{step_of, script_of};
 ghost use Rattle.rx_scenario.specs.Reading.{scenario_of};
 ghost use Rattle.rx_agenda.specs.declared.answer.Answer.{Answer};
 ghost use Rattle.rx_script.specs.Stage.{Stage, ware_of};
-ghost use Rattle.rx_script.specs.Course.{Ends, Course, IsCourseOf};
+ghost use Rattle.rx_script.specs.Course.{limited, Course, HasNoFull, IsCourseOf};
+ghost use Rattle.rx_script.specs.Progress.{Ends};
 ghost use Rattle.rx_agenda.specs.Agenda.{with_steps, empty_agenda};
 ghost use Rattle.rx_script.specs.Report.{unclosed_report, output};
 ghost use Rattle.rx_dump.specs.Dump.{dump};
 ghost use Rattle.rx_script.specs.Engine.{stage_of, IsSound};
 ghost use Rattle.rx_script.specs.Outputs.{unclosed_output, closing};
-ghost use Rattle.rx_script.specs.Running.{IsOutputOf, Runs, GivesNoScenario};
+ghost use Rattle.rx_script.specs.Running.{IsReportedCanonically, IsOutputOf, Runs, GivesNoScenario};
 
 use crate::Form;
 use crate::closing::close;
@@ -117,7 +118,7 @@ fn carry_out<S: Resource>(
     requires sound { IsSound engine.old }
     requires given { engine.old.book.given ≡ 0 }
     requires ends { until ≤ 1000000000000000 }
-    ensures ok { IfOk result (λ s. (answers : List Answer) × (last : Stage) × Ends engine.old.book.limit until
+    ensures ok { IfOk result (λ s. (answers : List Answer) × (last : Stage) × Ends (limited engine.old.book.limit) until
         (record { stage = stage_of engine.old; agenda = with_steps (map step_of steps.items) empty_agenda }) answers last
         × (last.history ≡ engine.new.book.history) × (engine.new.faults ≤ taken_count engine.new.book.base last.history) × (string_bytes s ≡ unclosed_output form answers last)
         × (engine.new.book.base ≡ nothing_kept)) }
@@ -146,7 +147,8 @@ fn text_of<S: Resource>(
     requires limited { scenario.events ≤ 4294967295 }
     requires ends { scenario.until ≤ 1000000000000000 }
     ensures { IfOk result (λ s. (c : Course) × (faults : ℕ) × IsCourseOf (script_of scenario) (map (ware_of S.Resource) stock.items) c
-        × (faults ≤ accepted_count nothing_kept c.last.history) × (string_bytes s ≡ output form c faults)) }
+        × (faults ≤ accepted_count nothing_kept c.last.history) × (string_bytes s ≡ output form c faults)
+        × (HasNoFull c.answers → IsReportedCanonically (script_of scenario) (map (ware_of S.Resource) stock.items) form c (string_bytes s) faults)) }
 {
     let Scenario {
         steps,

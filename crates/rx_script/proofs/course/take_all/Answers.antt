@@ -1,5 +1,6 @@
 use Rattle.std.proofs.Common.{◌≡◌, ◌≤◌, ◌++◌, ◌∷◌, [], ◌∙◌, refl, sym, subst, rules, arith}
-use Rattle.rx_script.specs.Course.{Leads, not_begun}
+use Rattle.rx_script.specs.Course.{limited}
+use Rattle.rx_script.specs.Progress.{Leads, not_begun}
 use Rattle.rx_script.specs.Engine.{progress_of}
 use Rattle.rx_script.proofs.Advancing.{leads_more}
 use Rattle.rx_script.proofs.course.take_all.Goals as goal
@@ -8,7 +9,7 @@ pub loop-step-init : goal.loop-step-init
 loop-step-init g c =
     let first = progress_of c.args.engine.now c.args.agenda.now in
     record {
-      leads = subst (λ l. Leads c.args.engine.now.book.limit c.args.until first l first) (sym c.new-answers.ensures.items) not_begun;
+      leads = subst (λ l. Leads (limited c.args.engine.now.book.limit) c.args.until first l first) (sym c.new-answers.ensures.items) not_begun;
       sound = c.requires.sound;
       limit = refl;
       given = refl;

@@ -1,0 +1,3 @@
+pub mod Leading
+pub mod Drains
+pub mod Lengths

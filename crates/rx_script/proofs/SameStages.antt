@@ -1,0 +1,269 @@
+-- Two stages at which the names stand for the same things, which have other numbers: the same causes of the scenario's own stand, and
+-- each step makes the same call.
+use Rattle.std.proofs.Common.{◌≡◌, ℕ, true, false, List, Option, Some, None, cond, map, slice_get, refl, ap, subst, ◌∙◌}
+use Rattle.std.proofs.Math.Bool.{◌||◌}
+use Rattle.std.specs.Prelude.{option_map}
+use Rattle.std.specs.Str.{bytes_eq}
+use Rattle.std.specs.Option.{option_and_then, option_map_or}
+use Rattle.std.proofs.lemmas.Option.{same_Some, none-some}
+use Rattle.rx_event.specs.Kept.{nothing_kept}
+use Rattle.rx_event.specs.declared.event.Place.{Place}
+use Rattle.rx_event.specs.declared.event.Place.TheVariants.{Root, Source, Inner, Notifier}
+use Rattle.rx_event.specs.declared.event.Kind.{Kind}
+use Rattle.rx_event.specs.declared.event.Kind.TheVariants.{Leaf, Pass, Flat, Switch, Until, Sub}
+use Rattle.rx_event.specs.Events.{makes_node, makes_hub, makes_resource}
+use Rattle.rx_event.specs.Tree.{at}
+use Rattle.rx_event.specs.Forced.{IsSettled}
+use Rattle.rx_event.specs.Calls.{Call, Opening, OpeningUsing, Holding, Applying, Removing, Emitting, Ending, Aborting, Declining, Failing, Disposing, Publishing, Connecting, Disconnecting}
+use Rattle.rx_event.specs.Renumbered.{place_by, kind_by, call_by, AreSameBy}
+use Rattle.rx_register.proofs.Laws.SameCauses.{NamesPlace, NamesKind, NamesKnown}
+use Rattle.rx_agenda.specs.declared.answer.Cause.TheVariants.{NoName, NameTaken, NoStock}
+use Rattle.rx_agenda.specs.Bindings.{Binding, bound, is_unbound, is_bound}
+use Rattle.rx_scenario.specs.Scenario.{Name, Site, root, source, inner, notifier, Sort, leaf, pass, flat, switch, until, sub, Command, using, open_node, hold, apply, remove, next, end, abort, decline, fail, dispose, make_hub, connect, disconnect, drain}
+use Rattle.rx_script.specs.Stage.{Ware, Stage, is_unbound_site, is_unbound_hub, lacks_name, connection_name, takes_name, is_empty, lacks_stock, own_cause, place_at, kind_at, front, call_of}
+use Rattle.rx_script.proofs.Renaming.{renamed, AllNumbers, bound-same, is_bound-same, is_unbound-same, bound-holds}
+
+pub record AreSameStages (r s : ℕ → ℕ) (x y : Stage) : Type 0 where
+  pub histories : AreSameBy nothing_kept r s x.history y.history
+  pub settled : IsSettled nothing_kept x.history
+  pub settled_there : IsSettled nothing_kept y.history
+  pub nodes : y.nodes ≡ map (renamed r) x.nodes
+  pub hubs : y.hubs ≡ map (renamed r) x.hubs
+  pub resources : y.resources ≡ map (renamed r) x.resources
+  pub stock : y.stock ≡ x.stock
+  -- each name stands for what it has to
+  pub nodes_made : AllNumbers (λ n. at makes_node x.history n ≡ true) x.nodes
+  pub hubs_made : AllNumbers (λ n. at makes_hub x.history n ≡ true) x.hubs
+  pub resources_made : AllNumbers (λ n. at makes_resource x.history n ≡ true) x.resources
+
+module _ (r s : ℕ → ℕ) (x y : Stage) (a : AreSameStages r s x y) where
+  -- the causes of the scenario's own ---------------------------------------------------------------------------------------------
+
+  no_node : (name : Name) → is_unbound y.nodes name ≡ is_unbound x.nodes name
+  no_node name = is_unbound-same r x.nodes y.nodes name a.nodes
+
+  no_hub : (name : Name) → is_unbound y.hubs name ≡ is_unbound x.hubs name
+  no_hub name = is_unbound-same r x.hubs y.hubs name a.hubs
+
+  no_resource : (name : Name) → is_unbound y.resources name ≡ is_unbound x.resources name
+  no_resource name = is_unbound-same r x.resources y.resources name a.resources
+
+  a_node : (name : Name) → is_bound y.nodes name ≡ is_bound x.nodes name
+  a_node name = is_bound-same r x.nodes y.nodes name a.nodes
+
+  no_site : (site : Site) → is_unbound_site y site ≡ is_unbound_site x site
+  no_site root = refl
+  no_site (source name) = no_node name
+  no_site (inner name) = no_node name
+  no_site (notifier name) = no_node name
+
+  no_sort : (sort : Sort) → is_unbound_hub y sort ≡ is_unbound_hub x sort
+  no_sort (sub hub connection) = no_hub hub
+  no_sort _ = refl
+
+  lacks_same : (step : Command) → lacks_name y step ≡ lacks_name x step
+  lacks_same (using name site res) = no_site site
+  lacks_same (open_node name site sort) = λ i. no_site site i || no_sort sort i
+  lacks_same (hold node res) = no_node node
+  lacks_same (apply res word) = no_resource res
+  lacks_same (remove res) = no_resource res
+  lacks_same (next node value) = no_node node
+  lacks_same (end node t) = no_node node
+  lacks_same (abort node code) = no_node node
+  lacks_same (decline node) = no_node node
+  lacks_same (fail node code) = no_node node
+  lacks_same (dispose node) = no_node node
+  lacks_same (make_hub name mode) = refl
+  lacks_same (connect hub name) = no_hub hub
+  lacks_same (disconnect hub) = no_hub hub
+  lacks_same drain = refl
+
+  beside_same : (name : Name) (o : Option Name)
+      → option_map_or (λ c. is_bound y.nodes c || bytes_eq name c) o false ≡ option_map_or (λ c. is_bound x.nodes c || bytes_eq name c) o false
+  beside_same name None = refl
+  beside_same name (Some c) = ap (λ b. b || bytes_eq name c) (a_node c)
+
+  given_same : (o : Option Name) → option_map_or (is_bound y.nodes) o false ≡ option_map_or (is_bound x.nodes) o false
+  given_same None = refl
+  given_same (Some c) = a_node c
+
+  takes_same : (step : Command) → takes_name y step ≡ takes_name x step
+  takes_same (using name site res) = λ i. a_node name i || is_bound-same r x.resources y.resources res a.resources i
+  takes_same (open_node name site sort) = λ i. a_node name i || beside_same name (connection_name sort) i
+  takes_same (hold node res) = is_bound-same r x.resources y.resources res a.resources
+  takes_same (make_hub name mode) = is_bound-same r x.hubs y.hubs name a.hubs
+  takes_same (connect hub name) = given_same name
+  takes_same _ = refl
+
+  stock_same : (step : Command) → lacks_stock y step ≡ lacks_stock x step
+  stock_same (using name site res) = ap is_empty a.stock
+  stock_same (hold node res) = ap is_empty a.stock
+  stock_same _ = refl
+
+  pub own_same : (step : Command) → own_cause y step ≡ own_cause x step
+  own_same step =
+      λ i. cond (lacks_same step i) (Some NoName) (cond (takes_same step i) (Some NameTaken) (cond (stock_same step i) (Some NoStock) None))
+
+  -- the call ---------------------------------------------------------------------------------------------------------------------
+
+  number_same : {B : Type 0} (f : ℕ → B) (g : B → B) → ((n : ℕ) → f (r n) ≡ g (f n)) → (bindings others : List Binding) (name : Name)
+      → others ≡ map (renamed r) bindings → option_map f (bound others name) ≡ option_map g (option_map f (bound bindings name))
+  number_same {B = B} f g each bindings others name same = ap (option_map f) (bound-same r bindings others name same) ∙ moved (bound bindings name) where
+    moved : (o : Option ℕ) → option_map f (option_map r o) ≡ option_map g (option_map f o)
+    moved None = refl
+    moved (Some n) = ap (λ (z : B). Some z) (each n)
+
+  place_same : (site : Site) → place_at y site ≡ option_map (place_by r) (place_at x site)
+  place_same root = refl
+  place_same (source name) = number_same Source (place_by r) (λ n. refl) x.nodes y.nodes name a.nodes
+  place_same (inner name) = number_same Inner (place_by r) (λ n. refl) x.nodes y.nodes name a.nodes
+  place_same (notifier name) = number_same Notifier (place_by r) (λ n. refl) x.nodes y.nodes name a.nodes
+
+  kind_same : (sort : Sort) → kind_at y sort ≡ option_map (kind_by r) (kind_at x sort)
+  kind_same (sub hub connection) = number_same Sub (kind_by r) (λ n. refl) x.hubs y.hubs hub a.hubs
+  kind_same leaf = refl
+  kind_same pass = refl
+  kind_same flat = refl
+  kind_same switch = refl
+  kind_same until = refl
+
+  pub front_same : front y ≡ front x
+  front_same = ap (λ (l : List Ware). slice_get l 0) a.stock
+
+  using_moved : (o : Option Place) (w : Option Ware) → option_and_then (λ place. option_map (λ v. OpeningUsing place v.tag) w) (option_map (place_by r) o)
+      ≡ option_map (call_by r) (option_and_then (λ place. option_map (λ v. OpeningUsing place v.tag) w) o)
+  using_moved None w = refl
+  using_moved (Some place) None = refl
+  using_moved (Some place) (Some w) = refl
+
+  open_moved : (o : Option Place) (k : Option Kind)
+      → option_and_then (λ place. option_map (Opening place) (option_map (kind_by r) k)) (option_map (place_by r) o)
+      ≡ option_map (call_by r) (option_and_then (λ place. option_map (Opening place) k) o)
+  open_moved None k = refl
+  open_moved (Some place) None = refl
+  open_moved (Some place) (Some kind) = refl
+
+  hold_moved : (o : Option ℕ) (w : Option Ware) → option_and_then (λ n. option_map (λ v. Holding n v.tag) w) (option_map r o)
+      ≡ option_map (call_by r) (option_and_then (λ n. option_map (λ v. Holding n v.tag) w) o)
+  hold_moved None w = refl
+  hold_moved (Some n) None = refl
+  hold_moved (Some n) (Some w) = refl
+
+  node_call : (f : ℕ → Call) → ((n : ℕ) → f (r n) ≡ call_by r (f n)) → (name : Name)
+      → option_map f (bound y.nodes name) ≡ option_map (call_by r) (option_map f (bound x.nodes name))
+  node_call f each name = number_same f (call_by r) each x.nodes y.nodes name a.nodes
+
+  hub_call : (f : ℕ → Call) → ((n : ℕ) → f (r n) ≡ call_by r (f n)) → (name : Name)
+      → option_map f (bound y.hubs name) ≡ option_map (call_by r) (option_map f (bound x.hubs name))
+  hub_call f each name = number_same f (call_by r) each x.hubs y.hubs name a.hubs
+
+  resource_call : (f : ℕ → Call) → ((n : ℕ) → f (r n) ≡ call_by r (f n)) → (name : Name)
+      → option_map f (bound y.resources name) ≡ option_map (call_by r) (option_map f (bound x.resources name))
+  resource_call f each name = number_same f (call_by r) each x.resources y.resources name a.resources
+
+  pub call_same : (step : Command) → call_of y step ≡ option_map (call_by r) (call_of x step)
+  call_same (using name site res) =
+      (λ i. option_and_then (λ place. option_map (λ v. OpeningUsing place v.tag) (front_same i)) (place_same site i)) ∙ using_moved (place_at x site) (front x)
+  call_same (open_node name site sort) =
+      (λ i. option_and_then (λ place. option_map (Opening place) (kind_same sort i)) (place_same site i)) ∙ open_moved (place_at x site) (kind_at x sort)
+  call_same (hold node res) =
+      (λ i. option_and_then (λ n. option_map (λ v. Holding n v.tag) (front_same i)) (bound-same r x.nodes y.nodes node a.nodes i))
+      ∙ hold_moved (bound x.nodes node) (front x)
+  call_same (apply res word) = resource_call Applying (λ n. refl) res
+  call_same (remove res) = resource_call Removing (λ n. refl) res
+  call_same (next node value) = node_call (λ n. Emitting n value) (λ n. refl) node
+  call_same (end node t) = node_call (λ n. Ending n t) (λ n. refl) node
+  call_same (abort node code) = node_call (λ n. Aborting n code) (λ n. refl) node
+  call_same (decline node) = node_call Declining (λ n. refl) node
+  call_same (fail node code) = node_call (λ n. Failing n code) (λ n. refl) node
+  call_same (dispose node) = node_call Disposing (λ n. refl) node
+  call_same (make_hub name mode) = refl
+  call_same (connect hub name) = hub_call Connecting (λ n. refl) hub
+  call_same (disconnect hub) = hub_call Disconnecting (λ n. refl) hub
+  call_same drain = refl
+
+  -- its numbers are of what they have to be --------------------------------------------------------------------------------------
+
+  by_number : (f : ℕ → Call) (P : ℕ → Type 0) → ((n : ℕ) → P n → NamesKnown x.history (f n)) → (bindings : List Binding) → AllNumbers P bindings
+      → (name : Name) (call : Call)
+      → option_map f (bound bindings name) ≡ Some call → NamesKnown x.history call
+  by_number f P each bindings all name call called = by_bound (bound bindings name) refl called where
+    by_bound : (o : Option ℕ) → bound bindings name ≡ o → option_map f o ≡ Some call → NamesKnown x.history call
+    by_bound None found called = absurd (none-some call called)
+    by_bound (Some n) found called = subst (NamesKnown x.history) (same_Some (f n) call called) (each n (bound-holds P bindings name n all found))
+
+  by_node : (f : ℕ → Call) → ((n : ℕ) → at makes_node x.history n ≡ true → NamesKnown x.history (f n)) → (name : Name) (call : Call)
+      → option_map f (bound x.nodes name) ≡ Some call → NamesKnown x.history call
+  by_node f each name call called = by_number f (λ n. at makes_node x.history n ≡ true) each x.nodes a.nodes_made name call called
+
+  by_hub : (f : ℕ → Call) → ((n : ℕ) → at makes_hub x.history n ≡ true → NamesKnown x.history (f n)) → (name : Name) (call : Call)
+      → option_map f (bound x.hubs name) ≡ Some call → NamesKnown x.history call
+  by_hub f each name call called = by_number f (λ n. at makes_hub x.history n ≡ true) each x.hubs a.hubs_made name call called
+
+  by_resource : (f : ℕ → Call) → ((n : ℕ) → at makes_resource x.history n ≡ true → NamesKnown x.history (f n)) → (name : Name) (call : Call)
+      → option_map f (bound x.resources name) ≡ Some call → NamesKnown x.history call
+  by_resource f each name call called = by_number f (λ n. at makes_resource x.history n ≡ true) each x.resources a.resources_made name call called
+
+  place_of_number : (f : ℕ → Place) → ((n : ℕ) → at makes_node x.history n ≡ true → NamesPlace x.history (f n)) → (name : Name) (place : Place)
+      → option_map f (bound x.nodes name) ≡ Some place → NamesPlace x.history place
+  place_of_number f each name place placed = by_bound (bound x.nodes name) refl placed where
+    by_bound : (o : Option ℕ) → bound x.nodes name ≡ o → option_map f o ≡ Some place → NamesPlace x.history place
+    by_bound None found placed = absurd (none-some place placed)
+    by_bound (Some n) found placed = subst (NamesPlace x.history) (same_Some (f n) place placed)
+        (each n (bound-holds (λ m. at makes_node x.history m ≡ true) x.nodes name n a.nodes_made found))
+
+  place_known : (site : Site) (place : Place) → place_at x site ≡ Some place → NamesPlace x.history place
+  place_known root place placed = subst (NamesPlace x.history) (same_Some Root place placed) tt
+  place_known (source name) place placed = place_of_number Source (λ n made. made) name place placed
+  place_known (inner name) place placed = place_of_number Inner (λ n made. made) name place placed
+  place_known (notifier name) place placed = place_of_number Notifier (λ n made. made) name place placed
+
+  kind_known : (sort : Sort) (kind : Kind) → kind_at x sort ≡ Some kind → NamesKind x.history kind
+  kind_known (sub hub connection) kind of_kind = by_bound (bound x.hubs hub) refl of_kind where
+    by_bound : (o : Option ℕ) → bound x.hubs hub ≡ o → option_map Sub o ≡ Some kind → NamesKind x.history kind
+    by_bound None found of_kind = absurd (none-some kind of_kind)
+    by_bound (Some n) found of_kind = subst (NamesKind x.history) (same_Some (Sub n) kind of_kind)
+        (bound-holds (λ m. at makes_hub x.history m ≡ true) x.hubs hub n a.hubs_made found)
+  kind_known leaf kind of_kind = subst (NamesKind x.history) (same_Some Leaf kind of_kind) tt
+  kind_known pass kind of_kind = subst (NamesKind x.history) (same_Some Pass kind of_kind) tt
+  kind_known flat kind of_kind = subst (NamesKind x.history) (same_Some Flat kind of_kind) tt
+  kind_known switch kind of_kind = subst (NamesKind x.history) (same_Some Switch kind of_kind) tt
+  kind_known until kind of_kind = subst (NamesKind x.history) (same_Some Until kind of_kind) tt
+
+  using_known : (o : Option Place) (w : Option Ware) (call : Call) → ((place : Place) → o ≡ Some place → NamesPlace x.history place)
+      → option_and_then (λ place. option_map (λ v. OpeningUsing place v.tag) w) o ≡ Some call → NamesKnown x.history call
+  using_known None w call known called = absurd (none-some call called)
+  using_known (Some place) None call known called = absurd (none-some call called)
+  using_known (Some place) (Some w) call known called = subst (NamesKnown x.history) (same_Some (OpeningUsing place w.tag) call called) (known place refl)
+
+  open_known : (o : Option Place) (k : Option Kind) (call : Call) → ((place : Place) → o ≡ Some place → NamesPlace x.history place)
+      → ((kind : Kind) → k ≡ Some kind → NamesKind x.history kind) → option_and_then (λ place. option_map (Opening place) k) o ≡ Some call
+      → NamesKnown x.history call
+  open_known None k call known named called = absurd (none-some call called)
+  open_known (Some place) None call known named called = absurd (none-some call called)
+  open_known (Some place) (Some kind) call known named called =
+      subst (NamesKnown x.history) (same_Some (Opening place kind) call called) (known place refl, named kind refl)
+
+  hold_known : (o : Option ℕ) (w : Option Ware) (call : Call) → ((n : ℕ) → o ≡ Some n → at makes_node x.history n ≡ true)
+      → option_and_then (λ n. option_map (λ v. Holding n v.tag) w) o ≡ Some call → NamesKnown x.history call
+  hold_known None w call known called = absurd (none-some call called)
+  hold_known (Some n) None call known called = absurd (none-some call called)
+  hold_known (Some n) (Some w) call known called = subst (NamesKnown x.history) (same_Some (Holding n w.tag) call called) (known n refl)
+
+  pub call_known : (step : Command) (call : Call) → call_of x step ≡ Some call → NamesKnown x.history call
+  call_known (using name site res) call called = using_known (place_at x site) (front x) call (place_known site) called
+  call_known (open_node name site sort) call called = open_known (place_at x site) (kind_at x sort) call (place_known site) (kind_known sort) called
+  call_known (hold node res) call called =
+      hold_known (bound x.nodes node) (front x) call (λ n found. bound-holds (λ m. at makes_node x.history m ≡ true) x.nodes node n a.nodes_made found) called
+  call_known (apply res word) call called = by_resource Applying (λ n made. made) res call called
+  call_known (remove res) call called = by_resource Removing (λ n made. made) res call called
+  call_known (next node value) call called = by_node (λ n. Emitting n value) (λ n made. made) node call called
+  call_known (end node t) call called = by_node (λ n. Ending n t) (λ n made. made) node call called
+  call_known (abort node code) call called = by_node (λ n. Aborting n code) (λ n made. made) node call called
+  call_known (decline node) call called = by_node Declining (λ n made. made) node call called
+  call_known (fail node code) call called = by_node (λ n. Failing n code) (λ n made. made) node call called
+  call_known (dispose node) call called = by_node Disposing (λ n made. made) node call called
+  call_known (make_hub name mode) call called = subst (NamesKnown x.history) (same_Some (Publishing mode) call called) tt
+  call_known (connect hub name) call called = by_hub Connecting (λ n made. made) hub call called
+  call_known (disconnect hub) call called = by_hub Disconnecting (λ n made. made) hub call called
+  call_known drain call called = absurd (none-some call called)
