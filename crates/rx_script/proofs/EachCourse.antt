@@ -6,7 +6,7 @@ use Rattle.rx_event.specs.Forced.{IsSettled}
 use Rattle.rx_event.specs.Lawful.{IsLawful}
 use Rattle.rx_event.specs.declared.refusal.Refusal.{Refusal}
 use Rattle.rx_event.specs.Calls.{Call, outside_of}
-use Rattle.rx_event.proofs.Laws.Lawful.{IsLawful_empty}
+use Rattle.rx_event.proofs.Laws.Begin.{IsLawful_nothing}
 use Rattle.rx_register.proofs.Laws.Empty.{settled_empty}
 use Rattle.rx_time.specs.Schedule.{item_of}
 use Rattle.rx_agenda.specs.declared.answer.Answer.{Answer}
@@ -174,7 +174,7 @@ one_course script stock = record {
   only = λ other also. one_canonical_course script stock other found also canonical;
 } where
   w : IsGone script.until (begin stock script.steps)
-  w = go_far script.until (suc (to_come (with_steps script.steps empty_agenda))) (begin stock script.steps) (IsLawful_empty nothing_kept) (settled_empty nothing_kept)
+  w = go_far script.until (suc (to_come (with_steps script.steps empty_agenda))) (begin stock script.steps) IsLawful_nothing (settled_empty nothing_kept)
       (with_steps-orderly script.steps empty_agenda empty-orderly) (omega arith)
 
   found : Course

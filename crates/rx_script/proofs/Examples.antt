@@ -1,3 +1,6 @@
 pub mod Leading
 pub mod Drains
 pub mod Lengths
+pub mod InOneOrder
+pub mod HubBelowUntil
+pub mod Times

@@ -1,7 +1,7 @@
 -- In the one order a call against which no cause stands is carried out, and all that waits is taken.
 use Rattle.std.proofs.Common.{◌≡◌, ℕ, zero, suc, ◌+◌, ◌<◌, ◌≤◌, Bool, true, false, List, [], ◌∷◌, ◌++◌, length, None, slice_get, refl, sym, ap, subst, ◌∙◌, arith, append_assoc, append-nil}
 use Rattle.std.proofs.lemmas.Bool.{false_from_ne_true, ltb-true}
-use Rattle.rx_event.specs.Kept.{nothing_kept}
+use Rattle.rx_event.specs.Kept.{nothing_kept, shown}
 use Rattle.rx_event.specs.declared.event.Event.{Event}
 use Rattle.rx_event.specs.declared.event.Event.TheVariants.{Take}
 use Rattle.rx_event.specs.declared.refusal.Refusal.{Refusal}
@@ -19,9 +19,9 @@ use Rattle.rx_event.proofs.Laws.Lists.{first_passes}
 use Rattle.rx_event.proofs.Laws.Lawful.{IsLawful-push}
 use Rattle.rx_event.proofs.Laws.Totals.{waiting_count-take}
 use Rattle.rx_event.proofs.Laws.Calm.{closes_none_kept, settled_on, unforced}
-use Rattle.rx_event.proofs.Laws.Starts.{lawful_begun}
+use Rattle.rx_event.proofs.Laws.Begin.{shown_nothing}
+use Rattle.rx_event.proofs.Laws.Starts.{lawful_begun, lawful_last}
 use Rattle.rx_event.proofs.Laws.Finishes.{first_forced_on, finishes, finish_settled}
-use Rattle.rx_event.proofs.Laws.ReadSteps.{lawful_last}
 use Rattle.rx_event.proofs.Laws.ReadDrained.{TakesOn, takes_none, takes_one}
 use Rattle.rx_register.specs.Causes.{is_over, added_by, causes, unlimited}
 use Rattle.rx_register.specs.Claims.{MayFollowInTurn, IsReady}
@@ -36,7 +36,7 @@ abbrev pub roomy : List Event → Call → ℕ
 roomy h call = length h + debt nothing_kept h + added_by h call
 
 none_over : (h : List Event) (limit more : ℕ) → length h + debt nothing_kept h + more ≤ limit → is_over nothing_kept h limit more ≡ false
-none_over h limit more room = false_from_ne_true (is_over nothing_kept h limit more) (λ is. let l = ltb-true limit (length h + debt nothing_kept h + more) is in absurd (omega arith))
+none_over h limit more room = false_from_ne_true (is_over nothing_kept h limit more) (λ is. let l = ltb-true (0 + limit) (length h + debt nothing_kept h + more) is in absurd (omega arith))
 
 pub roomy_cause : (h : List Event) (limit : ℕ) (fresh : Bool) (call : Call) → roomy h call ≤ limit → (why : Refusal)
     → causes nothing_kept h limit fresh call why ≡ unlimited (causes nothing_kept h 0 fresh call) why
@@ -96,8 +96,13 @@ ordered_step h fresh call law settled ready none =
 pub settled_take : (h : List Event) (q : ℕ) → IsLawful nothing_kept h → MayFollow nothing_kept h (Take q) → IsSettled nothing_kept h → IsSettled nothing_kept (h ++ Take q ∷ [])
 settled_take h q law next settled = settled_on nothing_kept h (Take q) law next settled refl (λ n. refl) (closes_none_kept h (Take q) refl) refl
 
+-- a history has all that nothing shows
+none_shown : (h : List Event) → length (shown nothing_kept) ≤ length h
+none_shown h = subst (λ (l : List Event). length l ≤ length h) (sym shown_nothing) (omega arith)
+
 may_take_on : {h k : List Event} {q : ℕ} → IsStepOf nothing_kept h (Taking q) k → MayFollow nothing_kept h (Take q)
-may_take_on {h = h} {q = q} step = lawful_last h (Take q) (lawful_begun nothing_kept step.forced step.lawful)
+may_take_on {h = h} {q = q} step =
+    lawful_last nothing_kept h (Take q) (none_shown h) (lawful_begun nothing_kept step.forced (none_shown (h ++ Take q ∷ [])) step.lawful)
 
 taken_alone : {h k : List Event} {q : ℕ} → IsLawful nothing_kept h → IsSettled nothing_kept h → IsStepOf nothing_kept h (Taking q) k → k ≡ h ++ Take q ∷ []
 taken_alone {h = h} {q = q} law settled step = unforced nothing_kept step.forced (settled_take h q law (may_take_on step) settled)

@@ -1,6 +1,6 @@
 -- A course that no full history cuts short has one in the one order beside it, with the same answers, at each of whose steps the names
 -- stand for the same things.
-use Rattle.std.proofs.Common.{◌≡◌, ℕ, Bool, true, false, List, [], ◌∷◌, ◌++◌, map, Option, Some, None, refl, sym, ap, ◌∙◌}
+use Rattle.std.proofs.Common.{subst, ◌≡◌, ℕ, Bool, true, false, List, [], ◌∷◌, ◌++◌, map, Option, Some, None, refl, sym, ap, ◌∙◌}
 use Rattle.std.proofs.Math.Bool.{◌||◌}
 use Rattle.std.specs.Prelude.{option_map}
 use Rattle.std.specs.List.{list_any}
@@ -16,7 +16,9 @@ use Rattle.rx_event.specs.Refusals.{refusal_order, first_cause}
 use Rattle.rx_event.specs.Calls.{Call, Disconnecting, outside_of, IsStepOf}
 use Rattle.rx_event.specs.Renumbered.{call_by, IsKnown, AreSameSince}
 use Rattle.rx_event.proofs.Laws.Searches.{list_any_push}
-use Rattle.rx_event.proofs.Laws.ReadWhole.{same_empty}
+use Rattle.rx_event.specs.Renumbered.{AreSame}
+use Rattle.rx_event.proofs.Laws.Begin.{started_empty, shown_nothing}
+use Rattle.rx_event.proofs.Laws.ReadWhole.{same_start}
 use Rattle.rx_event.proofs.Laws.ReadSteps.{steps_same}
 use Rattle.rx_event.proofs.Laws.ReadDrained.{TakesOn, takes_none, takes_one, drained_same}
 use Rattle.rx_event.proofs.Laws.Places.{slice_get-append}
@@ -174,6 +176,9 @@ played_alike {y = y} {last = last} a (one_played {done = done} step {answer = an
       one_more before = record { other = w.other; reads = w.reads; reads_back = w.reads_back; plays = one_played step before.plays w.did; same = w.same } where
         w : DoneAlike before.other step.action answer last
         w = did_alike before.same did (or_parts (list_any is_full (map answer_in done)) (is_full answer) parts).1
+
+same_empty : AreSame nothing_kept [] []
+same_empty = subst (λ (h : List Event). AreSame nothing_kept h h) shown_nothing (same_start nothing_kept started_empty)
 
 begun_alike : (stock : List Ware) → AreSameStages same_empty.reads same_empty.reads_back (start stock) (start stock)
 begun_alike stock = record {

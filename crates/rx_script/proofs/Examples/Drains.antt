@@ -16,7 +16,7 @@ use Rattle.rx_event.specs.Allowed.{most_nodes}
 use Rattle.rx_event.specs.Marks.{child_terminal, source_completed, open_children}
 use Rattle.rx_event.specs.Calls.{OpeningUsing, Disposing, Taking, IsStepOf}
 use Rattle.rx_event.specs.Canonical.{source_end, first_forced}
-use Rattle.rx_event.proofs.Laws.Lawful.{IsLawful_empty}
+use Rattle.rx_event.proofs.Laws.Begin.{IsLawful_nothing}
 use Rattle.rx_register.proofs.Laws.Empty.{settled_empty}
 use Rattle.rx_book.specs.Drains.{Drains, none_taken, next_taken}
 use Rattle.rx_book.specs.State.{accepted_tag}
@@ -62,7 +62,7 @@ four = three ++ Close 2 ∷ []
 
 to_one : IsStepOf nothing_kept [] (OpeningUsing Root 5) one
 unfolding first_forced source_end child_terminal source_completed open_children is_fired owed projections moments stops climb most_visits most_nodes is_open is_shut ancestors parent
-to_one = plain_step [] true (OpeningUsing Root 5) (IsLawful_empty nothing_kept) (settled_empty nothing_kept) tt refl refl
+to_one = plain_step [] true (OpeningUsing Root 5) IsLawful_nothing (settled_empty nothing_kept) tt refl refl
 
 to_two : IsStepOf nothing_kept one (OpeningUsing Root 6) two
 unfolding first_forced source_end child_terminal source_completed open_children is_fired owed projections moments stops climb most_visits most_nodes is_open is_shut ancestors parent

@@ -17,7 +17,7 @@ use Rattle.rx_event.specs.Marks.{child_terminal, source_completed, open_children
 use Rattle.rx_event.specs.Lawful.{stays, more, IsForcedOn}
 use Rattle.rx_event.specs.Calls.{Opening, Ending, Publishing, IsStepOf}
 use Rattle.rx_event.specs.Canonical.{source_end, first_forced}
-use Rattle.rx_event.proofs.Laws.Lawful.{IsLawful_empty}
+use Rattle.rx_event.proofs.Laws.Begin.{IsLawful_nothing}
 use Rattle.rx_event.proofs.Laws.InOrder.{none_connecting, first_is_forced}
 use Rattle.rx_register.proofs.Laws.Empty.{settled_empty}
 use Rattle.rx_agenda.specs.declared.answer.Answer.TheVariants.{Accepted}
@@ -106,7 +106,7 @@ long = halfway ++ End 4 Completed ∷ End 1 Completed ∷ []
 
 to_hub : IsStepOf nothing_kept [] (Publishing Auto) hub_made
 unfolding first_forced source_end child_terminal source_completed open_children is_fired owed projections moments stops climb most_visits most_nodes is_open is_shut ancestors parent most_hubs
-to_hub = plain_step [] true (Publishing Auto) (IsLawful_empty nothing_kept) (settled_empty nothing_kept) tt refl refl
+to_hub = plain_step [] true (Publishing Auto) IsLawful_nothing (settled_empty nothing_kept) tt refl refl
 
 to_until : IsStepOf nothing_kept hub_made (Opening Root Until) until_made
 unfolding first_forced source_end child_terminal source_completed open_children is_fired owed projections moments stops climb most_visits most_nodes is_open is_shut ancestors parent

@@ -1,0 +1,176 @@
+-- Worked canonical courses: source and notifier of a TakeUntil subscribe to one hub, and the source of its connection gives an item, or
+-- completes. Where it completes the definitions leave open which of several nodes ends first; the report shows none of it.
+use Rattle.std.proofs.Common.{◌≡◌, ℕ, List, [], ◌∷◌, ◌++◌, Some, None, true, refl}
+use Rattle.std.specs.Prelude.{codes, pos}
+use Rattle.rx_event.specs.Kept.{nothing_kept, shown}
+use Rattle.rx_note.specs.declared.note.Terminal.TheVariants.{Completed}
+use Rattle.rx_event.specs.declared.event.Place.TheVariants.{Root, Source, Notifier}
+use Rattle.rx_event.specs.declared.event.Kind.TheVariants.{Leaf, Sub, Until}
+use Rattle.rx_event.specs.declared.event.Mode.TheVariants.{Auto}
+use Rattle.rx_event.specs.declared.event.Event.{Event}
+use Rattle.rx_event.specs.declared.event.Event.TheVariants.{Open, Hub, Connect, Item, End, Close}
+use Rattle.rx_event.specs.Notes.{notes}
+use Rattle.rx_event.specs.Resources.{is_held, is_waiting}
+use Rattle.std.specs.Fmt.{digits}
+use Rattle.rx_event.specs.Tree.{parent, ancestors, is_shut, is_open}
+use Rattle.rx_event.specs.Climb.{most_visits, visits, climb, stops}
+use Rattle.rx_event.specs.Moments.{projections, owed, is_fired, moments}
+use Rattle.rx_event.specs.Allowed.{most_nodes, most_hubs}
+use Rattle.rx_event.specs.Marks.{child_terminal, source_completed, open_children}
+use Rattle.rx_event.specs.Calls.{Opening, Emitting, Ending, Publishing}
+use Rattle.rx_event.specs.Canonical.{source_end, first_forced, IsFirstStep, nothing_yet, first_next}
+use Rattle.rx_agenda.specs.declared.answer.Answer.TheVariants.{Accepted}
+use Rattle.rx_agenda.specs.Bindings.{bound}
+use Rattle.rx_scenario.specs.Scenario.{Name, root, source, notifier, leaf, until, sub, Command, make_hub, open_node, next, end, no_steps, Step, Script}
+use Rattle.rx_script.specs.Stage.{Stage}
+use Rattle.rx_script.specs.Course.{in_one_order, Course, IsCanonicalCourseOf}
+use Rattle.rx_report.specs.Text.{refused_line, node_line, note_text, totals_line, closed_line}
+use Rattle.rx_script.specs.Report.{report, unclosed_report}
+use Rattle.rx_script.proofs.CoursesInOrder.{course_in_order}
+use Rattle.rx_script.proofs.Examples.Leading.{doing, turn_of}
+use Rattle.rx_script.proofs.Examples.InOneOrder.{Ordered, nothing_stands, ordered_to, stands_after, first_of_all, ordered_on}
+
+abbrev h : Name
+h = codes "h"
+
+abbrev u : Name
+u = codes "u"
+
+abbrev s : Name
+s = codes "s"
+
+abbrev c : Name
+c = codes "c"
+
+abbrev n : Name
+n = codes "n"
+
+abbrev l : Name
+l = codes "l"
+
+abbrev from_leaf : Command → List Step
+from_leaf last = doing (open_node l (source c) leaf) ∷ doing last ∷ []
+
+abbrev from_notifier : Command → List Step
+from_notifier last = doing (open_node n (notifier u) (sub h None)) ∷ from_leaf last
+
+abbrev from_source : Command → List Step
+from_source last = doing (open_node s (source u) (sub h (Some c))) ∷ from_notifier last
+
+abbrev from_until : Command → List Step
+from_until last = doing (open_node u root until) ∷ from_source last
+
+abbrev steps : Command → List Step
+steps last = doing (make_hub h Auto) ∷ from_until last
+
+abbrev script : Command → ℕ → Script
+script last events = record { steps = steps last; events = events; until = 0 }
+
+-- their histories ------------------------------------------------------------------------------------------------------------------------
+
+abbrev hub_made : List Event
+hub_made = Hub Auto ∷ []
+
+abbrev until_made : List Event
+until_made = hub_made ++ Open Root Until ∷ []
+
+abbrev source_made : List Event
+source_made = until_made ++ Open (Source 1) (Sub 0) ∷ Connect 0 ∷ []
+
+abbrev notifier_made : List Event
+notifier_made = source_made ++ Open (Notifier 1) (Sub 0) ∷ []
+
+abbrev leaf_made : List Event
+leaf_made = notifier_made ++ Open (Source 3) Leaf ∷ []
+
+-- the notifier takes the item, which fires the TakeUntil; with it both its subscribers close, and the hub has none left
+abbrev fired : List Event
+fired = leaf_made ++ Item 5 (pos 9) ∷ End 1 Completed ∷ Close 3 ∷ []
+
+-- the connection ends with its source; then the subscriber of the least number, and the TakeUntil, which takes its notifier along
+abbrev ended : List Event
+ended = leaf_made ++ End 5 Completed ∷ End 3 Completed ∷ End 2 Completed ∷ End 1 Completed ∷ []
+
+to_hub : IsFirstStep nothing_kept [] (Hub Auto ∷ []) hub_made
+unfolding first_forced source_end child_terminal source_completed open_children is_fired owed projections moments stops climb most_visits most_nodes is_open is_shut ancestors parent most_hubs
+to_hub = ordered_to [] true (Publishing Auto) hub_made nothing_stands tt refl nothing_yet refl
+
+to_until : IsFirstStep nothing_kept hub_made (Open Root Until ∷ []) until_made
+unfolding first_forced source_end child_terminal source_completed open_children is_fired owed projections moments stops climb most_visits most_nodes is_open is_shut ancestors parent
+to_until = ordered_to hub_made true (Opening Root Until) until_made (stands_after (Publishing Auto) to_hub) tt refl nothing_yet refl
+
+to_source : IsFirstStep nothing_kept until_made (Open (Source 1) (Sub 0) ∷ []) source_made
+unfolding first_forced source_end child_terminal source_completed open_children is_fired owed projections moments stops climb most_visits most_nodes is_open is_shut ancestors parent
+to_source = ordered_to until_made true (Opening (Source 1) (Sub 0)) source_made (stands_after (Opening Root Until) to_until) tt refl
+    (first_next nothing_yet refl) refl
+
+to_notifier : IsFirstStep nothing_kept source_made (Open (Notifier 1) (Sub 0) ∷ []) notifier_made
+unfolding first_forced source_end child_terminal source_completed open_children is_fired owed projections moments stops climb most_visits most_nodes is_open is_shut ancestors parent
+to_notifier = ordered_to source_made true (Opening (Notifier 1) (Sub 0)) notifier_made (stands_after (Opening (Source 1) (Sub 0)) to_source) tt refl
+    nothing_yet refl
+
+to_leaf : IsFirstStep nothing_kept notifier_made (Open (Source 3) Leaf ∷ []) leaf_made
+unfolding first_forced source_end child_terminal source_completed open_children is_fired owed projections moments stops climb most_visits most_nodes is_open is_shut ancestors parent
+to_leaf = ordered_to notifier_made true (Opening (Source 3) Leaf) leaf_made (stands_after (Opening (Notifier 1) (Sub 0)) to_notifier) tt refl nothing_yet refl
+
+to_item : IsFirstStep nothing_kept leaf_made (Item 5 (pos 9) ∷ []) fired
+unfolding first_forced source_end child_terminal source_completed open_children is_fired owed projections moments stops climb most_visits visits most_nodes is_open is_shut ancestors parent
+to_item = ordered_to leaf_made true (Emitting 5 (pos 9)) fired (stands_after (Opening (Source 3) Leaf) to_leaf) tt refl
+    (first_next (first_next nothing_yet refl) refl) refl
+
+to_end : IsFirstStep nothing_kept leaf_made (End 5 Completed ∷ []) ended
+unfolding first_forced source_end child_terminal source_completed open_children is_fired owed projections moments stops climb most_visits most_nodes is_open is_shut ancestors parent
+to_end = ordered_to leaf_made true (Ending 5 Completed) ended (stands_after (Opening (Source 3) Leaf) to_leaf) tt refl
+    (first_next (first_next (first_next nothing_yet refl) refl) refl) refl
+
+-- their courses ----------------------------------------------------------------------------------------------------------------------
+
+abbrev stage : List Event → Stage
+stage k = record {
+  history = k;
+  nodes = record { name = u; number = 1 } ∷ record { name = s; number = 2 } ∷ record { name = c; number = 3 } ∷ record { name = n; number = 4 }
+      ∷ record { name = l; number = 5 } ∷ [];
+  hubs = record { name = h; number = 0 } ∷ [];
+  resources = [];
+  stock = [];
+}
+
+abbrev course : List Event → Course
+course k = record { answers = Accepted ∷ Accepted ∷ Accepted ∷ Accepted ∷ Accepted ∷ Accepted ∷ []; last = stage k }
+
+to_last : (last : Command) → Ordered [] (steps last) 0 (Accepted ∷ Accepted ∷ Accepted ∷ Accepted ∷ Accepted ∷ [])
+    (record { stage = stage leaf_made; agenda = turn_of (doing last ∷ []) })
+unfolding bound is_open is_shut ancestors parent most_nodes most_hubs owed projections moments stops climb most_visits
+to_last last =
+    let first = ordered_on (steps last) None None (make_hub h Auto) no_steps (turn_of (from_until last)) (Publishing Auto) hub_made refl refl refl refl to_hub
+    (first_of_all [] (steps last) 0) in
+    let second = ordered_on (steps last) None None (open_node u root until) no_steps (turn_of (from_source last)) (Opening Root Until) until_made refl refl refl refl to_until first in
+    let third = ordered_on (steps last) None None (open_node s (source u) (sub h (Some c))) no_steps (turn_of (from_notifier last)) (Opening (Source 1) (Sub 0)) source_made
+    refl refl refl refl to_source second in
+    let fourth = ordered_on (steps last) None None (open_node n (notifier u) (sub h None)) no_steps (turn_of (from_leaf last)) (Opening (Notifier 1) (Sub 0)) notifier_made
+    refl refl refl refl to_notifier third in
+    ordered_on (steps last) None None (open_node l (source c) leaf) no_steps (turn_of (doing last ∷ [])) (Opening (Source 3) Leaf) leaf_made refl refl refl refl to_leaf fourth
+
+-- each is the one, whatever number of events the scenario allows
+pub item_course : (events : ℕ) → IsCanonicalCourseOf (script (next l (pos 9)) events) [] (course fired)
+unfolding bound is_open is_shut ancestors parent most_nodes most_hubs owed projections moments stops climb most_visits visits
+item_course events =
+    let last = ordered_on (steps (next l (pos 9))) None None (next l (pos 9)) no_steps (turn_of []) (Emitting 5 (pos 9)) fired refl refl refl refl to_item (to_last (next l (pos 9))) in
+    course_in_order in_one_order (script (next l (pos 9)) events) [] (course fired).answers (stage fired) (record { left = turn_of []; leads = last; over = refl })
+
+pub end_course : (events : ℕ) → IsCanonicalCourseOf (script (end l Completed) events) [] (course ended)
+unfolding bound is_open is_shut ancestors parent most_nodes most_hubs owed projections moments stops climb most_visits visits
+end_course events =
+    let last = ordered_on (steps (end l Completed)) None None (end l Completed) no_steps (turn_of []) (Ending 5 Completed) ended refl refl refl refl to_end (to_last (end l Completed)) in
+    course_in_order in_one_order (script (end l Completed) events) [] (course ended).answers (stage ended) (record { left = turn_of []; leads = last; over = refl })
+
+-- and this is its report
+pub item_report : report (course fired) 0
+    ≡ codes "node u closed: next=9 completed\ntotals nodes=5 open=0 accepted=0 held=0 waiting=0 taken=0\nclosed 0 faults 0\n"
+unfolding report unclosed_report refused_line node_line note_text totals_line closed_line notes shown digits is_held is_waiting is_open is_shut ancestors parent stops climb most_visits moments projections owed
+item_report = refl
+
+pub end_report : report (course ended) 0
+    ≡ codes "node u closed: completed\ntotals nodes=5 open=0 accepted=0 held=0 waiting=0 taken=0\nclosed 0 faults 0\n"
+unfolding report unclosed_report refused_line node_line note_text totals_line closed_line notes shown digits is_held is_waiting is_open is_shut ancestors parent stops climb most_visits moments projections owed
+end_report = refl

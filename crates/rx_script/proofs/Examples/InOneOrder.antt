@@ -1,0 +1,86 @@
+-- What the worked canonical courses share: a call after which what is forced comes in the one order, and steps that are taken in it.
+use Rattle.std.proofs.Common.{◌≡◌, ℕ, Bool, List, [], ◌∷◌, ◌++◌, Some, None, refl}
+use Rattle.std.specs.Prelude.{Option}
+use Rattle.rx_event.specs.Kept.{nothing_kept}
+use Rattle.rx_event.specs.declared.event.Event.{Event}
+use Rattle.rx_event.specs.declared.refusal.Refusal.{Refusal}
+use Rattle.rx_event.specs.Forced.{IsSettled}
+use Rattle.rx_event.specs.Lawful.{IsLawful}
+use Rattle.rx_event.specs.Calls.{Call, outside_of}
+use Rattle.rx_event.specs.Refusals.{first_cause}
+use Rattle.rx_event.specs.Canonical.{first_forced, IsFirstOn, IsFirstStep}
+use Rattle.rx_event.proofs.Laws.Begin.{IsLawful_nothing}
+use Rattle.rx_event.proofs.Laws.Finishes.{first_forced_on}
+use Rattle.rx_register.specs.Causes.{causes, unlimited}
+use Rattle.rx_register.specs.Claims.{IsReady}
+use Rattle.rx_register.proofs.Laws.Empty.{settled_empty}
+use Rattle.rx_agenda.specs.declared.answer.Answer.{Answer}
+use Rattle.rx_agenda.specs.declared.answer.Answer.TheVariants.{Accepted, Refused}
+use Rattle.rx_agenda.specs.declared.answer.Cause.TheVariants.{Book}
+use Rattle.rx_agenda.specs.Agenda.{Agenda, followed_by, next_step}
+use Rattle.rx_scenario.specs.Scenario.{Name, Command, command, Steps, Step, list_of}
+use Rattle.rx_script.specs.Stage.{Ware, own_cause, call_of, after}
+use Rattle.rx_script.specs.Course.{in_one_order, cause_in, accepted, refused_by_book}
+use Rattle.rx_script.specs.Progress.{Progress, begin, executes, Leads, not_begun, advanced}
+use Rattle.rx_script.proofs.Examples.Leading.{step_to}
+
+-- a history that is lawful and settled
+pub record Stands (h : List Event) : Type 0 where
+  pub law : IsLawful nothing_kept h
+  pub settled : IsSettled nothing_kept h
+
+pub nothing_stands : Stands []
+nothing_stands = record { law = IsLawful_nothing; settled = settled_empty nothing_kept }
+
+-- a call against which no cause stands, and what it forces in the one order
+pub ordered_to : (h : List Event) (fresh : Bool) (call : Call) (k : List Event) → Stands h → IsReady h call
+    → first_cause (unlimited (causes nothing_kept h 0 fresh call)) ≡ None → IsFirstOn nothing_kept (h ++ outside_of h call) k
+    → first_forced nothing_kept k ≡ None → IsFirstStep nothing_kept h (outside_of h call) k
+ordered_to h fresh call k stands ready none ordered over = record {
+  step = step_to h fresh call k stands.law stands.settled ready none (first_forced_on nothing_kept ordered) over;
+  ordered = ordered;
+}
+
+pub stands_after : {h k : List Event} (call : Call) → IsFirstStep nothing_kept h (outside_of h call) k → Stands k
+stands_after call one = record { law = one.step.lawful; settled = one.step.settled }
+
+-- the steps so far lead here in the one order
+abbrev pub Ordered : List Ware → List Step → ℕ → List Answer → Progress → Type 0
+Ordered stock steps until answers p = Leads in_one_order until (begin stock steps) answers p
+
+pub first_of_all : (stock : List Ware) (steps : List Step) (until : ℕ) → Ordered stock steps until [] (begin stock steps)
+first_of_all stock steps until = not_begun
+
+-- and one more, which is accepted
+pub ordered_on : {stock : List Ware} (steps : List Step) {until : ℕ} {answers : List Answer} {p : Progress}
+    (label : Option Name) (delay : Option ℕ) (c : Command) (followers : Steps) (rest : Agenda) (call : Call) (k : List Event)
+    → next_step until p.agenda ≡ Some (record { label = label; delay = delay; action = command c; followers = followers }, rest)
+    → own_cause p.stage c ≡ None → call_of p.stage c ≡ Some call → cause_in in_one_order p.stage call ≡ None
+    → IsFirstStep nothing_kept p.stage.history (outside_of p.stage.history call) k → Ordered stock steps until answers p
+    → Ordered stock steps until (answers ++ Accepted ∷ []) (record { stage = after p.stage c k; agenda = followed_by Accepted (list_of followers) rest })
+ordered_on steps {p = p} label delay c followers rest call k comes own called free one before = advanced before (record {
+  step = record { label = label; delay = delay; action = command c; followers = followers };
+  rest = rest;
+  comes = comes;
+  done = record { stage = after p.stage c k; agenda = rest };
+  performs = executes (accepted k own called free one);
+  stage = refl;
+  follows = refl;
+})
+
+-- and one more, which the book refuses
+pub refused_on : {stock : List Ware} (steps : List Step) {until : ℕ} {answers : List Answer} {p : Progress}
+    (label : Option Name) (delay : Option ℕ) (c : Command) (followers : Steps) (rest : Agenda) (call : Call) (why : Refusal)
+    → next_step until p.agenda ≡ Some (record { label = label; delay = delay; action = command c; followers = followers }, rest)
+    → own_cause p.stage c ≡ None → call_of p.stage c ≡ Some call → cause_in in_one_order p.stage call ≡ Some why → Ordered stock steps until answers p
+    → Ordered stock steps until (answers ++ Refused (Book why) ∷ [])
+    (record { stage = p.stage; agenda = followed_by (Refused (Book why)) (list_of followers) rest })
+refused_on steps {p = p} label delay c followers rest call why comes own called stands before = advanced before (record {
+  step = record { label = label; delay = delay; action = command c; followers = followers };
+  rest = rest;
+  comes = comes;
+  done = record { stage = p.stage; agenda = rest };
+  performs = executes (refused_by_book own called stands);
+  stage = refl;
+  follows = refl;
+})

@@ -1,0 +1,126 @@
+-- A worked canonical course in virtual time: a step that follows another after a delay, and two of one moment, of which the first closes
+-- what the second would call.
+use Rattle.std.proofs.Common.{◌≡◌, ℕ, List, [], ◌∷◌, ◌++◌, Some, None, true, refl}
+use Rattle.std.specs.Prelude.{codes, pos, negsuc}
+use Rattle.rx_event.specs.Kept.{nothing_kept, shown}
+use Rattle.rx_event.specs.declared.event.Place.TheVariants.{Root, Source}
+use Rattle.rx_event.specs.declared.event.Kind.TheVariants.{Leaf, Sub}
+use Rattle.rx_event.specs.declared.event.Mode.TheVariants.{Auto}
+use Rattle.rx_event.specs.declared.event.Event.{Event}
+use Rattle.rx_event.specs.declared.event.Event.TheVariants.{Open, Hub, Connect, Item, Close}
+use Rattle.rx_event.specs.declared.refusal.Refusal.TheVariants.{Gone}
+use Rattle.rx_event.specs.Notes.{notes}
+use Rattle.rx_event.specs.Resources.{is_held, is_waiting}
+use Rattle.std.specs.Fmt.{digits}
+use Rattle.rx_event.specs.Tree.{parent, ancestors, is_shut, is_open}
+use Rattle.rx_event.specs.Climb.{most_visits, visits, climb, stops}
+use Rattle.rx_event.specs.Moments.{projections, owed, is_fired, moments}
+use Rattle.rx_event.specs.Allowed.{most_nodes, most_hubs}
+use Rattle.rx_event.specs.Marks.{child_terminal, source_completed, open_children}
+use Rattle.rx_event.specs.Calls.{Opening, Emitting, Disposing, Publishing}
+use Rattle.rx_event.specs.Canonical.{source_end, first_forced, IsFirstStep, nothing_yet, first_next}
+use Rattle.rx_agenda.specs.declared.answer.Answer.TheVariants.{Accepted, Refused}
+use Rattle.rx_agenda.specs.declared.answer.Cause.TheVariants.{Book}
+use Rattle.rx_agenda.specs.Bindings.{bound}
+use Rattle.rx_scenario.specs.Scenario.{Name, root, source, leaf, sub, Command, make_hub, open_node, next, dispose, command, no_steps, Step, steps_of, Script}
+use Rattle.rx_script.specs.Stage.{Stage}
+use Rattle.rx_script.specs.Course.{in_one_order, Course, IsCanonicalCourseOf}
+use Rattle.rx_report.specs.Text.{refused_line, node_line, note_text, totals_line, closed_line}
+use Rattle.rx_script.specs.Report.{report, unclosed_report}
+use Rattle.rx_script.proofs.CoursesInOrder.{course_in_order}
+use Rattle.rx_script.proofs.Examples.InOneOrder.{nothing_stands, ordered_to, stands_after, first_of_all, ordered_on, refused_on}
+
+abbrev h : Name
+h = codes "h"
+
+abbrev s : Name
+s = codes "s"
+
+abbrev c : Name
+c = codes "c"
+
+abbrev l : Name
+l = codes "l"
+
+abbrev at : ℕ → Command → List Step → Step
+at moment does followers = record { label = None; delay = Some moment; action = command does; followers = steps_of followers }
+
+-- what follows the opening: at once, and two later
+abbrev followers : List Step
+followers = record { label = None; delay = None; action = command (open_node l (source c) leaf); followers = no_steps }
+    ∷ at 2 (next l (negsuc 0)) [] ∷ []
+
+abbrev steps : List Step
+steps = at 10 (dispose s) [] ∷ at 5 (make_hub h Auto) [] ∷ at 5 (open_node s root (sub h (Some c))) followers ∷ at 10 (next l (pos 8)) [] ∷ []
+
+abbrev script : ℕ → Script
+script events = record { steps = steps; events = events; until = 1000000000000000 }
+
+-- its history ------------------------------------------------------------------------------------------------------------------------
+
+abbrev hub_made : List Event
+hub_made = Hub Auto ∷ []
+
+abbrev subscribed : List Event
+subscribed = hub_made ++ Open Root (Sub 0) ∷ Connect 0 ∷ []
+
+abbrev leaf_made : List Event
+leaf_made = subscribed ++ Open (Source 2) Leaf ∷ []
+
+abbrev told : List Event
+told = leaf_made ++ Item 3 (negsuc 0) ∷ []
+
+abbrev disposed : List Event
+disposed = told ++ Close 1 ∷ Close 2 ∷ []
+
+to_hub : IsFirstStep nothing_kept [] (Hub Auto ∷ []) hub_made
+unfolding first_forced source_end child_terminal source_completed open_children is_fired owed projections moments stops climb most_visits most_nodes is_open is_shut ancestors parent most_hubs
+to_hub = ordered_to [] true (Publishing Auto) hub_made nothing_stands tt refl nothing_yet refl
+
+to_subscriber : IsFirstStep nothing_kept hub_made (Open Root (Sub 0) ∷ []) subscribed
+unfolding first_forced source_end child_terminal source_completed open_children is_fired owed projections moments stops climb most_visits most_nodes is_open is_shut ancestors parent
+to_subscriber = ordered_to hub_made true (Opening Root (Sub 0)) subscribed (stands_after (Publishing Auto) to_hub) tt refl (first_next nothing_yet refl) refl
+
+to_leaf : IsFirstStep nothing_kept subscribed (Open (Source 2) Leaf ∷ []) leaf_made
+unfolding first_forced source_end child_terminal source_completed open_children is_fired owed projections moments stops climb most_visits most_nodes is_open is_shut ancestors parent
+to_leaf = ordered_to subscribed true (Opening (Source 2) Leaf) leaf_made (stands_after (Opening Root (Sub 0)) to_subscriber) tt refl nothing_yet refl
+
+to_item : IsFirstStep nothing_kept leaf_made (Item 3 (negsuc 0) ∷ []) told
+unfolding first_forced source_end child_terminal source_completed open_children is_fired owed projections moments stops climb most_visits visits most_nodes is_open is_shut ancestors parent
+to_item = ordered_to leaf_made true (Emitting 3 (negsuc 0)) told (stands_after (Opening (Source 2) Leaf) to_leaf) tt refl nothing_yet refl
+
+to_disposal : IsFirstStep nothing_kept told (Close 1 ∷ []) disposed
+unfolding first_forced source_end child_terminal source_completed open_children is_fired owed projections moments stops climb most_visits most_nodes is_open is_shut ancestors parent
+to_disposal = ordered_to told true (Disposing 1) disposed (stands_after (Emitting 3 (negsuc 0)) to_item) tt refl (first_next nothing_yet refl) refl
+
+-- its course -------------------------------------------------------------------------------------------------------------------------
+
+abbrev last_stage : Stage
+last_stage = record {
+  history = disposed;
+  nodes = record { name = s; number = 1 } ∷ record { name = c; number = 2 } ∷ record { name = l; number = 3 } ∷ [];
+  hubs = record { name = h; number = 0 } ∷ [];
+  resources = [];
+  stock = [];
+}
+
+abbrev course : Course
+course = record { answers = Accepted ∷ Accepted ∷ Accepted ∷ Accepted ∷ Accepted ∷ Refused (Book Gone) ∷ []; last = last_stage }
+
+pub time_course : (events : ℕ) → IsCanonicalCourseOf (script events) [] course
+unfolding bound is_open is_shut ancestors parent most_nodes most_hubs owed projections moments stops climb most_visits visits
+time_course events =
+    let first = ordered_on steps None (Some 5) (make_hub h Auto) no_steps _ (Publishing Auto) hub_made refl refl refl refl to_hub
+    (first_of_all [] steps 1000000000000000) in
+    let second = ordered_on steps None (Some 5) (open_node s root (sub h (Some c))) (steps_of followers) _ (Opening Root (Sub 0)) subscribed
+    refl refl refl refl to_subscriber first in
+    let third = ordered_on steps None None (open_node l (source c) leaf) no_steps _ (Opening (Source 2) Leaf) leaf_made refl refl refl refl to_leaf second in
+    let fourth = ordered_on steps None (Some 2) (next l (negsuc 0)) no_steps _ (Emitting 3 (negsuc 0)) told refl refl refl refl to_item third in
+    let fifth = ordered_on steps None (Some 10) (dispose s) no_steps _ (Disposing 1) disposed refl refl refl refl to_disposal fourth in
+    let last = refused_on steps None (Some 10) (next l (pos 8)) no_steps _ (Emitting 3 (pos 8)) Gone refl refl refl refl fifth in
+    course_in_order in_one_order (script events) [] course.answers last_stage (record { left = _; leads = last; over = refl })
+
+pub time_report : report course 0
+    ≡ codes "refused 5 Gone\nnode s closed: next=-1\ntotals nodes=3 open=0 accepted=0 held=0 waiting=0 taken=0\nclosed 0 faults 0\n"
+unfolding report unclosed_report refused_line node_line note_text totals_line closed_line notes shown digits is_held is_waiting is_open is_shut ancestors parent stops climb most_visits moments projections owed
+time_report = refl
