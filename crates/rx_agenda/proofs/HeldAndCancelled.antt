@@ -43,8 +43,8 @@ module _ (Ever : Placed → Type 0) (now : Turn) (next : Origin) (g : PlacedAgen
 
   pub cancel_well : (label : Name) (left : PlacedAgenda) → s.action ≡ cancel label → ((y : Placed) → IsPending g y → Ever y) → Takes g label answer left
       → ActsWell Ever now next g s answer left
-  cancel_well label left is ever takes =
-      let t : TakesWell Ever 0 now next g r label answer left = takes_well Ever 0 now next g r label ever answer left takes in
+  cancel_well label left is ever taking =
+      let t : TakesWell Ever 0 now next g r label answer left = takes_well Ever 0 now next g r label ever answer left taking in
       record {
         ready = t.ready;
         from = t.from;

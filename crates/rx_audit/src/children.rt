@@ -1,6 +1,6 @@
 //! The children of each node, youngest first, and its youngest inner observable.
 
-ghost use Rattle.std.specs.Prelude.{◌≡◌, ◌+◌, ◌<◌, ◌≤◌, [], ◌∷◌, ◌++◌, IfOk, length, slice_index_or, replicate};
+ghost use Rattle.std.specs.Prelude.{◌≡◌, ◌+◌, ◌<◌, [], ◌∷◌, ◌++◌, IfOk, length, slice_index_or, replicate};
 ghost use Rattle.rx_audit.specs.Latest.{AreChildren, table_with, link_with};
 
 use crate::openness::parent_of_new;

@@ -1,6 +1,6 @@
 //! What an event closes, found by going down from the node that it takes away, over nothing else.
 
-ghost use Rattle.std.specs.Prelude.{◌≡◌, ℕ, ◌+◌, ◌<◌, ◌≤◌, true, false, Some, [], ◌∷◌, ◌++◌, OnOk, IfOk, MatchOption, if◌then◌else◌, length, slice_index_or, ◌==◌};
+ghost use Rattle.std.specs.Prelude.{◌≡◌, ℕ, ◌+◌, ◌<◌, ◌≤◌, true, false, Some, [], ◌∷◌, ◌++◌, OnOk, IfOk, MatchOption, if◌then◌else◌, length, ◌==◌};
 ghost use Rattle.rx_event.specs.Events.{is_switch};
 ghost use Rattle.rx_event.specs.Tree.{at, is_open, shuts, is_switched_inner};
 ghost use Rattle.rx_audit.specs.Latest.{AreChildren, IsClosingBelow, ShutsNone, IsShutAlone};
@@ -12,7 +12,7 @@ use crate::event_tests::at;
 use crate::marks::is_marked;
 use crate::openness::opens;
 use rx_event::{Event, Place};
-use std::alloc::{AllocError, Global};
+use std::alloc::{AllocError};
 
 /// Takes away the mark of each child of node `p`, and lists each that had one.
 fn close_children(

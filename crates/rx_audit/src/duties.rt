@@ -1,7 +1,7 @@
 //! Which nodes have to end, by what each remembers.
 
 ghost use Rattle.rx_event.specs.Kept.{nothing_kept};
-ghost use Rattle.std.specs.Prelude.{◌≡◌, ◌<◌, ◌≤◌, ◌&&◌, ◌↔◌, IsTrue, IfOk, OnOk, true, false, Some, [], ◌∷◌, ◌++◌, length, is_some, slice_get};
+ghost use Rattle.std.specs.Prelude.{◌≡◌, ◌<◌, ◌↔◌, IsTrue, OnOk, true, false, Some, [], ◌∷◌, ◌++◌, is_some, slice_get};
 ghost use Rattle.std.specs.List.{list_any};
 ghost use Rattle.rx_event.specs.Events.{makes_hub};
 ghost use Rattle.rx_event.specs.Tree.{is_open};

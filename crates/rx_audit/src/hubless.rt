@@ -1,13 +1,10 @@
 //! The pass over the events up to the first hub, in which each costs what it changes.
 
 ghost use Rattle.rx_event.specs.Kept.{nothing_kept};
-ghost use Rattle.std.specs.Prelude.{◌≡◌, ◌<◌, ◌≤◌, IfOk, OnOk, false, true, Some, None, [], ◌∷◌, ◌++◌, length, replicate};
-ghost use Rattle.std.specs.List.{list_any};
+ghost use Rattle.std.specs.Prelude.{◌≡◌, ◌<◌, IfOk, OnOk, false, true, Some, None, [], ◌∷◌, ◌++◌, length};
 ghost use Rattle.rx_event.specs.Tree.{is_open};
-ghost use Rattle.rx_event.specs.Marks.{blank_marks};
 ghost use Rattle.rx_event.specs.Lawful.{IsLawful, MayFollow};
 ghost use Rattle.rx_audit.specs.Tables.{IsMarked, mark_count};
-ghost use Rattle.rx_audit.specs.Latest.{AreChildren};
 ghost use Rattle.rx_audit.specs.Found.{HasFewVisits};
 ghost use Rattle.rx_audit.specs.Marking.{IsKept, IsCovered, leaf_of, ends_so};
 ghost use Rattle.rx_audit.specs.Hubless.{IsFollowed, forced_end, forced_by_marks};

@@ -1,7 +1,7 @@
 //! What each open node remembers of what happened below it, by number.
 
 ghost use Rattle.rx_event.specs.Kept.{nothing_kept};
-ghost use Rattle.std.specs.Prelude.{◌≡◌, ◌+◌, ◌<◌, false, true, Some, [], ◌∷◌, ◌++◌, length, slice_index_or, slice_set, OnOk};
+ghost use Rattle.std.specs.Prelude.{◌≡◌, ◌+◌, ◌<◌, Some, [], ◌∷◌, ◌++◌, length, slice_index_or, slice_set, OnOk};
 ghost use Rattle.rx_event.specs.Events.{is_merging, is_source_of};
 ghost use Rattle.rx_event.specs.Tree.{at};
 ghost use Rattle.rx_event.specs.Marks.{marks_of, blank_marks};
