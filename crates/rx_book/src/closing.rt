@@ -49,6 +49,8 @@ impl<R: Resource> Book<R> {
     /// Unsubscribes all open roots. It takes no memory.
     fn dispose_roots(&mut self)
         ensures base { self.new.base ≡ self.old.base }
+        ensures limit { self.new.limit ≡ self.old.limit }
+        ensures given { self.new.given ≡ self.old.given }
         ensures none_open { (n : ℕ) → is_open_root self.new.history n ≡ false }
         ensures accepted { accepted_count self.new.base self.new.history ≡ accepted_count self.old.base self.old.history }
         ensures taken { taken_count self.new.base self.new.history ≡ taken_count self.old.base self.old.history }
@@ -65,6 +67,8 @@ impl<R: Resource> Book<R> {
     /// Disconnects all hubs that were connected by hand. It takes no memory.
     fn disconnect_hubs(&mut self)
         ensures base { self.new.base ≡ self.old.base }
+        ensures limit { self.new.limit ≡ self.old.limit }
+        ensures given { self.new.given ≡ self.old.given }
         ensures disconnected { (g : ℕ) → at is_manual_hub self.new.history g ≡ true → open_connections self.new.history g ≡ [] }
         ensures roots { (n : ℕ) → is_open_root self.new.history n ≡ true → is_open_root self.old.history n ≡ true }
         ensures accepted { accepted_count self.new.base self.new.history ≡ accepted_count self.old.base self.old.history }
@@ -80,12 +84,15 @@ impl<R: Resource> Book<R> {
     }
 
     /// Unsubscribes all open roots, disconnects all hubs that were connected by hand, and takes and
-    /// releases all that waits then: nothing is open, held or waiting afterwards. It takes no memory. The notes that were not handed out yet still are.
+    /// releases all that waits then: nothing is open, held or waiting afterwards. The limit stays, and the
+    /// notes that were not handed out yet still are. It takes no memory.
     pub fn close(&mut self) -> Closed
         ensures none_open { self.new.keys ≡ [] }
         ensures none_held { self.new.held ≡ [] }
         ensures none_waits { self.new.waiting ≡ [] }
         ensures base { self.new.base ≡ self.old.base }
+        ensures limit { self.new.limit ≡ self.old.limit }
+        ensures given { self.new.given ≡ self.old.given }
         ensures taken { taken_count self.new.base self.new.history ≡ taken_count self.old.base self.old.history + result.released }
         ensures accepted { accepted_count self.new.base self.new.history ≡ accepted_count self.old.base self.old.history }
         ensures released { result.released ≡ held_count self.old.history + waiting_count self.old.history }
@@ -99,8 +106,8 @@ impl<R: Resource> Book<R> {
         closed
     }
 
-    /// Ends the book: as [`Book::close`], and the book is gone. Each resource that it held or that waited
-    /// was released. It takes no memory.
+    /// Ends the book: as [`Book::close`], and the book is gone, with the notes that were not handed out.
+    /// Each resource that it held or that waited was released. It takes no memory.
     pub fn finish(self) -> Closed
         ensures released { result.released ≡ held_count self.history + waiting_count self.history }
         ensures faults { result.faults ≤ result.released }

@@ -13,6 +13,8 @@ pub loop-hub-preserved : goal.loop-hub-preserved
 loop-hub-preserved g c = record {
   kept = c.promise-in-Ok.ensures;
   base = c.in-Ok.ensures.accepted.base ∙ c.loop-hub.invariant.base;
+  limit = c.in-Ok.ensures.accepted.limit ∙ c.loop-hub.invariant.limit;
+  given = c.in-Ok.ensures.accepted.given ∙ c.loop-hub.invariant.given;
   roots = λ n found. c.loop-hub.invariant.roots n (roots_older _ c.in-Some.hub c.in-Ok.ensures.accepted.step n found);
   accepted = ap (λ (b : Kept). accepted_count b c.disconnect.new.self.history) c.in-Ok.ensures.accepted.base ∙ disconnected_accepted _ _ _ _ c.in-Ok.ensures.accepted.step ∙ c.loop-hub.invariant.accepted;
   taken = ap (λ (b : Kept). taken_count b c.disconnect.new.self.history) c.in-Ok.ensures.accepted.base ∙ disconnected_taken _ _ _ _ c.in-Ok.ensures.accepted.step ∙ c.loop-hub.invariant.taken;

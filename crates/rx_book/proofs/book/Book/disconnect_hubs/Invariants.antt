@@ -9,6 +9,8 @@ abbrev pub invariant-loop-hub : goal.invariant-loop-hub
 invariant-loop-hub g l = record {
   kept : IsPromised l.self;
   base : l.self.base ≡ l.initial.self.base;
+  limit : l.self.limit ≡ l.initial.self.limit;
+  given : l.self.given ≡ l.initial.self.given;
   roots : (n : ℕ) → is_open_root l.self.history n ≡ true → is_open_root l.initial.self.history n ≡ true;
   accepted : accepted_count l.self.base l.self.history ≡ accepted_count l.initial.self.base l.initial.self.history;
   taken : taken_count l.self.base l.self.history ≡ taken_count l.initial.self.base l.initial.self.history;

@@ -11,6 +11,8 @@ pub loop-root-preserved : goal.loop-root-preserved
 loop-root-preserved g c = record {
   kept = c.promise-in-Ok.ensures;
   base = c.in-Ok.ensures.accepted.base ∙ c.loop-root.invariant.base;
+  limit = c.in-Ok.ensures.accepted.limit ∙ c.loop-root.invariant.limit;
+  given = c.in-Ok.ensures.accepted.given ∙ c.loop-root.invariant.given;
   accepted = ap (λ (b : Kept). accepted_count b c.dispose.new.self.history) c.in-Ok.ensures.accepted.base ∙ disposed_accepted _ _ _ _ c.in-Ok.ensures.accepted.step ∙ c.loop-root.invariant.accepted;
   taken = ap (λ (b : Kept). taken_count b c.dispose.new.self.history) c.in-Ok.ensures.accepted.base ∙ disposed_taken _ _ _ _ c.in-Ok.ensures.accepted.step ∙ c.loop-root.invariant.taken;
 }
