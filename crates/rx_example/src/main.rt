@@ -1,13 +1,16 @@
 //! A program of its own that keeps its subscriptions in a book: one with a file, from its opening to the
-//! release of the file, one that it forgets, which the end of the session closes, and two that share a source.
+//! release of the file, one that it forgets, which the end of the session closes, two that share a source, one
+//! each with FlatMap, Switch and TakeUntil, and one whose items stand for texts.
 #![tactic(auto)]
 
 mod file;
+mod pipelines;
 mod session;
 mod stopped;
 
+use pipelines::run;
 use rx_book::Book;
-use session::{Session, run};
+use session::Session;
 use stopped::Stopped;
 
 fn main(rt: HostRuntime) -> Result<(), Stopped> {
