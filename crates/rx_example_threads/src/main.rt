@@ -1,0 +1,141 @@
+//! A whole program with threads at one book: two sources emit, each in a thread of its own and below a
+//! subscription that holds a resource, and a worker releases what comes to wait. Then the desk is ended, and
+//! its book.
+#![tactic(auto)]
+
+ghost use Rattle.std.specs.Prelude.{◌≡◌, ◌+◌, IfOk, IsOk};
+ghost use Rattle.rx_ledger.specs.Shares.{Opens, all_parts, together};
+
+mod countdown;
+
+use countdown::Countdown;
+use rx_book::{At, Book, Closed, Kind};
+use rx_crew::{Desk, Finished, Gate, Mismatch, Totals, feed, finish, worker};
+use rx_ledger::{PARTS, Seat};
+use rx_resource::Sample;
+use std::alloc::{AllocError, Global};
+use std::marker::Brand;
+use std::sync::Wait;
+use std::sync::ledger::{Blank, Ledger};
+use std::thread::Threads;
+use std::{io, thread};
+
+/// What a worker calls around each release: nothing here.
+struct Open;
+
+impl Gate for Open {
+    fn before(&self, _number: u64) {}
+
+    fn after(&self, _number: u64) {}
+}
+
+/// Subscribes with a resource, and emits so many turns of a countdown from 1000, whose end is the 1001st. Where
+/// a call is refused it stops there, and the book's totals say so.
+fn emit<I: Ledger, A: Ledger, K: Ledger>(
+    rt: &impl Wait,
+    alloc: Global,
+    desk: &Desk<Sample, I, A, K>,
+    mut seat: Seat<I, A, K>,
+    tag: u64,
+    turns: u64,
+) -> Seat<I, A, K>
+    ensures { result.parts ≡ seat.parts }
+{
+    let mut floor = desk.floor.lock(rt);
+    let Ok(root) = floor.open_using(&mut seat, At::Root, Sample::new(tag)) else {
+        return seat;
+    };
+    let Ok(leaf) = floor.open(At::Source(root.key), Kind::Leaf) else {
+        return seat;
+    };
+    drop(floor);
+    let mut source = Countdown::from(1000);
+    feed(rt, alloc, desk, seat, leaf.key, &mut source, turns).seat
+}
+
+/// Has two threads emit, the first to the end of its source; joins them, and shuts the desk.
+fn emit_both<
+    I: Ledger + Send + Sync,
+    A: Ledger + Send + Sync,
+    K: Ledger + Send + Sync,
+    T: Threads + Wait + Sync,
+>(
+    rt: &T,
+    alloc: Global,
+    desk: &Desk<Sample, I, A, K>,
+    seats: (Seat<I, A, K>, Seat<I, A, K>),
+) -> (Seat<I, A, K>, Seat<I, A, K>)
+    ensures { (result.0.parts ≡ seats.0.parts) × (result.1.parts ≡ seats.1.parts) }
+{
+    let (first, second) = seats;
+    let seats = thread::join(
+        rt,
+        || emit(rt, alloc, desk, first, 7, 1001),
+        || emit(rt, alloc, desk, second, 8, 500),
+    );
+    desk.floor.lock(rt).shut();
+    desk.bell.notify_all();
+    seats
+}
+
+/// Ends a desk whose threads are joined, with all their seats, and then its book: no lock is held any more, so
+/// the releases run here.
+#[tactic(auto, using(rx_crew::proofs::Laws::Agreed::agreed, rx_crew::proofs::Laws::Agreed::released_at_the_end))]
+fn end_all<I: Ledger, A: Ledger, K: Ledger>(
+    desk: Desk<Sample, I, A, K>,
+    seats: Vec<Seat<I, A, K>>,
+) -> (Result<Totals, Mismatch>, Closed)
+    requires { (together seats.items).parts ≡ all_parts }
+    ensures agree { IsOk result.0 }
+    ensures released { IfOk result.0 (λ totals. result.1.released ≡ totals.held + totals.waiting) }
+{
+    let Finished { book, verdict } = finish(desk, seats, &[]);
+    (verdict, book.finish())
+}
+
+/// Makes the desk, has the threads work at it, and ends it. The ledgers are named by the caller, `Brand` each.
+fn run<
+    I: Ledger + Send + Sync,
+    A: Ledger + Send + Sync,
+    K: Ledger + Send + Sync,
+    T: Threads + Wait + Sync,
+>(
+    rt: &T,
+    alloc: Global,
+    blanks: (Blank, Blank, Blank),
+) -> Result<(Result<Totals, Mismatch>, Closed), AllocError>
+    requires items { Opens I.name I.parts blanks.0.name blanks.0.parts }
+    requires accepted { Opens A.name A.parts blanks.1.name blanks.1.parts }
+    requires taken { Opens K.name K.parts blanks.2.name blanks.2.parts }
+    ensures { IfOk result (λ ended. IsOk ended.0) }
+{
+    let mut seats = Vec::new(alloc);
+    seats.reserve(3)?;
+    let book = Book::new(alloc, 1_000_000);
+    let (desk, mut seat) = Desk::<Sample, I, A, K>::new(book, blanks.0, blanks.1, blanks.2);
+    let (Some(first), Some(second)) = (seat.split(), seat.split()) else {
+        unreachable!()
+    };
+    let at = &desk;
+    let (worked, emitted) = thread::join(
+        rt,
+        || worker(rt, at, seat, &Open, 10),
+        || emit_both(rt, alloc, at, (first, second)),
+    );
+    seats.push_reserved(worked.seat);
+    seats.push_reserved(emitted.0);
+    seats.push_reserved(emitted.1);
+    Ok(end_all(desk, seats))
+}
+
+fn main(rt: HostRuntime) -> io::Result<()> {
+    let blanks = (Blank::new(PARTS), Blank::new(PARTS), Blank::new(PARTS));
+    let (verdict, closed) = run::<Brand, Brand, Brand, _>(&rt, rt.alloc(), blanks)?;
+    let Ok(totals) = verdict else { unreachable!() };
+    println!(rt; "events {} items {}", totals.len, totals.items)?;
+    println!(rt;
+        "accepted {} taken {} held {}",
+        totals.accepted, totals.taken, totals.held
+    )?;
+    println!(rt; "the end of the book releases {} more", closed.released)
+}
