@@ -1,6 +1,6 @@
 //! Why the program ends early.
 
-use rx_book::{Refusal, Refused};
+use rx_book::{Life, Refusal, Refused, Resource};
 use std::io;
 use thiserror::Error;
 
@@ -15,9 +15,13 @@ pub enum Stopped {
     Output(#[from] io::Error),
 }
 
-impl<R: Drop> From<Refused<R>> for Stopped {
-    // The resource that came back is dropped: a program that has to close it releases it here.
+impl<R: Resource> From<Refused<R>> for Stopped {
+    // The book did not take the resource, so it is released here.
     fn from(refused: Refused<R>) -> Stopped {
-        Stopped::Refused(refused.why)
+        let Refused { why, mut back } = refused;
+        if back.life() == Life::Live {
+            let _ = back.release();
+        }
+        Stopped::Refused(why)
     }
 }
