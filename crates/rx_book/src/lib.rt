@@ -46,9 +46,11 @@
 //!   nothing, and gives a resource that was handed in back as it came. The refusals of each call, and
 //!   their order, are exact; that want of memory is given only where memory was really refused is
 //!   tested and not proved, as no contract can say what memory is left.
-//! - `remove`, `end`, `abort`, `decline`, `fail`, `dispose`, `disconnect`, `take` and `take_mail` take no
-//!   memory. They are refused for no want of room: each opening call, and each item that is projected, keeps room for
-//!   all that closing needs.
+//! - `remove`, `end`, `abort`, `decline`, `fail`, `dispose`, `disconnect`, `take` and `take_mail` are
+//!   refused for no want of memory or room, and `close` and `finish` cannot fail: each opening call, and
+//!   each item that is projected, keeps room for all that closing needs. That they take no memory, and
+//!   `Book::new` none, is tested and not proved, as no contract of a book tells its room; of the ground
+//!   below it, which does all of that, it is proved (`TakesNoMemory` of `rx_ground`).
 //! - A key is its node's as long as that is open, and nobody's afterwards, also where it was made up or
 //!   its slot has another node now.
 //! - No call searches the history. What opening, holding, emitting and using cost does not grow with

@@ -31,4 +31,6 @@ mod slots;
 #[cfg(test)]
 mod spare;
 #[cfg(test)]
+mod unasked;
+#[cfg(test)]
 mod want;

@@ -11,7 +11,7 @@ use std::test::Fail;
 
 // A call that takes no memory, on what it is made.
 #[derive(Clone, Copy, Debug)]
-enum Closing {
+pub(super) enum Closing {
     Remove(ResKey),
     Decline(Key),
     Fail(Key),
@@ -25,8 +25,11 @@ enum Closing {
     Close,
 }
 
+// How many calls there are.
+pub(super) const CLOSINGS: usize = 11;
+
 // Whether it is accepted, and does something.
-fn is_done(book: &mut Probe<Sample>, closing: Closing) -> bool {
+pub(super) fn is_done(book: &mut Probe<Sample>, closing: Closing) -> bool {
     match closing {
         Closing::Remove(res) => book.remove(res).is_ok(),
         Closing::Decline(node) => book.decline(node).is_ok(),
@@ -91,14 +94,15 @@ fn connected_by_hand(book: &mut Probe<Sample>) -> Result<u64, Fail> {
     Ok(hub)
 }
 
-// Some of each kind of node, and what is to be called, in turn.
-fn new_closings(book: &mut Probe<Sample>) -> Result<(Key, [Closing; 11]), Fail> {
+// Some of each kind of node, a resource that waits, and what is to be called, in turn or alone.
+pub(super) fn new_closings(book: &mut Probe<Sample>) -> Result<(Key, [Closing; CLOSINGS]), Fail> {
     let flat = owing_two(book)?;
     let hub = connected_by_hand(book)?;
     let _ = connected_by_hand(book)?;
     let (_, lowest, removed) = using_two(book)?;
     let (disposed, _, _) = using_two(book)?;
-    let _ = using_two(book)?;
+    let (_, _, waiting) = using_two(book)?;
+    book.remove(waiting)?;
     let leaf = book.open(At::Root, Kind::Leaf)?.key;
     let closings = [
         Closing::Remove(removed),
@@ -117,7 +121,7 @@ fn new_closings(book: &mut Probe<Sample>) -> Result<(Key, [Closing; 11]), Fail> 
 }
 
 // How many of them are done, each with no memory left.
-fn done_of(alloc: Global, book: &mut Probe<Sample>, closings: [Closing; 11]) -> u32 {
+fn done_of(alloc: Global, book: &mut Probe<Sample>, closings: [Closing; CLOSINGS]) -> u32 {
     let mut done = 0u32;
     for closing in closings {
         if is_done_with_none(alloc, book, closing) {

@@ -1,0 +1,110 @@
+//! Calls that ask for no memory, where each list is full and one block of memory is left.
+
+use super::asking::{Asking, Outcome, ask};
+use super::probe::Probe;
+use super::spare::{CLOSINGS, Closing, is_done, new_closings};
+use rx_book::{At, Key};
+use rx_event::Kind;
+use rx_resource::Sample;
+use rx_scarce::Scarce;
+use std::alloc::{AllocError, Global};
+use std::test::Fail;
+
+// What the block has in bytes: more than any list here asks for as it grows.
+const BLOCK: usize = 100_000;
+
+// Whether a block of this many bytes can be had.
+fn is_had(alloc: Global, bytes: usize) -> bool {
+    let block: Result<Vec<u8>, AllocError> = Vec::with_capacity(alloc, bytes);
+    block.is_ok()
+}
+
+// Whether the block was never broken up: it can be had, and no more once a small piece was asked for.
+fn is_whole(alloc: Global) -> bool {
+    is_had(alloc, BLOCK) && is_had(alloc, 64) && !is_had(alloc, BLOCK)
+}
+
+// Makes a call until it is refused memory.
+fn is_refused_memory(book: &mut Probe<Sample>, asking: Asking) -> bool {
+    for _ in 0..1000 {
+        match ask(book, asking) {
+            Outcome::Done(_) => {}
+            Outcome::NoMemory => return true,
+            Outcome::Other => return false,
+        }
+    }
+    false
+}
+
+// Uses up the room of each list, with no memory left: then each would grow for one place more.
+fn is_filled(alloc: Global, book: &mut Probe<Sample>, leaf: Key) -> Result<bool, Fail> {
+    let res = book.hold(leaf, Sample::new(9))?;
+    let _scarce = Scarce::new(alloc)?;
+    for asking in [
+        Asking::Open(At::Root),
+        Asking::Hold(leaf),
+        Asking::Hub,
+        Asking::Next(leaf),
+        Asking::Apply(res),
+    ] {
+        if !is_refused_memory(book, asking) {
+            return Ok(false);
+        }
+    }
+    Ok(true)
+}
+
+// Makes one of the calls in a new book that is full. Whether it is done, and asked for no memory.
+fn asks_for_none(alloc: Global, which: usize) -> Result<bool, Fail> {
+    let mut book = Probe::new(alloc, 4000);
+    let (leaf, closings) = new_closings(&mut book)?;
+    for _ in 0..200 {
+        book.next(leaf, 0)?;
+    }
+    let closing: Closing = *closings.get(which).ok_or("no such call")?;
+    if !is_filled(alloc, &mut book, leaf)? {
+        return Err(Fail::from("room is left"));
+    }
+    let block: Vec<u8> = Vec::with_capacity(alloc, BLOCK)?;
+    let _scarce = Scarce::new(alloc)?;
+    drop(block);
+    Ok(is_done(&mut book, closing) && is_whole(alloc))
+}
+
+#[test]
+fn closings_and_handing_out_ask_for_no_memory(rt: HostRuntime) -> Result<(), Fail> {
+    for which in 0..CLOSINGS {
+        assert!(rt; asks_for_none(rt.alloc(), which)?, "{which}");
+    }
+    Ok(())
+}
+
+// Whether a book is made, and asked for no memory.
+fn is_made_of_none(alloc: Global) -> Result<bool, Fail> {
+    let block: Vec<u8> = Vec::with_capacity(alloc, BLOCK)?;
+    let _scarce = Scarce::new(alloc)?;
+    drop(block);
+    let book: Probe<Sample> = Probe::new(alloc, 4000);
+    Ok(is_whole(alloc) && book.open_count() == 0)
+}
+
+// Whether a small book is ended, and asked for no memory: its lists are of a size of which the allocator
+// keeps a piece that is given back, so that the block is not whole again.
+fn is_ended_with_none(alloc: Global) -> Result<bool, Fail> {
+    let mut book: Probe<Sample> = Probe::new(alloc, 100);
+    let leaf = book.open(At::Root, Kind::Leaf)?.key;
+    if !is_filled(alloc, &mut book, leaf)? {
+        return Err(Fail::from("room is left"));
+    }
+    let block: Vec<u8> = Vec::with_capacity(alloc, BLOCK)?;
+    let _scarce = Scarce::new(alloc)?;
+    drop(block);
+    Ok(book.finish().released > 0 && is_had(alloc, BLOCK))
+}
+
+#[test]
+fn a_book_asks_for_no_memory_as_it_is_made_and_as_it_ends(rt: HostRuntime) -> Result<(), Fail> {
+    assert!(rt; is_made_of_none(rt.alloc())?);
+    assert!(rt; is_ended_with_none(rt.alloc())?);
+    Ok(())
+}
