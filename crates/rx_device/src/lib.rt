@@ -5,8 +5,8 @@
 //! - A [`Watched`] reader or writer notes how often the device behind it was called, whether a call
 //!   failed, and whether one moved no byte, so that a contract can say whose fault a fault is
 //!   (`specs/Device.antt`).
-//! - [`read_value`] reads a device to its end and gives the JSON value that its bytes are; what a device
-//!   gave is said in `specs/Input.antt`. [`write_text`] writes a whole text.
+//! - [`read_all`] reads a device to its end, and [`read_value`] gives the JSON value that its bytes are; what
+//!   a device gave is said in `specs/Input.antt`. [`write_text`] writes a whole text.
 //! - A [`ScriptError`] says why a text was not read or written, a [`ShapeError`] why a JSON value is not
 //!   what was asked for (`specs/Gives.antt`).
 //!
@@ -26,7 +26,7 @@ mod watched;
 mod writing;
 
 pub use fault::ScriptError;
-pub use reading::{MOST_BYTES, MOST_TURNS};
+pub use reading::{MOST_BYTES, MOST_TURNS, read_all};
 pub use shape::ShapeError;
 pub use value::read_value;
 pub use watched::Watched;

@@ -6,6 +6,7 @@
 //!   parts. `specs/History.antt` says which JSON values are dumps, and of which history; `specs/Dump.antt`
 //!   the bytes of the dump that [`push_dump`] writes of a history.
 //! - A **verdict** is what `rx_audit` says of a history; `specs/Verdict.antt` defines its text.
+//! - [`history_of`] gives the history of which a JSON value is a dump.
 //! - [`check`] reads a dump from a device and writes the verdict on its history (`specs/Checking.antt`).
 //!
 //! # Promised, and not
@@ -29,4 +30,5 @@ mod verdict;
 
 pub use checking::check;
 pub use dump::push_dump;
+pub use history::history_of;
 pub use laws::a_dump_is_read_back;

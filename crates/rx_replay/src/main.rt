@@ -2,8 +2,9 @@
 //! it is what the program `rxbook` writes.
 //!
 //! Of `NAME.json` the report is `NAME.report` and, where it is there, the dump `NAME.dump`; of `NAME.dump`
-//! the verdict is `NAME.verdict`. The folders are the current one, with the examples, and below it `cases`
-//! and `histories`. What is stored and is not written, or differs, is a line with `DIFFERS`.
+//! the verdict is `NAME.verdict`; of `NAME.input` what is said of it, which is faulty, is `NAME.told`. The
+//! folders are the current one, with the examples, and below it `cases`, `histories` and `mistakes`. What is
+//! stored and is not written, or differs, is a line with `DIFFERS`.
 //!
 //! Then the JSON Schemas of scenarios and dumps are compared with what the program takes.
 #![tactic(auto)]
@@ -81,6 +82,7 @@ fn replay_all<R: Files + AllocGlobal + Print>(rt: &R, paths: &[String]) -> io::R
         )?;
         replay(rt, Asked::Of(Form::Dump), path, (".json", ".dump"), paths)?;
         replay(rt, Asked::Verdict, path, (".dump", ".verdict"), paths)?;
+        replay(rt, Asked::Fault, path, (".input", ".told"), paths)?;
     }
     Ok(())
 }
@@ -111,7 +113,7 @@ fn list<R: Files + AllocGlobal + Clone + Drop>(
 
 fn main(rt: HostRuntime) -> io::Result<()> {
     let mut paths = Vec::new(rt.alloc());
-    for folder in [".", "cases", "histories"] {
+    for folder in [".", "cases", "histories", "mistakes"] {
         list(&rt, folder, &mut paths)?;
     }
     paths.sort()?;

@@ -1,6 +1,7 @@
 //! What the program `rxbook` makes of a text.
 
 use rx_cli::{Form, ScriptError, Watched, check, run, stock};
+use rx_explain::explain;
 use std::alloc::{AllocError, Global};
 
 /// What is asked of the program.
@@ -10,6 +11,17 @@ pub enum Asked {
     Of(Form),
     /// The verdict on a dump.
     Verdict,
+    /// What is wrong with an input.
+    Fault,
+}
+
+// Writes what is said of the input, if something is.
+fn push_told(alloc: Global, input: &[u8], output: &mut Vec<u8>) -> Result<bool, AllocError> {
+    if let Some(told) = explain(alloc, input)? {
+        output.extend_from_slice(told.as_str().as_bytes())?;
+        output.push(b'\n')?;
+    }
+    Ok(true)
 }
 
 /// Writes what the program makes of the input, and tells whether the program takes it.
@@ -19,12 +31,15 @@ pub fn answer(
     input: &[u8],
     output: &mut Vec<u8>,
 ) -> Result<bool, AllocError> {
+    if matches!(asked, Asked::Fault) {
+        return push_told(alloc, input, output);
+    }
     let mut left = input;
     let mut reader = Watched::new(&mut left);
     let mut writer = Watched::new(output);
     let fault = match asked {
         Asked::Of(form) => run(alloc, &mut reader, &mut writer, stock(alloc)?, form).err(),
-        Asked::Verdict => check(alloc, &mut reader, &mut writer).err(),
+        _ => check(alloc, &mut reader, &mut writer).err(),
     };
     match fault {
         None => Ok(true),

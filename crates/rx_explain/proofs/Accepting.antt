@@ -1,0 +1,116 @@
+-- What is accepted, by what was read.
+use Rattle.std.proofs.Common.{◌≡◌, ℕ, ◌<◌, ◌≤◌, ◌⊎◌, inl, inr, List, length, take, Option, Some, None, true, false, refl, sym, subst, ◌∙◌, arith, slice_get}
+use Rattle.std.specs.Prelude.{is_some, is_none, Result, Ok, Err, IfOk, IsUtf8}
+use Rattle.std.proofs.lemmas.Bool.{false≢true}
+use Rattle.std.proofs.lemmas.Option.{same_Some, none-some}
+use Rattle.serde_json.specs.Data.{Data, null, boolean, number, string, array, object}
+use Rattle.serde_json.specs.Find.{as_array}
+use Rattle.serde_json.specs.Read.{read}
+use Rattle.rx_event.specs.declared.event.Event.{Event}
+use Rattle.rx_event.specs.Kept.{nothing_kept, shown}
+use Rattle.rx_event.specs.Forced.{IsSettled}
+use Rattle.rx_event.specs.Lawful.{IsLawful, MayFollow}
+use Rattle.rx_event.proofs.Laws.Begin.{shown_nothing}
+use Rattle.rx_event.proofs.Laws.Lawful.{FoundAt, in_base, since_base, found_at}
+use Rattle.rx_audit.specs.declared.verdict.Verdict.{Verdict}
+use Rattle.rx_audit.specs.declared.verdict.Verdict.TheVariants.{Lawful, Unlawful, Unsettled}
+use Rattle.rx_audit.specs.Verdict.{IsVerdict}
+use Rattle.rx_device.specs.Input.{IsJsonOf, most_bytes}
+use Rattle.rx_scenario.specs.Reading.{scenario_of}
+use Rattle.rx_dump.specs.History.{history_of}
+use Rattle.rx_dump.specs.Verdict.{is_lawful}
+use Rattle.rx_explain.specs.Accepted.{IsScenario, IsLawfulDump, IsTaken, IsAccepted, SaysNothingWhere}
+
+-- one verdict -------------------------------------------------------------------------------------
+
+-- in a lawful history each event may follow those before it
+follows : (h : List Event) (i : ℕ) (e : Event) → FoundAt nothing_kept h i e → MayFollow nothing_kept (take i h) e
+follows h i e (in_base found same) = absurd (none-some e (subst (λ k. slice_get k i ≡ Some e) shown_nothing found))
+follows h i e (since_base next) = next
+
+-- of a history that is lawful and settled no other verdict is true
+lawful_alone : (h : List Event) → IsLawful nothing_kept h → IsSettled nothing_kept h → (v : Verdict) → IsVerdict h v → is_lawful v ≡ true
+lawful_alone h law settled (Lawful live held waiting) is = refl
+lawful_alone h law settled (Unlawful place) is = absurd (is.breaks (follows h place is.event (found_at nothing_kept h law place is.event is.found)))
+lawful_alone h law settled Unsettled is = absurd (is.unsettled settled)
+
+one_verdict : (h : List Event) (v w : Verdict) → IsVerdict h v → IsVerdict h w → is_lawful v ≡ true → is_lawful w ≡ true
+one_verdict h (Lawful live held waiting) w is that e = lawful_alone h is.lawful is.settled w that
+one_verdict h (Unlawful place) w is that e = absurd (false≢true e)
+one_verdict h Unsettled w is that e = absurd (false≢true e)
+
+-- dumps and scenarios -----------------------------------------------------------------------------
+
+pub no_dump : (d : Data) → history_of d ≡ None → ¬ IsLawfulDump d
+no_dump d e is = none-some is.is_verdict.history (sym e ∙ is.is_verdict.reading)
+
+pub no_scenario : (d : Data) → scenario_of d ≡ None → ¬ IsScenario d
+no_scenario d e is = none-some is.script (sym e ∙ is.reading)
+
+-- nothing is said of a dump where the verdict on its history is `lawful`
+dump_told : {X : Type 0} (d : Data) (h : List Event) (v : Verdict) (told : Option X) → history_of d ≡ Some h → IsVerdict h v → is_none told ≡ is_lawful v →
+    SaysNothingWhere (IsLawfulDump d) told
+dump_told d h v None reading is e = record { verdict = v; is_verdict = record { history = h; reading = reading; verdict = is }; lawful = sym e }
+dump_told d h v (Some told) reading is e = λ other.
+    let same : other.is_verdict.history ≡ h = same_Some _ _ (sym other.is_verdict.reading ∙ reading) in
+    false≢true (e ∙ one_verdict h other.verdict v (subst (λ k. IsVerdict k other.verdict) same other.is_verdict.verdict) is other.lawful)
+
+pub dump_answer : {X E : Type 0} (d : Data) (h : List Event) (v : Verdict) (answer : Result (Option X) E) → history_of d ≡ Some h → IsVerdict h v →
+    IfOk answer (λ told. is_none told ≡ is_lawful v) → IfOk answer (SaysNothingWhere (IsLawfulDump d))
+dump_answer d h v (Ok told) reading is e = dump_told d h v told reading is e
+dump_answer d h v (Err error) reading is e = tt
+
+-- an array is no scenario
+scenario_no_array : (d : Data) → is_some (as_array d) ≡ true → ¬ IsScenario d
+unfolding scenario_of
+scenario_no_array null e is = false≢true e
+scenario_no_array (boolean b) e is = false≢true e
+scenario_no_array (number n) e is = false≢true e
+scenario_no_array (string s) e is = false≢true e
+scenario_no_array (array ds) e is = none-some is.script is.reading
+scenario_no_array (object ms) e is = false≢true e
+
+-- and nothing else a dump
+dump_array : (d : Data) → is_some (as_array d) ≡ false → ¬ IsLawfulDump d
+unfolding history_of
+dump_array null e is = none-some is.is_verdict.history is.is_verdict.reading
+dump_array (boolean b) e is = none-some is.is_verdict.history is.is_verdict.reading
+dump_array (number n) e is = none-some is.is_verdict.history is.is_verdict.reading
+dump_array (string s) e is = none-some is.is_verdict.history is.is_verdict.reading
+dump_array (array ds) e is = false≢true (sym e)
+dump_array (object ms) e is = none-some is.is_verdict.history is.is_verdict.reading
+
+-- what is taken -----------------------------------------------------------------------------------
+
+neither : {A B : Type 0} → ¬ A → ¬ B → ¬ (A ⊎ B)
+neither no_left no_right (inl a) = no_left a
+neither no_left no_right (inr b) = no_right b
+
+pub taken_array : {X E : Type 0} (d : Data) (answer : Result (Option X) E) → is_some (as_array d) ≡ true → IfOk answer (SaysNothingWhere (IsLawfulDump d)) →
+    IfOk answer (SaysNothingWhere (IsTaken d))
+taken_array d (Ok None) e is = inr is
+taken_array d (Ok (Some told)) e is = neither (scenario_no_array d e) is
+taken_array d (Err error) e is = tt
+
+pub taken_other : {X E : Type 0} (d : Data) (answer : Result (Option X) E) → is_some (as_array d) ≡ false → IfOk answer (SaysNothingWhere (IsScenario d)) →
+    IfOk answer (SaysNothingWhere (IsTaken d))
+taken_other d (Ok None) e is = inl is
+taken_other d (Ok (Some told)) e is = neither is (dump_array d e)
+taken_other d (Err error) e is = tt
+
+-- what is accepted --------------------------------------------------------------------------------
+
+one_value : (input : List ℕ) (d e : Data) → IsJsonOf input d → IsJsonOf input e → d ≡ e
+one_value input d e a b = same_Some _ _ (sym a.value ∙ b.value)
+
+pub accepted_by : {X E : Type 0} (input : List ℕ) (d : Data) (answer : Result (Option X) E) → length input ≤ most_bytes → IsJsonOf input d →
+    IfOk answer (SaysNothingWhere (IsTaken d)) → IfOk answer (SaysNothingWhere (IsAccepted input))
+accepted_by input d (Ok None) short json is = record { short = short; value = d; json = json; taken = is }
+accepted_by input d (Ok (Some told)) short json is = λ a. is (subst IsTaken (one_value input a.value d a.json json) a.taken)
+accepted_by input d (Err error) short json is = tt
+
+pub too_many : (input : List ℕ) → most_bytes < length input → ¬ IsAccepted input
+too_many input long a = let short = a.short in omega arith
+
+pub no_json : (input : List ℕ) → (IsUtf8 input → read input ≡ None) → ¬ IsAccepted input
+no_json input none a = none-some a.value (sym (none a.json.text) ∙ a.json.value)

@@ -1,0 +1,188 @@
+//! What is wrong with an input, or nothing.
+
+ghost use Rattle.std.specs.Prelude.{◌≡◌, is_none, IfOk};
+ghost use Rattle.serde_json.specs.View.{view};
+ghost use Rattle.rx_dump.specs.Verdict.{is_lawful};
+ghost use Rattle.rx_explain.specs.Accepted.{IsScenario, IsLawfulDump, IsTaken, IsAccepted, SaysNothingWhere};
+
+use crate::dump::dump_fault;
+use crate::forced::forced_after;
+use crate::past::Past;
+use crate::rules::broken_rule;
+use crate::scenario::scenario_fault;
+use crate::wanted::Told;
+use rx_audit::{Verdict, audit};
+use rx_device::{MOST_BYTES, ShapeError};
+use rx_dump::{history_of, push_dump};
+use rx_event::Event;
+use rx_scenario::scenario_of;
+use serde_json::{Error, Value};
+use std::alloc::{AllocError, Global};
+
+// The sentence, or this one where there is none.
+fn or_else(alloc: Global, told: Option<String>, other: &str) -> Result<String, AllocError> {
+    match told {
+        Some(told) => Ok(told),
+        None => String::from_str(alloc, other),
+    }
+}
+
+// What is said of an input that is no JSON text.
+fn no_json(alloc: Global, error: &Error) -> Result<String, AllocError> {
+    let (line, column) = (error.line(), error.column());
+    if error.is_eof() {
+        return format!(in alloc; "line {line}, column {column}: the JSON text ends too early");
+    }
+    format!(in alloc; "line {line}, column {column}: no JSON text; look here and just before")
+}
+
+// An event as it stands in a dump.
+fn event_text(alloc: Global, event: Event) -> Result<String, AllocError> {
+    let mut text = String::new(alloc);
+    push_dump(&mut text, &[event])?;
+    let shown = text.as_str().trim();
+    let Some(inner) = shown
+        .strip_prefix("[")
+        .and_then(|shown| shown.strip_suffix("]"))
+    else {
+        return Ok(text);
+    };
+    String::from_str(alloc, inner)
+}
+
+// What is said of a history after which the rules force something.
+fn force(alloc: Global, history: &[Event]) -> Result<String, AllocError> {
+    match forced_after(alloc, history)? {
+        Some(event) => {
+            let shown = event_text(alloc, event)?;
+            format!(in alloc; "the rules force another event first, as {shown}")
+        }
+        None => String::from_str(alloc, "the rules force another event first"),
+    }
+}
+
+// Which rule an event breaks that may not follow this history, of which this is the verdict.
+fn reason(
+    alloc: Global,
+    front: &[Event],
+    verdict: &Verdict,
+    event: Event,
+) -> Result<String, AllocError> {
+    match verdict {
+        Verdict::Lawful {
+            live,
+            held,
+            waiting,
+        } => {
+            let past = Past {
+                events: front,
+                live: live.as_slice(),
+                held: held.as_slice(),
+                waiting: waiting.as_slice(),
+            };
+            or_else(
+                alloc,
+                broken_rule(alloc, past, event)?,
+                "it may not follow the events before it",
+            )
+        }
+        _ => force(alloc, front),
+    }
+}
+
+// What is said of a history whose event at this place is out of order.
+fn unlawful(alloc: Global, history: &[Event], place: u64) -> Result<String, AllocError> {
+    let at = place as usize;
+    let (Some(front), Some(event)) = (history.get(..at), history.get(at)) else {
+        return format!(in alloc; "event {place}: it may not follow the events before it");
+    };
+    let Ok(verdict) = audit(alloc, front) else {
+        return Err(AllocError);
+    };
+    let shown = event_text(alloc, *event)?;
+    let reason = reason(alloc, front, &verdict, *event)?;
+    format!(in alloc; "event {place}, {shown}: {reason}")
+}
+
+// What is said of a history that is in order and not settled.
+fn unsettled(alloc: Global, history: &[Event]) -> Result<String, AllocError> {
+    let told = force(alloc, history)?;
+    format!(in alloc; "at the end: {told}")
+}
+
+// What the verdict on a history leaves to say.
+fn verdict_told(alloc: Global, history: &[Event], verdict: &Verdict) -> Told
+    ensures { IfOk result (λ told. is_none told ≡ is_lawful verdict.now) }
+{
+    match verdict {
+        Verdict::Lawful { .. } => Ok(None),
+        Verdict::Unlawful { place } => Ok(Some(unlawful(alloc, history, *place)?)),
+        Verdict::Unsettled => Ok(Some(unsettled(alloc, history)?)),
+    }
+}
+
+// What is wrong with a value that is to be a dump.
+fn explain_dump(alloc: Global, value: &Value) -> Told
+    ensures { IfOk result (SaysNothingWhere (IsLawfulDump (view value.now))) }
+{
+    let history = match history_of(alloc, value) {
+        Ok(history) => history,
+        Err(ShapeError::Memory) => return Err(AllocError),
+        Err(ShapeError::Shape) => {
+            let told = dump_fault(alloc, value)?;
+            return Ok(Some(or_else(alloc, told, "the input is no dump")?));
+        }
+    };
+    match audit(alloc, history.as_slice()) {
+        Ok(verdict) => verdict_told(alloc, history.as_slice(), &verdict),
+        Err(_) => Err(AllocError),
+    }
+}
+
+// What is wrong with a value that is to be a scenario.
+fn explain_scenario(alloc: Global, value: &Value) -> Told
+    ensures { IfOk result (SaysNothingWhere (IsScenario (view value.now))) }
+{
+    match scenario_of(alloc, value) {
+        Ok(_scenario) => Ok(None),
+        Err(ShapeError::Memory) => Err(AllocError),
+        Err(ShapeError::Shape) => {
+            let told = scenario_fault(alloc, value)?;
+            Ok(Some(or_else(alloc, told, "the input is no scenario")?))
+        }
+    }
+}
+
+// What is wrong with a value.
+fn explain_value(alloc: Global, value: &Value) -> Told
+    ensures { IfOk result (SaysNothingWhere (IsTaken (view value.now))) }
+{
+    if value.is_array() {
+        explain_dump(alloc, value)
+    } else {
+        explain_scenario(alloc, value)
+    }
+}
+
+/// What is said of an input that is longer than an input may be.
+pub fn too_long(alloc: Global) -> Result<String, AllocError> {
+    format!(in alloc; "the input is longer than {MOST_BYTES} bytes")
+}
+
+/// What is wrong with an input: None for just those that `rxbook run` or `rxbook audit` accepts. An
+/// audit accepts what it calls lawful.
+///
+/// Err comes where memory is refused.
+#[tactic(auto, using(crate::proofs::Accepting::accepted_by, crate::proofs::Accepting::too_many, crate::proofs::Accepting::no_json))]
+pub fn explain(alloc: Global, input: &[u8]) -> Told
+    ensures { IfOk result (SaysNothingWhere (IsAccepted input.now)) }
+{
+    if input.len() > MOST_BYTES {
+        return Ok(Some(too_long(alloc)?));
+    }
+    match Value::from_slice(alloc, input) {
+        Ok(value) => explain_value(alloc, &value),
+        Err(error) if error.is_memory() => Err(AllocError),
+        Err(error) => Ok(Some(no_json(alloc, &error)?)),
+    }
+}

@@ -1,0 +1,30 @@
+//! Explanations: what is wrong with an input that `rxbook` does not accept, in a sentence.
+//!
+//! # Vocabulary
+//!
+//! - An input is **accepted** where it is a scenario, or the dump of a history that the audit calls
+//!   lawful (`specs/Accepted.antt`).
+//! - [`explain`] says nothing of an input that is accepted, and of every other one where it goes wrong.
+//!   An input whose JSON is an array is taken for a dump, and every other one for a scenario.
+//! - A place in a scenario is told as `jq` writes it, `.steps[2].then[0].node`, and one in a dump by the
+//!   number of the event and of its element, both from 0.
+//!
+//! # Promised, and not
+//!
+//! - [`explain`] answers None for just the inputs that are accepted, by the definitions of `rx_scenario`,
+//!   `rx_dump` and `rx_audit`, whose readers decide it.
+//! - What a sentence says is not proved. The faults are looked for a second time, by plain code over the
+//!   tables of `words`; where that finds none, the sentence says no more than what the input is not.
+//!   Stored mistakes with their texts are replayed by `rx_replay`.
+#![tactic(auto)]
+
+mod dump;
+mod explaining;
+mod forced;
+mod past;
+mod rules;
+mod scenario;
+mod wanted;
+mod words;
+
+pub use explaining::{explain, too_long};

@@ -1,0 +1,251 @@
+//! Which rule an event breaks that comes after a settled history.
+
+use crate::forced::may_follow;
+use crate::past::{Past, end_of, event_at, opening_at, removal_of, taking_of};
+use crate::wanted::Told;
+use rx_event::{Event, Kind, Place};
+use rx_note::Terminal;
+use std::alloc::Global;
+
+/// How many nodes may be open.
+const MOST_NODES: usize = 1_048_576;
+
+const TOO_MANY: &str = "it would take more than 1048576 open nodes";
+
+// A sentence that has no parts.
+fn say(alloc: Global, sentence: &str) -> Told {
+    Ok(Some(String::from_str(alloc, sentence)?))
+}
+
+// Why a node is not open; None where it is.
+fn not_open(alloc: Global, past: Past<'_>, node: u64) -> Told {
+    if past.live.contains(&node) {
+        return Ok(None);
+    }
+    if !event_at(past.events, node).is_some_and(Event::makes_node) {
+        return Ok(Some(format!(in alloc; "there is no node {node}")?));
+    }
+    match end_of(past.events, node) {
+        Some(end) => Ok(Some(format!(in alloc; "node {node} is closed, by event {end}")?)),
+        None => Ok(Some(format!(in alloc; "node {node} is closed")?)),
+    }
+}
+
+// Why there is no such hub; None where there is.
+fn no_hub(alloc: Global, past: Past<'_>, hub: u64) -> Told {
+    if event_at(past.events, hub).is_some_and(Event::makes_hub) {
+        return Ok(None);
+    }
+    Ok(Some(format!(in alloc; "there is no hub {hub}")?))
+}
+
+// Why a node has no such place, or why that was used.
+fn no_place(alloc: Global, past: Past<'_>, place: Place) -> Told {
+    let Some(node) = place.above() else {
+        return Ok(None);
+    };
+    if let Some(told) = not_open(alloc, past, node)? {
+        return Ok(Some(told));
+    }
+    let Some(made) = event_at(past.events, node) else {
+        return Ok(None);
+    };
+    match place {
+        Place::Source(_) if !made.has_source() => Ok(Some(format!(in alloc;
+            "node {node} has no place for a source"
+        )?)),
+        Place::Inner(_) if !made.is_merging() => Ok(Some(format!(in alloc;
+            "node {node} is no FlatMap and no Switch"
+        )?)),
+        Place::Notifier(_) if !made.is_until() => Ok(Some(format!(in alloc;
+            "node {node} is no TakeUntil"
+        )?)),
+        Place::Inner(_) => Ok(None),
+        _ => used_before(alloc, past, place),
+    }
+}
+
+// Why a place that serves once was used.
+fn used_before(alloc: Global, past: Past<'_>, place: Place) -> Told {
+    match opening_at(past.events, place) {
+        Some(before) => Ok(Some(format!(in alloc;
+            "the place was used before, by event {before}"
+        )?)),
+        None => Ok(None),
+    }
+}
+
+// Why a node may not subscribe to a hub there.
+fn no_subscriber(alloc: Global, past: Past<'_>, place: Place, hub: u64) -> Told {
+    if let Some(told) = no_hub(alloc, past, hub)? {
+        return Ok(Some(told));
+    }
+    let kind = Kind::Leaf;
+    if past.live.len() + 1 < MOST_NODES
+        && may_follow(alloc, past.events, Event::Open { place, kind })?
+    {
+        return Ok(Some(format!(in alloc;
+            "a subscriber of hub {hub} may stand below no connection of that hub or of an earlier one"
+        )?));
+    }
+    Ok(None)
+}
+
+// Why a node may not be opened there.
+fn open_rule(alloc: Global, past: Past<'_>, place: Place, kind: Kind) -> Told {
+    if let Some(told) = no_place(alloc, past, place)? {
+        return Ok(Some(told));
+    }
+    if let Some(hub) = kind.hub() {
+        if let Some(told) = no_subscriber(alloc, past, place, hub)? {
+            return Ok(Some(told));
+        }
+    }
+    match place {
+        Place::Inner(node) if past.live.len() < MOST_NODES => {
+            Ok(Some(format!(in alloc; "nothing is owed at node {node}")?))
+        }
+        _ => say(alloc, TOO_MANY),
+    }
+}
+
+// The open connection of a hub.
+fn connection_of(past: Past<'_>, hub: u64) -> Option<u64> {
+    for node in past.live {
+        if event_at(past.events, *node) == Some(Event::Connect(hub)) {
+            return Some(*node);
+        }
+    }
+    None
+}
+
+// Why a hub may not be connected.
+fn connect_rule(alloc: Global, past: Past<'_>, hub: u64) -> Told {
+    if let Some(told) = no_hub(alloc, past, hub)? {
+        return Ok(Some(told));
+    }
+    if event_at(past.events, hub).is_some_and(Event::is_auto_hub) {
+        return Ok(Some(format!(in alloc;
+            "hub {hub} has RefCount: it is connected where a subscriber waits, and else not"
+        )?));
+    }
+    match connection_of(past, hub) {
+        Some(node) => Ok(Some(format!(in alloc;
+            "hub {hub} is connected already, by node {node}"
+        )?)),
+        None => say(alloc, TOO_MANY),
+    }
+}
+
+// Why there is no such resource, or why it does not wait any more; None where it is held or waits.
+fn gone_resource(alloc: Global, past: Past<'_>, resource: u64) -> Told {
+    if !event_at(past.events, resource).is_some_and(Event::makes_resource) {
+        return Ok(Some(format!(in alloc; "there is no resource {resource}")?));
+    }
+    match taking_of(past.events, resource) {
+        Some(taking) => Ok(Some(format!(in alloc;
+            "resource {resource} was handed out, by event {taking}"
+        )?)),
+        None => Ok(None),
+    }
+}
+
+// Why a resource is not held.
+fn held_rule(alloc: Global, past: Past<'_>, resource: u64) -> Told {
+    if let Some(told) = gone_resource(alloc, past, resource)? {
+        return Ok(Some(told));
+    }
+    match removal_of(past.events, resource) {
+        Some(removal) => Ok(Some(format!(in alloc;
+            "resource {resource} is not held: event {removal} removed it"
+        )?)),
+        None => Ok(Some(format!(in alloc; "resource {resource} is not held: its node is closed")?)),
+    }
+}
+
+// Why a resource does not wait to be handed out.
+fn take_rule(alloc: Global, past: Past<'_>, resource: u64) -> Told {
+    if let Some(told) = gone_resource(alloc, past, resource)? {
+        return Ok(Some(told));
+    }
+    Ok(Some(format!(in alloc;
+        "resource {resource} is still held: it waits once it is removed or its node is closed"
+    )?))
+}
+
+// Why a leaf may not emit.
+fn item_rule(alloc: Global, past: Past<'_>, leaf: u64) -> Told {
+    if let Some(told) = not_open(alloc, past, leaf)? {
+        return Ok(Some(told));
+    }
+    if !event_at(past.events, leaf).is_some_and(Event::is_leaf) {
+        return Ok(Some(format!(in alloc; "node {leaf} is no leaf")?));
+    }
+    say(alloc, "the item would make more than 1048576 visits")
+}
+
+// Why a node may not decline an item.
+fn decline_rule(alloc: Global, past: Past<'_>, node: u64) -> Told {
+    if let Some(told) = not_open(alloc, past, node)? {
+        return Ok(Some(told));
+    }
+    if !event_at(past.events, node).is_some_and(Event::is_merging) {
+        return Ok(Some(format!(in alloc; "node {node} is no FlatMap and no Switch")?));
+    }
+    Ok(Some(format!(in alloc; "nothing is owed at node {node}")?))
+}
+
+// Why a node may not end so.
+fn end_rule(alloc: Global, past: Past<'_>, node: u64, terminal: Terminal) -> Told {
+    if let Some(told) = not_open(alloc, past, node)? {
+        return Ok(Some(told));
+    }
+    let is_subscriber = match event_at(past.events, node) {
+        Some(made) => made.subscribes_to().is_some(),
+        None => false,
+    };
+    if is_subscriber {
+        return Ok(Some(format!(in alloc;
+            "node {node} is a subscriber: it ends as the connection of its hub does"
+        )?));
+    }
+    match terminal {
+        Terminal::Completed => Ok(Some(format!(in alloc;
+            "node {node} is no leaf: it completes where a rule forces that, and else not"
+        )?)),
+        Terminal::Error(_) => Ok(Some(format!(in alloc;
+            "a node below node {node} is open, and nothing is owed there"
+        )?)),
+    }
+}
+
+// Why a node may not be closed.
+fn close_rule(alloc: Global, past: Past<'_>, node: u64) -> Told {
+    if let Some(told) = not_open(alloc, past, node)? {
+        return Ok(Some(told));
+    }
+    match event_at(past.events, node) {
+        Some(Event::Connect(hub)) => Ok(Some(format!(in alloc;
+            "node {node} is the connection of hub {hub}, which has RefCount: it closes with the last subscriber"
+        )?)),
+        _ => Ok(Some(format!(in alloc;
+            "node {node} is no root: it closes with the node above it"
+        )?)),
+    }
+}
+
+/// Which rule an event breaks that may not follow a settled history.
+pub fn broken_rule(alloc: Global, past: Past<'_>, event: Event) -> Told {
+    match event {
+        Event::Open { place, kind } => open_rule(alloc, past, place, kind),
+        Event::Hub(_) => say(alloc, "there are 1024 hubs already"),
+        Event::Connect(hub) => connect_rule(alloc, past, hub),
+        Event::Accept(node, _) => not_open(alloc, past, node),
+        Event::Use(resource) | Event::Remove(resource) => held_rule(alloc, past, resource),
+        Event::Item(leaf, _) => item_rule(alloc, past, leaf),
+        Event::Decline(node) => decline_rule(alloc, past, node),
+        Event::End(node, terminal) => end_rule(alloc, past, node, terminal),
+        Event::Close(node) => close_rule(alloc, past, node),
+        Event::Take(resource) => take_rule(alloc, past, resource),
+    }
+}
