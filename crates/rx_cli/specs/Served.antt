@@ -80,7 +80,7 @@ pub record TellsAudit {E : Type 0} (contents : E → Bytes) (errors errors' : Wa
 -- agree with the book, and a front of that text with a write fault; with any other fault nothing
 pub record Stormed {O : Type 0} (contents : O → Bytes)
     (output output' : Watched O) (outcome : Result Bool StormFault) : Type 0 where
-  pub told : OnOk outcome (TellsFigures (contents (device_of output)) (contents (device_of output')))
+  pub told : IfOk outcome (λ agrees. TellsFigures agrees (contents (device_of output)) (contents (device_of output')))
   pub unhurt : OnOk outcome (has_failed output' ≡ false)
   pub front : IsErrOf outcome NoWrite → TellsFront (contents (device_of output)) (contents (device_of output'))
   pub memory : IsErrOf outcome NoMemory → output' ≡ output

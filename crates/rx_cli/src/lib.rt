@@ -63,7 +63,7 @@ pub use boxes::{Faulty, Plain, ResourceKind, STOCK, Stocked, Tally, stock};
 pub use program::serve;
 pub use request::Order;
 pub use rx_script::{Closed, Form, ScriptError, Watched, check, close, run};
-pub use statuses::out_of_memory;
+pub use statuses::{out_of_memory, weathered};
 pub use usage::refuse_bytes;
 pub use word_laws::words_have_their_orders;
 pub use words::order;

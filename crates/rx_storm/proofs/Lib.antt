@@ -1,2 +1,3 @@
 mod CountUp
+mod Mail
 mod Told

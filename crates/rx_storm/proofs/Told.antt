@@ -1,13 +1,57 @@
 -- What an outcome tells.
-use Rattle.std.proofs.Common.{Option, Some, None, Result, Ok, Err, IfOk}
+use Rattle.std.proofs.Common.{◌≡◌, Option, Some, None, Result, Ok, Err, IfOk, Bool, ℕ, List, refl}
+use Rattle.std.specs.Prelude.{is_ok, IfErr, OnOk}
+use Rattle.rx_book.specs.State.{State}
 use Rattle.rx_crew.specs.declared.finishing.Totals.{Totals}
 use Rattle.rx_crew.specs.declared.finishing.Mismatch.{Mismatch}
 use Rattle.rx_storm.specs.declared.outcome.Lack.{Lack}
 use Rattle.rx_storm.specs.declared.figures.Figures.{Figures}
-use Rattle.rx_storm.specs.Storms.{IsOfHistory, outcome_of}
+use Rattle.rx_storm.specs.Storms.{figures_of, outcome_of, TellsOf, TellsFrontOf, Tells, TellsFront}
+use Rattle.rx_ledger.specs.declared.ledgers.Sums.{Sums}
+use Rattle.rx_ledger.specs.declared.receipt.Receipt.{Receipt}
+use Rattle.rx_storm.specs.declared.StormFault.{StormFault}
 
-pub outcome_tells : (lack : Option Lack) (figures : Figures) (verdict : Result Totals Mismatch) → IsOfHistory figures
-    → IfOk (outcome_of lack figures verdict) (λ told. IsOfHistory told.0)
-outcome_tells (Some lack) figures verdict is = tt
-outcome_tells None figures (Ok totals) is = is
-outcome_tells None figures (Err mismatch) is = is
+-- what holds of the figures with the answer of their verdict
+pub outcome_tells : (lack : Option Lack) (figures : Figures) (verdict : Result Totals Mismatch) (P : Figures → Bool → Type 0)
+    → P figures (is_ok verdict) → IfOk (outcome_of lack figures verdict) (λ told. P told.0 told.1)
+outcome_tells (Some lack) figures verdict P is = tt
+outcome_tells None figures verdict P is = is
+
+-- the figures of some threads that did so are those of a storm
+pub told_of : (outcome : Result Bool StormFault) (shares : Sums) (receipts : List Receipt) (released faults : ℕ) (old new : Option (List ℕ))
+    → IfOk outcome (λ answer. TellsOf shares receipts released faults answer old new) → IfOk outcome (λ answer. Tells answer old new)
+told_of (Ok answer) shares receipts released faults old new tells = record {
+  shares = shares;
+  receipts = receipts;
+  released = released;
+  faults = faults;
+  tells = tells;
+}
+told_of (Err fault) shares receipts released faults old new tells = tt
+
+-- an outcome that is Ok lacks nothing, and one that is not tells what it lacks
+pub outcome_done : (lack : Option Lack) (figures : Figures) (verdict : Result Totals Mismatch)
+    → OnOk (outcome_of lack figures verdict) (lack ≡ None)
+outcome_done (Some lack) figures verdict = tt
+outcome_done None figures verdict = refl
+
+pub outcome_lacks : (lack : Option Lack) (figures : Figures) (verdict : Result Totals Mismatch)
+    → IfErr (outcome_of lack figures verdict) (λ l. lack ≡ Some l)
+outcome_lacks (Some lack) figures verdict = refl
+outcome_lacks None figures verdict = tt
+
+-- the figures of a book with their own releases and faults
+pub own_figures : (told : Figures) (book : State) (released faults : ℕ)
+    → told ≡ figures_of book released faults → told ≡ figures_of book told.released told.faults
+own_figures told book released faults is = rw is refl
+
+-- a front of the figures of some threads is one of those of a storm
+pub front_of : (shares : Sums) (receipts : List Receipt) (released faults : ℕ) (old new : Option (List ℕ))
+    → TellsFrontOf shares receipts released faults old new → TellsFront old new
+front_of shares receipts released faults old new tells = record {
+  shares = shares;
+  receipts = receipts;
+  released = released;
+  faults = faults;
+  tells = tells;
+}

@@ -1,17 +1,19 @@
 -- What a storm gives, and what it tells.
-use Rattle.std.specs.Prelude.{◌≡◌, Option, Some, None, Result, Ok, Err, true, false, ℕ, zero, suc, pos, Bool, List, [], ◌∷◌, ◌++◌, codes, length}
+use Rattle.std.specs.Prelude.{◌≡◌, Option, Some, None, Result, Ok, Err, is_ok, ℕ, zero, suc, pos, ◌+◌, ◌-◌, min, Bool, List, [], ◌∷◌, ◌++◌, codes, length}
 use Rattle.std.specs.Fmt.{decimal}
 use Rattle.std.specs.Io.KnownBytes.{Appends}
 use Rattle.rx_note.specs.declared.note.Terminal.TheVariants.{Completed}
-use Rattle.rx_event.specs.Kept.{nothing_kept}
-use Rattle.rx_event.specs.declared.event.Event.{Event}
+use Rattle.rx_event.specs.Notes.{notes}
 use Rattle.rx_event.specs.Totals.{accepted_count, taken_count, held_count, waiting_count}
-use Rattle.rx_event.specs.Lawful.{IsLawful}
+use Rattle.rx_book.specs.State.{State, IsPromised}
+use Rattle.rx_ledger.specs.declared.ledgers.Sums.{Sums}
+use Rattle.rx_ledger.specs.declared.receipt.Receipt.{Receipt}
 use Rattle.rx_device.specs.Device.{AppendsPrefix}
 use Rattle.rx_crew.specs.declared.feeding.Pull.{Pull}
 use Rattle.rx_crew.specs.declared.feeding.Pull.TheVariants.{Item, Done}
 use Rattle.rx_crew.specs.declared.finishing.Totals.{Totals}
 use Rattle.rx_crew.specs.declared.finishing.Mismatch.{Mismatch}
+use Rattle.rx_crew.specs.Verdicts.{IsVerdict}
 use Rattle.rx_storm.specs.declared.outcome.Lack.{Lack}
 use Rattle.rx_storm.specs.declared.figures.Figures.{Figures}
 
@@ -34,26 +36,83 @@ last_lines f =
 abbrev pub figures_text : Figures → List ℕ
 figures_text f = first_lines f ++ last_lines f
 
--- some lawful history has these figures
-pub record IsOfHistory (f : Figures) : Type 0 where
-  pub history : List Event
-  pub lawful : IsLawful nothing_kept history
-  pub accepted : f.accepted ≡ accepted_count nothing_kept history
-  pub taken : f.taken ≡ taken_count nothing_kept history
-  pub held : f.held ≡ held_count history
-  pub waiting : f.waiting ≡ waiting_count history
-  pub events : f.events ≡ length history
+-- the figures of a book, and of so many releases with so many faults: its notes are those that were not handed out
+-- yet, as far as 64 bits count
+abbrev pub figures_of : State → (released faults : ℕ) → Figures
+figures_of book released faults = record {
+  accepted = accepted_count book.base book.history;
+  taken = taken_count book.base book.history;
+  released = released;
+  faults = faults;
+  held = held_count book.history;
+  waiting = waiting_count book.history;
+  notes = min (length (notes book.history) - book.given) 18446744073709551615;
+  events = length book.history;
+}
 
--- the figures of a storm were written, and nothing else
-abbrev pub Tells : Option (List ℕ) → Option (List ℕ) → Type 0
-Tells old new = (told : Figures) × IsOfHistory told × Appends old new (figures_text told)
+-- the book was closed: nothing is open, held or waiting any more, and all that was held or waited was taken
+pub record IsClosing (old new : State) : Type 0 where
+  pub none_open : new.keys ≡ []
+  pub none_held : new.held ≡ []
+  pub none_waits : new.waiting ≡ []
+  pub accepted : accepted_count new.base new.history ≡ accepted_count old.base old.history
+  pub taken : taken_count new.base new.history ≡
+      taken_count old.base old.history + (held_count old.history + waiting_count old.history)
+
+-- what a storm came to whose threads counted these shares together and have these receipts: a book that keeps its
+-- promise, the verdict on the threads, the figures of the book, and that it was closed; the answer is whether there
+-- is no mismatch
+pub record IsEnd (shares : Sums) (receipts : List Receipt) (told : Figures) (answer : Bool) : Type 0 where
+  pub book : State
+  pub closed : State
+  pub verdict : Result Totals Mismatch
+  pub promised : IsPromised book
+  pub judged : IsVerdict book.base book.history shares receipts verdict
+  pub agrees : answer ≡ is_ok verdict
+  pub figures : told ≡ figures_of book told.released told.faults
+  pub closing : IsClosing book closed
+
+-- the figures of threads that did so were written, and nothing else
+pub record TellsOf (shares : Sums) (receipts : List Receipt) (released faults : ℕ) (answer : Bool)
+    (old new : Option (List ℕ)) : Type 0 where
+  pub told : Figures
+  pub released_is : told.released ≡ released
+  pub faults_is : told.faults ≡ faults
+  pub ended : IsEnd shares receipts told answer
+  pub written : Appends old new (figures_text told)
+
+-- a front of them was written
+pub record TellsFrontOf (shares : Sums) (receipts : List Receipt) (released faults : ℕ)
+    (old new : Option (List ℕ)) : Type 0 where
+  pub told : Figures
+  pub answer : Bool
+  pub released_is : told.released ≡ released
+  pub faults_is : told.faults ≡ faults
+  pub ended : IsEnd shares receipts told answer
+  pub written : AppendsPrefix old new (figures_text told)
+
+-- the figures of a storm that answers so were written, and nothing else
+pub record Tells (answer : Bool) (old new : Option (List ℕ)) : Type 0 where
+  pub shares : Sums
+  pub receipts : List Receipt
+  pub released : ℕ
+  pub faults : ℕ
+  pub tells : TellsOf shares receipts released faults answer old new
 
 -- a front of the figures of a storm was written
-abbrev pub TellsFront : Option (List ℕ) → Option (List ℕ) → Type 0
-TellsFront old new = (told : Figures) × IsOfHistory told × AppendsPrefix old new (figures_text told)
+pub record TellsFront (old new : Option (List ℕ)) : Type 0 where
+  pub shares : Sums
+  pub receipts : List Receipt
+  pub released : ℕ
+  pub faults : ℕ
+  pub tells : TellsFrontOf shares receipts released faults old new
+
+-- what was lacked first
+abbrev pub first_lack : Option Lack → Lack → Option Lack
+first_lack (Some before) lack = Some before
+first_lack None lack = Some lack
 
 -- what the storm lacked; else the figures, and whether seats and receipts agree with the book
 abbrev pub outcome_of : Option Lack → Figures → Result Totals Mismatch → Result (Figures × Bool) Lack
 outcome_of (Some lack) figures verdict = Err lack
-outcome_of None figures (Ok totals) = Ok (figures, true)
-outcome_of None figures (Err mismatch) = Ok (figures, false)
+outcome_of None figures verdict = Ok (figures, is_ok verdict)

@@ -8,39 +8,45 @@
 //! - The **figures** are what it came to, one a line: `accepted`, `taken`, `released`, `faults`, `held`,
 //!   `waiting`, `notes` (mail taken at the end) and `events`. `specs/Storms.antt` defines their text.
 //! - A [`StormFault`] says what kept a storm from being told.
-//! - [`run_threads`] is a storm at a desk of the caller's, who finishes it and has its history; what the
-//!   threads gave back is [`Gathered`], with the [`Lack`] that kept the storm from its end.
+//! - [`run_threads`] is a storm at a desk of the caller's; what the threads gave back is [`Gathered`], with
+//!   the [`Lack`] that kept the storm from its end. [`end_storm`] ends it: it takes the book out, compares,
+//!   closes and tells it. A caller who wants the history takes the book out himself.
 //!
 //! # Promised, and not
 //!
-//! - Where [`storm`] answers Ok, what was written is the text of figures of which a lawful history has
-//!   those of accepted, taken, held and waiting resources and of events, and nothing else.
+//! - Where [`end_storm`] answers Ok, what was written is the text of the figures of a book that keeps its
+//!   promise, with the notes that were not handed out yet and the releases and faults that were gathered,
+//!   and nothing else; the answer is whether the verdict on the seats and receipts is no mismatch, and that
+//!   book was closed. Where the threads lacked something, that is the answer.
+//! - [`storm`] promises the same for some seats and receipts.
 //! - With `Memory` or `Thread` nothing was written; with `Write` a front of the text may have been.
 //! - A feeding thread's source gives the numbers from 0 up to its count, in order, and then completes.
-//! - That as many resources were released as were taken, how many notes were left, that seats and receipts
-//!   agree with the book, and that releases run side by side is tested and not proved; so it is that
+//! - That threads are started and nothing that they gave back is left out, that as many resources were
+//!   released as were taken, that seats and receipts agree with the book, that releases run side by side,
+//!   and that the book is closed also where an error is answered is tested and not proved; so it is that
 //!   `Memory` and `Thread` come only where memory or a thread was really refused.
 //! - How long a storm takes, and in which order its threads get the lock, nothing says.
 #![tactic(auto)]
 
-ghost use Rattle.std.specs.Prelude.{◌≡◌, ◌≤◌, vec_len, IfOk, OnOk, IsErrOf};
+ghost use Rattle.std.specs.Prelude.{◌≡◌, ◌≤◌, ◌↔◌, [], Err, Some, vec_len, IfOk, OnOk, IsErrOf};
 ghost use Rattle.std.specs.List.{All};
 ghost use Rattle.rx_resource.specs.declared.Life.{Life};
-ghost use Rattle.rx_ledger.specs.Shares.{Opens};
+ghost use Rattle.rx_ledger.specs.Shares.{Opens, together, sums_in};
 ghost use Rattle.rx_device.specs.Device.{device_of, has_failed, HasWriteFault, KeepsDevice};
 ghost use Rattle.rx_storm.specs.declared.StormFault.{StormFault};
-ghost use Rattle.rx_storm.specs.Storms.{IsOfHistory, Tells, TellsFront};
+ghost use Rattle.rx_storm.specs.declared.outcome.Lack.{Lack};
+ghost use Rattle.rx_storm.specs.Storms.{Tells, TellsFront, TellsOf, TellsFrontOf};
 
+mod ending;
 mod figures;
 mod numbers;
 mod outcome;
 mod threads;
 
-use figures::Figures;
+use ending::settle;
 pub use outcome::Lack;
-use outcome::outcome_of;
 use rx_book::Book;
-use rx_crew::{Desk, Gate, finish};
+use rx_crew::{Desk, Gate};
 use rx_device::{Watched, write_text};
 use rx_ledger::PARTS;
 use rx_resource::Resource;
@@ -66,21 +72,57 @@ pub enum StormFault {
     Write,
 }
 
-/// Takes all mail that is left, and answers how much it was.
-fn take_all_mail<R: Resource>(book: &mut Book<R>) -> u64
-    ensures base { book.new.base ≡ book.old.base }
-    ensures history { book.new.history ≡ book.old.history }
+/// The book of a storm, in which nothing happened yet: it may have 16,777,216 events.
+fn new_book<R: Resource>(alloc: Global) -> Book<R>
+    ensures empty { result.history ≡ [] }
+    ensures limit { result.limit ≡ 16777216 }
 {
-    for notes in 0..u64::MAX {
-        if book.take_mail().is_none() {
-            return notes;
-        }
-    }
-    u64::MAX
+    Book::new(alloc, MOST_EVENTS)
 }
 
-/// Runs a storm whose ledgers the caller names: its figures, and whether the threads agree with the
-/// book. Whatever happened, nothing is open, held or waiting in its book at the end.
+/// Ends a storm at a desk whose threads are joined, with what they gave back: takes the book out,
+/// compares the seats and receipts with it, closes it, and writes the figures that it had before the
+/// closing, one a line. Ok tells whether there was no mismatch.
+///
+/// Where the threads lacked memory or a thread it answers that, and where memory is refused here
+/// `Memory`: nothing is written then. With `Write` a front of the text may have been. The book is
+/// closed in each case, and before the first byte is written.
+pub fn end_storm<R: Resource, I: Ledger, A: Ledger, K: Ledger, W: Write>(
+    alloc: Global,
+    desk: Desk<R, I, A, K>,
+    gathered: Gathered<I, A, K>,
+    writer: &mut Watched<'_, W>,
+) -> Result<bool, StormFault>
+    ensures told { IfOk result (λ answer. TellsOf (sums_in (together gathered.seats.items)) gathered.receipts.items
+        gathered.released gathered.faults answer
+        (W.contents (device_of writer.old)) (W.contents (device_of writer.new))) }
+    ensures front { IsErrOf result StormFault.Write
+        → TellsFrontOf (sums_in (together gathered.seats.items)) gathered.receipts.items
+        gathered.released gathered.faults (W.contents (device_of writer.old)) (W.contents (device_of writer.new)) }
+    ensures memory { gathered.fault ≡ Some Lack.Memory → result ≡ Err StormFault.Memory }
+    ensures thread { (result ≡ Err StormFault.Thread) ↔ (gathered.fault ≡ Some Lack.Thread) }
+    ensures untold { IsErrOf result StormFault.Memory → writer.new ≡ writer.old }
+    ensures unstarted { IsErrOf result StormFault.Thread → writer.new ≡ writer.old }
+    ensures unhurt { OnOk result (has_failed writer.new ≡ has_failed writer.old) }
+    ensures failed { IsErrOf result StormFault.Write → HasWriteFault writer.new }
+    ensures same_device { KeepsDevice writer.old writer.new }
+{
+    let (figures, agrees) = match settle(desk, gathered).outcome {
+        Ok(told) => told,
+        Err(Lack::Memory) => return Err(StormFault::Memory),
+        Err(Lack::Thread) => return Err(StormFault::Thread),
+    };
+    let text = match figures.text(alloc) {
+        Ok(text) => text,
+        Err(_) => return Err(StormFault::Memory),
+    };
+    match write_text(writer, text.as_bytes()) {
+        Ok(()) => Ok(agrees),
+        Err(_) => Err(StormFault::Write),
+    }
+}
+
+/// Runs a storm whose ledgers the caller names.
 fn storm_named<
     R: Resource,
     I: Ledger + Send + Sync,
@@ -88,6 +130,7 @@ fn storm_named<
     K: Ledger + Send + Sync,
     G: Gate,
     T: Threads + Wait + Sync,
+    W: Write,
 >(
     rt: &T,
     alloc: Global,
@@ -96,31 +139,24 @@ fn storm_named<
     workers: u64,
     items: u32,
     gate: &G,
-) -> Result<(Figures, bool), Lack>
+    writer: &mut Watched<'_, W>,
+) -> Result<bool, StormFault>
     requires items { Opens I.name I.parts blanks.0.name blanks.0.parts }
     requires accepted { Opens A.name A.parts blanks.1.name blanks.1.parts }
     requires taken { Opens K.name K.parts blanks.2.name blanks.2.parts }
-    ensures { IfOk result (λ told. IsOfHistory told.0) }
+    ensures told { IfOk result (λ answer.
+        Tells answer (W.contents (device_of writer.old)) (W.contents (device_of writer.new))) }
+    ensures front { IsErrOf result StormFault.Write
+        → TellsFront (W.contents (device_of writer.old)) (W.contents (device_of writer.new)) }
+    ensures untold { IsErrOf result StormFault.Memory → writer.new ≡ writer.old }
+    ensures unstarted { IsErrOf result StormFault.Thread → writer.new ≡ writer.old }
+    ensures unhurt { OnOk result (has_failed writer.new ≡ has_failed writer.old) }
+    ensures failed { IsErrOf result StormFault.Write → HasWriteFault writer.new }
+    ensures same_device { KeepsDevice writer.old writer.new }
 {
-    let book = Book::new(alloc, MOST_EVENTS);
-    let (desk, first) = Desk::<R, I, A, K>::new(book, blanks.0, blanks.1, blanks.2);
+    let (desk, first) = Desk::<R, I, A, K>::new(new_book(alloc), blanks.0, blanks.1, blanks.2);
     let gathered = run_threads(rt, alloc, &desk, first, stock, workers, items, gate);
-    let finished = finish(desk, gathered.seats, &gathered.receipts);
-    let mut book = finished.book;
-    let notes = take_all_mail(&mut book);
-    book.promise();
-    let figures = Figures {
-        accepted: book.accepted(),
-        taken: book.taken(),
-        released: gathered.released,
-        faults: gathered.faults,
-        held: book.held(),
-        waiting: book.waiting(),
-        notes,
-        events: book.len(),
-    };
-    let _closed = book.close();
-    outcome_of(gathered.fault, figures, finished.verdict)
+    end_storm(alloc, desk, gathered, writer)
 }
 
 /// Runs a storm and writes its figures, one a line.
@@ -148,7 +184,8 @@ pub fn storm<R: Resource, G: Gate, T: Threads + Wait + Sync, W: Write>(
     requires items { items ≤ 10000 }
     requires live { All (λ r. R.life_of r ≡ Life.Live) stock.items }
     requires unused { All (λ r. R.uses_of r ≡ 0) stock.items }
-    ensures told { IfOk result (λ _. Tells (W.contents (device_of writer.old)) (W.contents (device_of writer.new))) }
+    ensures told { IfOk result (λ answer.
+        Tells answer (W.contents (device_of writer.old)) (W.contents (device_of writer.new))) }
     ensures untold { IsErrOf result StormFault.Memory → writer.new ≡ writer.old }
     ensures unstarted { IsErrOf result StormFault.Thread → writer.new ≡ writer.old }
     ensures front { IsErrOf result StormFault.Write
@@ -161,20 +198,7 @@ pub fn storm<R: Resource, G: Gate, T: Threads + Wait + Sync, W: Write>(
     stock.truncate(sources as usize);
     let blanks = (Blank::new(PARTS), Blank::new(PARTS), Blank::new(PARTS));
     let count = items as u32;
-    let outcome = storm_named::<R, Brand, Brand, Brand, G, T>(
-        rt, alloc, blanks, stock, workers, count, gate,
-    );
-    let (figures, agrees) = match outcome {
-        Ok(told) => told,
-        Err(Lack::Memory) => return Err(StormFault::Memory),
-        Err(Lack::Thread) => return Err(StormFault::Thread),
-    };
-    let text = match figures.text(alloc) {
-        Ok(text) => text,
-        Err(_) => return Err(StormFault::Memory),
-    };
-    match write_text(writer, text.as_bytes()) {
-        Ok(()) => Ok(agrees),
-        Err(_) => Err(StormFault::Write),
-    }
+    storm_named::<R, Brand, Brand, Brand, G, T, W>(
+        rt, alloc, blanks, stock, workers, count, gate, writer,
+    )
 }

@@ -1,6 +1,10 @@
 //! The threads of a storm.
 
+ghost use Rattle.std.specs.Prelude.{◌≡◌, ◌+◌, ◌++◌, ◌∷◌, [], min, vec_len, None, Some, IsErr, IsSome, IfSome};
 ghost use Rattle.std.specs.Thread.{IsSend, IsSync};
+ghost use Rattle.rx_crew.specs.declared.working.Stop.{Stop};
+ghost use Rattle.rx_storm.specs.declared.outcome.Lack.{Lack};
+ghost use Rattle.rx_storm.specs.Storms.{first_lack};
 
 use crate::numbers::Numbers;
 use crate::outcome::Lack;
@@ -43,21 +47,40 @@ impl<I: Ledger, A: Ledger, K: Ledger> Gathered<I, A, K> {
     }
 
     /// Notes what kept the storm from its end, where nothing did before.
-    fn blame(&mut self, fault: Lack) {
+    fn blame(&mut self, fault: Lack)
+        ensures { self.new ≡ record self.old { fault = first_lack self.old.fault fault } }
+    {
         if self.fault.is_none() {
             self.fault = Some(fault);
         }
     }
 
     /// Keeps a seat, or notes that there was no memory for it.
-    fn keep(&mut self, seat: Seat<I, A, K>) {
+    fn keep(&mut self, seat: Seat<I, A, K>)
+        ensures kept { self.new.fault ≡ None → self.new.seats.items ≡ self.old.seats.items ++ (seat ∷ []) }
+        ensures before { IfSome self.old.fault (λ lack. self.new.fault ≡ Some lack) }
+        ensures receipts { self.new.receipts ≡ self.old.receipts }
+        ensures released { self.new.released ≡ self.old.released }
+        ensures faults { self.new.faults ≡ self.old.faults }
+    {
         if self.seats.push(seat).is_err() {
             self.blame(Lack::Memory);
         }
     }
 
-    /// Adds what a feed did; None where it could not open its nodes.
-    fn add_fed(&mut self, fed: Option<Fed<I, A, K>>) {
+    /// Adds what a feed did; None where it could not open its nodes. Where nothing is lacked after it, the
+    /// feed came to its end, and its receipts and its seat are kept.
+    fn add_fed(&mut self, fed: Option<Fed<I, A, K>>)
+        ensures fed { self.new.fault ≡ None → IsSome fed }
+        ensures done { IfSome fed (λ did. self.new.fault ≡ None → did.stop ≡ Stop.Done) }
+        ensures receipts { IfSome fed (λ did. self.new.fault ≡ None
+            → self.new.receipts.items ≡ self.old.receipts.items ++ did.receipts.items) }
+        ensures seats { IfSome fed (λ did. self.new.fault ≡ None
+            → self.new.seats.items ≡ self.old.seats.items ++ (did.seat ∷ [])) }
+        ensures before { IfSome self.old.fault (λ lack. self.new.fault ≡ Some lack) }
+        ensures released { self.new.released ≡ self.old.released }
+        ensures faults { self.new.faults ≡ self.old.faults }
+    {
         let Some(fed) = fed else {
             self.blame(Lack::Memory);
             return;
@@ -68,8 +91,14 @@ impl<I: Ledger, A: Ledger, K: Ledger> Gathered<I, A, K> {
         self.keep(fed.seat);
     }
 
-    /// Adds what a worker did.
-    fn add_worked(&mut self, worked: Worked<I, A, K>) {
+    /// Adds what a worker did, as far as a `u64` counts.
+    fn add_worked(&mut self, worked: Worked<I, A, K>)
+        ensures released { self.new.released ≡ min (self.old.released + worked.released) 18446744073709551615 }
+        ensures faults { self.new.faults ≡ min (self.old.faults + worked.faults) 18446744073709551615 }
+        ensures seats { self.new.fault ≡ None → self.new.seats.items ≡ self.old.seats.items ++ (worked.seat ∷ []) }
+        ensures before { IfSome self.old.fault (λ lack. self.new.fault ≡ Some lack) }
+        ensures receipts { self.new.receipts ≡ self.old.receipts }
+    {
         self.released = self.released.saturating_add(worked.released);
         self.faults = self.faults.saturating_add(worked.faults);
         self.keep(worked.seat);
@@ -118,7 +147,10 @@ fn emit_all<R: Resource, I: Ledger, A: Ledger, K: Ledger>(
 fn keep_thread<V: Send + Drop, F: Drop>(
     threads: &mut Vec<JoinHandle<V>>,
     started: Result<JoinHandle<V>, SpawnError<F>>,
-) -> Option<Lack> {
+) -> Option<Lack>
+    ensures kept { result ≡ None → vec_len threads.new ≡ vec_len threads.old + 1 }
+    ensures refused { IsErr started → result ≡ Some Lack.Thread }
+{
     match started {
         Ok(thread) => match threads.push(thread) {
             Ok(()) => None,

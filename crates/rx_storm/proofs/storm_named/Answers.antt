@@ -1,6 +1,8 @@
-use Rattle.std.proofs.Common.{rules}
-use Rattle.rx_storm.proofs.Told.{outcome_tells}
+use Rattle.rx_storm.proofs.Told.{told_of, front_of}
 use Rattle.rx_storm.proofs.storm_named.Goals as goal
 
-pub returns : goal.returns
-returns g c = rw c.outcome_of.ensures (outcome_tells _ _ _ (search rules))
+pub returns-clause-told : goal.returns-clause-told
+returns-clause-told g c = told_of _ _ _ _ _ _ _ c.end_storm.ensures.told
+
+pub returns-clause-front : goal.returns-clause-front
+returns-clause-front g c = λ failed. front_of _ _ _ _ _ _ (c.end_storm.ensures.front failed)
