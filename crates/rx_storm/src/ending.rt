@@ -1,6 +1,6 @@
 //! The end of a storm: its book is judged, told and closed.
 
-ghost use Rattle.std.specs.Prelude.{◌≡◌, ◌+◌, ◌-◌, [], min, length, None, Some, IfOk, IfErr, OnOk};
+ghost use Rattle.std.specs.Prelude.{◌≡◌, ◌-◌, [], min, length, None, Some, IfOk, IfErr, OnOk};
 ghost use Rattle.rx_event.specs.Notes.{notes};
 ghost use Rattle.rx_ledger.specs.Shares.{together, sums_in};
 ghost use Rattle.rx_storm.specs.Storms.{figures_of, IsClosing, IsEnd};
