@@ -4,7 +4,7 @@
 use crate::wanted::{Told, Wanted, hint, quoted, shown};
 use crate::words::{COMMANDS, KINDS, MODES, OF_SCENARIOS, OF_STEPS, PLACES, is_among, members_of};
 use serde_json::Value;
-use std::alloc::{Global};
+use std::alloc::Global;
 use std::collections::HashSet;
 
 /// The most steps of a scenario.
