@@ -1,8 +1,13 @@
 -- What a source gives, and how a feed of it ends. Observable Contract: items, and then one end.
-use Rattle.std.specs.Prelude.{◌≡◌, ℕ, ◌+◌, ◌<◌, ◌≤◌, Bool, true, false, List, [], ◌∷◌, ◌++◌, length, map, take, drop, count_by, Option, Some, None}
+use Rattle.std.specs.Prelude.{◌≡◌, ℕ, ◌+◌, ◌<◌, ◌≤◌, Bool, true, false, List, [], ◌∷◌, ◌++◌, length, map, take, drop, count_by, Option, Some, None, Result}
 use Rattle.rx_event.specs.declared.event.Event.{Event}
+use Rattle.rx_event.specs.declared.refusal.Refusal.{Refusal}
 use Rattle.rx_event.specs.declared.event.Event.TheVariants.{Item, End}
 use Rattle.rx_event.specs.Events.{is_item}
+use Rattle.rx_book.specs.declared.key.Key.{Key}
+use Rattle.rx_book.specs.State.{State}
+use Rattle.rx_book.specs.Requests.{Request, next_request, end_request}
+use Rattle.rx_book.specs.Answers.{IsCause, IsCauseOrWant, IsPlace, Answers}
 use Rattle.rx_ledger.specs.Shares.{Shares}
 use Rattle.rx_ledger.specs.declared.receipt.Receipt.{Receipt}
 use Rattle.rx_crew.specs.declared.feeding.Pull.{Pull}
@@ -30,6 +35,23 @@ is_end (PullDone terminal) = true
 abbrev pub items_of : Pull → ℕ
 items_of (PullItem value) = 1
 items_of (PullDone terminal) = 0
+
+-- what a pull asks of the book, and why it is refused: an item may take memory, an end takes none
+abbrev pub pull_request : State → Key → Pull → Request
+pull_request s leaf (PullItem value) = next_request s leaf value
+pull_request s leaf (PullDone terminal) = end_request s leaf terminal
+
+abbrev pub refuses_pull : State → Key → Pull → Refusal → Type 0
+refuses_pull s leaf (PullItem value) = IsCauseOrWant s (next_request s leaf value)
+refuses_pull s leaf (PullDone terminal) = IsCause s (end_request s leaf terminal)
+
+-- what writing it answers: the place of its event, or the refusal
+abbrev pub AnswersPull : State → Key → Pull → State → Result ℕ Refusal → Type 0
+AnswersPull old leaf pull = Answers (IsPlace old) (refuses_pull old leaf pull) old (pull_request old leaf pull)
+
+-- the receipt of a pull that was written at this place
+abbrev pub receipt_of : (place leaf : ℕ) → Pull → Receipt
+receipt_of place leaf pull = record { place = place; event = event_of leaf pull }
 
 -- the receipts are of the first so many pulls, in order
 abbrev pub AreOfPulls : (leaf count : ℕ) → List Pull → List Receipt → Type 0

@@ -1,11 +1,15 @@
 //! A thread that emits what a source gives.
 
-ghost use Rattle.std.specs.Prelude.{◌≡◌, ◌+◌, ◌∷◌, List, vec_len, IsTrue, OnOk, OnErr};
+ghost use Rattle.std.specs.Prelude.{◌≡◌, ◌+◌, ◌<◌, ◌++◌, ◌∷◌, [], List, length, vec_len, vec_capacity};
+ghost use Rattle.std.specs.Prelude.{IsTrue, IfErr, OnOk, OnErr};
+ghost use Rattle.rx_book.specs.Answers.{Accepts};
 ghost use Rattle.rx_crew.specs.declared.working.Stop.{Stop};
 ghost use Rattle.rx_crew.specs.declared.feeding.Pull.{Pull};
 ghost use Rattle.rx_crew.specs.Feeds.{ends_once, event_of, is_end, items_of, items_in, AreOfPulls, IsFed, IsTurn};
+ghost use Rattle.rx_crew.specs.Feeds.{pull_request, refuses_pull, AnswersPull, receipt_of, IsEmitted};
 
 use crate::desk::Desk;
+use crate::floor::Floor;
 use crate::working::Stop;
 use rx_book::Key;
 use rx_event::{Event, Refusal, Terminal};
@@ -67,29 +71,73 @@ fn is_done(pull: Pull) -> bool
     }
 }
 
-/// Emits one pull at a leaf, under the lock, and rings the bell where something waits then. Answers
-/// the place of its event.
-fn emit<R: Resource, I: Ledger, A: Ledger, K: Ledger>(
-    rt: &impl Wait,
-    desk: &Desk<R, I, A, K>,
+/// Writes one pull at a leaf, an item by `next` and the end by `end`. Answers the place of its event.
+fn write_event<R: Resource, I: Ledger, A: Ledger, K: Ledger>(
+    floor: &mut Floor<R, I, A, K>,
     seat: &mut Seat<I, A, K>,
     leaf: Key,
     pull: Pull,
 ) -> Result<u64, Refusal>
+    ensures book { AnswersPull floor.old.book leaf pull floor.new.book result }
     ensures counted { OnOk result (seat.new ≡ record seat.old { items = seat.old.items + items_of pull }) }
     ensures uncounted { OnErr result (seat.new ≡ seat.old) }
+    ensures shut { floor.new.is_shut ≡ floor.old.is_shut }
+{
+    match pull {
+        Pull::Item(value) => floor.next(seat, leaf, value),
+        Pull::Done(terminal) => floor.end(leaf, terminal),
+    }
+}
+
+/// Writes one pull at a leaf, and its receipt, for which there is room. A refusal changes nothing.
+fn write_pull<R: Resource, I: Ledger, A: Ledger, K: Ledger>(
+    floor: &mut Floor<R, I, A, K>,
+    seat: &mut Seat<I, A, K>,
+    receipts: &mut Vec<Receipt>,
+    leaf: Key,
+    pull: Pull,
+) -> Result<(), Refusal>
+    requires room { vec_len receipts.old < vec_capacity receipts.old }
+    ensures written { OnOk result (Accepts floor.old.book (pull_request floor.old.book leaf pull) floor.new.book) }
+    ensures refused { IfErr result (refuses_pull floor.old.book leaf pull) }
+    ensures kept { OnErr result (floor.new.book ≡ floor.old.book) }
+    ensures receipt { OnOk result (receipts.new.items
+        ≡ receipts.old.items ++ receipt_of (length floor.old.book.history) leaf.number pull ∷ []) }
+    ensures no_receipt { OnErr result (receipts.new.items ≡ receipts.old.items) }
+    ensures counted { OnOk result (seat.new ≡ record seat.old { items = seat.old.items + items_of pull }) }
+    ensures uncounted { OnErr result (seat.new ≡ seat.old) }
+    ensures shut { floor.new.is_shut ≡ floor.old.is_shut }
+{
+    let place = write_event(floor, seat, leaf, pull)?;
+    receipts.push_reserved(Receipt {
+        place,
+        event: event_at(leaf, pull),
+    });
+    Ok(())
+}
+
+/// Emits one pull at a leaf, under the lock, and rings the bell where something waits then.
+fn emit<R: Resource, I: Ledger, A: Ledger, K: Ledger>(
+    rt: &impl Wait,
+    desk: &Desk<R, I, A, K>,
+    seat: &mut Seat<I, A, K>,
+    receipts: &mut Vec<Receipt>,
+    leaf: Key,
+    pull: Pull,
+) -> Result<(), Refusal>
+    requires room { vec_len receipts.old < vec_capacity receipts.old }
+    ensures emitted { OnOk result (IsEmitted leaf.number pull seat.old seat.new receipts.old.items receipts.new.items) }
+    ensures uncounted { OnErr result (seat.new ≡ seat.old) }
+    ensures no_receipt { OnErr result (receipts.new.items ≡ receipts.old.items) }
 {
     let mut floor = desk.floor.lock(rt);
-    let place = match pull {
-        Pull::Item(value) => floor.next(seat, leaf, value)?,
-        Pull::Done(terminal) => floor.end(leaf, terminal)?,
-    };
+    write_pull(&mut floor, seat, receipts, leaf, pull)?;
     let waits = floor.waiting() > 0;
     drop(floor);
     if waits {
         desk.bell.notify_all();
     }
-    Ok(place)
+    Ok(())
 }
 
 /// One turn of a feed: asks for memory for one more receipt after the pull and before the call.
@@ -110,12 +158,8 @@ fn turn<R: Resource, I: Ledger, A: Ledger, K: Ledger, S: Source>(
     if receipts.reserve(1).is_err() {
         return Some(Stop::Refused(Refusal::NoMemory));
     }
-    match emit(rt, desk, seat, leaf, pull) {
-        Ok(place) => receipts.push_reserved(Receipt {
-            place,
-            event: event_at(leaf, pull),
-        }),
-        Err(why) => return Some(Stop::Refused(why)),
+    if let Err(why) = emit(rt, desk, seat, receipts, leaf, pull) {
+        return Some(Stop::Refused(why));
     }
     if is_done(pull) {
         Some(Stop::Done)
