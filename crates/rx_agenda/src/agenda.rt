@@ -139,7 +139,7 @@ pub fn follow(agenda: &mut Agenda, answer: Answer, steps: Vec<Step>) -> Result<(
     }
 }
 
-/// The step that comes next, if one does before this time is over. It takes no memory.
+/// The step that comes next, if one does before this time is over.
 pub fn next_step(agenda: &mut Agenda, until: u64) -> Option<Step>
     ensures some { IfSome result (λ s. next_step until (agenda_of agenda.old)
         ≡ Some (step_of s, agenda_of agenda.new)) }
@@ -156,8 +156,7 @@ pub fn next_step(agenda: &mut Agenda, until: u64) -> Option<Step>
     }
 }
 
-/// Takes the waiting step that has this label off the timeline, with all that would follow it. It
-/// takes no memory.
+/// Takes the waiting step that has this label off the timeline, with all that would follow it.
 pub fn cancel(agenda: &mut Agenda, label: &str) -> Answer
     ensures value { Cancels (agenda_of agenda.old) label.now result (agenda_of agenda.new) }
     ensures size { size_left agenda.new ≤ size_left agenda.old }

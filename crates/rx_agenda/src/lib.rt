@@ -19,8 +19,10 @@
 //!   order of scheduling, and so do the steps of a turn; and missing are just the steps below a refused
 //!   one, those after the end, the cancelled ones, and what is below those. [`runs_are_in_order`] says
 //!   that every run of an agenda keeps to it, and [`order_is_determined`] that there is one such order.
-//! - [`next_step`] and [`cancel`] take no memory. A call that answers want of memory may have lost the
-//!   step that was handed in: its scenario ends there.
+//! - [`next_step`] and [`cancel`] are refused for no want of memory: their clauses say of each answer when
+//!   it comes. That they take none is no clause; they take steps out of a timeline and a trampoline, which
+//!   are tested to need none. A call that answers want of memory may have lost the step that was handed
+//!   in: its scenario ends there.
 //! - That a name is found in a number of steps that does not grow with how many there are is no clause.
 #![tactic(auto)]
 
