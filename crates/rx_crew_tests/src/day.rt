@@ -114,7 +114,7 @@ fn a_seat_that_was_left_out_is_missed(rt: HostRuntime) -> Result<(), Fail> {
         ((false, false), none_accepted),
     ] {
         let some = verdict(&rt, rt.alloc(), named, &[])?;
-        assert_eq!(rt; some.0, Err(first));
+        assert_eq!(rt; some, (Err(first), Some(4)));
     }
     Ok(())
 }

@@ -1,15 +1,16 @@
 //! A feed by itself: why it stops, and which receipts it gives.
 
-ghost use Rattle.std.specs.Prelude.{[], ◌∷◌, ◌==◌, if◌then◌else◌, pos};
+ghost use Rattle.std.specs.Prelude.{◌≡◌, [], ◌∷◌, ◌==◌, if◌then◌else◌, pos};
 ghost use Rattle.rx_note.specs.declared.note.Terminal.{Terminal};
 ghost use Rattle.rx_ledger.specs.Shares.{Opens};
 ghost use Rattle.rx_crew.specs.declared.feeding.Pull.{Pull};
 
 use super::parts::blanks;
-use rx_book::{At, Book};
+use rx_book::{At, Book, Mail};
 use rx_crew::{Desk, Pull, Source, Stop, feed};
 use rx_event::{Event, Kind, Refusal, Terminal};
 use rx_ledger::Seat;
+use rx_note::Note;
 use rx_resource::Sample;
 use std::alloc::Global;
 use std::marker::Brand;
@@ -17,14 +18,26 @@ use std::sync::Wait;
 use std::sync::ledger::{Blank, Ledger};
 use std::test::Fail;
 
-// Gives 5 and completes.
+// Gives 5 and ends.
 #[derive(Drop)]
-struct Single {
+pub(super) struct Single {
     left: u8,
+    terminal: Terminal,
+}
+
+impl Single {
+    pub(super) fn completing() -> Single
+        ensures { result ≡ record { left = 2; terminal = Terminal.Completed } }
+    {
+        Single {
+            left: 2,
+            terminal: Terminal::Completed,
+        }
+    }
 }
 
 impl Source for Single {
-    ghost pulls = { λ s. if s.left == 2 then Pull.Item (pos 5) ∷ Pull.Done Terminal.Completed ∷ [] else if s.left == 1 then Pull.Done Terminal.Completed ∷ [] else [] };
+    ghost pulls = { λ s. if s.left == 2 then Pull.Item (pos 5) ∷ Pull.Done s.terminal ∷ [] else if s.left == 1 then Pull.Done s.terminal ∷ [] else [] };
 
     fn pull(&mut self) -> Pull {
         if self.left == 2 {
@@ -32,7 +45,7 @@ impl Source for Single {
             Pull::Item(5)
         } else {
             self.left = 0;
-            Pull::Done(Terminal::Completed)
+            Pull::Done(self.terminal)
         }
     }
 }
@@ -48,13 +61,13 @@ fn fed<I: Ledger, A: Ledger, K: Ledger>(
     seat: Seat<I, A, K>,
 ) -> Result<Told, Fail> {
     let leaf = desk.floor.lock(rt).open(At::Root, Kind::Leaf)?.key;
-    let mut source = Single { left: 2 };
+    let mut source = Single::completing();
     let none = feed(rt, alloc, desk, seat, leaf, &mut source, 0);
-    let mut source = Single { left: 2 };
+    let mut source = Single::completing();
     let one = feed(rt, alloc, desk, none.seat, leaf, &mut source, 1);
-    let mut source = Single { left: 2 };
+    let mut source = Single::completing();
     let all = feed(rt, alloc, desk, one.seat, leaf, &mut source, 9);
-    let mut source = Single { left: 2 };
+    let mut source = Single::completing();
     let late = feed(rt, alloc, desk, all.seat, leaf, &mut source, 9);
     let mut events = Vec::new(alloc);
     for receipts in [none.receipts, one.receipts, all.receipts, late.receipts] {
@@ -91,5 +104,61 @@ fn a_feed_stops_at_its_turns_at_the_end_and_when_refused(rt: HostRuntime) -> Res
         events.as_slice(),
         [(1, first), (2, second), (3, end)].as_slice()
     );
+    Ok(())
+}
+
+// Why two feeds stop, one of a leaf and one of a node that is none; the events that they may have written,
+// and the notes that are left.
+type Written = ([Stop; 2], [Option<Event>; 3], [Option<Mail>; 3]);
+
+// A source that fails is fed, and what the desk has then is looked at.
+fn written<I: Ledger, A: Ledger, K: Ledger>(
+    rt: &impl Wait,
+    alloc: Global,
+    blanks: (Blank, Blank, Blank),
+) -> Result<Written, Fail>
+    requires items { Opens I.name I.parts blanks.0.name blanks.0.parts }
+    requires accepted { Opens A.name A.parts blanks.1.name blanks.1.parts }
+    requires taken { Opens K.name K.parts blanks.2.name blanks.2.parts }
+{
+    let book = Book::new(alloc, 1000);
+    let (desk, seat) = Desk::<Sample, I, A, K>::new(book, blanks.0, blanks.1, blanks.2);
+    let pass = desk.floor.lock(rt).open(At::Root, Kind::Pass)?.key;
+    let leaf = desk.floor.lock(rt).open(At::Root, Kind::Leaf)?.key;
+    let mut source = Single {
+        left: 2,
+        terminal: Terminal::Error(7),
+    };
+    let failed = feed(rt, alloc, &desk, seat, leaf, &mut source, 9);
+    let mut source = Single::completing();
+    let refused = feed(rt, alloc, &desk, failed.seat, pass, &mut source, 9);
+    let mut floor = desk.floor.lock(rt);
+    let events = [floor.event(2), floor.event(3), floor.event(4)];
+    let mail = [floor.take_mail(), floor.take_mail(), floor.take_mail()];
+    Ok(([failed.stop, refused.stop], events, mail))
+}
+
+#[test]
+fn a_feed_writes_what_was_pulled_and_takes_no_note(rt: HostRuntime) -> Result<(), Fail> {
+    let (stops, events, mail) = written::<Brand, Brand, Brand>(&rt, rt.alloc(), blanks())?;
+    let wrong = Stop::Refused(Refusal::WrongKind);
+    assert_eq!(rt; stops, [Stop::Done, wrong]);
+    let error = Terminal::Error(7);
+    let (item, end) = (Event::Item(1, 5), Event::End(1, error));
+    assert_eq!(rt; events, [Some(item), Some(end), None]);
+    let told = [
+        Some(Mail {
+            place: 2,
+            to: 1,
+            note: Note::Next(5),
+        }),
+        Some(Mail {
+            place: 3,
+            to: 1,
+            note: Note::End(error),
+        }),
+        None,
+    ];
+    assert_eq!(rt; mail, told);
     Ok(())
 }

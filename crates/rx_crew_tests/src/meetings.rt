@@ -1,12 +1,14 @@
-//! That releases run outside the lock, and at the same time. Whoever waits here gives up after a
-//! million turns.
+//! That releases run outside the lock, and at the same time, and that a feed rings the bell. Whoever
+//! waits here gives up after a million turns.
 
 ghost use Rattle.rx_resource.specs.declared.Life.{Life};
 ghost use Rattle.rx_ledger.specs.Shares.{Opens};
 
+use super::feeds::Single;
 use super::parts::{Open, blanks};
 use rx_book::{At, Book};
-use rx_crew::{Desk, Gate, worker};
+use rx_crew::{Desk, Gate, feed, worker};
+use rx_event::Kind;
 use rx_ledger::Seat;
 use rx_resource::{Life, Resource, Sample};
 use std::alloc::Global;
@@ -184,5 +186,58 @@ fn both_release<
 fn two_workers_release_at_the_same_time(rt: HostRuntime) -> Result<(), Fail> {
     let met = both_release::<Brand, Brand, Brand, _>(&rt, rt.alloc(), blanks())?;
     assert_eq!(rt; met, 1);
+    Ok(())
+}
+
+// One thread waits for the bell until something waits, and then sets the word to 2; it has the lock until
+// it waits. The other ends a leaf that holds a resource by a feed meanwhile. Whether the first was woken
+// before the second rings too.
+fn wakes<
+    I: Ledger + Send + Sync,
+    A: Ledger + Send + Sync,
+    K: Ledger + Send + Sync,
+    T: Threads + Wait + Sync,
+>(rt: &T, alloc: Global, blanks: (Blank, Blank, Blank)) -> Result<bool, Fail>
+    requires items { Opens I.name I.parts blanks.0.name blanks.0.parts }
+    requires accepted { Opens A.name A.parts blanks.1.name blanks.1.parts }
+    requires taken { Opens K.name K.parts blanks.2.name blanks.2.parts }
+{
+    let book = Book::new(alloc, 1000);
+    let (desk, mut seat) = Desk::<Sample, I, A, K>::new(book, blanks.0, blanks.1, blanks.2);
+    let leaf = desk.floor.lock(rt).open(At::Root, Kind::Leaf)?.key;
+    if desk
+        .floor
+        .lock(rt)
+        .hold(&mut seat, leaf, Sample::new(1))
+        .is_err()
+    {
+        return Err(Fail::from("nothing was held"));
+    }
+    let word = AtomicU64::new(0);
+    let (at, stage) = (&desk, &word);
+    let (_waited, woken) = thread::join(
+        rt,
+        || {
+            let floor = at.floor.lock(rt);
+            stage.store(1, Ordering::SeqCst);
+            let floor = at.bell.wait_while(rt, floor, |floor| floor.waiting() == 0);
+            stage.store(2, Ordering::SeqCst);
+            drop(floor);
+        },
+        || -> bool {
+            came_to(stage, 1);
+            let mut source = Single::completing();
+            let _fed = feed(rt, alloc, at, seat, leaf, &mut source, 9);
+            let woken = came_to(stage, 2);
+            at.bell.notify_all();
+            woken
+        },
+    );
+    Ok(woken)
+}
+
+#[test]
+fn a_feed_rings_the_bell_where_a_resource_waits_then(rt: HostRuntime) -> Result<(), Fail> {
+    assert!(rt; wakes::<Brand, Brand, Brand, _>(&rt, rt.alloc(), blanks())?);
     Ok(())
 }
