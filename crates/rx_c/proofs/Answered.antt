@@ -2,7 +2,7 @@
 use Rattle.std.proofs.Common.{◌≡◌, ℕ, List, Result, Ok, Err, IfOk, IsErrOf, inl, inr, refl, sym, subst}
 use Rattle.rx_device.specs.declared.fault.ScriptError.{ScriptError}
 use Rattle.rx_device.specs.declared.fault.ScriptError.TheVariants.{Read, Write, Syntax, Shape, Memory}
-use Rattle.rx_c.specs.Answers.{Answers, gives, needs, faults, starves, breaks}
+use Rattle.rx_c.specs.Answers.{Answers, gives, needs, faults, starves}
 use Rattle.rx_c.specs.Handing.{IsHandedOut}
 
 answered : (Tells : List ℕ → ℕ → Type 0) (IsFaulty : Type 0) (outcome : Result ℕ ScriptError) (text buffer buffer' : List ℕ) (told status : ℕ)
@@ -13,7 +13,7 @@ answered Tells IsFaulty (Ok said) text buffer buffer' told status tells syntax s
 answered Tells IsFaulty (Ok said) text buffer buffer' told status tells syntax shape (inr (long, e)) =
     subst (λ (s : ℕ). Answers Tells IsFaulty buffer buffer' told s) (sym e) (needs tells long)
 answered Tells IsFaulty (Err Read) text buffer buffer' told status tells syntax shape (silent, e) =
-    subst (λ (s : ℕ). Answers Tells IsFaulty buffer buffer' told s) (sym e) (breaks silent)
+    subst (λ (s : ℕ). Answers Tells IsFaulty buffer buffer' told s) (sym e) (starves silent)
 answered Tells IsFaulty (Err Write) text buffer buffer' told status tells syntax shape (silent, e) =
     subst (λ (s : ℕ). Answers Tells IsFaulty buffer buffer' told s) (sym e) (starves silent)
 answered Tells IsFaulty (Err Syntax) text buffer buffer' told status tells syntax shape (silent, e) =

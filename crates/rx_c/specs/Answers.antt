@@ -19,7 +19,7 @@ pub record IsSilent (buffer buffer' : List ℕ) (told : ℕ) : Type 0 where
   pub count : told ≡ 0
 
 -- a call is answered, by a text with a status of its own, or by a fault: the buffer is too small (1), the input
--- says nothing of the kind (3), memory was refused (4), or the input was not read to its end (1)
+-- says nothing of the kind (3), or memory was refused (4)
 pub data Answers (Tells : List ℕ → ℕ → Type 0) (IsFaulty : Type 0)
     (buffer buffer' : List ℕ) (told : ℕ) : ℕ → Type 0 where
   gives : {text : List ℕ} {status : ℕ} → Tells text status → IsGiven text buffer buffer' told
@@ -28,4 +28,3 @@ pub data Answers (Tells : List ℕ → ℕ → Type 0) (IsFaulty : Type 0)
       → Answers Tells IsFaulty buffer buffer' told 1
   faults : IsFaulty → IsSilent buffer buffer' told → Answers Tells IsFaulty buffer buffer' told 3
   starves : IsSilent buffer buffer' told → Answers Tells IsFaulty buffer buffer' told 4
-  breaks : IsSilent buffer buffer' told → Answers Tells IsFaulty buffer buffer' told 1

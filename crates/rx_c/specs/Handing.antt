@@ -4,9 +4,10 @@ use Rattle.rx_device.specs.declared.fault.ScriptError.{ScriptError}
 use Rattle.rx_device.specs.declared.fault.ScriptError.TheVariants.{Read, Write, Syntax, Shape, Memory}
 use Rattle.rx_c.specs.Answers.{IsGiven, IsTooLong, IsSilent}
 
--- as the program has it, but that a text which memory does not take is want of memory
+-- as the program has it, but that a text in memory which is not read to its end, or which memory does not take, is
+-- want of memory
 abbrev pub fault_status : ScriptError → ℕ
-fault_status Read = 1
+fault_status Read = 4
 fault_status Write = 4
 fault_status Syntax = 3
 fault_status Shape = 3

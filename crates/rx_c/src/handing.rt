@@ -5,15 +5,14 @@ ghost use Rattle.rx_c.specs.Handing.{IsHandedOut, fault_status};
 
 use rx_device::ScriptError;
 
-// The status of a fault, as the program has it.
+// The status of a fault: as the program has it of faulty input and of memory that was refused. A text
+// that is read from memory and written to it meets no other fault, so that 1 is left to a small buffer.
 fn fault_status(error: &ScriptError) -> u8
     ensures { result ≡ fault_status error.now }
 {
     match error {
-        ScriptError::Read => 1,
         ScriptError::Syntax | ScriptError::Shape => 3,
-        // A text that is written to memory meets no other fault.
-        ScriptError::Write | ScriptError::Memory => 4,
+        ScriptError::Read | ScriptError::Write | ScriptError::Memory => 4,
     }
 }
 

@@ -1,4 +1,5 @@
-//! What no clause says: that each call can succeed, with the texts of a worked example.
+//! What no clause says: that each call can succeed, with the texts of a worked example, and that a fault
+//! of the stock is told.
 
 use crate::{rx_audit, rx_run, rx_run_dump};
 use std::test::Fail;
@@ -9,6 +10,13 @@ const FIRST_RUN: &str =
 
 const FIRST_REPORT: &str =
     "refused 4 Gone\nnode a closed: next=5 completed\nres r tag=0 uses=0 taken\ntotals nodes=2 open=0 accepted=1 held=0 waiting=0 taken=1\nclosed 0 faults 0\n";
+
+// A subscription with five resources, to the last but one of which a release is a fault.
+const FAULTY_RUN: &str =
+    "{\"steps\":[{\"do\":\"using\",\"name\":\"a\",\"place\":\"root\",\"res\":\"p\"},{\"do\":\"hold\",\"node\":\"a\",\"res\":\"q\"},{\"do\":\"hold\",\"node\":\"a\",\"res\":\"r\"},{\"do\":\"hold\",\"node\":\"a\",\"res\":\"s\"},{\"do\":\"hold\",\"node\":\"a\",\"res\":\"t\"}]}";
+
+const FAULTY_REPORT: &str =
+    "node a open:\nres p tag=0 uses=0 held\nres q tag=1 uses=0 held\nres r tag=2 uses=0 held\nres s tag=3 uses=0 held\nres t tag=4 uses=0 held\ntotals nodes=1 open=1 accepted=5 held=5 waiting=0 taken=0\nclosed 5 faults 1\n";
 
 const FIRST_VERDICT: &str = "lawful\nlive:\nheld:\nwaiting:\n";
 
@@ -47,6 +55,15 @@ fn a_scenario_is_run_and_its_dump_is_judged(rt: HostRuntime) -> Result<(), Fail>
 }
 
 #[test]
+fn a_resource_of_the_stock_whose_release_is_a_fault_is_told(rt: HostRuntime) {
+    let mut buffer = [0u8; 512];
+    let mut told = 0;
+    let status = rx_run(rt.alloc(), FAULTY_RUN.as_bytes(), &mut buffer, &mut told);
+    assert_eq!(rt; status, 0);
+    assert!(rt; holds(&buffer, told, FAULTY_REPORT));
+}
+
+#[test]
 fn another_verdict_has_its_own_status(rt: HostRuntime) {
     let mut buffer = [0u8; 64];
     let mut told = 0;
@@ -74,4 +91,5 @@ fn a_small_buffer_learns_what_it_needs(rt: HostRuntime) {
     assert_eq!(rt; buffer, [7u8; 10]);
     let status = rx_run(rt.alloc(), b"{}", &mut buffer, &mut told);
     assert_eq!(rt; (status, told), (3, 0));
+    assert_eq!(rt; buffer, [7u8; 10]);
 }
