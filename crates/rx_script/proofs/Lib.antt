@@ -6,5 +6,6 @@ pub mod Commands
 pub mod Openings
 pub mod Nodes
 pub mod Holdings
+pub mod Leasing
 pub mod Publishing
 pub mod Reporting
