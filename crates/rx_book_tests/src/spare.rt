@@ -2,7 +2,7 @@
 
 use super::probe::Probe;
 use super::same::same;
-use rx_book::{At, Key, ResKey};
+use rx_book::{At, Key, LeaseKey, ResKey};
 use rx_event::{Kind, Mode, Refusal, Terminal};
 use rx_resource::Sample;
 use rx_scarce::Scarce;
@@ -13,6 +13,7 @@ use std::test::Fail;
 #[derive(Clone, Copy, Debug)]
 enum Closing {
     Remove(ResKey),
+    GiveBack(LeaseKey),
     Decline(Key),
     Fail(Key),
     End(Key),
@@ -29,6 +30,7 @@ enum Closing {
 fn is_done(book: &mut Probe<Sample>, closing: Closing) -> bool {
     match closing {
         Closing::Remove(res) => book.remove(res).is_ok(),
+        Closing::GiveBack(lease) => book.give_back(lease).is_ok(),
         Closing::Decline(node) => book.decline(node).is_ok(),
         Closing::Fail(node) => book.fail(node, 1).is_ok(),
         Closing::End(node) => book.end(node, Terminal::Completed).is_ok(),
@@ -92,16 +94,18 @@ fn connected_by_hand(book: &mut Probe<Sample>) -> Result<u64, Fail> {
 }
 
 // Some of each kind of node, and what is to be called, in turn.
-fn new_closings(book: &mut Probe<Sample>) -> Result<(Key, [Closing; 11]), Fail> {
+fn new_closings(book: &mut Probe<Sample>) -> Result<(Key, [Closing; 12]), Fail> {
     let flat = owing_two(book)?;
     let hub = connected_by_hand(book)?;
     let _ = connected_by_hand(book)?;
     let (_, lowest, removed) = using_two(book)?;
     let (disposed, _, _) = using_two(book)?;
     let _ = using_two(book)?;
+    let lease = book.lease(removed)?;
     let leaf = book.open(At::Root, Kind::Leaf)?.key;
     let closings = [
         Closing::Remove(removed),
+        Closing::GiveBack(lease),
         Closing::Decline(flat),
         Closing::Fail(flat),
         Closing::Abort(lowest),
@@ -117,7 +121,7 @@ fn new_closings(book: &mut Probe<Sample>) -> Result<(Key, [Closing; 11]), Fail> 
 }
 
 // How many of them are done, each with no memory left.
-fn done_of(alloc: Global, book: &mut Probe<Sample>, closings: [Closing; 11]) -> u32 {
+fn done_of(alloc: Global, book: &mut Probe<Sample>, closings: [Closing; 12]) -> u32 {
     let mut done = 0u32;
     for closing in closings {
         if is_done_with_none(alloc, book, closing) {
@@ -136,7 +140,7 @@ fn closings_and_handing_out_take_no_memory(rt: HostRuntime) -> Result<(), Fail> 
         fill(&mut book, leaf)
     };
     same(&rt, why, Some(Refusal::NoMemory));
-    same(&rt, done_of(rt.alloc(), &mut book, closings), 11);
+    same(&rt, done_of(rt.alloc(), &mut book, closings), 12);
     let totals = book.totals();
     same(
         &rt,
@@ -151,7 +155,7 @@ fn a_full_book_closes_and_hands_out_with_no_memory_left(rt: HostRuntime) -> Resu
     let mut book = Probe::new(rt.alloc(), 64);
     let (leaf, closings) = new_closings(&mut book)?;
     same(&rt, fill(&mut book, leaf), Some(Refusal::Full));
-    same(&rt, done_of(rt.alloc(), &mut book, closings), 11);
+    same(&rt, done_of(rt.alloc(), &mut book, closings), 12);
     let totals = book.totals();
     same(
         &rt,
