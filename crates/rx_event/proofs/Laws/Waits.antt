@@ -112,14 +112,14 @@ how_waits base h e g out auto d = by_list (open_connections h g) refl where
 
 -- ends and closings ---------------------------------------------------------------------------------
 
--- an end of a connection ends its subscribers' source, so no end makes a hub wait
-pub kept_end : (base : Kept) → (h : List Event) (n : ℕ) (t : Terminal) → IsConnected h → IsConnected (h ++ End n t ∷ [])
-kept_end base h n t none g d = by_way (how_waits base h (End n t) g refl (at_before is_auto_hub h (End n t) g refl d.auto) d) where
-  by_way : HowWaits base h (End n t) g → ⊥
-  by_way (waited w) = none g w
+-- an end of a connection ends its subscribers' source, so what waits after an end waited before
+pub waited_end : (base : Kept) → (h : List Event) (n : ℕ) (t : Terminal) (g : ℕ) → IsConnectDue (h ++ End n t ∷ []) g → IsConnectDue h g
+waited_end base h n t g d = by_way (how_waits base h (End n t) g refl (at_before is_auto_hub h (End n t) g refl d.auto) d) where
+  by_way : HowWaits base h (End n t) g → IsConnectDue h g
+  by_way (waited w) = w
   by_way (lost {c = c} x shut) =
       let within = is_open_within h c x.is_alive in
-      d.waits t (record {
+      absurd (d.waits t (record {
         hub = g;
         connection = c;
         place = length h;
@@ -127,7 +127,10 @@ kept_end base h n t none g d = by_way (how_waits base h (End n t) g refl (at_bef
         connects = slice_get-append h (End n t ∷ []) c within ∙ x.connects;
         later = is_open_within h d.subscriber (subscribed_before h (End n t) g refl d).1;
         ended = slice_get_last h (End n t) ∙ ap (λ (m : ℕ). Some (End m t)) (eqb-true n c shut);
-      })
+      }))
+
+pub kept_end : (base : Kept) → (h : List Event) (n : ℕ) (t : Terminal) → IsConnected h → IsConnected (h ++ End n t ∷ [])
+kept_end base h n t none g d = none g (waited_end base h n t g d)
 
 same_hub : (g k : ℕ) → Connect g ≡ Connect k → g ≡ k
 same_hub g k e = cc
@@ -136,16 +139,19 @@ closed_unsubscribed : (base : Kept) → {h : List Event} {c g : ℕ} → IsDue b
 closed_unsubscribed base {h = h} {c = c} {g = g} (left {g = k} o at_c a no_subscriber) connects = rw (same_hub g k (same_Some _ _ (sym connects ∙ at_c))) no_subscriber
 
 -- a connection is closed where it has no subscriber
-kept_close : (base : Kept) → (h : List Event) (n : ℕ) → IsConnected h → IsDue base h (Close n) → IsConnected (h ++ Close n ∷ [])
-kept_close base h n none f g d = by_way (how_waits base h (Close n) g refl (at_before is_auto_hub h (Close n) g refl d.auto) d) where
+pub waited_close : (base : Kept) → (h : List Event) (n g : ℕ) → IsDue base h (Close n) → IsConnectDue (h ++ Close n ∷ []) g → IsConnectDue h g
+waited_close base h n g f d = by_way (how_waits base h (Close n) g refl (at_before is_auto_hub h (Close n) g refl d.auto) d) where
   before : (at (is_subscriber_of g) h d.subscriber ≡ true) × (is_open h d.subscriber ≡ true)
   before = subscribed_before h (Close n) g refl d
 
-  by_way : HowWaits base h (Close n) g → ⊥
-  by_way (waited w) = none g w
+  by_way : HowWaits base h (Close n) g → IsConnectDue h g
+  by_way (waited w) = w
   by_way (lost {c = c} x shut) =
       let empty = closed_unsubscribed base f (ap (slice_get h) (eqb-true n c shut) ∙ x.connects) in
-      filter_nonempty (λ m. at (is_subscriber_of g) h m && is_open h m) 0 (length h) d.subscriber (omega arith) (let w = is_open_within h d.subscriber before.1 in omega arith) (and_from _ _ before.0 before.1) empty
+      absurd (filter_nonempty (λ m. at (is_subscriber_of g) h m && is_open h m) 0 (length h) d.subscriber (omega arith) (let w = is_open_within h d.subscriber before.1 in omega arith) (and_from _ _ before.0 before.1) empty)
+
+kept_close : (base : Kept) → (h : List Event) (n : ℕ) → IsConnected h → IsDue base h (Close n) → IsConnected (h ++ Close n ∷ [])
+kept_close base h n none f g d = none g (waited_close base h n g f d)
 
 -- no rule but a hub's makes a hub wait
 pub kept_due : (base : Kept) → (h : List Event) (e : Event) → IsConnected h → IsDue base h e → IsConnected (h ++ e ∷ [])
@@ -171,11 +177,14 @@ allowed_unsubscribed base {h = h} {c = c} {g = g} (root_closed o root) connects 
 allowed_unsubscribed base {h = h} {c = c} {g = g} (disconnected {g = k} o at_c manual) connects auto = is_both (slice_get h g) (rw (same_hub g k (same_Some _ _ (sym connects ∙ at_c))) manual) auto
 
 -- a caller closes no connection of a RefCount hub
+pub waited_close_allowed : (base : Kept) → (h : List Event) (n g : ℕ) → IsAllowed base h (Close n) → IsConnectDue (h ++ Close n ∷ []) g → IsConnectDue h g
+waited_close_allowed base h n g f d = by_way (how_waits base h (Close n) g refl (at_before is_auto_hub h (Close n) g refl d.auto) d) where
+  by_way : HowWaits base h (Close n) g → IsConnectDue h g
+  by_way (waited w) = w
+  by_way (lost {c = c} x shut) = absurd (allowed_unsubscribed base f (ap (slice_get h) (eqb-true n c shut) ∙ x.connects) (at_before is_auto_hub h (Close n) g refl d.auto))
+
 pub kept_close_allowed : (base : Kept) → (h : List Event) (n : ℕ) → IsConnected h → IsAllowed base h (Close n) → IsConnected (h ++ Close n ∷ [])
-kept_close_allowed base h n none f g d = by_way (how_waits base h (Close n) g refl (at_before is_auto_hub h (Close n) g refl d.auto) d) where
-  by_way : HowWaits base h (Close n) g → ⊥
-  by_way (waited w) = none g w
-  by_way (lost {c = c} x shut) = allowed_unsubscribed base f (ap (slice_get h) (eqb-true n c shut) ∙ x.connects) (at_before is_auto_hub h (Close n) g refl d.auto)
+kept_close_allowed base h n none f g d = none g (waited_close_allowed base h n g f d)
 
 -- other events --------------------------------------------------------------------------------------
 
