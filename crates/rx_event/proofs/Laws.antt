@@ -31,6 +31,7 @@ pub mod Stands
 pub mod Released
 pub mod OneEnd
 pub mod Calm
+pub mod Connections
 pub mod StaysOpen
 pub mod OpenAfter
 pub mod LetGo

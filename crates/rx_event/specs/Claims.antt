@@ -3,6 +3,7 @@ pub mod Resources
 pub mod Totals
 pub mod Debt
 pub mod Hubs
+pub mod Connections
 pub mod Climbs
 pub mod Notes
 pub mod Forced

@@ -35,6 +35,7 @@ pub use theorems::{
     checkpoints_change_nothing, climbs_go_on_in_order, closed_stays_closed,
     closing_opens_nothing_anew, each_resource_is_in_one_place, marks_say_what_is_due,
     nodes_stand_below_nodes, notes_obey_the_grammar, nothing_stays_open_by_itself,
-    numbers_do_not_matter, one_order_comes_to_an_end, steps_are_determined,
+    numbers_do_not_matter, one_event_changes_few_connections, one_order_comes_to_an_end,
+    steps_are_determined, subscribers_may_be_gone_over_downward, the_last_connection_tells,
     what_is_opened_stays_open, what_one_event_changes,
 };

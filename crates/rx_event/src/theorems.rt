@@ -19,7 +19,10 @@ pub use closing::{closing_opens_nothing_anew, nothing_stays_open_by_itself};
 pub use determined::{
     callers_see_no_numbers, numbers_do_not_matter, one_order_comes_to_an_end, steps_are_determined,
 };
-pub use hubs::{a_hub_connects_once, a_step_connects_one_hub};
+pub use hubs::{
+    a_hub_connects_once, a_step_connects_one_hub, one_event_changes_few_connections,
+    subscribers_may_be_gone_over_downward, the_last_connection_tells,
+};
 pub use marks::marks_say_what_is_due;
 pub use nodes::{a_switch_has_one_open_inner, closed_stays_closed, nodes_stand_below_nodes};
 pub use notes::notes_obey_the_grammar;

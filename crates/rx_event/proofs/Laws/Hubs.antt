@@ -51,7 +51,8 @@ pub may_connect : (base : Kept) → {h : List Event} {g : ℕ} → MayFollow bas
 may_connect base (forced f) = forced_connect base f
 may_connect base (allowed s a) = allowed_connect base a
 
-connect_free : (base : Kept) → (h : List Event) (e : Event) (g : ℕ) → MayFollow base h e → is_connect_of g e ≡ true → open_connections h g ≡ []
+-- also by any event that connects it
+pub connect_free : (base : Kept) → (h : List Event) (e : Event) (g : ℕ) → MayFollow base h e → is_connect_of g e ≡ true → open_connections h g ≡ []
 connect_free base h (Connect k) g next connects = rw (← eqb-true k g connects) (may_connect base next)
 connect_free base h _ g next connects = absurd (false≢true connects)
 

@@ -14,7 +14,8 @@ range_push : (a n : ℕ) → range_with_len a (suc n) ≡ range_with_len a n ++ 
 range_push a zero = ap (λ (k : ℕ). k ∷ []) (sym (add-zero a))
 range_push a (suc n) = let same : (a + 1) + n ≡ a + suc n = omega arith in ap (λ (ks : List ℕ). a ∷ ks) (range_push (a + 1) n ∙ ap (λ (k : ℕ). range_with_len (a + 1) n ++ k ∷ []) same)
 
-below_push : (n : ℕ) → range_with_len 0 (suc n) ≡ range_with_len 0 n ++ n ∷ []
+-- the last number comes last
+pub below_push : (n : ℕ) → range_with_len 0 (suc n) ≡ range_with_len 0 n ++ n ∷ []
 below_push n = let same : 0 + n ≡ n = omega arith in range_push 0 n ∙ ap (λ (k : ℕ). range_with_len 0 n ++ k ∷ []) same
 
 -- the last place comes last
