@@ -34,6 +34,7 @@
 //! hubs take less than a second.
 #![tactic(auto)]
 
+mod advance;
 mod allowed;
 mod children;
 mod climb;
@@ -42,13 +43,12 @@ mod duties;
 mod event_tests;
 mod forced;
 mod found;
-mod hubless;
+mod hubs;
 mod marks;
 mod nodes;
 mod openness;
 mod reach;
 mod subscribers;
-mod survey;
 mod verdict;
 
 pub use verdict::{NoMemory, Verdict, audit};
