@@ -3,7 +3,7 @@ use Rattle.std.proofs.Common.{◌≡◌, ℕ, suc, ◌+◌, ◌-◌, ◌<◌, �
 use Rattle.std.proofs.Math.Bool.{◌&&◌, ◌||◌}
 use Rattle.std.specs.Option.{option_map_or}
 use Rattle.std.proofs.lemmas.Bool.{cases_Bool, cases_order, both_ways, false≢true, and_parts, eq-eqb}
-use Rattle.std.proofs.lemmas.Option.{slice_get_within}
+use Rattle.std.proofs.lemmas.Option.{slice_get_within, same_Some, none-some}
 use Rattle.rx_note.specs.declared.note.Terminal.{Terminal}
 use Rattle.rx_event.specs.Kept.{nothing_kept}
 use Rattle.rx_event.specs.declared.event.Event.{Event}
@@ -22,14 +22,14 @@ use Rattle.rx_event.proofs.Laws.OneEnd.{open_old}
 use Rattle.rx_event.proofs.Laws.MarksDue.{due_at_forced, settled_by_marks}
 use Rattle.rx_event.proofs.Laws.Connections.{last_connection, source_ended_or_now, left_or_now}
 use Rattle.rx_audit.specs.declared.hubs.Hubs.{Hubs}
-use Rattle.rx_audit.specs.Latest.{keyed, IsNoted, AreClosed}
+use Rattle.rx_audit.specs.Latest.{keyed, IsNoted, AreClosed, last_below}
 use Rattle.rx_audit.specs.Marking.{node_due, due_made, IsCovered}
 use Rattle.rx_audit.specs.HubTables.{AreHubs}
 use Rattle.rx_audit.specs.declared.subscribers.Subscribers.{Subscribers}
 use Rattle.rx_audit.specs.Listed.{on_list, AreLinked, AreOpenListed}
 use Rattle.rx_audit.proofs.ClosingBelow.{noted_more, noted_last}
 use Rattle.rx_audit.specs.DueList.{IsLostNoted, acts, Keeps, HasAll, HasCut, HasLeft, HasEnded, HasLost}
-use Rattle.rx_audit.specs.Rules.{hub_connected_at, is_cut, close_due}
+use Rattle.rx_audit.specs.Rules.{hub_connected_at, is_cut, close_due, any_connect_due, hub_subscribed_at, hub_ended}
 use Rattle.rx_audit.proofs.Latest.{last_none, key_is, is_key_of}
 use Rattle.rx_audit.proofs.Neighbours.{last_unique}
 use Rattle.rx_audit.proofs.StaysOpen.{is_open_older}
@@ -226,3 +226,20 @@ module _ (h : List Event) (size : ℕ) (s : Subscribers) (g : ℕ) (w : AreLinke
 pub ended_all : (h : List Event) (e : Event) (s : Subscribers) (list : List ℕ) → AreOpenListed h s → ((g : ℕ) → hub_ended h e ≡ Some g
     → (k : ℕ) → on_list h s.listed.items g k ≡ true → IsNoted 0 list k) → HasEnded h e list
 ended_all h e s list listed all g k hub subscribes alive = all g hub k (rw (subscribes, listed g k subscribes) alive)
+
+pub ended_one : (h : List Event) (e : Event) (s : Subscribers) (g : ℕ) (list : List ℕ) → AreOpenListed h s → hub_ended h e ≡ Some g
+    → ((k : ℕ) → on_list h s.listed.items g k ≡ true → IsNoted 0 list k) → HasEnded h e list
+ended_one h e s g list listed hub all = ended_all h e s list listed (λ j named k on. all k (rw (same_Some g j (sym hub ∙ named)) on))
+
+pub ended_none : (h : List Event) (e : Event) (list : List ℕ) → hub_ended h e ≡ None → HasEnded h e list
+ended_none h e list none g s hub subscribes alive = absurd (none-some g (sym none ∙ hub))
+
+-- all that is noted of one event
+pub all_after : (h : List Event) (e : Event) (size : ℕ) (known : Hubs) (closed d0 d1 d2 d3 : List ℕ) → IsLawful nothing_kept h → MayFollow nothing_kept h e
+    → AreHubs h size known → length h ≤ size → AreClosed h e closed → HasAll h d0 → Keeps d0 d1 → IsCovered (h ++ e ∷ []) d1 → Keeps d1 d2 → HasEnded h e d2
+    → Keeps d2 d3 → HasLost h closed known.connection.items d3 → ((g : ℕ) → e ≡ Connect g → IsNoted 0 d3 (length h)) → HasAll (h ++ e ∷ []) d3
+all_after h e size known closed d0 d1 d2 d3 law next w room closing all first marked second ended third lost new =
+    let later : Keeps d0 d3 = keeps_on d0 d1 d3 first (keeps_on d1 d2 d3 second third) in
+    acts_noted (h ++ e ∷ []) d3 (λ n y. keeps_on d1 d2 d3 second third n (marked n y))
+    (cut_after h e d0 d3 law next (cut_noted h d0 all) later (λ g s hub subscribes alive. third s (ended g s hub subscribes alive)))
+    (left_after h e size known closed d0 d3 law next w room closing (left_noted h d0 all) later lost new)

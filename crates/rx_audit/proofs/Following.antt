@@ -1,4 +1,14 @@
 -- What is kept of the nodes and the hubs: of no events, and with another list of what may be due.
+use Rattle.rx_audit.proofs.Surveying.{connected_below}
+use Rattle.rx_audit.proofs.Deciding.{not_true}
+use Rattle.rx_audit.proofs.Neighbours.{last_unique}
+use Rattle.rx_audit.proofs.Latest.{is_key_of}
+use Rattle.rx_audit.specs.declared.hubs.Hubs.{Hubs}
+use Rattle.rx_audit.specs.DueList.{HasAll}
+use Rattle.rx_audit.specs.Rules.{hub_connected_at, hub_ended, hub_ended_at}
+use Rattle.rx_event.specs.Kept.{nothing_kept}
+use Rattle.rx_event.specs.Lawful.{IsLawful}
+use Rattle.rx_event.specs.declared.event.Event.{Event}
 use Rattle.std.proofs.Common.{◌≡◌, ℕ, zero, suc, ◌<◌, ◌≤◌, Bool, true, false, List, [], ◌∷◌, length, Option, Some, None, refl, sym, ap, ◌∙◌, arith, inl, inr, ◌⊎◌, get_or, slice_get}
 use Rattle.std.specs.Option.{option_and_then}
 use Rattle.std.proofs.lemmas.Bool.{both_ways, false≢true, cases_lt}
@@ -7,10 +17,10 @@ use Rattle.rx_event.specs.declared.event.Event.TheVariants.{End}
 use Rattle.rx_event.specs.Tree.{is_open}
 use Rattle.rx_event.proofs.Laws.Openness.{is_open_past}
 use Rattle.rx_audit.specs.declared.advance.Nodes.{Nodes}
-use Rattle.rx_audit.specs.Latest.{AreChildren}
+use Rattle.rx_audit.specs.Latest.{AreChildren, last_below, keyed}
 use Rattle.rx_audit.specs.Listed.{AreLinked}
 use Rattle.rx_audit.specs.HubTables.{AreHubs}
-use Rattle.rx_audit.specs.Standing.{IsFollowed}
+use Rattle.rx_audit.specs.Standing.{IsFollowed, IsKnown}
 use Rattle.rx_audit.proofs.DueLists.{acts_open}
 
 pub followed_nothing : (size : ℕ) (nodes : Nodes) → AreChildren [] size nodes.children → AreLinked [] size nodes.subscribers → AreHubs [] size nodes.hubs

@@ -82,6 +82,24 @@ cut_word h s g word hub is = by_order (cases_order (suc s) word) where
         by_event None at_k named = absurd (none-some g named)
         by_event (Some x) at_k named = (x, at_k)
 
+pub past_word : (s word : ℕ) → (nat_lt 0 word && nat_lt s (word - 1)) ≡ nat_lt (suc s) word
+past_word s word = by_order (cases_order (suc s) word) where
+  some : suc s < word → (nat_lt 0 word && nat_lt s (word - 1)) ≡ nat_lt (suc s) word
+  some l = rw (lt-ltb 0 word (omega arith), lt-ltb s (word - 1) (omega arith)) (sym (lt-ltb (suc s) word l))
+
+  none : word ≤ suc s → (nat_lt 0 word && nat_lt s (word - 1)) ≡ nat_lt (suc s) word
+  none l = not_true _ (λ y.
+      let p = and_parts (nat_lt 0 word) (nat_lt s (word - 1)) y in
+      let a = ltb-true 0 word p.0 in
+      let b = ltb-true s (word - 1) p.1 in
+      absurd (omega arith))
+      ∙ sym (not_true (nat_lt (suc s) word) (λ y. let a = ltb-true (suc s) word y in absurd (omega arith)))
+
+  by_order : (suc s ≡ word) ⊎ ((suc s < word) ⊎ (word < suc s)) → (nat_lt 0 word && nat_lt s (word - 1)) ≡ nat_lt (suc s) word
+  by_order (inl same) = none (omega arith)
+  by_order (inr (inl l)) = some l
+  by_order (inr (inr l)) = none (omega arith)
+
 -- what subscribes to no hub is not cut
 pub uncut : (h : List Event) (s : ℕ) → hub_subscribed_at h s ≡ None → false ≡ is_cut h s
 unfolding is_cut

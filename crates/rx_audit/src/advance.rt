@@ -89,7 +89,8 @@ fn keep_item(
     ensures subscribers { nodes.new.subscribers ≡ nodes.old.subscribers }
     ensures hubs { nodes.new.hubs ≡ nodes.old.hubs }
 {
-    let _ = (event, live);
+    let _ = event;
+    let _ = live;
     match reached(alloc, past, &nodes.subscribers, entries, leaf)? {
         Some(log) => {
             remark_visits(past, log.as_slice(), &mut nodes.marks, &mut nodes.due)?;

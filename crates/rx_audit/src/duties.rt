@@ -132,7 +132,10 @@ pub fn note_cut(
     ensures ended { OnOk result (HasEnded past.now event due.new.items) }
 {
     match hub_ended(past, event) {
-        Some(g) => note_subscribers(past, subs, g, due),
+        Some(g) => {
+            note_subscribers(past, subs, g, due)?;
+            Ok(())
+        }
         None => Ok(()),
     }
 }

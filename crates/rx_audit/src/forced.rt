@@ -1,7 +1,8 @@
 //! What operators must do before a caller may go on.
 
 ghost use Rattle.rx_event.specs.Kept.{nothing_kept};
-ghost use Rattle.std.specs.Prelude.{◌≡◌, ◌+◌, ◌<◌, ◌&&◌, ◌||◌, ◌↔◌, IsTrue, false, true, Some, None, length};
+ghost use Rattle.std.specs.Prelude.{◌≡◌, ◌-◌, ◌&&◌, ◌||◌, ◌↔◌, IsTrue, false, Some, None, nat_lt, slice_index_or};
+ghost use Rattle.std.proofs.Math.Bool.{not};
 ghost use Rattle.rx_event.specs.Tree.{at, is_open};
 ghost use Rattle.rx_event.specs.Forced.{IsForced};
 ghost use Rattle.rx_event.specs.Sames.{same_terminal};
@@ -36,8 +37,30 @@ fn is_subscribed(past: &[Event], live: &[bool], nodes: &Nodes, g: u64) -> bool
     requires { IsKnown past.now live.now nodes.now }
     ensures { result ≡ has_key (open_subscribed past.now) past.now g }
 {
-    let _ = (past, live);
+    let _ = past;
+    let _ = live;
     value_at(&nodes.subscribers.last, g) > 0
+}
+
+/// Whether the word leads to a number with a mark.
+fn leads_to_marked(marks: &[bool], word: usize) -> bool
+    ensures { result ≡ (nat_lt 0 word && slice_index_or marks.now (word - 1) false) }
+{
+    word > 0 && is_marked(marks, (word - 1) as u64)
+}
+
+/// Whether the word leads past number `s`.
+fn leads_past(word: usize, s: u64) -> bool
+    ensures { result ≡ (nat_lt 0 word && nat_lt s (word - 1)) }
+{
+    word > 0 && s < (word - 1) as u64
+}
+
+/// Whether a word leads somewhere, and another one to no later number.
+fn leads_no_less(word: usize, other: usize) -> bool
+    ensures { result ≡ (nat_lt 0 word && not (nat_lt word other)) }
+{
+    word > 0 && !(word < other)
 }
 
 /// Whether hub `g` has an open connection.
@@ -46,8 +69,7 @@ pub fn is_connected(past: &[Event], live: &[bool], nodes: &Nodes, g: u64) -> boo
     ensures { result ≡ has_key (open_connected past.now) past.now g }
 {
     let _ = past;
-    let word = value_at(&nodes.hubs.connection, g);
-    word > 0 && is_marked(live, (word - 1) as u64)
+    leads_to_marked(live, value_at(&nodes.hubs.connection, g))
 }
 
 /// Whether hub `g` has an open subscriber that waits for a connection: the last one, if any does.
@@ -55,10 +77,11 @@ fn is_waited_for(past: &[Event], live: &[bool], nodes: &Nodes, g: u64) -> bool
     requires { IsKnown past.now live.now nodes.now }
     ensures { result ≡ has_key (open_waiting past.now) past.now g }
 {
-    let _ = (past, live);
+    let _ = past;
+    let _ = live;
     let last = value_at(&nodes.subscribers.last, g);
     let ended = value_at(&nodes.hubs.ended, g);
-    last > 0 && !(last < ended)
+    leads_no_less(last, ended)
 }
 
 /// Whether a connection of the hub of node `s` ended after it was opened.
@@ -68,10 +91,7 @@ pub fn is_cut(past: &[Event], live: &[bool], nodes: &Nodes, s: u64) -> bool
 {
     let _ = live;
     match hub_subscribed_at(past, s) {
-        Some(g) => {
-            let word = value_at(&nodes.hubs.ended, g);
-            word > 0 && s < (word - 1) as u64
-        }
+        Some(g) => leads_past(value_at(&nodes.hubs.ended, g), s),
         None => false,
     }
 }
