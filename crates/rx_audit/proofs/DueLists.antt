@@ -1,7 +1,7 @@
 -- What has to end or to close after one more event is on the list.
-use Rattle.std.proofs.Common.{◌≡◌, ℕ, suc, ◌+◌, ◌-◌, ◌<◌, ◌≤◌, Bool, true, false, List, [], ◌∷◌, ◌++◌, length, Option, Some, None, refl, sym, ap, ◌∙◌, arith, inl, inr, ◌⊎◌, get_or, slice_get}
+use Rattle.std.proofs.Common.{◌≡◌, ℕ, zero, suc, ◌+◌, ◌-◌, ◌<◌, ◌≤◌, Bool, true, false, List, [], ◌∷◌, ◌++◌, length, Option, Some, None, refl, sym, ap, ◌∙◌, arith, inl, inr, ◌⊎◌, get_or, slice_get}
 use Rattle.std.proofs.Math.Bool.{◌&&◌, ◌||◌}
-use Rattle.std.specs.Option.{option_map_or}
+use Rattle.std.specs.Option.{option_and_then, option_map_or}
 use Rattle.std.proofs.lemmas.Bool.{cases_Bool, cases_order, both_ways, false≢true, and_parts, eq-eqb}
 use Rattle.std.proofs.lemmas.Option.{slice_get_within, same_Some, none-some}
 use Rattle.rx_note.specs.declared.note.Terminal.{Terminal}
@@ -26,9 +26,9 @@ use Rattle.rx_audit.specs.Latest.{keyed, IsNoted, AreClosed, last_below}
 use Rattle.rx_audit.specs.Marking.{node_due, due_made, IsCovered}
 use Rattle.rx_audit.specs.HubTables.{AreHubs}
 use Rattle.rx_audit.specs.declared.subscribers.Subscribers.{Subscribers}
-use Rattle.rx_audit.specs.Listed.{on_list, AreLinked, AreOpenListed}
+use Rattle.rx_audit.specs.Listed.{on_list, AreLinked, AreOpenListed, number_of}
 use Rattle.rx_audit.proofs.ClosingBelow.{noted_more, noted_last}
-use Rattle.rx_audit.specs.DueList.{IsLostNoted, acts, Keeps, HasAll, HasCut, HasLeft, HasEnded, HasLost}
+use Rattle.rx_audit.specs.DueList.{IsLostNoted, acts, Keeps, HasAll, HasCut, HasLeft, HasEnded, HasLost, lost_connection}
 use Rattle.rx_audit.specs.Rules.{hub_connected_at, is_cut, close_due, any_connect_due, hub_subscribed_at, hub_ended}
 use Rattle.rx_audit.proofs.Latest.{last_none, key_is, is_key_of}
 use Rattle.rx_audit.proofs.Neighbours.{last_unique}
@@ -85,14 +85,14 @@ open_word h law size g c known w inside made alive =
 
 pub left_after : (h : List Event) (e : Event) (size : ℕ) (known : Hubs) (closed before after : List ℕ) → IsLawful nothing_kept h → MayFollow nothing_kept h e
     → AreHubs h size known → length h ≤ size → AreClosed h e closed → HasLeft h before → Keeps before after → HasLost h closed known.connection.items after
-    → ((g : ℕ) → e ≡ Connect g → IsNoted 0 after (length h)) → HasLeft (h ++ e ∷ []) after
+    → IsNoted 0 after (length h) → HasLeft (h ++ e ∷ []) after
 left_after h e size known closed before after law next w room closing so_far keeps lost new c is = by_reason (left_or_now nothing_kept h e law next c d) where
   d : IsDue nothing_kept (h ++ e ∷ []) (Close c)
   d = close_is_due (h ++ e ∷ []) c is
 
   by_reason : HowLeft nothing_kept h e c → IsNoted 0 after c
   by_reason (left_before was) = keeps c (so_far c (close_due_of h c was))
-  by_reason (connected_now g now same) = rw same (new g now)
+  by_reason (connected_now g now same) = rw same new
   by_reason (subscriber_gone g s made subscribes was gone) =
       let inside : g < length h = subscriber_hub nothing_kept h law g s subscribes in
       let old : c < length h = slice_get_within h c (Connect g) made in
@@ -197,6 +197,29 @@ pub lost_keeps : (h : List Event) (s : ℕ) (connection before after : List ℕ)
     → IsLostNoted h s connection after
 lost_keeps h s connection before after so_far keeps g c hub word = keeps c (so_far g c hub word)
 
+pub lost_one : (h : List Event) (s p : ℕ) (connection list : List ℕ) → lost_connection h connection s ≡ Some p → IsLostNoted h s connection (list ++ p ∷ [])
+lost_one h s p connection list found g c hub word =
+    let at_c : p ≡ c = same_Some p c (sym found ∙ ap (option_and_then (λ k. number_of (get_or connection k 0))) hub ∙ ap number_of word) in
+    rw (sym at_c) (noted_last 0 list p (omega arith))
+
+pub lost_none : (h : List Event) (s : ℕ) (connection list : List ℕ) → lost_connection h connection s ≡ None → IsLostNoted h s connection list
+lost_none h s connection list none g c hub word =
+    absurd (none-some c (sym none ∙ ap (option_and_then (λ k. number_of (get_or connection k 0))) hub ∙ ap number_of word))
+
+any_default : (xs : List ℕ) (i d e : ℕ) → i < length xs → get_or xs i d ≡ get_or xs i e
+any_default [] i d e l = absurd (omega arith)
+any_default (x ∷ xs) zero d e l = refl
+any_default (x ∷ xs) (suc i) d e l = any_default xs i d e (omega arith)
+
+pub lost_more : (h : List Event) (closed connection before after : List ℕ) (i d : ℕ) → i < length closed
+    → ((k : ℕ) → k < i → IsLostNoted h (get_or closed k 0) connection before) → Keeps before after → IsLostNoted h (get_or closed i d) connection after
+    → (k : ℕ) → k < i + 1 → IsLostNoted h (get_or closed k 0) connection after
+lost_more h closed connection before after i d within so_far keeps last k l = by_order (cases_order k i) where
+  by_order : (k ≡ i) ⊎ ((k < i) ⊎ (i < k)) → IsLostNoted h (get_or closed k 0) connection after
+  by_order (inl same) = λ g c hub word. last g c (ap (hub_subscribed_at h) (any_default closed i d 0 within ∙ ap (λ j. get_or closed j 0) (sym same)) ∙ hub) word
+  by_order (inr (inl m)) = lost_keeps h (get_or closed k 0) connection before after (so_far k m) keeps
+  by_order (inr (inr m)) = absurd (omega arith)
+
 pub lost_all : (h : List Event) (closed connection list : List ℕ) (i : ℕ) → length closed ≤ i
     → ((k : ℕ) → k < i → IsLostNoted h (get_or closed k 0) connection list) → HasLost h closed connection list
 lost_all h closed connection list i over each s g c noted hub word =
@@ -237,7 +260,7 @@ ended_none h e list none g s hub subscribes alive = absurd (none-some g (sym non
 -- all that is noted of one event
 pub all_after : (h : List Event) (e : Event) (size : ℕ) (known : Hubs) (closed d0 d1 d2 d3 : List ℕ) → IsLawful nothing_kept h → MayFollow nothing_kept h e
     → AreHubs h size known → length h ≤ size → AreClosed h e closed → HasAll h d0 → Keeps d0 d1 → IsCovered (h ++ e ∷ []) d1 → Keeps d1 d2 → HasEnded h e d2
-    → Keeps d2 d3 → HasLost h closed known.connection.items d3 → ((g : ℕ) → e ≡ Connect g → IsNoted 0 d3 (length h)) → HasAll (h ++ e ∷ []) d3
+    → Keeps d2 d3 → HasLost h closed known.connection.items d3 → IsNoted 0 d3 (length h) → HasAll (h ++ e ∷ []) d3
 all_after h e size known closed d0 d1 d2 d3 law next w room closing all first marked second ended third lost new =
     let later : Keeps d0 d3 = keeps_on d0 d1 d3 first (keeps_on d1 d2 d3 second third) in
     acts_noted (h ++ e ∷ []) d3 (λ n y. keeps_on d1 d2 d3 second third n (marked n y))

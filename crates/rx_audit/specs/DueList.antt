@@ -1,9 +1,11 @@
 -- The list of the nodes that may have to end or to close. No public clause cites this module.
-use Rattle.std.specs.Prelude.{◌≡◌, ℕ, suc, Bool, true, ◌&&◌, ◌||◌, Some, List, slice_index_or}
+use Rattle.std.specs.Prelude.{◌≡◌, ℕ, suc, Bool, true, ◌&&◌, ◌||◌, Option, Some, List, slice_index_or}
+use Rattle.std.specs.Option.{option_and_then}
 use Rattle.rx_event.specs.declared.event.Event.{Event}
 use Rattle.rx_event.specs.Events.{is_subscriber_of}
 use Rattle.rx_event.specs.Tree.{at, is_open}
 use Rattle.rx_audit.specs.Latest.{IsNoted}
+use Rattle.rx_audit.specs.Listed.{number_of}
 use Rattle.rx_audit.specs.Marking.{node_due}
 use Rattle.rx_audit.specs.Rules.{hub_ended, hub_subscribed_at, is_cut, close_due}
 
@@ -25,6 +27,10 @@ HasLeft h due = (c : ℕ) → close_due h c ≡ true → IsNoted 0 due c
 -- the list has each open subscriber of the hub whose connection the event ends
 abbrev pub HasEnded : List Event → Event → List ℕ → Type 0
 HasEnded h e due = (g s : ℕ) → hub_ended h e ≡ Some g → at (is_subscriber_of g) h s ≡ true → is_open h s ≡ true → IsNoted 0 due s
+
+-- the number that the word of the hub of s leads to
+abbrev pub lost_connection : List Event → List ℕ → ℕ → Option ℕ
+lost_connection h connection s = option_and_then (λ g. number_of (slice_index_or connection g 0)) (hub_subscribed_at h s)
 
 -- the list has the connection of the hub of s
 abbrev pub IsLostNoted : List Event → ℕ → List ℕ → List ℕ → Type 0

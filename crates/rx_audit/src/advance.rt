@@ -216,13 +216,7 @@ pub fn advance(
         &mut nodes.todo,
         live_count,
     )?;
-    note_left(
-        past,
-        event,
-        nodes.todo.as_slice(),
-        &nodes.hubs,
-        &mut nodes.due,
-    )?;
+    note_left(past, nodes.todo.as_slice(), &nodes.hubs, &mut nodes.due)?;
     relink(
         past,
         event,

@@ -1,7 +1,7 @@
 //! The list of the nodes that may have to end or to close.
 
 ghost use Rattle.rx_event.specs.Kept.{nothing_kept};
-ghost use Rattle.std.specs.Prelude.{◌≡◌, ℕ, ◌+◌, ◌<◌, ◌≤◌, ◌&&◌, ◌||◌, ◌↔◌, IsTrue, IfOk, OnOk, true, false, Some, [], ◌∷◌, ◌++◌, length, is_some, slice_get};
+ghost use Rattle.std.specs.Prelude.{◌≡◌, ℕ, ◌+◌, ◌<◌, ◌≤◌, ◌&&◌, ◌||◌, ◌↔◌, IsTrue, IfOk, OnOk, true, false, Some, [], ◌∷◌, ◌++◌, length, is_some, slice_get, take};
 ghost use Rattle.rx_event.specs.declared.event.Event.{Event};
 ghost use Rattle.rx_event.specs.Tree.{is_open};
 ghost use Rattle.rx_event.specs.Forced.{IsSettled};
@@ -9,7 +9,7 @@ ghost use Rattle.rx_event.specs.Lawful.{IsLawful, MayFollow};
 ghost use Rattle.rx_audit.specs.Latest.{AreClosed, IsNoted};
 ghost use Rattle.rx_audit.specs.Tables.{IsMarked};
 ghost use Rattle.rx_audit.specs.Marking.{IsKept, IsCovered, IsUntouched, node_due};
-ghost use Rattle.rx_audit.specs.DueList.{acts, Keeps, HasAll, HasCut, HasLeft, HasEnded, HasLost, IsLostNoted};
+ghost use Rattle.rx_audit.specs.DueList.{acts, Keeps, HasAll, HasCut, HasLeft, HasEnded, HasLost, IsLostNoted, lost_connection};
 ghost use Rattle.rx_audit.specs.HubTables.{AreHubs};
 ghost use Rattle.rx_audit.specs.Listed.{AreLinked, AreOpenListed, on_list};
 ghost use Rattle.rx_audit.specs.Rules.{is_cut};
@@ -22,7 +22,7 @@ use crate::event_tests::event_at;
 use crate::hubs::{Hubs, hub_ended};
 use crate::marks::is_marked;
 use crate::nodes::{marks_at, touched};
-use crate::subscribers::{Subscribers, hub_subscribed_at};
+use crate::subscribers::{Subscribers, hub_subscribed_at, number_of};
 use rx_event::{Event, Marks};
 use std::alloc::AllocError;
 
@@ -60,6 +60,13 @@ fn acts(past: &[Event], live: &[bool], nodes: &Nodes, n: usize) -> bool
         || close_due(past, live, nodes, n as u64)
 }
 
+/// Keeps the first so many numbers of the list.
+fn keep_first(list: &mut Vec<usize>, count: usize)
+    ensures { list.new.items ≡ take count list.old.items }
+{
+    list.truncate(count);
+}
+
 /// Whether operators have nothing left to do. What was looked at on the list and has nothing to do is
 /// taken off it, so each entry is looked at once.
 pub fn settle(past: &[Event], live: &[bool], nodes: &mut Nodes) -> bool
@@ -74,7 +81,7 @@ pub fn settle(past: &[Event], live: &[bool], nodes: &mut Nodes) -> bool
     while left > 0 {
         let n = nodes.due[left - 1];
         if acts(past, live, nodes, n) {
-            nodes.due.truncate(left);
+            keep_first(&mut nodes.due, left);
             return false;
         }
         left -= 1;
@@ -140,7 +147,17 @@ pub fn note_cut(
     }
 }
 
-/// Notes the last connection of the hub of node `s`, if it subscribes to one.
+/// The last connection of the hub of node `s`, if it subscribes to one.
+fn lost_connection(past: &[Event], hubs: &Hubs, s: u64) -> Option<u64>
+    ensures { result ≡ lost_connection past.now hubs.now.connection.items s }
+{
+    match hub_subscribed_at(past, s) {
+        Some(g) => number_of(value_at(&hubs.connection, g)),
+        None => None,
+    }
+}
+
+/// Notes it.
 fn note_connection(
     past: &[Event],
     hubs: &Hubs,
@@ -150,33 +167,27 @@ fn note_connection(
     ensures keeps { OnOk result (Keeps due.old.items due.new.items) }
     ensures lost { OnOk result (IsLostNoted past.now s hubs.now.connection.items due.new.items) }
 {
-    if let Some(g) = hub_subscribed_at(past, s) {
-        let word = value_at(&hubs.connection, g);
-        if word > 0 {
-            due.push(word - 1)?;
-        }
+    if let Some(c) = lost_connection(past, hubs, s) {
+        due.push(c as usize)?;
     }
     Ok(())
 }
 
-/// Notes the connection of the hub of each subscriber that was closed, and the one that the event
-/// makes.
+/// Notes the connection of the hub of each subscriber that was closed, and the node that the event
+/// may make.
 pub fn note_left(
     past: &[Event],
-    event: Event,
     closed: &[usize],
     hubs: &Hubs,
     due: &mut Vec<usize>,
 ) -> Result<(), AllocError>
     ensures keeps { OnOk result (Keeps due.old.items due.new.items) }
     ensures lost { OnOk result (HasLost past.now closed.now hubs.now.connection.items due.new.items) }
-    ensures new { OnOk result ((g : ℕ) → event ≡ Event.Connect g → IsNoted 0 due.new.items (length past.now)) }
+    ensures new { OnOk result (IsNoted 0 due.new.items (length past.now)) }
 {
     for s in closed {
         note_connection(past, hubs, *s as u64, due)?;
     }
-    if event.connects().is_some() {
-        due.push(past.len())?;
-    }
+    due.push(past.len())?;
     Ok(())
 }

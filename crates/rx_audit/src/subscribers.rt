@@ -61,7 +61,7 @@ pub fn no_subscribers(alloc: Global, size: usize) -> Result<Subscribers, AllocEr
 }
 
 /// The number that a word leads to.
-fn number_of(word: usize) -> Option<u64>
+pub fn number_of(word: usize) -> Option<u64>
     ensures { result ≡ number_of word }
 {
     if word == 0 {

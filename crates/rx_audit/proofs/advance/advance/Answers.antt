@@ -26,3 +26,21 @@ returns-clause-followed c =
           c.in_ok-keep.ensures.keeps c.in_ok-keep.ensures.covered c.in_ok-note_cut.ensures.keeps c.in_ok-note_cut.ensures.ended c.in_ok-note_left.ensures.keeps
           (rw (c.as_slice.ensures.value, c.in_ok-keep.ensures.hubs) at c.in_ok-note_left.ensures.lost) c.in_ok-note_left.ensures.new;
     }
+
+pub note_cut-requires-clause-linked : goal.note_cut-requires-clause-linked
+note_cut-requires-clause-linked c =
+    let w = c.requires.followed in
+    rw (c.in_ok-keep.ensures.subscribers, w.linked.listed_size) w.linked
+
+pub note_cut-requires-clause-listed : goal.note_cut-requires-clause-listed
+note_cut-requires-clause-listed c = rw c.in_ok-keep.ensures.subscribers c.requires.followed.listed
+
+pub relink-requires-clause-linked : goal.relink-requires-clause-linked
+relink-requires-clause-linked c =
+    let w = c.requires.followed in
+    rw (c.in_ok-keep.ensures.children, c.in_ok-keep.ensures.subscribers, w.children.youngest_size) w.linked
+
+pub relink-requires-clause-hubs : goal.relink-requires-clause-hubs
+relink-requires-clause-hubs c =
+    let w = c.requires.followed in
+    rw (c.in_ok-keep.ensures.children, c.in_ok-keep.ensures.hubs, w.children.youngest_size) w.hubs

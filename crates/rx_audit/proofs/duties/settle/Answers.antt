@@ -2,6 +2,7 @@ use Rattle.std.proofs.Common.{sym, arith, refl}
 use Rattle.std.proofs.lemmas.Bool.{false≢true}
 use Rattle.rx_audit.proofs.Covering.{noted_none}
 use Rattle.rx_audit.proofs.Due.{no_connect_due}
+use Rattle.rx_audit.proofs.Following.{known_due}
 use Rattle.rx_audit.proofs.DueLists.{acts_unsettled, none_acts_settled, waits_unsettled}
 use Rattle.rx_audit.proofs.duties.settle.Goals as goal
 
@@ -24,3 +25,13 @@ returns-clause-answer c = (
       (λ n y. noted_none c.loop-left.nodes.due.items n c.loop-left.left (omega arith) (c.loop-left.invariant.covered n y)),
   λ settled. refl,
 )
+
+pub returns-then-acts-clause-known : goal.returns-then-acts-clause-known
+returns-then-acts-clause-known c =
+    known_due c.args.past.now c.args.live.now c.loop-left.nodes _ c.loop-left.invariant.known refl refl refl refl
+    (λ n y. rw c.keep_first.ensures (c.loop-left.invariant.covered n y))
+
+pub returns-clause-known : goal.returns-clause-known
+returns-clause-known c =
+    known_due c.args.past.now c.args.live.now c.loop-left.nodes _ c.loop-left.invariant.known refl refl refl refl
+    (λ n y. absurd (noted_none c.loop-left.nodes.due.items n c.loop-left.left (omega arith) (c.loop-left.invariant.covered n y)))

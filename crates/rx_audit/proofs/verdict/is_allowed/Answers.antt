@@ -15,3 +15,6 @@ returns-in-Item c =
 pub returns-in_default : goal.returns-in_default
 returns-in_default c =
     simple_answer c.args.past.now c.args.event c.is_allowed_simply.result c.in_default.not-Open c.in_default.not-Item c.is_allowed_simply.ensures
+
+pub is_item_allowed-requires-clause-linked : goal.is_item_allowed-requires-clause-linked
+is_item_allowed-requires-clause-linked c = rw c.requires.known.followed.linked.listed_size c.requires.known.followed.linked
