@@ -1,0 +1,125 @@
+//! The rows of a history.
+
+ghost use Rattle.std.specs.Prelude.{◌≡◌, ◌<◌, true, false, Some, IfOk, MatchOption, length, slice_get};
+ghost use Rattle.std.specs.Option.{option_and_then};
+ghost use Rattle.rx_event.specs.Events.{makes_node, node_of_accept};
+ghost use Rattle.rx_event.specs.Tree.{at};
+ghost use Rattle.rx_picture.specs.Rows.{AreRows, IsShape, ending_by, is_drawn};
+ghost use Rattle.rx_picture.specs.Tables.{AreTurns, AreLines, IsDrawnAt, held_end, was_removed, was_taken};
+
+use crate::firsts::{removals, takings};
+use crate::lines::line_ends;
+use crate::row::{Ending, Row, Shape};
+use crate::shut::shuttings;
+use rx_event::Event;
+use std::alloc::{AllocError, Global};
+
+/// How node `n` ends by the event at the place, if there is one.
+fn ending_at(events: &[Event], n: usize, until: usize) -> Ending
+    ensures { result ≡ ending_by n (slice_get events.now until) }
+{
+    match events.get(until).copied() {
+        None => Ending::Lasting,
+        Some(Event::End(m, terminal)) if m == n as u64 => Ending::Ended(terminal),
+        Some(_) => Ending::Disposed,
+    }
+}
+
+/// What is drawn of node `n`.
+fn line_of(events: &[Event], ends: &[usize], n: usize) -> Shape
+    requires within { n < length events.now }
+    requires ends { AreLines events.now (length events.now) ends.now }
+    requires node { at makes_node events.now n ≡ true }
+    ensures { IsShape events.now n result }
+{
+    let until = ends[n];
+    Shape::Node {
+        until: until as u64,
+        ending: ending_at(events, n, until),
+    }
+}
+
+/// The place after which the resource is held no more, of one that was accepted at the node and is
+/// removed at the place.
+fn held_end(ends: &[usize], node: usize, removed: usize) -> usize
+    ensures { result ≡ held_end ends.now node removed }
+{
+    if node < ends.len() {
+        ends[node].min(removed)
+    } else {
+        0
+    }
+}
+
+/// What is drawn of resource `r`, which was accepted at the node.
+fn bar_of(
+    events: &[Event],
+    removed: &[usize],
+    taken: &[usize],
+    ends: &[usize],
+    r: usize,
+    node: usize,
+) -> Shape
+    requires within { r < length events.now }
+    requires removed { AreTurns events.now was_removed (length events.now) removed.now }
+    requires taken { AreTurns events.now was_taken (length events.now) taken.now }
+    requires ends { AreLines events.now (length events.now) ends.now }
+    requires accepted { option_and_then node_of_accept (slice_get events.now r) ≡ Some node }
+    ensures { IsShape events.now r result }
+{
+    let after = node.max(r);
+    let until = held_end(ends, node, removed[r]).max(after);
+    Shape::Resource {
+        held_after: after as u64,
+        held_until: until as u64,
+        taken: taken[r].max(r) as u64,
+    }
+}
+
+/// What is drawn of what the event at place `n` made, if it made something that is.
+fn row_at(
+    events: &[Event],
+    removed: &[usize],
+    taken: &[usize],
+    ends: &[usize],
+    n: usize,
+) -> Option<Row>
+    requires within { n < length events.now }
+    requires removed { AreTurns events.now was_removed (length events.now) removed.now }
+    requires taken { AreTurns events.now was_taken (length events.now) taken.now }
+    requires ends { AreLines events.now (length events.now) ends.now }
+    ensures { MatchOption result (at is_drawn events.now n ≡ false) (IsDrawnAt events.now n) }
+{
+    let made = events[n];
+    let shape = if made.makes_node() {
+        line_of(events, ends, n)
+    } else if made.makes_hub() {
+        Shape::Hub
+    } else {
+        let node = made.held_at()?;
+        bar_of(events, removed, taken, ends, n, node as usize)
+    };
+    Some(Row {
+        number: n as u64,
+        made,
+        shape,
+    })
+}
+
+/// The rows of the history: one for each node, hub and resource, by rising number. The error comes
+/// where memory is refused.
+pub fn rows_of(alloc: Global, events: &[Event]) -> Result<Vec<Row>, AllocError>
+    ensures { IfOk result (λ rows. AreRows events.now rows.items) }
+{
+    let shut = shuttings(alloc, events)?;
+    let removed = removals(alloc, events)?;
+    let taken = takings(alloc, events)?;
+    let ends = line_ends(alloc, events, &shut)?;
+    let mut rows = Vec::new(alloc);
+    for n in 0..events.len() {
+        if let Some(row) = row_at(events, &removed, &taken, &ends, n) {
+            rows.push(row)?;
+        }
+    }
+    Ok(rows)
+}
