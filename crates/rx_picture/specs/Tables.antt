@@ -5,8 +5,9 @@ use Rattle.std.proofs.Math.Bool.{◌||◌}
 use Rattle.std.specs.List.{list_any}
 use Rattle.std.specs.Option.{option_and_then, option_map_or}
 use Rattle.rx_event.specs.declared.event.Event.{Event}
+use Rattle.rx_event.specs.declared.event.Event.TheVariants.{End, Close}
 use Rattle.rx_event.specs.Events.{inner_named, is_switch, is_inner_of, is_remove_of, is_take_of}
-use Rattle.rx_event.specs.Tree.{at, is_shut, is_open, shuts}
+use Rattle.rx_event.specs.Tree.{at, if_less, is_shut, is_open, shuts}
 use Rattle.rx_picture.specs.Rows.{Spans, IsRow, is_drawn}
 use Rattle.rx_picture.specs.declared.row.Row.{Row}
 
@@ -65,6 +66,16 @@ abbrev pub inner_with : List ℕ → Option ℕ → ℕ → List ℕ
 inner_with inner None value = inner
 inner_with inner (Some f) value = slice_set inner f value
 
+-- the node that the event ends or closes
+abbrev pub stopped_of : Event → Option ℕ
+stopped_of (End n t) = Some n
+stopped_of (Close n) = Some n
+stopped_of _ = None
+
+-- the node that the event at the place takes away: what it stops, or the last inner of its Switch
+abbrev pub shut_key : List Event → List ℕ → ℕ → Option ℕ
+shut_key h inner b = option_map_or (if_less b) (option_and_then stopped_of (slice_get h b)) (latest_of inner (switch_of h b))
+
 -- of the nodes that are not shut before the place, the event there shuts just the one with this number
 abbrev pub IsShutBy : List Event → ℕ → Option ℕ → Type 0
 IsShutBy h b key = (n : ℕ) → is_shut (take b h) n ≡ false → is_key key n ≡ (nat_lt n b && option_map_or (shuts (take b h) n) (slice_get h b) false)
@@ -83,5 +94,4 @@ held_end ends node removed = if nat_lt node (length ends) then min (slice_index_
 -- the row of what the event at the place made
 pub record IsDrawnAt (h : List Event) (n : ℕ) (row : Row) : Type 0 where
   pub number : row.number ≡ n
-  pub drawn : IsTrue (at is_drawn h n)
   pub is : IsRow h row

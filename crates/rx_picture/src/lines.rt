@@ -1,22 +1,37 @@
 //! Where the line of each node ends.
 
 ghost use Rattle.std.specs.Prelude.{◌≡◌, ◌<◌, ◌≤◌, IfOk, length};
-ghost use Rattle.rx_event.specs.Tree.{is_open, parent};
+ghost use Rattle.rx_event.specs.Events.{makes_node};
+ghost use Rattle.rx_event.specs.Tree.{at, is_open, parent};
 ghost use Rattle.rx_picture.specs.Rows.{Spans};
 ghost use Rattle.rx_picture.specs.Tables.{AreTurns, AreLines, was_shut};
 
+use crate::firsts::value_at;
 use rx_event::Event;
 use std::alloc::{AllocError, Global};
 
 /// The node that the place of node `n` names, if its number is less.
 #[tactic(auto, unfolding(rx_event::specs::Tree::parent))]
 fn parent_of(events: &[Event], n: usize) -> Option<u64>
-    requires { n < length events.now }
     ensures { result ≡ parent events.now n }
 {
-    match events[n].parent() {
+    let named = match events.get(n).copied() {
+        Some(event) => event.parent(),
+        None => None,
+    };
+    match named {
         Some(p) if p < n as u64 => Some(p),
         _ => None,
+    }
+}
+
+/// Whether the event at the place makes a node.
+fn is_node_at(events: &[Event], n: usize) -> bool
+    ensures { result ≡ at makes_node events.now n }
+{
+    match events.get(n).copied() {
+        Some(event) => event.makes_node(),
+        None => false,
     }
 }
 
@@ -29,12 +44,12 @@ fn line_end(events: &[Event], shut: &[usize], ends: &[usize], n: usize) -> usize
     ensures within { result ≤ length events.now }
     ensures spans { Spans events.now (λ k. is_open k n) n result }
 {
-    if !events[n].makes_node() {
+    if !is_node_at(events, n) {
         return n;
     }
-    let own = shut[n];
+    let own = value_at(shut, n as u64);
     match parent_of(events, n) {
-        Some(p) => own.min(ends[p as usize]).max(n),
+        Some(p) => own.min(value_at(ends, p)).max(n),
         None => own.max(n),
     }
 }

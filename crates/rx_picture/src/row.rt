@@ -19,7 +19,10 @@ pub enum Ending {
 pub enum Shape {
     /// A node, which is open after the event that made it and before the event at `until`. Where
     /// `until` is its own number it was never open.
-    Node { until: u64, ending: Ending },
+    Node {
+        until: u64,
+        ending: Ending,
+    },
     /// A hub, which nothing ends.
     Hub,
     /// A resource, which is held after the event at `held_after` and before the one at `held_until`,

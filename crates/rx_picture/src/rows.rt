@@ -7,7 +7,7 @@ ghost use Rattle.rx_event.specs.Tree.{at};
 ghost use Rattle.rx_picture.specs.Rows.{AreRows, IsShape, ending_by, is_drawn};
 ghost use Rattle.rx_picture.specs.Tables.{AreTurns, AreLines, IsDrawnAt, held_end, was_removed, was_taken};
 
-use crate::firsts::{removals, takings};
+use crate::firsts::{removals, takings, value_at};
 use crate::lines::line_ends;
 use crate::row::{Ending, Row, Shape};
 use crate::shut::shuttings;
@@ -41,11 +41,11 @@ fn line_of(events: &[Event], ends: &[usize], n: usize) -> Shape
 
 /// The place after which the resource is held no more, of one that was accepted at the node and is
 /// removed at the place.
-fn held_end(ends: &[usize], node: usize, removed: usize) -> usize
+fn held_end(ends: &[usize], node: u64, removed: usize) -> usize
     ensures { result ≡ held_end ends.now node removed }
 {
-    if node < ends.len() {
-        ends[node].min(removed)
+    if node < ends.len() as u64 {
+        value_at(ends, node).min(removed)
     } else {
         0
     }
@@ -58,7 +58,7 @@ fn bar_of(
     taken: &[usize],
     ends: &[usize],
     r: usize,
-    node: usize,
+    node: u64,
 ) -> Shape
     requires within { r < length events.now }
     requires removed { AreTurns events.now was_removed (length events.now) removed.now }
@@ -67,16 +67,44 @@ fn bar_of(
     requires accepted { option_and_then node_of_accept (slice_get events.now r) ≡ Some node }
     ensures { IsShape events.now r result }
 {
-    let after = node.max(r);
-    let until = held_end(ends, node, removed[r]).max(after);
+    let after = node.max(r as u64);
+    let gone = value_at(removed, r as u64);
+    let out = value_at(taken, r as u64);
     Shape::Resource {
-        held_after: after as u64,
-        held_until: until as u64,
-        taken: taken[r].max(r) as u64,
+        held_after: after,
+        held_until: (held_end(ends, node, gone) as u64).max(after),
+        taken: out.max(r) as u64,
     }
 }
 
 /// What is drawn of what the event at place `n` made, if it made something that is.
+fn shape_of(
+    events: &[Event],
+    removed: &[usize],
+    taken: &[usize],
+    ends: &[usize],
+    n: usize,
+    made: Event,
+) -> Option<Shape>
+    requires here { slice_get events.now n ≡ Some made }
+    requires removed { AreTurns events.now was_removed (length events.now) removed.now }
+    requires taken { AreTurns events.now was_taken (length events.now) taken.now }
+    requires ends { AreLines events.now (length events.now) ends.now }
+    ensures { MatchOption result (is_drawn made ≡ false) (IsShape events.now n) }
+{
+    if made.makes_node() {
+        return Some(line_of(events, ends, n));
+    }
+    if made.makes_hub() {
+        return Some(Shape::Hub);
+    }
+    match made.held_at() {
+        Some(node) => Some(bar_of(events, removed, taken, ends, n, node)),
+        None => None,
+    }
+}
+
+/// The row of what the event at place `n` made, if it made something that is drawn.
 fn row_at(
     events: &[Event],
     removed: &[usize],
@@ -84,21 +112,13 @@ fn row_at(
     ends: &[usize],
     n: usize,
 ) -> Option<Row>
-    requires within { n < length events.now }
     requires removed { AreTurns events.now was_removed (length events.now) removed.now }
     requires taken { AreTurns events.now was_taken (length events.now) taken.now }
     requires ends { AreLines events.now (length events.now) ends.now }
     ensures { MatchOption result (at is_drawn events.now n ≡ false) (IsDrawnAt events.now n) }
 {
-    let made = events[n];
-    let shape = if made.makes_node() {
-        line_of(events, ends, n)
-    } else if made.makes_hub() {
-        Shape::Hub
-    } else {
-        let node = made.held_at()?;
-        bar_of(events, removed, taken, ends, n, node as usize)
-    };
+    let made = events.get(n).copied()?;
+    let shape = shape_of(events, removed, taken, ends, n, made)?;
     Some(Row {
         number: n as u64,
         made,

@@ -1,12 +1,13 @@
 //! The place at which each node is itself taken away: by its end, its closing, or the opening of
 //! the next inner of its Switch.
 
-ghost use Rattle.std.specs.Prelude.{◌≡◌, ◌+◌, ◌<◌, IfOk, length};
+ghost use Rattle.std.specs.Prelude.{◌≡◌, ◌+◌, IfOk, length, slice_get};
+ghost use Rattle.std.specs.Option.{option_and_then};
 ghost use Rattle.rx_event.specs.Tree.{at, if_less};
-ghost use Rattle.rx_event.specs.Events.{is_switch};
-ghost use Rattle.rx_picture.specs.Tables.{AreTurns, AreInners, IsShutBy, was_shut, switch_of, if_switch, latest_of, inner_with};
+ghost use Rattle.rx_event.specs.Events.{is_switch, inner_named};
+ghost use Rattle.rx_picture.specs.Tables.{AreTurns, was_shut, switch_of, if_switch, stopped_of, shut_key, number_before, latest_of, inner_with};
 
-use crate::firsts::{filled, note};
+use crate::firsts::{filled, note, value_at};
 use rx_event::Event;
 use std::alloc::{AllocError, Global};
 
@@ -31,12 +32,21 @@ fn if_switch(events: &[Event], place: usize, f: u64) -> Option<u64>
     }
 }
 
+/// The FlatMap or Switch of which the event at the place opens an inner.
+fn inner_at(events: &[Event], place: usize) -> Option<u64>
+    ensures { result ≡ option_and_then inner_named (slice_get events.now place) }
+{
+    match events.get(place).copied() {
+        Some(event) => event.inner_of(),
+        None => None,
+    }
+}
+
 /// The Switch of which the event at the place opens an inner.
 fn switch_of(events: &[Event], place: usize) -> Option<u64>
-    requires { place < length events.now }
     ensures { result ≡ switch_of events.now place }
 {
-    match events[place].inner_of() {
+    match inner_at(events, place) {
         Some(f) => if_switch(events, place, f),
         None => None,
     }
@@ -49,41 +59,66 @@ fn below(n: u64, place: usize) -> Option<u64>
     if n < place as u64 { Some(n) } else { None }
 }
 
-/// The last inner of the Switch.
-fn latest_of(inner: &Vec<usize>, key: Option<u64>) -> Option<u64>
-    ensures { result ≡ latest_of inner.now.items key }
+/// One number less, if it is not 0.
+fn number_before(value: usize) -> Option<u64>
+    ensures { result ≡ number_before value }
 {
-    let f = key? as usize;
-    if f < inner.len() && inner[f] > 0 {
-        Some(inner[f] as u64 - 1)
+    if value > 0 {
+        Some(value as u64 - 1)
     } else {
         None
     }
 }
 
-/// The number of the node that the event at the place itself takes away, if there is one.
-fn shut_by(events: &[Event], place: usize, inner: &Vec<usize>) -> Option<u64>
-    requires within { place < length events.now }
-    requires inner { AreInners events.now place inner.now.items }
-    ensures { IsShutBy events.now place result }
+/// The last inner of the Switch.
+fn latest_of(inner: &Vec<usize>, key: Option<u64>) -> Option<u64>
+    ensures { result ≡ latest_of inner.now.items key }
 {
-    match events[place] {
-        Event::End(n, _) => below(n, place),
-        Event::Close(n) => below(n, place),
-        Event::Open { .. } => latest_of(inner, switch_of(events, place)),
+    match key {
+        Some(f) => number_before(value_at(inner, f)),
+        None => None,
+    }
+}
+
+/// The node that the event ends or closes.
+fn stopped(event: Event) -> Option<u64>
+    ensures { result ≡ stopped_of event }
+{
+    match event {
+        Event::End(n, _) => Some(n),
+        Event::Close(n) => Some(n),
         _ => None,
     }
 }
 
-/// Notes that the event at the place opens an inner of the Switch, if there is one.
-fn set_inner(inner: &mut Vec<usize>, key: Option<u64>, place: usize)
-    requires { place < length inner.old.items }
-    ensures { inner.new.items ≡ inner_with inner.old.items key (place + 1) }
+/// The node that the event at the place ends or closes.
+fn stopped_at(events: &[Event], place: usize) -> Option<u64>
+    ensures { result ≡ option_and_then stopped_of (slice_get events.now place) }
+{
+    match events.get(place).copied() {
+        Some(event) => stopped(event),
+        None => None,
+    }
+}
+
+/// The number of the node that the event at the place itself takes away, if there is one.
+fn shut_by(events: &[Event], place: usize, inner: &Vec<usize>) -> Option<u64>
+    ensures { result ≡ shut_key events.now inner.now.items place }
+{
+    match stopped_at(events, place) {
+        Some(n) => below(n, place),
+        None => latest_of(inner, switch_of(events, place)),
+    }
+}
+
+/// Writes the value at the place of the Switch, if there is one.
+fn set_inner(inner: &mut Vec<usize>, key: Option<u64>, value: usize)
+    ensures { inner.new.items ≡ inner_with inner.old.items key value }
 {
     if let Some(f) = key {
         let f = f as usize;
         if f < inner.len() {
-            inner[f] = place + 1;
+            inner[f] = value;
         }
     }
 }
@@ -99,7 +134,7 @@ pub fn shuttings(alloc: Global, events: &[Event]) -> Result<Vec<usize>, AllocErr
         let shut = shut_by(events, place, &inner);
         note(&mut table, shut, place);
         let opened = switch_of(events, place);
-        set_inner(&mut inner, opened, place);
+        set_inner(&mut inner, opened, place + 1);
     }
     Ok(table)
 }

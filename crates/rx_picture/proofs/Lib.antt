@@ -1,0 +1,6 @@
+mod Prefixes
+mod Turning
+mod Shutting
+mod Lining
+mod Barring
+mod Listing
