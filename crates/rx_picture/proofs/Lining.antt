@@ -85,12 +85,12 @@ module _ (h : List Event) (n s : ℕ) (node : at makes_node h n ≡ true) (shut 
 
 -- a table -----------------------------------------------------------------------------------------
 
-get_old : (xs : List ℕ) (y i : ℕ) → i < length xs → get_or (xs ++ y ∷ []) i 0 ≡ get_or xs i 0
+pub get_old : (xs : List ℕ) (y i : ℕ) → i < length xs → get_or (xs ++ y ∷ []) i 0 ≡ get_or xs i 0
 get_old [] y i l = absurd (omega arith)
 get_old (x ∷ xs) y zero l = refl
 get_old (x ∷ xs) y (suc i) l = get_old xs y i (omega arith)
 
-get_new : (xs : List ℕ) (y : ℕ) → get_or (xs ++ y ∷ []) (length xs) 0 ≡ y
+pub get_new : (xs : List ℕ) (y : ℕ) → get_or (xs ++ y ∷ []) (length xs) 0 ≡ y
 get_new [] y = refl
 get_new (x ∷ xs) y = get_new xs y
 

@@ -1,9 +1,9 @@
 -- The rows of the first places.
 use Rattle.std.proofs.Common.{◌≡◌, ℕ, zero, suc, ◌+◌, ◌<◌, Bool, true, false, cond, List, [], ◌∷◌, ◌++◌, length, map, filter, Option, Some, None, refl, sym, ap, ◌∙◌, arith, slice_get}
-use Rattle.std.proofs.Math.Bool.{◌||◌}
+use Rattle.std.proofs.Math.Bool.{◌&&◌, ◌||◌}
 use Rattle.std.specs.List.{AllByRecursion, range_with_len}
 use Rattle.std.specs.Option.{option_map_or}
-use Rattle.std.proofs.lemmas.Bool.{or_left, or_right}
+use Rattle.std.proofs.lemmas.Bool.{or_left, or_right, and_from}
 use Rattle.std.proofs.lemmas.List.{map-append}
 use Rattle.std.proofs.lemmas.List.Elements.{filter-append}
 use Rattle.std.proofs.Common.{append-nil}
@@ -15,23 +15,12 @@ use Rattle.rx_picture.specs.declared.row.Row.{Row}
 use Rattle.rx_picture.specs.declared.row.Shape.{Shape}
 use Rattle.rx_picture.specs.declared.row.Shape.TheVariants.{Node, Hub, Resource}
 use Rattle.rx_picture.specs.Rows.{AreRows, IsRow, IsShape, is_drawn}
-use Rattle.rx_picture.specs.Tables.{IsDrawnAt}
+use Rattle.rx_picture.specs.Tables.{IsShownAt}
+use Rattle.rx_picture.proofs.Ranges.{below_push}
 
-pub record RowsUpTo (h : List Event) (n : ℕ) (rows : List Row) : Type 0 where
-  pub numbers : map (λ row. row.number) rows ≡ filter (at is_drawn h) (range_with_len 0 n)
+pub record RowsUpTo (h : List Event) (shown : ℕ → Bool) (n : ℕ) (rows : List Row) : Type 0 where
+  pub numbers : map (λ row. row.number) rows ≡ filter (λ k. at is_drawn h k && shown k) (range_with_len 0 n)
   pub each : AllByRecursion (IsRow h) rows
-
-range_push : (a n : ℕ) → range_with_len a (suc n) ≡ range_with_len a n ++ (a + n) ∷ []
-range_push a zero = let same : a ≡ a + 0 = omega arith in ap (λ (k : ℕ). k ∷ []) same
-range_push a (suc n) =
-    let same : (a + 1) + n ≡ a + suc n = omega arith in
-    ap (λ (ks : List ℕ). a ∷ ks) (range_push (a + 1) n ∙ ap (λ (k : ℕ). range_with_len (a + 1) n ++ k ∷ []) same)
-
-below_push : (n : ℕ) → range_with_len 0 (n + 1) ≡ range_with_len 0 n ++ n ∷ []
-below_push n =
-    let same : 0 + n ≡ n = omega arith in
-    let more : n + 1 ≡ suc n = omega arith in
-    ap (range_with_len 0) more ∙ range_push 0 n ∙ ap (λ (k : ℕ). range_with_len 0 n ++ k ∷ []) same
 
 next_filter : (p : ℕ → Bool) (n : ℕ) → filter p (range_with_len 0 (n + 1)) ≡ filter p (range_with_len 0 n) ++ cond (p n) (n ∷ []) []
 next_filter p n = ap (filter p) (below_push n) ∙ filter-append p (range_with_len 0 n) (n ∷ [])
@@ -56,29 +45,29 @@ drawn h n shape is = by_shape shape is where
   by_shape Hub is = hubs (slice_get h n) is
   by_shape (Resource after until taken) is = resources (slice_get h n) is.0
 
-pub rows_none : (h : List Event) → RowsUpTo h 0 []
-rows_none h = record { numbers = refl; each = tt }
+pub rows_none : (h : List Event) (shown : ℕ → Bool) → RowsUpTo h shown 0 []
+rows_none h shown = record { numbers = refl; each = tt }
 
-pub rows_more : (h : List Event) (n : ℕ) (rows : List Row) (row : Row) → RowsUpTo h n rows → IsDrawnAt h n row → RowsUpTo h (n + 1) (rows ++ row ∷ [])
-rows_more h n rows row tied here = record {
+pub rows_more : (h : List Event) (shown : ℕ → Bool) (n : ℕ) (rows : List Row) (row : Row) → RowsUpTo h shown n rows → IsShownAt h shown n row → RowsUpTo h shown (n + 1) (rows ++ row ∷ [])
+rows_more h shown n rows row tied here = record {
   numbers =
-      let here_drawn : at is_drawn h n ≡ true = ap (at is_drawn h) (sym here.number) ∙ drawn h row.number row.shape here.is.shape in
+      let here_drawn : (at is_drawn h n && shown n) ≡ true = and_from _ _ (ap (at is_drawn h) (sym here.number) ∙ drawn h row.number row.shape here.is.shape) here.shown_here in
       map-append (λ row. row.number) rows (row ∷ []) ∙ ap (λ (ks : List ℕ). ks ++ row.number ∷ []) tied.numbers
-      ∙ ap (λ (k : ℕ). filter (at is_drawn h) (range_with_len 0 n) ++ k ∷ []) here.number
-      ∙ sym (next_filter (at is_drawn h) n ∙ ap (λ (x : Bool). filter (at is_drawn h) (range_with_len 0 n) ++ cond x (n ∷ []) []) here_drawn);
+      ∙ ap (λ (k : ℕ). filter (λ k. at is_drawn h k && shown k) (range_with_len 0 n) ++ k ∷ []) here.number
+      ∙ sym (next_filter (λ k. at is_drawn h k && shown k) n ∙ ap (λ (x : Bool). filter (λ k. at is_drawn h k && shown k) (range_with_len 0 n) ++ cond x (n ∷ []) []) here_drawn);
   each = AllByRecursion-both (IsRow h) rows (row ∷ []) tied.each (here.is, tt);
 }
 
-pub rows_skip : (h : List Event) (n : ℕ) (rows : List Row) → RowsUpTo h n rows → at is_drawn h n ≡ false → RowsUpTo h (n + 1) rows
-rows_skip h n rows tied none = record {
+pub rows_skip : (h : List Event) (shown : ℕ → Bool) (n : ℕ) (rows : List Row) → RowsUpTo h shown n rows → (at is_drawn h n && shown n) ≡ false → RowsUpTo h shown (n + 1) rows
+rows_skip h shown n rows tied none = record {
   numbers =
-      tied.numbers ∙ sym (next_filter (at is_drawn h) n ∙ ap (λ (x : Bool). filter (at is_drawn h) (range_with_len 0 n) ++ cond x (n ∷ []) []) none
-      ∙ append-nil (filter (at is_drawn h) (range_with_len 0 n)));
+      tied.numbers ∙ sym (next_filter (λ k. at is_drawn h k && shown k) n ∙ ap (λ (x : Bool). filter (λ k. at is_drawn h k && shown k) (range_with_len 0 n) ++ cond x (n ∷ []) []) none
+      ∙ append-nil (filter (λ k. at is_drawn h k && shown k) (range_with_len 0 n)));
   each = tied.each;
 }
 
-pub rows_whole : (h : List Event) (n : ℕ) (rows : List Row) → n ≡ length h → RowsUpTo h n rows → AreRows h rows
-rows_whole h n rows whole tied = record {
-  numbers = tied.numbers ∙ ap (λ (k : ℕ). filter (at is_drawn h) (range_with_len 0 k)) whole;
+pub rows_whole : (h : List Event) (shown : ℕ → Bool) (n : ℕ) (rows : List Row) → n ≡ length h → RowsUpTo h shown n rows → AreRows h shown rows
+rows_whole h shown n rows whole tied = record {
+  numbers = tied.numbers ∙ ap (λ (k : ℕ). filter (λ k. at is_drawn h k && shown k) (range_with_len 0 k)) whole;
   each = tied.each;
 }

@@ -67,7 +67,11 @@ pub record IsRow (h : List Event) (row : Row) : Type 0 where
   pub made : slice_get h row.number ≡ Some row.made
   pub shape : IsShape h row.number row.shape
 
--- one row for each node, hub and resource, by rising number
-pub record AreRows (h : List Event) (rows : List Row) : Type 0 where
-  pub numbers : map (λ row. row.number) rows ≡ filter (at is_drawn h) (places h)
+-- one row for each node, hub and resource that is shown, by rising number
+pub record AreRows (h : List Event) (shown : ℕ → Bool) (rows : List Row) : Type 0 where
+  pub numbers : map (λ row. row.number) rows ≡ filter (λ n. at is_drawn h n && shown n) (places h)
   pub each : AllByRecursion (IsRow h) rows
+
+-- what leaks: an open node, or a resource that was never handed out, which is held or waits
+abbrev pub is_left : List Event → ℕ → Bool
+is_left h n = is_open h n || (at makes_resource h n && not (is_taken h n))

@@ -1,6 +1,6 @@
 -- What the tables of a picture say, by number: the place of the event that made a test true, for the places so far. The
 -- length of the history stands where none did.
-use Rattle.std.specs.Prelude.{◌≡◌, ℕ, zero, suc, ◌≤◌, ◌<◌, Bool, false, ◌&&◌, ◌==◌, nat_lt, min, if◌then◌else◌, Option, Some, None, List, length, slice_get, slice_index_or, slice_set, take, IsTrue}
+use Rattle.std.specs.Prelude.{◌≡◌, ℕ, zero, suc, ◌≤◌, ◌<◌, Bool, true, false, ◌&&◌, ◌==◌, nat_lt, min, if◌then◌else◌, Option, Some, None, List, length, slice_get, slice_index_or, slice_set, take, IsTrue}
 use Rattle.std.proofs.Math.Bool.{◌||◌}
 use Rattle.std.specs.List.{list_any}
 use Rattle.std.specs.Option.{option_and_then, option_map_or}
@@ -10,6 +10,7 @@ use Rattle.rx_event.specs.Events.{inner_named, is_switch, is_inner_of, is_remove
 use Rattle.rx_event.specs.Tree.{at, if_less, is_shut, is_open, shuts}
 use Rattle.rx_picture.specs.Rows.{Spans, IsRow, is_drawn}
 use Rattle.rx_picture.specs.declared.row.Row.{Row}
+use Rattle.rx_picture.specs.declared.tables.Tables.{Tables}
 
 -- the option has this number
 abbrev pub is_key : Option ℕ → ℕ → Bool
@@ -87,11 +88,18 @@ pub record AreLines (h : List Event) (bound : ℕ) (table : List ℕ) : Type 0 w
   pub within : (n : ℕ) → n < bound → slice_index_or table n 0 ≤ length h
   pub spans : (n : ℕ) → n < bound → Spans h (λ k. is_open k n) n (slice_index_or table n 0)
 
+-- the tables of a whole history
+pub record AreTables (h : List Event) (tables : Tables) : Type 0 where
+  pub removed : AreTurns h was_removed (length h) tables.removed.items
+  pub taken : AreTurns h was_taken (length h) tables.taken.items
+  pub ends : AreLines h (length h) tables.ends.items
+
 -- after which place a resource of the node is held no more, where it is removed at the other
 abbrev pub held_end : List ℕ → ℕ → ℕ → ℕ
 held_end ends node removed = if nat_lt node (length ends) then min (slice_index_or ends node 0) removed else 0
 
--- the row of what the event at the place made
-pub record IsDrawnAt (h : List Event) (n : ℕ) (row : Row) : Type 0 where
+-- the row of what the event at the place made, which is shown
+pub record IsShownAt (h : List Event) (shown : ℕ → Bool) (n : ℕ) (row : Row) : Type 0 where
   pub number : row.number ≡ n
+  pub shown_here : shown n ≡ true
   pub is : IsRow h row

@@ -14,11 +14,17 @@
 //! one for where lines end and one for the rows.
 #![tactic(auto)]
 
+mod choice;
 mod firsts;
+mod levels;
 mod lines;
 mod row;
 mod rows;
 mod shut;
+mod tables;
 
+pub use choice::choose;
+pub use levels::levels_of;
 pub use row::{Ending, Row, Shape};
 pub use rows::rows_of;
+pub use tables::{Tables, drawn_marks, left_marks, tables_of};

@@ -12,7 +12,7 @@ use std::alloc::{AllocError, Global};
 
 /// The node that the place of node `n` names, if its number is less.
 #[tactic(auto, unfolding(rx_event::specs::Tree::parent))]
-fn parent_of(events: &[Event], n: usize) -> Option<u64>
+pub fn parent_of(events: &[Event], n: usize) -> Option<u64>
     ensures { result ≡ parent events.now n }
 {
     let named = match events.get(n).copied() {

@@ -1,16 +1,17 @@
 //! The rows of a history.
 
-ghost use Rattle.std.specs.Prelude.{◌≡◌, ◌<◌, true, false, Some, IfOk, MatchOption, length, slice_get};
+ghost use Rattle.std.specs.Prelude.{◌≡◌, ◌<◌, ◌&&◌, true, false, Some, IfOk, MatchOption, length, slice_get};
 ghost use Rattle.std.specs.Option.{option_and_then};
 ghost use Rattle.rx_event.specs.Events.{makes_node, node_of_accept};
 ghost use Rattle.rx_event.specs.Tree.{at};
 ghost use Rattle.rx_picture.specs.Rows.{AreRows, IsShape, ending_by, is_drawn};
-ghost use Rattle.rx_picture.specs.Tables.{AreTurns, AreLines, IsDrawnAt, held_end, was_removed, was_taken};
+ghost use Rattle.rx_picture.specs.Choice.{marked};
+ghost use Rattle.rx_picture.specs.Tables.{AreTurns, AreLines, AreTables, IsShownAt, held_end, was_removed, was_taken};
 
-use crate::firsts::{removals, takings, value_at};
-use crate::lines::line_ends;
+use crate::choice::is_marked;
+use crate::firsts::value_at;
 use crate::row::{Ending, Row, Shape};
-use crate::shut::shuttings;
+use crate::tables::Tables;
 use rx_event::Event;
 use std::alloc::{AllocError, Global};
 
@@ -104,21 +105,24 @@ fn shape_of(
     }
 }
 
-/// The row of what the event at place `n` made, if it made something that is drawn.
-fn row_at(
-    events: &[Event],
-    removed: &[usize],
-    taken: &[usize],
-    ends: &[usize],
-    n: usize,
-) -> Option<Row>
-    requires removed { AreTurns events.now was_removed (length events.now) removed.now }
-    requires taken { AreTurns events.now was_taken (length events.now) taken.now }
-    requires ends { AreLines events.now (length events.now) ends.now }
-    ensures { MatchOption result (at is_drawn events.now n ≡ false) (IsDrawnAt events.now n) }
+/// The row of what the event at place `n` made, if it made something that is drawn and shown.
+fn row_at(events: &[Event], tables: &Tables, shown: &[bool], n: usize) -> Option<Row>
+    requires { AreTables events.now tables.now }
+    ensures { MatchOption result ((at is_drawn events.now n && marked shown.now n) ≡ false)
+        (IsShownAt events.now (marked shown.now) n) }
 {
+    if !is_marked(shown, n) {
+        return None;
+    }
     let made = events.get(n).copied()?;
-    let shape = shape_of(events, removed, taken, ends, n, made)?;
+    let shape = shape_of(
+        events,
+        &tables.removed,
+        &tables.taken,
+        &tables.ends,
+        n,
+        made,
+    )?;
     Some(Row {
         number: n as u64,
         made,
@@ -126,18 +130,20 @@ fn row_at(
     })
 }
 
-/// The rows of the history: one for each node, hub and resource, by rising number. The error comes
-/// where memory is refused.
-pub fn rows_of(alloc: Global, events: &[Event]) -> Result<Vec<Row>, AllocError>
-    ensures { IfOk result (λ rows. AreRows events.now rows.items) }
+/// The rows of the history: one for each node, hub and resource whose number is marked, by rising
+/// number. The error comes where memory is refused.
+pub fn rows_of(
+    alloc: Global,
+    events: &[Event],
+    tables: &Tables,
+    shown: &[bool],
+) -> Result<Vec<Row>, AllocError>
+    requires { AreTables events.now tables.now }
+    ensures { IfOk result (λ rows. AreRows events.now (marked shown.now) rows.items) }
 {
-    let shut = shuttings(alloc, events)?;
-    let removed = removals(alloc, events)?;
-    let taken = takings(alloc, events)?;
-    let ends = line_ends(alloc, events, &shut)?;
     let mut rows = Vec::new(alloc);
     for n in 0..events.len() {
-        if let Some(row) = row_at(events, &removed, &taken, &ends, n) {
+        if let Some(row) = row_at(events, tables, shown, n) {
             rows.push(row)?;
         }
     }
