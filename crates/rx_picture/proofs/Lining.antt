@@ -32,7 +32,7 @@ pub neither : (a b : Bool) → ((true && not a) && not b) ≡ (true && not (a ||
 neither true b = refl
 neither false b = refl
 
-and_not : (a : Bool) → (a && not a) ≡ false
+pub and_not : (a : Bool) → (a && not a) ≡ false
 and_not true = refl
 and_not false = refl
 

@@ -46,6 +46,7 @@ pub record IsLine (h : List Event) (n until : ℕ) (ending : Ending) : Type 0 wh
 pub record IsBar (h : List Event) (r held_after held_until taken : ℕ) : Type 0 where
   pub accepted : r ≤ held_after
   pub in_order : held_after ≤ held_until
+  pub held_within : held_until ≤ length h
   pub held : Spans h (λ k. is_held k r) held_after held_until
   pub accepted_before : r ≤ taken
   pub taken_within : taken ≤ length h

@@ -1,6 +1,6 @@
 -- What the tables of a picture say, by number: the place of the event that made a test true, for the places so far. The
 -- length of the history stands where none did.
-use Rattle.std.specs.Prelude.{◌≡◌, ℕ, zero, suc, ◌≤◌, ◌<◌, Bool, true, false, ◌&&◌, ◌==◌, nat_lt, min, if◌then◌else◌, Option, Some, None, List, length, slice_get, slice_index_or, slice_set, take, IsTrue}
+use Rattle.std.specs.Prelude.{◌≡◌, ℕ, zero, suc, ◌≤◌, ◌<◌, Bool, true, false, ◌&&◌, ◌==◌, nat_lt, min, max, if◌then◌else◌, Option, Some, None, List, length, slice_get, slice_index_or, slice_set, take, IsTrue}
 use Rattle.std.proofs.Math.Bool.{◌||◌}
 use Rattle.std.specs.List.{list_any}
 use Rattle.std.specs.Option.{option_and_then, option_map_or}
@@ -93,6 +93,10 @@ pub record AreTables (h : List Event) (tables : Tables) : Type 0 where
   pub removed : AreTurns h was_removed (length h) tables.removed.items
   pub taken : AreTurns h was_taken (length h) tables.taken.items
   pub ends : AreLines h (length h) tables.ends.items
+
+-- after which place a resource of the node is held: the later of the two, where there is such a node
+abbrev pub held_start : List ℕ → ℕ → ℕ → ℕ
+held_start ends node r = if nat_lt node (length ends) then max node r else r
 
 -- after which place a resource of the node is held no more, where it is removed at the other
 abbrev pub held_end : List ℕ → ℕ → ℕ → ℕ

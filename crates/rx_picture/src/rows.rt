@@ -6,7 +6,7 @@ ghost use Rattle.rx_event.specs.Events.{makes_node, node_of_accept};
 ghost use Rattle.rx_event.specs.Tree.{at};
 ghost use Rattle.rx_picture.specs.Rows.{AreRows, IsShape, ending_by, is_drawn};
 ghost use Rattle.rx_picture.specs.Choice.{marked};
-ghost use Rattle.rx_picture.specs.Tables.{AreTurns, AreLines, AreTables, IsShownAt, held_end, was_removed, was_taken};
+ghost use Rattle.rx_picture.specs.Tables.{AreTurns, AreLines, AreTables, IsShownAt, held_end, held_start, was_removed, was_taken};
 
 use crate::choice::is_marked;
 use crate::firsts::value_at;
@@ -40,6 +40,13 @@ fn line_of(events: &[Event], ends: &[usize], n: usize) -> Shape
     }
 }
 
+/// The place after which resource `r` is held, which was accepted at the node.
+fn held_start(ends: &[usize], node: u64, r: u64) -> u64
+    ensures { result ≡ held_start ends.now node r }
+{
+    if node < ends.len() as u64 { node.max(r) } else { r }
+}
+
 /// The place after which the resource is held no more, of one that was accepted at the node and is
 /// removed at the place.
 fn held_end(ends: &[usize], node: u64, removed: usize) -> usize
@@ -68,7 +75,7 @@ fn bar_of(
     requires accepted { option_and_then node_of_accept (slice_get events.now r) ≡ Some node }
     ensures { IsShape events.now r result }
 {
-    let after = node.max(r as u64);
+    let after = held_start(ends, node, r as u64);
     let gone = value_at(removed, r as u64);
     let out = value_at(taken, r as u64);
     Shape::Resource {
