@@ -8,3 +8,4 @@ mod Listing
 mod Choosing
 mod Leveling
 mod Leaving
+mod Placing

@@ -2,3 +2,5 @@ pub mod Rows
 pub mod Choice
 pub mod Levels
 pub mod Tables
+pub mod Drawn
+pub mod Svg

@@ -13,7 +13,7 @@ pub fn is_marked(marks: &[bool], n: usize) -> bool
 }
 
 /// One, where that is so, and none else.
-fn one_if(so: bool) -> usize
+pub fn one_if(so: bool) -> usize
     ensures value { result ≡ bit so }
     ensures few { result ≤ 1 }
 {

@@ -4,27 +4,33 @@
 //! the history, from 0. A prefix of the history is its first so many events: the one of length `k`
 //! is what had happened just before the event at place `k`.
 //!
-//! Promised: on any list of events there is one row for each node, hub and resource, by rising
-//! number. A node's line spans just the prefixes in which the definitions of `rx_event` say that it
-//! is open, and ends as the event says that closed it; a resource's bar is held in just the prefixes
-//! in which the definitions say so, and is taken from the one on in which they say that. Nothing is
-//! assumed of the list: it need not be lawful.
+//! Promised: on any list of events there is one row for each node, hub and resource that is shown,
+//! by rising number. At most 200 rows are shown: first those of what leaks, which is an open node or
+//! a resource that was never handed out, by rising number, then the others. At most 2,000 places are
+//! shown: first those at which a shown row begins, then the others. A node's line spans just the
+//! prefixes in which the definitions of `rx_event` say that it is open, and ends as the event says
+//! that closed it; a resource's bar is held in just the prefixes in which the definitions say so, and
+//! is taken from the one on in which they say that. Nothing is assumed of the list: it need not be
+//! lawful.
 //!
-//! Cost: one pass over the events for what is shut, one for what is removed, one for what is taken,
-//! one for where lines end and one for the rows.
+//! The SVG document is that of the drawing. All that it takes from the events are numbers.
+//!
+//! Cost: some passes over the events, and one over the rows.
 #![tactic(auto)]
 
 mod choice;
+mod columns;
+mod drawing;
 mod firsts;
 mod levels;
 mod lines;
 mod row;
 mod rows;
 mod shut;
+mod svg;
+mod svg_text;
 mod tables;
 
-pub use choice::choose;
-pub use levels::levels_of;
+pub use drawing::{Drawing, draw};
 pub use row::{Ending, Row, Shape};
-pub use rows::rows_of;
-pub use tables::{Tables, drawn_marks, left_marks, tables_of};
+pub use svg::picture;

@@ -44,7 +44,11 @@ fn line_of(events: &[Event], ends: &[usize], n: usize) -> Shape
 fn held_start(ends: &[usize], node: u64, r: u64) -> u64
     ensures { result ≡ held_start ends.now node r }
 {
-    if node < ends.len() as u64 { node.max(r) } else { r }
+    if node < ends.len() as u64 {
+        node.max(r)
+    } else {
+        r
+    }
 }
 
 /// The place after which the resource is held no more, of one that was accepted at the node and is
