@@ -6,7 +6,7 @@ use Rattle.rx_picture.specs.declared.drawing.Drawing.{Drawing}
 use Rattle.rx_picture.specs.Choice.{count_below, is_chosen}
 use Rattle.rx_picture.specs.Levels.{AreLevels}
 use Rattle.rx_picture.specs.Rows.{AreRows, is_drawn, is_left}
-use Rattle.rx_picture.specs.Svg.{svg_text}
+use Rattle.rx_picture.specs.Lanes.{svg_text}
 
 -- at most 200 rows: what leaks comes first
 abbrev pub is_shown : List Event → ℕ → Bool

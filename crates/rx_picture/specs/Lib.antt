@@ -4,3 +4,4 @@ pub mod Levels
 pub mod Tables
 pub mod Drawn
 pub mod Svg
+pub mod Lanes

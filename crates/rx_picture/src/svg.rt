@@ -1,7 +1,7 @@
 //! A drawing as an SVG document.
 
 ghost use Rattle.std.specs.Prelude.{◌≡◌, ◌+◌, ◌++◌, ◌≤◌, string_bytes, OnOk, IfOk, flat_map};
-ghost use Rattle.rx_picture.specs.Svg.{x_of, y_of, steps_of, ending_text, line_text, hold_text, wait_text, release_text, bar_text, shape_text, row_text, svg_text};
+ghost use Rattle.rx_picture.specs.Lanes.{x_of, y_of, steps_of, ending_text, line_text, hold_text, wait_text, release_text, bar_text, shape_text, row_text, svg_text};
 ghost use Rattle.rx_picture.specs.Drawn.{IsPicture};
 
 use crate::drawing::draw;
@@ -41,7 +41,7 @@ fn steps_of(levels: &[usize], number: u64, made: Event) -> u64
 }
 
 /// How a node ends, where that is by an event.
-#[tactic(auto, unfolding(crate::specs::Svg::ending_text))]
+#[tactic(auto, unfolding(crate::specs::Lanes::ending_text))]
 fn push_ending(text: &mut String, x: u64, y: u64, at: u64, ending: Ending) -> Result<(), AllocError>
     ensures { OnOk result (string_bytes text.new ≡ string_bytes text.old ++ ending_text x y at ending) }
 {
@@ -54,7 +54,7 @@ fn push_ending(text: &mut String, x: u64, y: u64, at: u64, ending: Ending) -> Re
 }
 
 /// The line of a node, and how it ends.
-#[tactic(auto, unfolding(crate::specs::Svg::line_text))]
+#[tactic(auto, unfolding(crate::specs::Lanes::line_text))]
 fn push_line(
     text: &mut String,
     columns: &[usize],
@@ -74,7 +74,7 @@ fn push_line(
 }
 
 /// The bar of a resource while it is held, if it is.
-#[tactic(auto, unfolding(crate::specs::Svg::hold_text))]
+#[tactic(auto, unfolding(crate::specs::Lanes::hold_text))]
 fn push_hold(
     text: &mut String,
     columns: &[usize],
@@ -98,7 +98,7 @@ fn push_hold(
 }
 
 /// The bar of a resource while it waits, if it does.
-#[tactic(auto, unfolding(crate::specs::Svg::wait_text))]
+#[tactic(auto, unfolding(crate::specs::Lanes::wait_text))]
 fn push_wait(
     text: &mut String,
     columns: &[usize],
@@ -122,7 +122,7 @@ fn push_wait(
 }
 
 /// Where a resource was handed out, or the arrow of one that never was.
-#[tactic(auto, unfolding(crate::specs::Svg::release_text))]
+#[tactic(auto, unfolding(crate::specs::Lanes::release_text))]
 fn push_release(
     text: &mut String,
     columns: &[usize],
@@ -140,7 +140,7 @@ fn push_release(
 }
 
 /// What is drawn in a lane.
-#[tactic(auto, unfolding(crate::specs::Svg::shape_text, crate::specs::Svg::bar_text))]
+#[tactic(auto, unfolding(crate::specs::Lanes::shape_text, crate::specs::Lanes::bar_text))]
 fn push_shape(
     text: &mut String,
     columns: &[usize],
@@ -168,7 +168,7 @@ fn push_shape(
 }
 
 /// One row.
-#[tactic(auto, unfolding(crate::specs::Svg::row_text))]
+#[tactic(auto, unfolding(crate::specs::Lanes::row_text))]
 fn push_row(
     text: &mut String,
     columns: &[usize],
@@ -204,7 +204,7 @@ fn push_rows(
 }
 
 /// The document.
-#[tactic(auto, unfolding(crate::specs::Svg::svg_text))]
+#[tactic(auto, unfolding(crate::specs::Lanes::svg_text))]
 fn push_svg(
     text: &mut String,
     rows: &[Row],
