@@ -1,7 +1,7 @@
 //! Memory refused, at many of the places where a run asks for some, and a closing that takes none.
 
 use super::same::same;
-use super::sights::stock_of;
+use super::sights::{are_released_once, heard_count, stock_by, trackers};
 use rx_book::{At, Book};
 use rx_event::Kind;
 use rx_resource::{Resource, Tracked, Tracker};
@@ -13,8 +13,10 @@ use std::test::Fail;
 // More runs than are refused.
 const RUNS: u32 = 2000;
 
+// Each resource hears a word at the next step after the one that hands it in.
 const SCENARIO: &str = "{\"steps\":[
     {\"do\":\"using\",\"name\":\"a\",\"place\":\"root\",\"res\":\"r\"},
+    {\"do\":\"apply\",\"res\":\"r\",\"word\":8},
     {\"do\":\"open\",\"name\":\"l\",\"place\":\"source\",\"of\":\"a\",\"kind\":\"leaf\"},
     {\"do\":\"hold\",\"node\":\"l\",\"res\":\"s\"},
     {\"do\":\"apply\",\"res\":\"s\",\"word\":9},
@@ -39,35 +41,64 @@ const SCENARIO: &str = "{\"steps\":[
     {\"do\":\"hub\",\"name\":\"m\",\"mode\":\"manual\"},
     {\"do\":\"connect\",\"hub\":\"m\",\"name\":\"d\"},
     {\"do\":\"using\",\"name\":\"b\",\"place\":\"root\",\"res\":\"t\",\"then\":[
+        {\"do\":\"apply\",\"res\":\"t\",\"word\":10},
         {\"label\":\"x\",\"after\":5,\"do\":\"dispose\",\"node\":\"b\"},
         {\"do\":\"cancel\",\"step\":\"x\"}]}]}";
 
-const REPORT: &str = "refused 5 NoName
+const REPORT: &str = "refused 6 NoName
 node a closed: next=5 completed
 node f closed: project=1 project=2 project=3 error=4
 node p closed: error=6
 node o open: next=7
 node b open:
-res r tag=0 uses=0 waiting
+res r tag=0 uses=1 waiting
 res s tag=1 uses=1 waiting
-res t tag=2 uses=0 held
+res t tag=2 uses=1 held
 totals nodes=11 open=5 accepted=3 held=1 waiting=2 taken=0
 closed 3 faults 0
 ";
 
-#[test]
-fn a_run_without_memory_writes_nothing_and_keeps_nothing(rt: HostRuntime) -> Result<(), Fail> {
-    let mut output: Vec<u8> = Vec::with_capacity(rt.alloc(), 4096)?;
-    let mut stocks: Vec<Vec<Tracked>> = Vec::new(rt.alloc());
-    let tracker = Tracker::new(rt.alloc())?;
-    for _ in 0..RUNS {
-        stocks.push(stock_of(rt.alloc(), &tracker, &[0, 1, 2])?)?;
+// Resources for a run, and what tells of each.
+#[derive(Drop)]
+struct Course {
+    trackers: Vec<Tracker>,
+    stock: Vec<Tracked>,
+}
+
+// What so many runs need, made while there is memory.
+fn courses(alloc: Global, runs: u32) -> Result<Vec<Course>, Fail> {
+    let mut courses = Vec::new(alloc);
+    for _ in 0..runs {
+        let trackers = trackers(alloc, 3)?;
+        let stock = stock_by(alloc, &trackers)?;
+        courses.push(Course { trackers, stock })?;
     }
-    let mut refused = 0u32;
+    Ok(courses)
+}
+
+// How many of the accepted resources heard a word, where each accepted one was released once: beside
+// those there may be one that was accepted last. None where another one was released, or one was not.
+fn closed_count(trackers: &[Tracker]) -> Option<usize> {
+    let heard = heard_count(trackers);
+    if are_released_once(trackers, heard) || are_released_once(trackers, heard.saturating_add(1)) {
+        Some(heard)
+    } else {
+        None
+    }
+}
+
+#[test]
+fn a_run_without_memory_writes_nothing_and_releases_what_it_accepted(
+    rt: HostRuntime,
+) -> Result<(), Fail> {
+    let mut output: Vec<u8> = Vec::with_capacity(rt.alloc(), 4096)?;
+    let mut courses = courses(rt.alloc(), RUNS)?;
+    let mut refused = [0u32; 4];
     let mut scarce = Scarce::new(rt.alloc())?;
     for _ in 0..RUNS {
-        let Some(stock) = stocks.pop() else { break };
-        let before = tracker.released();
+        let Some(Course { trackers, stock }) = courses.pop() else {
+            break;
+        };
         let mut input = SCENARIO.as_bytes();
         let outcome = run(
             rt.alloc(),
@@ -77,16 +108,19 @@ fn a_run_without_memory_writes_nothing_and_keeps_nothing(rt: HostRuntime) -> Res
             Form::Report,
         );
         if outcome.is_ok() {
+            assert!(rt; are_released_once(&trackers, 3));
             break;
         }
         assert!(rt; matches!(outcome, Err(ScriptError::Memory)), "{outcome:?}");
         assert!(rt; output.is_empty());
-        assert!(rt; tracker.released().wrapping_sub(before) <= 3);
-        refused = refused.wrapping_add(1);
+        let Some(heard) = closed_count(&trackers) else {
+            return Err(Fail::from("an accepted resource was not released once"));
+        };
+        refused[heard.min(3)] = refused[heard.min(3)].wrapping_add(1);
         assert!(rt; scarce.give_back_one());
     }
     same(&rt, output.as_slice(), REPORT.as_bytes());
-    assert!(rt; refused > 3, "refused {refused}");
+    assert!(rt; refused[0] > 0 && refused[3] > 0, "{refused:?}");
     assert!(rt; scarce.block_count() < MOST_BLOCKS);
     Ok(())
 }
