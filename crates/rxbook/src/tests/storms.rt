@@ -263,6 +263,10 @@ fn a_false_receipt_is_a_mismatch_of_status_5(rt: HostRuntime) -> Result<(), Fail
     Ok(())
 }
 
+// What is told of a storm in whose book a root is left open.
+const ONE_HELD: &str =
+    "accepted 1\ntaken 0\nreleased 0\nfaults 0\nheld 1\nwaiting 0\nnotes 0\nevents 2\n";
+
 // The end of a storm in whose book a root is left open, with this resource; its threads lacked this.
 fn end_with_an_open_root<I: Ledger, A: Ledger, K: Ledger, W: Write>(
     rt: &impl Wait,
@@ -299,8 +303,7 @@ fn end_with_an_open_root<I: Ledger, A: Ledger, K: Ledger, W: Write>(
 
 #[test]
 fn the_book_of_a_storm_is_closed_in_each_outcome(rt: HostRuntime) -> Result<(), Fail> {
-    let figures =
-        "accepted 1\ntaken 0\nreleased 0\nfaults 0\nheld 1\nwaiting 0\nnotes 0\nevents 2\n";
+    let figures = ONE_HELD.as_bytes();
     let cases = [
         (None, 100, Ok(true)),
         (None, 10, Err(StormFault::Write)),
@@ -325,7 +328,7 @@ fn the_book_of_a_storm_is_closed_in_each_outcome(rt: HostRuntime) -> Result<(), 
         same(&rt, ended, outcome);
         same(&rt, (tracker.released(), tracker.dropped()), (1, 1));
         let written = figures.len().min(room);
-        same(&rt, narrow.taken.as_slice(), &figures.as_bytes()[..written]);
+        same(&rt, narrow.taken.as_slice(), &figures[..written]);
     }
     Ok(())
 }
