@@ -12,7 +12,7 @@ use crate::event_tests::at;
 use crate::marks::is_marked;
 use crate::openness::opens;
 use rx_event::{Event, Place};
-use std::alloc::{AllocError};
+use std::alloc::AllocError;
 
 /// Takes away the mark of each child of node `p`, and lists each that had one.
 fn close_children(
