@@ -1,15 +1,16 @@
 -- The tests that compute decide what callers may do.
-use Rattle.std.proofs.Common.{◌≡◌, ℕ, Bool, true, false, List, [], ◌∷◌, Some, None, refl, ap, ◌∙◌, slice_get}
-use Rattle.std.proofs.Math.Bool.{not, ◌&&◌}
+use Rattle.std.proofs.Common.{◌≡◌, ℕ, Bool, true, false, nat_lt, List, [], ◌∷◌, Some, None, refl, sym, ap, ◌∙◌, slice_get}
+use Rattle.std.proofs.Math.Bool.{not, ◌&&◌, ◌||◌}
 use Rattle.std.specs.List.{list_any}
 use Rattle.std.specs.Option.{option_and_then}
 use Rattle.rx_event.specs.declared.event.Event.{Event}
-use Rattle.rx_event.specs.declared.event.Event.TheVariants.{Open, Hub, Connect, Accept, Use, Remove, Item, Decline, End, Close, Take}
-use Rattle.rx_event.specs.Events.{makes_resource, node_of_accept, is_remove_of, is_take_of, removed_of, taken_of}
+use Rattle.rx_event.specs.declared.event.Event.TheVariants.{Open, Hub, Connect, Accept, Use, Remove, Lease, Return, Item, Decline, End, Close, Take}
+use Rattle.rx_event.specs.Events.{makes_resource, makes_lease, node_of_accept, is_remove_of, is_return_of, is_take_of, removed_of, returned_of, taken_of}
 use Rattle.rx_event.specs.Tree.{at, is_open, parent}
-use Rattle.rx_event.specs.Resources.{is_held, is_taken, is_waiting}
+use Rattle.rx_event.specs.Resources.{is_owned, is_out, leases_of, is_leased, is_held, is_taken, is_waiting}
 use Rattle.rx_event.proofs.Laws.Parents.{ancestors_step}
-use Rattle.rx_audit.specs.Rules.{is_key, was_removed, was_taken}
+use Rattle.rx_event.proofs.Laws.Resources.{held_is}
+use Rattle.rx_audit.specs.Rules.{is_key, was_removed, was_returned, was_taken}
 use Rattle.rx_audit.specs.Allowing.{connects_later, is_in_order_at}
 
 list_any-same : {X : Type 0} (p q : X → Bool) → ((x : X) → p x ≡ q x) → (xs : List X) → list_any p xs ≡ list_any q xs
@@ -23,15 +24,34 @@ removed_key r (Hub mode) = refl
 removed_key r (Connect g) = refl
 removed_key r (Accept m tag) = refl
 removed_key r (Use q) = refl
+removed_key r (Lease q) = refl
+removed_key r (Return q) = refl
 removed_key r (Item m v) = refl
 removed_key r (Decline f) = refl
 removed_key r (End m t) = refl
 removed_key r (Close m) = refl
 removed_key r (Take q) = refl
 
+returned_key : (l : ℕ) (e : Event) → is_key (returned_of e) l ≡ is_return_of l e
+returned_key l (Return q) = refl
+returned_key l (Remove q) = refl
+returned_key l (Lease q) = refl
+returned_key l (Open place kind) = refl
+returned_key l (Hub mode) = refl
+returned_key l (Connect g) = refl
+returned_key l (Accept m tag) = refl
+returned_key l (Use q) = refl
+returned_key l (Item m v) = refl
+returned_key l (Decline f) = refl
+returned_key l (End m t) = refl
+returned_key l (Close m) = refl
+returned_key l (Take q) = refl
+
 taken_key : (r : ℕ) (e : Event) → is_key (taken_of e) r ≡ is_take_of r e
 taken_key r (Take q) = refl
 taken_key r (Remove q) = refl
+taken_key r (Lease q) = refl
+taken_key r (Return q) = refl
 taken_key r (Open place kind) = refl
 taken_key r (Hub mode) = refl
 taken_key r (Connect g) = refl
@@ -44,13 +64,35 @@ taken_key r (Close m) = refl
 
 -- resources --------------------------------------------------------------------------------------------
 
-pub held_at : (h : List Event) (r n : ℕ) → option_and_then node_of_accept (slice_get h r) ≡ Some n → (is_open h n && not (was_removed h r)) ≡ is_held h r
-unfolding is_held
-held_at h r n e = rw e (ap (λ b. is_open h n && not b) (list_any-same (λ x. is_key (removed_of x) r) (is_remove_of r) (removed_key r) h))
+pub owned_at : (h : List Event) (r n : ℕ) → option_and_then node_of_accept (slice_get h r) ≡ Some n → (is_open h n && not (was_removed h r)) ≡ is_owned h r
+unfolding is_owned
+owned_at h r n e = rw e (ap (λ b. is_open h n && not b) (list_any-same (λ x. is_key (removed_of x) r) (is_remove_of r) (removed_key r) h))
 
-pub not_held : (h : List Event) (r : ℕ) → option_and_then node_of_accept (slice_get h r) ≡ None → false ≡ is_held h r
-unfolding is_held
-not_held h r e = rw e refl
+pub not_owned : (h : List Event) (r : ℕ) → option_and_then node_of_accept (slice_get h r) ≡ None → false ≡ is_owned h r
+unfolding is_owned
+not_owned h r e = rw e refl
+
+pub out_at : (h : List Event) (l : ℕ) → (at makes_lease h l && not (was_returned h l)) ≡ is_out h l
+unfolding is_out
+out_at h l = ap (λ b. at makes_lease h l && not b) (list_any-same (λ x. is_key (returned_of x) l) (is_return_of l) (returned_key l) h)
+
+pub out_there : (h : List Event) (l : ℕ) → at makes_lease h l ≡ true → not (was_returned h l) ≡ is_out h l
+out_there h l m = ap (λ b. b && not (was_returned h l)) (sym m) ∙ out_at h l
+
+pub not_out : (h : List Event) (l : ℕ) → at makes_lease h l ≡ false → false ≡ is_out h l
+not_out h l m = ap (λ b. b && not (was_returned h l)) (sym m) ∙ out_at h l
+
+pub leased_there : (h : List Event) (r : ℕ) → at makes_resource h r ≡ true → nat_lt 0 (leases_of h r) ≡ is_leased h r
+leased_there h r m = rw m refl
+
+pub not_leased : (h : List Event) (r : ℕ) → at makes_resource h r ≡ false → false ≡ is_leased h r
+not_leased h r m = rw m refl
+
+pub owned_held : (h : List Event) (r : ℕ) → is_owned h r ≡ true → true ≡ is_held h r
+owned_held h r owned = sym (held_is h r ∙ ap (λ b. b || is_leased h r) owned)
+
+pub leased_held : (h : List Event) (r : ℕ) → is_owned h r ≡ false → is_leased h r ≡ is_held h r
+leased_held h r unowned = sym (held_is h r ∙ ap (λ b. b || is_leased h r) unowned)
 
 pub waiting_at : (h : List Event) (r : ℕ) (b : Bool) → at makes_resource h r ≡ true → b ≡ (not (is_held h r) && not (was_taken h r)) → b ≡ is_waiting h r
 unfolding is_waiting is_taken

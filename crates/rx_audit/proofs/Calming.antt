@@ -12,7 +12,7 @@ use Rattle.rx_note.specs.declared.note.Terminal.TheVariants.{Completed, Error}
 use Rattle.rx_event.specs.declared.event.Place.TheVariants.{Root, Source, Inner, Notifier}
 use Rattle.rx_event.specs.declared.event.Kind.TheVariants.{Sub}
 use Rattle.rx_event.specs.declared.event.Event.{Event}
-use Rattle.rx_event.specs.declared.event.Event.TheVariants.{Open, Hub, Connect, Accept, Use, Remove, Item, Decline, End, Close, Take}
+use Rattle.rx_event.specs.declared.event.Event.TheVariants.{Open, Hub, Connect, Accept, Use, Remove, Lease, Return, Item, Decline, End, Close, Take}
 use Rattle.rx_event.specs.Events.{is_subscriber_of, is_connect_of, is_source_of}
 use Rattle.rx_event.specs.Events.{is_auto_hub, is_mirroring, is_merging, is_until, is_end, is_root, pays, parent_named}
 use Rattle.rx_event.specs.Tree.{at, parent, is_within, is_open}
@@ -42,6 +42,8 @@ still (Open place kind) = is_calm (Open place kind)
 still (Accept n tag) = true
 still (Use r) = true
 still (Remove r) = true
+still (Lease r) = true
+still (Return r) = true
 still (Item l value) = true
 still (Take r) = true
 still _ = false
@@ -138,6 +140,8 @@ source_is_named (Connect k) f s = absurd (false≢true s)
 source_is_named (Accept m tag) f s = absurd (false≢true s)
 source_is_named (Use r) f s = absurd (false≢true s)
 source_is_named (Remove r) f s = absurd (false≢true s)
+source_is_named (Lease r) f s = absurd (false≢true s)
+source_is_named (Return r) f s = absurd (false≢true s)
 source_is_named (Item m v) f s = absurd (false≢true s)
 source_is_named (Decline k) f s = absurd (false≢true s)
 source_is_named (End m t) f s = absurd (false≢true s)
@@ -333,6 +337,8 @@ no_root g (Connect k) p r = false≢true r
 no_root g (Accept m tag) p r = false≢true p
 no_root g (Use q) p r = false≢true p
 no_root g (Remove q) p r = false≢true p
+no_root g (Lease q) p r = false≢true p
+no_root g (Return q) p r = false≢true p
 no_root g (Item m v) p r = false≢true p
 no_root g (Decline k) p r = false≢true p
 no_root g (End m t) p r = false≢true p
@@ -392,6 +398,8 @@ settled_after h (Connect g) c q = settled_calm h (Connect g) c q
 settled_after h (Accept n tag) c q = settled_calm h (Accept n tag) c q
 settled_after h (Use r) c q = settled_calm h (Use r) c q
 settled_after h (Remove r) c q = settled_calm h (Remove r) c q
+settled_after h (Lease r) c q = settled_calm h (Lease r) c q
+settled_after h (Return r) c q = settled_calm h (Return r) c q
 settled_after h (Item l v) c q = settled_calm h (Item l v) c q
 settled_after h (Decline f) c q = settled_calm h (Decline f) c q
 settled_after h (End n t) c q = settled_calm h (End n t) c q

@@ -12,7 +12,7 @@ use Rattle.rx_note.specs.declared.note.Terminal.{Terminal}
 use Rattle.rx_note.specs.declared.note.Terminal.TheVariants.{Completed, Error}
 use Rattle.rx_event.specs.declared.event.Place.TheVariants.{Root, Source, Inner, Notifier}
 use Rattle.rx_event.specs.declared.event.Event.{Event}
-use Rattle.rx_event.specs.declared.event.Event.TheVariants.{Open, Hub, Connect, Accept, Use, Remove, Item, Decline, End, Close, Take}
+use Rattle.rx_event.specs.declared.event.Event.TheVariants.{Open, Hub, Connect, Accept, Use, Remove, Lease, Return, Item, Decline, End, Close, Take}
 use Rattle.rx_event.specs.Events.{is_subscriber_of, is_connect_of, is_auto_hub, is_source_of, is_mirroring, is_merging, is_until, source_named}
 use Rattle.rx_event.specs.Tree.{at, places, parent, is_open, is_open_child_of, has_open_child, open_subscribers}
 use Rattle.rx_event.specs.Moments.{is_fired, owed}
@@ -143,6 +143,8 @@ source_named_is (Connect k) f s = cc
 source_named_is (Accept m tag) f s = cc
 source_named_is (Use r) f s = cc
 source_named_is (Remove r) f s = cc
+source_named_is (Lease r) f s = cc
+source_named_is (Return r) f s = cc
 source_named_is (Item m v) f s = cc
 source_named_is (Decline k) f s = cc
 source_named_is (End m t) f s = cc
@@ -159,6 +161,8 @@ is_source (Connect k) f s = absurd (false≢true s)
 is_source (Accept m tag) f s = absurd (false≢true s)
 is_source (Use r) f s = absurd (false≢true s)
 is_source (Remove r) f s = absurd (false≢true s)
+is_source (Lease r) f s = absurd (false≢true s)
+is_source (Return r) f s = absurd (false≢true s)
 is_source (Item m v) f s = absurd (false≢true s)
 is_source (Decline k) f s = absurd (false≢true s)
 is_source (End m t) f s = absurd (false≢true s)
@@ -325,6 +329,8 @@ any_due_of h (Connect g) d = elim d [ ]
 any_due_of h (Accept m tag) d = elim d [ ]
 any_due_of h (Use r) d = elim d [ ]
 any_due_of h (Remove r) d = elim d [ ]
+any_due_of h (Lease r) d = elim d [ ]
+any_due_of h (Return r) d = elim d [ ]
 any_due_of h (Item m v) d = elim d [ ]
 any_due_of h (Decline f) d = elim d [ ]
 any_due_of h (Take r) d = elim d [ ]
@@ -355,6 +361,8 @@ source_done h f i (Connect g) at_i holds = absurd (false≢true holds)
 source_done h f i (Accept m tag) at_i holds = absurd (false≢true holds)
 source_done h f i (Use r) at_i holds = absurd (false≢true holds)
 source_done h f i (Remove r) at_i holds = absurd (false≢true holds)
+source_done h f i (Lease r) at_i holds = absurd (false≢true holds)
+source_done h f i (Return r) at_i holds = absurd (false≢true holds)
 source_done h f i (Item m v) at_i holds = absurd (false≢true holds)
 source_done h f i (Decline g) at_i holds = absurd (false≢true holds)
 source_done h f i (Close m) at_i holds = absurd (false≢true holds)
@@ -459,6 +467,8 @@ forced_is h (Hub mode) e = absurd (false≢true e)
 forced_is h (Accept m tag) e = absurd (false≢true e)
 forced_is h (Use r) e = absurd (false≢true e)
 forced_is h (Remove r) e = absurd (false≢true e)
+forced_is h (Lease r) e = absurd (false≢true e)
+forced_is h (Return r) e = absurd (false≢true e)
 forced_is h (Item m v) e = absurd (false≢true e)
 forced_is h (Decline f) e = absurd (false≢true e)
 forced_is h (Take r) e = absurd (false≢true e)
@@ -476,6 +486,8 @@ is_forced_of h (Hub mode) (due none d) = elim d [ ]
 is_forced_of h (Accept m tag) (due none d) = elim d [ ]
 is_forced_of h (Use r) (due none d) = elim d [ ]
 is_forced_of h (Remove r) (due none d) = elim d [ ]
+is_forced_of h (Lease r) (due none d) = elim d [ ]
+is_forced_of h (Return r) (due none d) = elim d [ ]
 is_forced_of h (Item m v) (due none d) = elim d [ ]
 is_forced_of h (Decline f) (due none d) = elim d [ ]
 is_forced_of h (Take r) (due none d) = elim d [ ]

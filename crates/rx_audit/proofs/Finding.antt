@@ -10,11 +10,12 @@ use Rattle.std.proofs.lemmas.List.Folds.{list_any-append}
 use Rattle.std.proofs.lemmas.List.Sums.{sum_by-append, sum_by-cons}
 use Rattle.rx_event.specs.declared.event.Place.TheVariants.{Root, Source, Inner, Notifier}
 use Rattle.rx_event.specs.declared.event.Event.{Event}
-use Rattle.rx_event.specs.declared.event.Event.TheVariants.{Open, Hub, Connect, Accept, Use, Remove, Item, Decline, End, Close, Take}
+use Rattle.rx_event.specs.declared.event.Event.TheVariants.{Open, Hub, Connect, Accept, Use, Remove, Lease, Return, Item, Decline, End, Close, Take}
 use Rattle.rx_event.specs.Climb.{Stop, Delivery, Projection, Firing, stop_at, climb, stops, visits}
 use Rattle.rx_event.specs.Moments.{moments, is_fired, projections, owed, stops_of, is_firing_of, is_projection_to}
 use Rattle.rx_event.proofs.Laws.Counts.{projections-push}
 use Rattle.rx_event.proofs.Laws.MarksAfter.{is_fired-push}
+use Rattle.rx_event.specs.Resources.{leases_of}
 use Rattle.rx_event.specs.Tree.{is_open}
 use Rattle.rx_event.proofs.Laws.Openness.{is_open_past}
 use Rattle.rx_audit.specs.Tables.{IsMarked, IsTable, IsTally, IsTold, IsCounted, marks_with, counts_with, mark_count}
@@ -140,6 +141,8 @@ no_stops h (Connect g) n = refl
 no_stops h (Accept m tag) n = refl
 no_stops h (Use r) n = refl
 no_stops h (Remove r) n = refl
+no_stops h (Lease r) n = refl
+no_stops h (Return r) n = refl
 no_stops h (Decline f) n = refl
 no_stops h (End m t) n = refl
 no_stops h (Close m) n = refl
@@ -232,6 +235,10 @@ pub nothing_projected : (n : ℕ) → projections [] n ≡ 0
 unfolding projections moments
 nothing_projected n = refl
 
+pub nothing_leased : (r : ℕ) → leases_of [] r ≡ 0
+unfolding leases_of
+nothing_leased r = refl
+
 pub nothing_live : (n : ℕ) → is_open [] n ≡ false
 nothing_live n = is_open_past [] n (omega arith)
 
@@ -248,6 +255,8 @@ pays_key f (Connect g) = refl
 pays_key f (Accept m tag) = refl
 pays_key f (Use r) = refl
 pays_key f (Remove r) = refl
+pays_key f (Lease r) = refl
+pays_key f (Return r) = refl
 pays_key f (Item m v) = refl
 pays_key f (End m t) = refl
 pays_key f (Close m) = refl
@@ -285,6 +294,8 @@ source_key (Connect k) p = refl
 source_key (Accept m tag) p = refl
 source_key (Use r) p = refl
 source_key (Remove r) p = refl
+source_key (Lease r) p = refl
+source_key (Return r) p = refl
 source_key (Item m v) p = refl
 source_key (Decline k) p = refl
 source_key (End m t) p = refl
@@ -304,6 +315,8 @@ notifier_key (Connect k) p = refl
 notifier_key (Accept m tag) p = refl
 notifier_key (Use r) p = refl
 notifier_key (Remove r) p = refl
+notifier_key (Lease r) p = refl
+notifier_key (Return r) p = refl
 notifier_key (Item m v) p = refl
 notifier_key (Decline k) p = refl
 notifier_key (End m t) p = refl

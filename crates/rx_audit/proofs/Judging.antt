@@ -11,7 +11,7 @@ use Rattle.rx_event.specs.declared.event.Kind.{Kind}
 use Rattle.rx_event.specs.declared.event.Kind.TheVariants.{Leaf, Pass, Flat, Switch, Until, Sub}
 use Rattle.rx_note.specs.declared.note.Terminal.{Terminal}
 use Rattle.rx_event.specs.declared.event.Event.{Event}
-use Rattle.rx_event.specs.declared.event.Event.TheVariants.{Open, Hub, Connect, Accept, Use, Remove, Item, Decline, End, Close, Take}
+use Rattle.rx_event.specs.declared.event.Event.TheVariants.{Open, Hub, Connect, Accept, Use, Remove, Lease, Return, Item, Decline, End, Close, Take}
 use Rattle.rx_event.specs.Tree.{at, is_open, open_nodes}
 use Rattle.rx_event.specs.Forced.{IsForced, IsConnectDue, IsSettled, due}
 use Rattle.rx_event.specs.Allowed.{IsAllowed, emitted, accepted}
@@ -100,6 +100,8 @@ passes (Connect g) e = absurd (false≢true e)
 passes (Accept m tag) e = absurd (false≢true e)
 passes (Use r) e = absurd (false≢true e)
 passes (Remove r) e = absurd (false≢true e)
+passes (Lease r) e = absurd (false≢true e)
+passes (Return r) e = absurd (false≢true e)
 passes (Item m v) e = absurd (false≢true e)
 passes (Decline f) e = absurd (false≢true e)
 passes (End m t) e = absurd (false≢true e)
@@ -123,6 +125,8 @@ opened_first h (Hub mode) e = absurd (false≢true e)
 opened_first h (Connect g) e = absurd (false≢true e)
 opened_first h (Use r) e = absurd (false≢true e)
 opened_first h (Remove r) e = absurd (false≢true e)
+opened_first h (Lease r) e = absurd (false≢true e)
+opened_first h (Return r) e = absurd (false≢true e)
 opened_first h (Item m v) e = absurd (false≢true e)
 opened_first h (Decline f) e = absurd (false≢true e)
 opened_first h (End m t) e = absurd (false≢true e)

@@ -1,5 +1,5 @@
 -- Marks and counts by a key.
-use Rattle.std.proofs.Common.{◌≡◌, ℕ, zero, suc, ◌+◌, ◌<◌, ◌≤◌, Bool, true, false, List, [], ◌∷◌, length, Option, Some, None}
+use Rattle.std.proofs.Common.{◌≡◌, ℕ, zero, suc, ◌+◌, ◌-◌, ◌<◌, ◌≤◌, Bool, true, false, List, [], ◌∷◌, length, Option, Some, None}
 use Rattle.std.proofs.Common.{refl, sym, ap, ◌∙◌, arith, ◌==◌, ◌≢◌, get_or, set, get_or-set_other, get_or-set_same, ◌⊎◌, inl, inr, cond, take}
 use Rattle.std.proofs.Common.{add-zero}
 use Rattle.std.proofs.Math.Bool.{◌||◌}
@@ -8,7 +8,7 @@ use Rattle.std.proofs.lemmas.Bool.{cases_order, eq-eqb, ne_eqb}
 use Rattle.std.specs.List.{list_any}
 use Rattle.rx_audit.specs.declared.reach.Visit.{Visit}
 use Rattle.std.proofs.lemmas.List.Folds.{list_any_more}
-use Rattle.rx_audit.specs.Tables.{marks_with, counts_with, IsTold}
+use Rattle.rx_audit.specs.Tables.{marks_with, counts_with, counts_less, IsTold}
 use Rattle.rx_audit.specs.Rules.{is_key}
 
 or_false : (b : Bool) → (b || false) ≡ b
@@ -74,6 +74,35 @@ counts_few cs (Some r) n = by_order (cases_order r n) where
   at_set (c ∷ cs) (suc n) = at_set cs n
 
   by_order : (r ≡ n) ⊎ ((r < n) ⊎ (n < r)) → get_or (set cs r (get_or cs r 0 + 1)) n 0 ≤ get_or cs n 0 + 1
+  by_order (inl same) = rw same (at_set cs n)
+  by_order (inr (inl m)) = let ne : n ≢ r = omega arith in rw get_or-set_other (omega arith)
+  by_order (inr (inr m)) = let ne : n ≢ r = omega arith in rw get_or-set_other (omega arith)
+
+-- counts that are one less
+pub length-counts_less : (cs : List ℕ) (k : Option ℕ) → length (counts_less cs k) ≡ length cs
+length-counts_less cs None = refl
+length-counts_less cs (Some n) = length-set cs n (get_or cs n 0 - 1)
+
+pub counts_less_at : (cs : List ℕ) (k : Option ℕ) (n : ℕ) → n < length cs → get_or (counts_less cs k) n 0 ≡ get_or cs n 0 - cond (is_key k n) 1 0
+counts_less_at cs None n l = omega arith
+counts_less_at cs (Some r) n l = by_order (cases_order r n) where
+  other : (r ≡ n → ⊥) → get_or (set cs r (get_or cs r 0 - 1)) n 0 ≡ get_or cs n 0 - cond (r == n) 1 0
+  other d = let ne : n ≢ r = λ e. d (sym e) in rw get_or-set_other (rw (ne_eqb r n d) (omega arith))
+
+  by_order : (r ≡ n) ⊎ ((r < n) ⊎ (n < r)) → get_or (set cs r (get_or cs r 0 - 1)) n 0 ≡ get_or cs n 0 - cond (r == n) 1 0
+  by_order (inl same) = rw (eq-eqb r n same, same) (rw get_or-set_same refl)
+  by_order (inr (inl m)) = other (λ e. omega arith)
+  by_order (inr (inr m)) = other (λ e. omega arith)
+
+pub counts_less_few : (cs : List ℕ) (k : Option ℕ) (n : ℕ) → get_or (counts_less cs k) n 0 ≤ get_or cs n 0
+counts_less_few cs None n = omega arith
+counts_less_few cs (Some r) n = by_order (cases_order r n) where
+  at_set : (cs : List ℕ) (n : ℕ) → get_or (set cs n (get_or cs n 0 - 1)) n 0 ≤ get_or cs n 0
+  at_set [] n = omega arith
+  at_set (c ∷ cs) zero = omega arith
+  at_set (c ∷ cs) (suc n) = at_set cs n
+
+  by_order : (r ≡ n) ⊎ ((r < n) ⊎ (n < r)) → get_or (set cs r (get_or cs r 0 - 1)) n 0 ≤ get_or cs n 0
   by_order (inl same) = rw same (at_set cs n)
   by_order (inr (inl m)) = let ne : n ≢ r = omega arith in rw get_or-set_other (omega arith)
   by_order (inr (inr m)) = let ne : n ≢ r = omega arith in rw get_or-set_other (omega arith)

@@ -19,3 +19,4 @@ pub mod Covering
 pub mod WithoutHubs
 pub mod Visiting
 pub mod Passing
+pub mod Lending

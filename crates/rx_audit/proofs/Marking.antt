@@ -9,7 +9,7 @@ use Rattle.rx_note.specs.declared.note.Terminal.{Terminal}
 use Rattle.rx_event.specs.declared.event.Place.TheVariants.{Root, Source, Inner, Notifier}
 use Rattle.rx_event.specs.declared.event.Kind.{Kind}
 use Rattle.rx_event.specs.declared.event.Event.{Event}
-use Rattle.rx_event.specs.declared.event.Event.TheVariants.{Open, Hub, Connect, Accept, Use, Remove, Item, Decline, End, Close, Take}
+use Rattle.rx_event.specs.declared.event.Event.TheVariants.{Open, Hub, Connect, Accept, Use, Remove, Lease, Return, Item, Decline, End, Close, Take}
 use Rattle.rx_event.specs.declared.marks.Marks.{Marks}
 use Rattle.rx_event.specs.Events.{is_item, is_merging, is_switch, is_source_of, is_inner_of}
 use Rattle.rx_event.specs.Tree.{at, parent, places, is_open, is_switched_inner, is_open_child_of}
@@ -44,6 +44,8 @@ touched_open h (Connect g) p next named = absurd (none-some p named)
 touched_open h (Accept n tag) p next named = absurd (none-some p named)
 touched_open h (Use r) p next named = absurd (none-some p named)
 touched_open h (Remove r) p next named = absurd (none-some p named)
+touched_open h (Lease r) p next named = absurd (none-some p named)
+touched_open h (Return r) p next named = absurd (none-some p named)
 touched_open h (Item l v) p next named = absurd (none-some p named)
 touched_open h (Close c) p next named = absurd (none-some p named)
 touched_open h (Take r) p next named = absurd (none-some p named)
@@ -75,6 +77,8 @@ untouched h (Connect g) n no_item no_close differs = refl
 untouched h (Accept m tag) n no_item no_close differs = refl
 untouched h (Use r) n no_item no_close differs = refl
 untouched h (Remove r) n no_item no_close differs = refl
+untouched h (Lease r) n no_item no_close differs = refl
+untouched h (Return r) n no_item no_close differs = refl
 untouched h (Take r) n no_item no_close differs = refl
 
 -- the marks of an older node that is not touched
@@ -104,6 +108,10 @@ marks_apart h e law next no_item n l o differs = by_event e refl where
       (untouched h e n no_item (λ c is. both_ways (is_close (Use r)) refl (ap is_close (sym same ∙ is))) differs)
   by_event (Remove r) same = marks_untouched nothing_kept h e law next n l o
       (untouched h e n no_item (λ c is. both_ways (is_close (Remove r)) refl (ap is_close (sym same ∙ is))) differs)
+  by_event (Lease r) same = marks_untouched nothing_kept h e law next n l o
+      (untouched h e n no_item (λ c is. both_ways (is_close (Lease r)) refl (ap is_close (sym same ∙ is))) differs)
+  by_event (Return r) same = marks_untouched nothing_kept h e law next n l o
+      (untouched h e n no_item (λ c is. both_ways (is_close (Return r)) refl (ap is_close (sym same ∙ is))) differs)
   by_event (Take r) same = marks_untouched nothing_kept h e law next n l o
       (untouched h e n no_item (λ c is. both_ways (is_close (Take r)) refl (ap is_close (sym same ∙ is))) differs)
   by_event (Item m v) same = marks_untouched nothing_kept h e law next n l o (no_item n (ap is_item same))

@@ -10,7 +10,7 @@ use Rattle.rx_event.specs.Kept.{nothing_kept}
 use Rattle.rx_note.specs.declared.note.Terminal.{Terminal}
 use Rattle.rx_event.specs.declared.event.Kind.TheVariants.{Leaf, Pass, Flat, Switch, Until, Sub}
 use Rattle.rx_event.specs.declared.event.Event.{Event}
-use Rattle.rx_event.specs.declared.event.Event.TheVariants.{Open, Hub, Connect, Accept, Use, Remove, Item, Decline, End, Close, Take}
+use Rattle.rx_event.specs.declared.event.Event.TheVariants.{Open, Hub, Connect, Accept, Use, Remove, Lease, Return, Item, Decline, End, Close, Take}
 use Rattle.rx_event.specs.declared.marks.Marks.{Marks}
 use Rattle.rx_event.specs.Tree.{is_open}
 use Rattle.rx_event.specs.Climb.{stop_at, climb, stops}
@@ -38,6 +38,8 @@ item_of (Connect g) leaf is = absurd (none-some leaf is)
 item_of (Accept n tag) leaf is = absurd (none-some leaf is)
 item_of (Use r) leaf is = absurd (none-some leaf is)
 item_of (Remove r) leaf is = absurd (none-some leaf is)
+item_of (Lease r) leaf is = absurd (none-some leaf is)
+item_of (Return r) leaf is = absurd (none-some leaf is)
 item_of (Decline f) leaf is = absurd (none-some leaf is)
 item_of (End n t) leaf is = absurd (none-some leaf is)
 item_of (Close n) leaf is = absurd (none-some leaf is)
@@ -96,6 +98,8 @@ still_due (Hub mode) m k y = y
 still_due (Accept n tag) m k y = y
 still_due (Use r) m k y = y
 still_due (Remove r) m k y = y
+still_due (Lease r) m k y = y
+still_due (Return r) m k y = y
 still_due (Item l v) m k y = y
 still_due (Decline f) m k y = y
 still_due (End n t) m k y = y

@@ -15,7 +15,7 @@ use Rattle.rx_event.specs.declared.event.Kind.{Kind}
 use Rattle.rx_event.specs.declared.event.Kind.TheVariants.{Leaf, Pass, Flat, Switch, Until, Sub}
 use Rattle.rx_event.specs.declared.event.Mode.{Mode}
 use Rattle.rx_event.specs.declared.event.Event.{Event}
-use Rattle.rx_event.specs.declared.event.Event.TheVariants.{Open, Hub, Connect, Accept, Use, Remove, Item, Decline, End, Close, Take}
+use Rattle.rx_event.specs.declared.event.Event.TheVariants.{Open, Hub, Connect, Accept, Use, Remove, Lease, Return, Item, Decline, End, Close, Take}
 use Rattle.rx_event.specs.Events.{makes_hub, has_source, is_leaf, is_merging, is_until, is_root, is_manual_hub, is_source_of, is_notifier_of, is_connect_of}
 use Rattle.rx_event.specs.Tree.{at, places, hubs, is_open, open_nodes, ancestors, has_open_child}
 use Rattle.rx_event.proofs.Laws.Openness.{is_open_past}
@@ -23,7 +23,7 @@ use Rattle.rx_event.specs.Climb.{visits, most_visits}
 use Rattle.rx_event.specs.Moments.{owed}
 use Rattle.rx_event.specs.Forced.{IsConnectDue}
 use Rattle.rx_event.specs.Allowed.{most_nodes, most_hubs, IsFree, IsInOrderAt, IsInOrder, IsHubbed, may_abort, IsAllowed, opened}
-use Rattle.rx_event.specs.Allowed.{published, connected, accepted, used, removed, emitted, declined, leaf_ended, aborted, projection_failed, root_closed}
+use Rattle.rx_event.specs.Allowed.{published, connected, accepted, used, removed, leased, returned, emitted, declined, leaf_ended, aborted, projection_failed, root_closed}
 use Rattle.rx_event.specs.Allowed.{disconnected, taken}
 use Rattle.rx_audit.specs.Tables.{IsMarked, mark_count}
 use Rattle.rx_audit.specs.Rules.{hub_connected_at, has_key, open_connected, is_owing}
@@ -80,6 +80,8 @@ same_abort (Connect g) = refl
 same_abort (Accept m tag) = refl
 same_abort (Use r) = refl
 same_abort (Remove r) = refl
+same_abort (Lease r) = refl
+same_abort (Return l) = refl
 same_abort (Item m v) = refl
 same_abort (Decline f) = refl
 same_abort (End m t) = refl
@@ -188,6 +190,8 @@ simply_may h (Connect g) e = connect_may h g e
 simply_may h (Accept n tag) e = accepted e
 simply_may h (Use r) e = used e
 simply_may h (Remove r) e = removed e
+simply_may h (Lease r) e = leased e
+simply_may h (Return l) e = returned e
 simply_may h (Decline f) e = decline_may h f e
 simply_may h (End n t) e = end_may h n t e
 simply_may h (Close n) e = close_may h n e
@@ -202,6 +206,8 @@ simply_may_of h (Connect g) no_open no_item a = connect_may_of h g a
 simply_may_of h (Accept n tag) no_open no_item (accepted o) = o
 simply_may_of h (Use r) no_open no_item (used o) = o
 simply_may_of h (Remove r) no_open no_item (removed o) = o
+simply_may_of h (Lease r) no_open no_item (leased o) = o
+simply_may_of h (Return l) no_open no_item (returned o) = o
 simply_may_of h (Decline f) no_open no_item a = decline_may_of h f a
 simply_may_of h (End n t) no_open no_item a = end_may_of h n t a
 simply_may_of h (Close n) no_open no_item a = close_may_of h n a

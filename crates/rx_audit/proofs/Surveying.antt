@@ -13,7 +13,7 @@ use Rattle.std.proofs.Math.Bool.{◌||◌, ◌&&◌}
 use Rattle.std.specs.List.{list_any, range_with_len}
 use Rattle.rx_event.specs.Kept.{nothing_kept}
 use Rattle.rx_event.specs.declared.event.Event.{Event}
-use Rattle.rx_event.specs.declared.event.Event.TheVariants.{Open, Hub, Connect, Accept, Use, Remove, Item, Decline, End, Close, Take}
+use Rattle.rx_event.specs.declared.event.Event.TheVariants.{Open, Hub, Connect, Accept, Use, Remove, Lease, Return, Item, Decline, End, Close, Take}
 use Rattle.rx_event.specs.Events.{makes_hub, hub_connected}
 use Rattle.rx_event.specs.Lawful.{IsLawful}
 use Rattle.rx_event.specs.Tree.{places, parent, is_open, has_open_child, is_open_child_of}
@@ -69,6 +69,8 @@ is_connect (Hub mode) g s = cc
 is_connect (Accept m tag) g s = cc
 is_connect (Use r) g s = cc
 is_connect (Remove r) g s = cc
+is_connect (Lease r) g s = cc
+is_connect (Return r) g s = cc
 is_connect (Item m v) g s = cc
 is_connect (Decline f) g s = cc
 is_connect (End m t) g s = cc
@@ -133,6 +135,8 @@ ended_more h k ms named room tied n =
     ended_connection (Accept m tag) r s = cc
     ended_connection (Use q) r s = cc
     ended_connection (Remove q) r s = cc
+    ended_connection (Lease q) r s = cc
+    ended_connection (Return q) r s = cc
     ended_connection (Item m v) r s = cc
     ended_connection (Decline f) r s = cc
     ended_connection (Close m) r s = cc

@@ -9,7 +9,7 @@ use Rattle.rx_event.specs.Kept.{nothing_kept}
 use Rattle.rx_note.specs.declared.note.Terminal.{Terminal}
 use Rattle.rx_note.specs.declared.note.Terminal.TheVariants.{Completed}
 use Rattle.rx_event.specs.declared.event.Event.{Event}
-use Rattle.rx_event.specs.declared.event.Event.TheVariants.{Open, Hub, Connect, Accept, Use, Remove, Item, Decline, End, Close, Take}
+use Rattle.rx_event.specs.declared.event.Event.TheVariants.{Open, Hub, Connect, Accept, Use, Remove, Lease, Return, Item, Decline, End, Close, Take}
 use Rattle.rx_event.specs.declared.marks.Marks.{Marks}
 use Rattle.rx_event.specs.Events.{makes_hub, is_auto_hub}
 use Rattle.rx_event.specs.Tree.{at, is_open}
@@ -59,6 +59,8 @@ other_untouched h (Connect g) other n item = absurd (false≢true item)
 other_untouched h (Accept m tag) other n item = absurd (false≢true item)
 other_untouched h (Use r) other n item = absurd (false≢true item)
 other_untouched h (Remove r) other n item = absurd (false≢true item)
+other_untouched h (Lease r) other n item = absurd (false≢true item)
+other_untouched h (Return r) other n item = absurd (false≢true item)
 other_untouched h (Decline f) other n item = absurd (false≢true item)
 other_untouched h (End m t) other n item = absurd (false≢true item)
 other_untouched h (Close c) other n item = absurd (false≢true item)
@@ -142,6 +144,8 @@ forced_both_ways h (Hub mode) law hubless = (λ y. absurd (false≢true y), λ f
 forced_both_ways h (Accept m tag) law hubless = (λ y. absurd (false≢true y), λ f. absurd (false≢true (forced_kind nothing_kept f)))
 forced_both_ways h (Use r) law hubless = (λ y. absurd (false≢true y), λ f. absurd (false≢true (forced_kind nothing_kept f)))
 forced_both_ways h (Remove r) law hubless = (λ y. absurd (false≢true y), λ f. absurd (false≢true (forced_kind nothing_kept f)))
+forced_both_ways h (Lease r) law hubless = (λ y. absurd (false≢true y), λ f. absurd (false≢true (forced_kind nothing_kept f)))
+forced_both_ways h (Return r) law hubless = (λ y. absurd (false≢true y), λ f. absurd (false≢true (forced_kind nothing_kept f)))
 forced_both_ways h (Item l v) law hubless = (λ y. absurd (false≢true y), λ f. absurd (false≢true (forced_kind nothing_kept f)))
 forced_both_ways h (Decline f) law hubless = (λ y. absurd (false≢true y), λ q. absurd (false≢true (forced_kind nothing_kept q)))
 forced_both_ways h (Take r) law hubless = (λ y. absurd (false≢true y), λ f. absurd (false≢true (forced_kind nothing_kept f)))

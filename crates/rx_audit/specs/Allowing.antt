@@ -10,10 +10,10 @@ use Rattle.rx_event.specs.declared.event.Place.TheVariants.{Root, Source, Inner,
 use Rattle.rx_event.specs.declared.event.Kind.{Kind}
 use Rattle.rx_event.specs.declared.event.Kind.TheVariants.{Sub}
 use Rattle.rx_event.specs.declared.event.Event.{Event}
-use Rattle.rx_event.specs.declared.event.Event.TheVariants.{Open, Hub, Connect, Accept, Use, Remove, Item, Decline, End, Close, Take}
+use Rattle.rx_event.specs.declared.event.Event.TheVariants.{Open, Hub, Connect, Accept, Use, Remove, Lease, Return, Item, Decline, End, Close, Take}
 use Rattle.rx_event.specs.Events.{makes_hub, has_source, is_leaf, is_merging, is_until, is_root, is_manual_hub, is_source_of, is_notifier_of}
 use Rattle.rx_event.specs.Tree.{at, hubs, is_open, open_nodes, ancestors, has_open_child}
-use Rattle.rx_event.specs.Resources.{is_held, is_waiting}
+use Rattle.rx_event.specs.Resources.{is_owned, is_out, is_held, is_waiting}
 use Rattle.rx_event.specs.Climb.{visits}
 use Rattle.rx_audit.specs.Rules.{hub_connected_at, has_key, open_connected, is_owing}
 
@@ -65,7 +65,9 @@ allowed_simply h (Hub mode) = nat_lt (length (hubs h)) 1024
 allowed_simply h (Connect g) = connect_allowed h g
 allowed_simply h (Accept n tag) = is_open h n
 allowed_simply h (Use r) = is_held h r
-allowed_simply h (Remove r) = is_held h r
+allowed_simply h (Remove r) = is_owned h r
+allowed_simply h (Lease r) = is_owned h r
+allowed_simply h (Return l) = is_out h l
 allowed_simply h (Decline f) = decline_allowed h f
 allowed_simply h (End n t) = end_allowed h n t
 allowed_simply h (Close n) = close_allowed h n

@@ -6,11 +6,12 @@ use Rattle.rx_event.specs.declared.event.Event.{Event}
 use Rattle.rx_event.specs.declared.event.Event.TheVariants.{Item}
 use Rattle.rx_event.specs.Climb.{climb, stop_at, visits}
 use Rattle.rx_event.specs.Tree.{is_open}
+use Rattle.rx_event.specs.Resources.{leases_of}
 use Rattle.rx_event.specs.Moments.{is_fired, projections}
 use Rattle.rx_audit.specs.declared.found.Found.{Found}
 use Rattle.rx_audit.specs.Tables.{IsMarked, IsTable, IsTally, mark_count}
 use Rattle.rx_event.specs.Events.{paid_of}
-use Rattle.rx_audit.specs.Rules.{has_ended, has_failed, has_completed, was_removed, was_taken, was_sourced, was_notified, is_key, fired_by, projected_by}
+use Rattle.rx_audit.specs.Rules.{has_ended, has_failed, has_completed, was_removed, was_returned, was_taken, was_sourced, was_notified, is_key, fired_by, projected_by}
 
 -- how many projected items of f were paid
 abbrev pub payments : List Event → ℕ → ℕ
@@ -29,6 +30,11 @@ pub record IsFound (h : List Event) (size : ℕ) (found : Found) : Type 0 where
   pub completed_size : length found.completed.items ≡ size
   pub removed : IsTable found.removed.items (was_removed h)
   pub removed_size : length found.removed.items ≡ size
+  pub returned : IsTable found.returned.items (was_returned h)
+  pub returned_size : length found.returned.items ≡ size
+  pub leases : IsTally found.leases.items (leases_of h)
+  pub leases_size : length found.leases.items ≡ size
+  pub leases_few : (n : ℕ) → slice_index_or found.leases.items n 0 ≤ length h
   pub taken : IsTable found.taken.items (was_taken h)
   pub taken_size : length found.taken.items ≡ size
   pub fired : IsTable found.fired.items (is_fired h)

@@ -9,13 +9,13 @@ use Rattle.rx_event.specs.declared.event.Place.TheVariants.{Inner}
 use Rattle.rx_event.specs.declared.event.Kind.{Kind}
 use Rattle.rx_event.specs.declared.event.Kind.TheVariants.{Sub}
 use Rattle.rx_event.specs.declared.event.Event.{Event}
-use Rattle.rx_event.specs.declared.event.Event.TheVariants.{Open, Hub, Connect, Accept, Use, Item, End, Close, Remove, Take, Decline}
+use Rattle.rx_event.specs.declared.event.Event.TheVariants.{Open, Hub, Connect, Accept, Use, Item, End, Close, Remove, Lease, Return, Take, Decline}
 use Rattle.rx_note.specs.declared.note.Terminal.TheVariants.{Completed, Error}
 use Rattle.rx_event.specs.Climb.{Stop, Projection, Firing}
 use Rattle.rx_event.specs.Tree.{at, places, parent, is_open, shuts, ancestors, if_less, has_open_child}
 use Rattle.rx_event.specs.Events.{makes_node, is_root, parent_named, source_named}
 use Rattle.rx_event.specs.Events.{notifier_named, ended_of, failed_of, completed_of}
-use Rattle.rx_event.specs.Events.{removed_of, taken_of, hub_connected, hub_subscribed, is_source_of, is_auto_hub}
+use Rattle.rx_event.specs.Events.{removed_of, leased_of, returned_of, taken_of, hub_connected, hub_subscribed, is_source_of, is_auto_hub}
 use Rattle.rx_event.specs.Events.{is_mirroring, is_merging, is_until}
 use Rattle.rx_event.specs.Moments.{is_fired, owed}
 use Rattle.rx_note.specs.declared.note.Terminal.{Terminal}
@@ -48,6 +48,13 @@ was_removed h r = list_any (λ e. is_key (removed_of e) r) h
 
 abbrev pub was_taken : List Event → ℕ → Bool
 was_taken h r = list_any (λ e. is_key (taken_of e) r) h
+
+abbrev pub was_returned : List Event → ℕ → Bool
+was_returned h l = list_any (λ e. is_key (returned_of e) l) h
+
+-- the resource of a lease
+abbrev pub resource_of : List Event → ℕ → Option ℕ
+resource_of h l = option_and_then leased_of (slice_get h l)
 
 -- a source was opened below p
 abbrev pub was_sourced : List Event → ℕ → Bool
@@ -224,6 +231,8 @@ is_calm (Open place kind) = calm_place place && calm_kind kind
 is_calm (Accept n tag) = true
 is_calm (Use r) = true
 is_calm (Remove r) = true
+is_calm (Lease r) = true
+is_calm (Return r) = true
 is_calm (Item l value) = true
 is_calm (Take r) = true
 is_calm _ = false
@@ -237,6 +246,8 @@ IsQuiet h (Connect g) = is_calm (Connect g) ≡ true
 IsQuiet h (Accept n tag) = is_calm (Accept n tag) ≡ true
 IsQuiet h (Use r) = is_calm (Use r) ≡ true
 IsQuiet h (Remove r) = is_calm (Remove r) ≡ true
+IsQuiet h (Lease r) = is_calm (Lease r) ≡ true
+IsQuiet h (Return r) = is_calm (Return r) ≡ true
 IsQuiet h (Item l value) = is_calm (Item l value) ≡ true
 IsQuiet h (Decline f) = is_calm (Decline f) ≡ true
 IsQuiet h (End n t) = is_calm (End n t) ≡ true

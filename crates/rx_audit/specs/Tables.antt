@@ -1,5 +1,5 @@
 -- What the audit keeps of the events so far, in lists by number.
-use Rattle.std.specs.Prelude.{◌||◌, sum_by, count_by, if◌then◌else◌, ◌≡◌, ℕ, ◌+◌, ◌<◌, Bool, true, false, Option, Some, None, List, length, slice_index_or, slice_set}
+use Rattle.std.specs.Prelude.{◌||◌, sum_by, count_by, if◌then◌else◌, ◌≡◌, ℕ, ◌+◌, ◌-◌, ◌<◌, Bool, true, false, Option, Some, None, List, length, slice_index_or, slice_set}
 use Rattle.std.specs.List.{list_any}
 use Rattle.rx_audit.specs.declared.reach.Visit.{Visit}
 
@@ -32,6 +32,11 @@ marks_with marks (Some n) = slice_set marks n true
 abbrev pub counts_with : List ℕ → Option ℕ → List ℕ
 counts_with counts None = counts
 counts_with counts (Some n) = slice_set counts n (slice_index_or counts n 0 + 1)
+
+-- the count of the number is one less, if it is not 0
+abbrev pub counts_less : List ℕ → Option ℕ → List ℕ
+counts_less counts None = counts
+counts_less counts (Some n) = slice_set counts n (slice_index_or counts n 0 - 1)
 
 -- the count of the number is so many more
 abbrev pub counts_plus : List ℕ → Option ℕ → ℕ → List ℕ

@@ -3,9 +3,9 @@
 ghost use Rattle.std.specs.Prelude.{◌≡◌, ◌<◌, ◌≤◌, ◌&&◌, ◌||◌, IfOk, false, true, Some, None, nat_lt, length, slice_get};
 ghost use Rattle.std.specs.Option.{option_and_then};
 ghost use Rattle.std.proofs.Math.Bool.{not};
-ghost use Rattle.rx_event.specs.Events.{is_leaf, makes_resource, node_of_accept};
+ghost use Rattle.rx_event.specs.Events.{is_leaf, makes_resource, makes_lease, node_of_accept};
 ghost use Rattle.rx_event.specs.Tree.{at, is_open, open_nodes, hubs, has_open_child};
-ghost use Rattle.rx_event.specs.Resources.{is_held, is_waiting};
+ghost use Rattle.rx_event.specs.Resources.{is_owned, is_out, is_leased, is_held, is_waiting};
 ghost use Rattle.rx_audit.specs.Known.{IsFoundHere, IsSurveyed};
 ghost use Rattle.rx_audit.specs.Marking.{IsKept};
 ghost use Rattle.rx_audit.specs.Survey.{AreHubsNamed, IsSized};
@@ -138,7 +138,7 @@ fn node_of_resource(past: &[Event], r: u64) -> Option<u64>
 }
 
 /// Whether node `n` is open, and resource `r`, which is in the history, was not removed.
-fn stays_held(past: &[Event], found: &Found, n: u64, r: u64) -> bool
+fn stays_owned(past: &[Event], found: &Found, n: u64, r: u64) -> bool
     requires found { IsFoundHere past.now found.now }
     requires within { r < length past.now }
     ensures { result ≡ (is_open past.now n && not (was_removed past.now r)) }
@@ -146,13 +146,13 @@ fn stays_held(past: &[Event], found: &Found, n: u64, r: u64) -> bool
     is_marked(found.live.as_slice(), n) && !found::was_removed(past, found, r)
 }
 
-/// Whether resource `r` is held.
-pub fn is_held(past: &[Event], found: &Found, r: u64) -> bool
+/// Whether resource `r` is owned by its node.
+fn is_owned(past: &[Event], found: &Found, r: u64) -> bool
     requires { IsFoundHere past.now found.now }
-    ensures { result ≡ is_held past.now r }
+    ensures { result ≡ is_owned past.now r }
 {
     match node_of_resource(past, r) {
-        Some(n) => stays_held(past, found, n, r),
+        Some(n) => stays_owned(past, found, n, r),
         None => false,
     }
 }
@@ -162,6 +162,46 @@ fn is_resource(past: &[Event], r: u64) -> bool
     ensures { result ≡ at makes_resource past.now r }
 {
     at(Event::makes_resource, past, r)
+}
+
+/// Whether `r` is a resource of which a lease is out.
+fn is_leased(past: &[Event], found: &Found, r: u64) -> bool
+    requires { IsFoundHere past.now found.now }
+    ensures { result ≡ is_leased past.now r }
+{
+    if !is_resource(past, r) {
+        return false;
+    }
+    found::has_leases(past, found, r)
+}
+
+/// Whether resource `r` is held.
+pub fn is_held(past: &[Event], found: &Found, r: u64) -> bool
+    requires { IsFoundHere past.now found.now }
+    ensures { result ≡ is_held past.now r }
+{
+    if is_owned(past, found, r) {
+        return true;
+    }
+    is_leased(past, found, r)
+}
+
+/// Whether `l` is a lease.
+fn is_lease(past: &[Event], l: u64) -> bool
+    ensures { result ≡ at makes_lease past.now l }
+{
+    at(Event::makes_lease, past, l)
+}
+
+/// Whether lease `l` is out.
+fn is_out(past: &[Event], found: &Found, l: u64) -> bool
+    requires { IsFoundHere past.now found.now }
+    ensures { result ≡ is_out past.now l }
+{
+    if !is_lease(past, l) {
+        return false;
+    }
+    !found::was_returned(past, found, l)
 }
 
 /// Whether resource `r`, which is in the history, is neither held nor handed out.
@@ -241,7 +281,9 @@ pub fn is_allowed_simply(past: &[Event], found: &Found, survey: &mut Survey, eve
             connect_allowed(past, found, survey, g)
         }
         Event::Accept(n, _) => is_marked(found.live.as_slice(), n),
-        Event::Use(r) | Event::Remove(r) => is_held(past, found, r),
+        Event::Use(r) => is_held(past, found, r),
+        Event::Remove(r) | Event::Lease(r) => is_owned(past, found, r),
+        Event::Return(l) => is_out(past, found, l),
         Event::Decline(f) => decline_allowed(past, found, f),
         Event::End(n, t) => end_allowed_here(past, found, survey, n, t),
         Event::Close(n) => close_allowed(past, found, n),

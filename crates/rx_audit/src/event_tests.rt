@@ -36,6 +36,8 @@ pub fn is_calm(event: Event) -> bool
         Event::Accept(_, _)
         | Event::Use(_)
         | Event::Remove(_)
+        | Event::Lease(_)
+        | Event::Return(_)
         | Event::Item(_, _)
         | Event::Take(_) => true,
         _ => false,

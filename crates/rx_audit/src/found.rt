@@ -1,7 +1,7 @@
 //! What was found of the events so far.
 
 ghost use Rattle.rx_event.specs.Kept.{nothing_kept};
-ghost use Rattle.std.specs.Prelude.{◌≡◌, ℕ, ◌+◌, ◌*◌, ◌^◌, ◌<◌, ◌≤◌, ◌||◌, false, [], ◌∷◌, ◌++◌, IfOk, OnOk, length, slice_index_or, sum_by, replicate};
+ghost use Rattle.std.specs.Prelude.{◌≡◌, ℕ, ◌+◌, ◌*◌, ◌^◌, ◌<◌, ◌≤◌, ◌||◌, false, [], ◌∷◌, ◌++◌, IfOk, OnOk, length, slice_index_or, sum_by, replicate, nat_lt};
 ghost use Rattle.std.specs.List.{list_any};
 ghost use Rattle.std.specs.Option.{option_and_then};
 ghost use Rattle.rx_event.specs.Events.{is_source_of, is_notifier_of};
@@ -12,17 +12,19 @@ ghost use Rattle.rx_event.specs.Lawful.{IsLawful, MayFollow};
 ghost use Rattle.rx_audit.specs.Hubless.{IsFollowed};
 ghost use Rattle.rx_audit.specs.Found.{IsFound, HasStops, HasFewVisits};
 ghost use Rattle.rx_audit.specs.Flow.{times};
-ghost use Rattle.rx_audit.specs.Rules.{fired_by, projected_by, is_key, has_ended, has_failed, has_completed, was_removed, was_taken, is_owing};
+ghost use Rattle.rx_audit.specs.Rules.{fired_by, projected_by, is_key, has_ended, has_failed, has_completed, was_removed, was_returned, was_taken, resource_of, is_owing};
+ghost use Rattle.rx_event.specs.Events.{returned_of};
+ghost use Rattle.rx_event.specs.Resources.{leases_of};
 ghost use Rattle.rx_audit.specs.Tables.{IsMarked, IsTable, IsTally, IsTold, IsCounted};
 
 use crate::climb::{fired_at, projected_at};
 use crate::hubless::{Nodes, advance};
-use crate::marks::{count, count_more, count_of, is_marked, mark};
+use crate::marks::{count, count_less, count_more, count_of, is_marked, mark};
 use crate::reach::{Visit, reached};
 use rx_event::Event;
 use std::alloc::{AllocError, Global};
 
-/// What was found, by the number of a node or a resource. Each list has a place for every event
+/// What was found, by the number of a node, a resource or a lease. Each list has a place for every event
 /// that there will be.
 #[derive(Drop)]
 pub struct Found {
@@ -38,6 +40,10 @@ pub struct Found {
     pub completed: Vec<bool>,
     /// The resource was removed from its node.
     pub removed: Vec<bool>,
+    /// The lease was given back.
+    pub returned: Vec<bool>,
+    /// How many leases of the resource are out.
+    pub leases: Vec<u128>,
     /// The resource was handed out.
     pub taken: Vec<bool>,
     /// An item fired the TakeUntil.
@@ -77,6 +83,8 @@ pub fn nothing_found(alloc: Global, size: usize) -> Result<Found, AllocError>
         failed: unmarked(alloc, size)?,
         completed: unmarked(alloc, size)?,
         removed: unmarked(alloc, size)?,
+        returned: unmarked(alloc, size)?,
+        leases: uncounted(alloc, size)?,
         taken: unmarked(alloc, size)?,
         fired: unmarked(alloc, size)?,
         projected: uncounted(alloc, size)?,
@@ -172,6 +180,28 @@ fn find_item(
     }
 }
 
+/// The resource of the lease that the event gives back.
+fn given_back(past: &[Event], event: Event) -> Option<u64>
+    ensures { result ≡ option_and_then (resource_of past.now) (returned_of event) }
+{
+    let lease = event.returned()?;
+    past.get(lease as usize)?.leased()
+}
+
+/// Finds how many leases of each resource the event leaves out.
+fn find_leases(past: &[Event], event: Event, leases: &mut [u128])
+    requires lawful { IsLawful nothing_kept past.now }
+    requires next { MayFollow nothing_kept past.now event }
+    requires leases { IsTally leases.old (leases_of past.now) }
+    requires few { (n : ℕ) → slice_index_or leases.old n 0 ≤ length past.now }
+    ensures leases { IsTally leases.new (leases_of (past.now ++ event ∷ [])) }
+    ensures len { length leases.new ≡ length leases.old }
+    ensures few { (n : ℕ) → slice_index_or leases.new n 0 ≤ length past.now + 1 }
+{
+    count(leases, event.leased());
+    count_less(leases, given_back(past, event));
+}
+
 /// Finds what the event adds, and answers whether it fires something.
 pub fn follow(
     alloc: Global,
@@ -212,6 +242,8 @@ pub fn follow(
     mark(found.failed.as_mut_slice(), event.failed());
     mark(found.completed.as_mut_slice(), event.completed());
     mark(found.removed.as_mut_slice(), event.removed());
+    mark(found.returned.as_mut_slice(), event.returned());
+    find_leases(past, event, found.leases.as_mut_slice());
     mark(found.taken.as_mut_slice(), event.taken());
     count(found.paid.as_mut_slice(), event.pays());
     mark(found.sourced.as_mut_slice(), event.source_of());
@@ -257,6 +289,26 @@ pub fn was_removed(past: &[Event], found: &Found, r: u64) -> bool
 {
     let _ = past;
     is_marked(found.removed.as_slice(), r)
+}
+
+/// Whether lease `l` was given back.
+pub fn was_returned(past: &[Event], found: &Found, l: u64) -> bool
+    requires found { IsFound past.now (length found.now.live.items) found.now }
+    requires within { l < length found.now.live.items }
+    ensures { result ≡ was_returned past.now l }
+{
+    let _ = past;
+    is_marked(found.returned.as_slice(), l)
+}
+
+/// Whether a lease of resource `r` is out.
+pub fn has_leases(past: &[Event], found: &Found, r: u64) -> bool
+    requires found { IsFound past.now (length found.now.live.items) found.now }
+    requires within { r < length found.now.live.items }
+    ensures { result ≡ nat_lt 0 (leases_of past.now r) }
+{
+    let _ = past;
+    count_of(found.leases.as_slice(), r) > 0
 }
 
 /// Whether resource `r` was handed out.

@@ -1,7 +1,7 @@
 //! Lists of marks and of counts, by number.
 
 ghost use Rattle.std.specs.Prelude.{◌≡◌, ℕ, ◌+◌, ◌<◌, ◌^◌, false, true, Some, length, slice_index_or, replicate};
-ghost use Rattle.rx_audit.specs.Tables.{marks_with, counts_with, counts_plus};
+ghost use Rattle.rx_audit.specs.Tables.{marks_with, counts_with, counts_less, counts_plus};
 
 /// Whether the mark of number `n` is set.
 pub fn is_marked(marks: &[bool], n: u64) -> bool
@@ -47,6 +47,18 @@ pub fn count(counts: &mut [u128], key: Option<u64>)
         let n = n as usize;
         if n < counts.len() {
             counts[n] += 1;
+        }
+    }
+}
+
+/// Makes the count of the number one less, if there is a number and the list has it and it is not 0.
+pub fn count_less(counts: &mut [u128], key: Option<u64>)
+    ensures { counts.new ≡ counts_less counts.old key }
+{
+    if let Some(n) = key {
+        let n = n as usize;
+        if n < counts.len() {
+            counts[n] = counts[n].saturating_sub(1);
         }
     }
 }

@@ -30,14 +30,23 @@ use Rattle.rx_register.proofs.Laws.Paid.{call_room, call_mail_room, paid_room, w
 use Rattle.rx_register.proofs.Laws.Calls.{call_follows, call_fits, called_paid}
 use Rattle.rx_ground.specs.declared.base.Wanted.{Wanted}
 use Rattle.rx_ground.specs.Shown.{Ground}
-use Rattle.rx_ground.specs.Ties.{IsStanding, IsRoomier, HasRoomBeside, IsReady, KeepsOlder, HasRoomToConnect}
+use Rattle.rx_ground.specs.Ties.{IsStanding, IsRoomier, HasRoomBeside, IsReady, KeepsOlder, KeepsLeases, HasRoomToConnect}
 use Rattle.rx_ground.specs.Ties.{IsTied}
 use Rattle.rx_ground.proofs.Laws.KeysKept.{KeepsKeys, keeps_on, keeps_settled}
-use Rattle.rx_book.specs.State.{State}
+use Rattle.rx_book.specs.State.{State, has_res_key, has_lease_key}
 use Rattle.rx_book.specs.Requests.{Request, stands}
-use Rattle.rx_book.specs.Answers.{Accepts}
-use Rattle.rx_book.specs.Shown.{tree_key_of, tree_res_key_of, state_of}
-use Rattle.rx_book.proofs.ShownKeys.{key_finds, finding_key, res_key_finds, finding_res_key}
+use Rattle.rx_book.specs.Answers.{Accepts, IsNewLeaseKey}
+use Rattle.rx_slots.specs.Slots.{Slots, find}
+use Rattle.rx_tree.specs.declared.node.ResKey.{ResKey as TreeResKey}
+use Rattle.rx_lease.specs.declared.leases.LeaseKey.{LeaseKey as GroundLeaseKey}
+use Rattle.rx_lease.specs.Leases.{lease_key, is_out_at}
+use Rattle.rx_tree.specs.Resources.{is_owned_at}
+use Rattle.rx_event.specs.Resources.{is_owned}
+use Rattle.rx_ground.proofs.Laws.Owned.{owned_there}
+use Rattle.rx_book.specs.declared.key.ResKey.{ResKey}
+use Rattle.rx_book.specs.declared.key.LeaseKey.{LeaseKey}
+use Rattle.rx_book.specs.Shown.{tree_key_of, tree_res_key_of, ground_lease_key_of, lease_key_shown, res_keys_of, lease_keys_of, state_of}
+use Rattle.rx_book.proofs.ShownKeys.{key_finds, finding_key, res_key_finds, finding_res_key, has_res_key_is, lease_key_finds, finding_lease_key, has_lease_key_is}
 use Rattle.rx_book.proofs.CausesByKey.{unstood}
 
 -- histories ---------------------------------------------------------------------------------------
@@ -175,8 +184,8 @@ module _ {T : Type 0} (g : Ghosts T) (b : Ground T) (asked : Request) where
         IsStanding g new → new.register.base ≡ mid.register.base → IsForcedOn mid.register.base mid.register.history new.register.history →
         KeepsOlder new.register.history (length mid.register.history) mid.tree.nodes new.tree.nodes →
         new.tree.resources ≡ mid.tree.resources → new.register.limit ≡ mid.register.limit → new.register.given ≡ mid.register.given →
-        Accepts (state_of g b) asked (state_of g new)
-    accepts mid new w kept tied standing same on nodes resources limit given = record {
+        new.leases ≡ mid.leases → KeepsLeases b.leases mid.leases (length h) → Accepts (state_of g b) asked (state_of g new)
+    accepts mid new w kept tied standing same on nodes resources limit given leases out = record {
       no_cause = l.none;
       base = based;
       step = record { forced = goes_on; lawful = lawful; settled = subst (λ (c : Kept). IsSettled c new.register.history) based standing.settled };
@@ -184,6 +193,8 @@ module _ {T : Type 0} (g : Ghosts T) (b : Ground T) (asked : Request) where
       given = given ∙ w.given;
       keys = λ k c older. finding_key b.tree k (all.nodes (tree_key_of k) (key_finds new.tree k c) older);
       res_keys = λ k c older. finding_res_key b.tree k (all.held (tree_res_key_of k) (res_key_finds new.tree k c) older);
+      lease_keys = λ k c older. finding_lease_key b.leases k (out.from (lease_key (ground_lease_key_of k))
+          (ap (λ (s : Slots TreeResKey). is_some (find s (lease_key (ground_lease_key_of k)))) (sym leases) ∙ lease_key_finds new.leases k c) older);
     }
       where
         based : new.register.base ≡ b.register.base
@@ -217,6 +228,7 @@ state_roomier g old new r = λ i. state_of g (record {
   register = r.register i;
   tree = record { nodes = r.nodes i; resources = r.resources i; chain = old.tree.chain };
   hubs = r.hubs i;
+  leases = r.leases i;
   space = old.space;
 })
 
@@ -232,3 +244,23 @@ let_in_roomy g old b asked wanted roomier standing promised none ready has event
       events = let e = has.events in omega arith;
       notes = let n = has.notes in omega arith;
     })
+
+-- a resource by whose key a call is made, and that the history leaves owned, is owned in the tree
+pub owned_asked : {T : Type 0} (g : Ghosts T) (b : Ground T) (asked : Request) → IsLetIn g b asked → (res : ResKey) →
+    asked.is_known ≡ has_res_key (res_keys_of b.tree) res → is_owned b.register.history res.number ≡ true → is_owned_at b.tree (tree_res_key_of res) ≡ true
+owned_asked g b asked l res is owned =
+    let held = sym (has_res_key_is b.tree res) ∙ sym is ∙ known g b asked l in
+    owned_there b.register.base g b.register.history b.tree l.standing.tied.of_tree (tree_res_key_of res) held owned
+
+-- the key of a lease that was given out is known after what it forces
+pub lease_key_new : {T : Type 0} (g : Ghosts T) (mid new : Ground T) (place : ℕ) (lease : GroundLeaseKey) (k : LeaseKey) → k ≡ lease_key_shown lease →
+    lease.number ≡ place → is_out_at mid.leases lease ≡ true → new.leases ≡ mid.leases → IsNewLeaseKey (state_of g new) place k
+lease_key_new g mid new place lease k shown number out same = rw shown (record {
+  number = number;
+  listed = has_lease_key_is new.leases (lease_key_shown lease) ∙ ap (λ (s : Slots TreeResKey). is_out_at s lease) same ∙ out;
+})
+
+-- a lease by whose key a call is made is out
+pub out_asked : {T : Type 0} (g : Ghosts T) (b : Ground T) (asked : Request) → IsLetIn g b asked → (lease : LeaseKey) →
+    asked.is_known ≡ has_lease_key (lease_keys_of b.leases) lease → is_out_at b.leases (ground_lease_key_of lease) ≡ true
+out_asked g b asked l lease is = sym (has_lease_key_is b.leases lease) ∙ sym is ∙ known g b asked l

@@ -1,23 +1,26 @@
 -- Which cause stands first against a call, by the keys that callers have.
 use Rattle.std.proofs.Common.{◌≡◌, Bool, true, false, Option, Some, None, is_some, refl, sym, ap, ◌∙◌, inl, inr, ◌⊎◌, true≢false}
 use Rattle.rx_event.specs.declared.refusal.Refusal.{Refusal}
-use Rattle.rx_event.specs.declared.refusal.Refusal.TheVariants.{NoMemory, Gone, NotHeld}
-use Rattle.rx_event.specs.Calls.{Call, Applying, Removing}
+use Rattle.rx_event.specs.declared.refusal.Refusal.TheVariants.{NoMemory, Gone, NoLease, NotHeld}
+use Rattle.rx_event.specs.Calls.{Call, Applying, Removing, Leasing, GivingBack}
 use Rattle.rx_event.specs.Refusals.{first_cause, IsRefusal}
-use Rattle.rx_slots.specs.Slots.{find}
+use Rattle.rx_slots.specs.Slots.{Slots, find}
+use Rattle.rx_tree.specs.declared.node.ResKey.{ResKey as TreeResKey}
+use Rattle.rx_lease.specs.Leases.{is_out_at}
 use Rattle.rx_tree.specs.Tree.{Tree}
 use Rattle.rx_tree.specs.Resources.{is_held_at}
-use Rattle.rx_register.specs.Causes.{by_key, by_res_key, by_key_of}
+use Rattle.rx_register.specs.Causes.{by_key, by_res_key, by_lease_key, by_key_of}
 use Rattle.rx_register.proofs.Laws.NoCause.{no_cause}
 use Rattle.rx_ground.specs.Ties.{is_there}
 use Rattle.rx_book.specs.declared.key.Key.{Key}
 use Rattle.rx_book.specs.declared.key.ResKey.{ResKey}
+use Rattle.rx_book.specs.declared.key.LeaseKey.{LeaseKey}
 use Rattle.rx_book.specs.declared.answer.At.{At}
-use Rattle.rx_book.specs.State.{has_key, has_res_key}
+use Rattle.rx_book.specs.State.{has_key, has_res_key, has_lease_key}
 use Rattle.rx_book.specs.Places.{key_above}
 use Rattle.rx_book.specs.Requests.{is_known_place}
-use Rattle.rx_book.specs.Shown.{keys_of, res_keys_of, tree_key_of, tree_res_key_of}
-use Rattle.rx_book.proofs.ShownKeys.{has_key_is, is_known_place_is, has_res_key_is}
+use Rattle.rx_book.specs.Shown.{keys_of, res_keys_of, lease_keys_of, tree_key_of, tree_res_key_of, ground_lease_key_of}
+use Rattle.rx_book.proofs.ShownKeys.{has_key_is, is_known_place_is, has_res_key_is, has_lease_key_is}
 
 module _ {T : Type 0} (tree : Tree T) (stand : Refusal → Bool) (why : Option Refusal) where
   -- what stands first by the tree's key stands first by the caller's
@@ -32,6 +35,10 @@ module _ {T : Type 0} (tree : Tree T) (stand : Refusal → Bool) (why : Option R
   pub first_by_place : (at : At) → why ≡ first_cause (by_key (is_there tree.nodes (key_above at)) stand) →
       first_cause (by_key (is_known_place (keys_of tree) at) stand) ≡ why
   first_by_place at first = ap (λ b. first_cause (by_key b stand)) (is_known_place_is tree at) ∙ sym first
+
+pub first_by_lease_key : (leases : Slots TreeResKey) (stand : Refusal → Bool) (why : Option Refusal) (k : LeaseKey) →
+    why ≡ first_cause (by_lease_key (is_out_at leases (ground_lease_key_of k)) stand) → first_cause (by_lease_key (has_lease_key (lease_keys_of leases) k) stand) ≡ why
+first_by_lease_key leases stand why k first = ap (λ b. first_cause (by_lease_key b stand)) (has_lease_key_is leases k) ∙ sym first
 
 -- what a call is refused for that gets room for itself
 pub refused_for : (stand : Refusal → Bool) (cause : Option Refusal) (why : Refusal) → first_cause stand ≡ cause →
@@ -48,14 +55,21 @@ by_known_res_key : (known : Bool) (stand : Refusal → Bool) → first_cause (by
 by_known_res_key true stand none = (refl, none)
 by_known_res_key false stand none = absurd (true≢false (no_cause (by_res_key false stand) none NotHeld))
 
-by_which : (call : Call) → (by_key_of call ≡ by_key) ⊎ (by_key_of call ≡ by_res_key)
-by_which (Applying r) = inr refl
-by_which (Removing r) = inr refl
+by_known_lease_key : (known : Bool) (stand : Refusal → Bool) → first_cause (by_lease_key known stand) ≡ None → (known ≡ true) × (first_cause stand ≡ None)
+by_known_lease_key true stand none = (refl, none)
+by_known_lease_key false stand none = absurd (true≢false (no_cause (by_lease_key false stand) none NoLease))
+
+by_which : (call : Call) → (by_key_of call ≡ by_key) ⊎ ((by_key_of call ≡ by_res_key) ⊎ (by_key_of call ≡ by_lease_key))
+by_which (Applying r) = inr (inl refl)
+by_which (Removing r) = inr (inl refl)
+by_which (Leasing r) = inr (inl refl)
+by_which (GivingBack l) = inr (inr refl)
 by_which _ = inl refl
 
 pub unstood : (call : Call) (known : Bool) (stand : Refusal → Bool) → first_cause (by_key_of call known stand) ≡ None →
     (known ≡ true) × (first_cause stand ≡ None)
 unstood call known stand none = by_way (by_which call) where
-  by_way : (by_key_of call ≡ by_key) ⊎ (by_key_of call ≡ by_res_key) → (known ≡ true) × (first_cause stand ≡ None)
+  by_way : (by_key_of call ≡ by_key) ⊎ ((by_key_of call ≡ by_res_key) ⊎ (by_key_of call ≡ by_lease_key)) → (known ≡ true) × (first_cause stand ≡ None)
   by_way (inl is) = by_known_key known stand (ap (λ by. first_cause (by known stand)) (sym is) ∙ none)
-  by_way (inr is) = by_known_res_key known stand (ap (λ by. first_cause (by known stand)) (sym is) ∙ none)
+  by_way (inr (inl is)) = by_known_res_key known stand (ap (λ by. first_cause (by known stand)) (sym is) ∙ none)
+  by_way (inr (inr is)) = by_known_lease_key known stand (ap (λ by. first_cause (by known stand)) (sym is) ∙ none)

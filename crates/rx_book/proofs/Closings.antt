@@ -3,22 +3,27 @@ use Rattle.std.proofs.Common.{◌≡◌, ◌<◌, ◌+◌, ◌-◌, ◌∷◌, [
 use Rattle.std.specs.Prelude.{Option, Some, None, count_by, find}
 use Rattle.std.specs.List.{All, Contains, list_all}
 use Rattle.std.specs.Option.{option_and_then, option_map_or}
-use Rattle.std.proofs.lemmas.Bool.{and_parts, cases_lt, false_from_ne_true, both_ways, and_left}
+use Rattle.std.proofs.lemmas.Bool.{and_parts, cases_lt, cases_order, false_from_ne_true, false≢true, both_ways, and_left}
+use Rattle.std.proofs.Math.Bool.{not, ◌&&◌, ◌||◌}
+use Rattle.std.proofs.Common.{◌++◌, ◌⊎◌, inl, inr, nat_lt, length-append, append_assoc, append-nil}
+use Rattle.std.proofs.lemmas.List.Sums.{sum_by-cons}
 use Rattle.std.proofs.lemmas.List.Elements.{All-cons}
 use Rattle.std.proofs.lemmas.List.FromFn.{get_or-range_with_len, length-range_with_len}
 use Rattle.rx_event.specs.Kept.{Kept}
 use Rattle.rx_event.specs.declared.event.Event.{Event}
-use Rattle.rx_event.specs.declared.event.Event.TheVariants.{Accept, Close, Take}
+use Rattle.rx_event.specs.declared.event.Event.TheVariants.{Accept, Lease, Close, Take}
 use Rattle.rx_event.specs.declared.refusal.Refusal.{Refusal}
-use Rattle.rx_event.specs.Events.{makes_hub, makes_resource, is_take, is_root, is_manual_hub, node_of_accept}
+use Rattle.rx_event.specs.Events.{makes_hub, makes_resource, makes_lease, is_take, is_root, is_manual_hub, node_of_accept}
 use Rattle.rx_event.specs.Tree.{at, places, is_open, open_connections}
-use Rattle.rx_event.specs.Resources.{is_held, is_waiting, waiting_resources}
+use Rattle.rx_event.specs.Resources.{is_owned, is_out, is_leased, is_held, is_waiting, waiting_resources}
 use Rattle.rx_event.specs.Totals.{accepted_count, taken_count, held_count, waiting_count}
 use Rattle.rx_event.specs.Lawful.{IsForcedOn, stays, more}
-use Rattle.rx_event.specs.Calls.{Call, Disposing, Disconnecting, Taking, outside_of, IsStepOf}
+use Rattle.rx_event.specs.Calls.{Call, GivingBack, Disposing, Disconnecting, Taking, outside_of, IsStepOf}
 use Rattle.rx_event.specs.Refusals.{first_cause}
 use Rattle.rx_event.specs.Claims.Closing.{is_open_root, IsLetGo, makes_neither}
-use Rattle.rx_event.proofs.Laws.Places.{at_within}
+use Rattle.rx_event.proofs.Laws.Places.{at_within, slice_get_last}
+use Rattle.rx_event.proofs.Laws.Leases.{is_out-push, is_out_within, is_out_past, out_lease, none_leased}
+use Rattle.rx_event.proofs.Laws.Resources.{held_is}
 use Rattle.rx_event.proofs.Laws.Openness.{is_open_past}
 use Rattle.rx_event.proofs.Laws.Steps.{may_be_forced, forced_kind}
 use Rattle.rx_event.proofs.Laws.Totals.{accepted_count-parts}
@@ -28,8 +33,9 @@ use Rattle.rx_register.specs.Causes.{has_connection}
 use Rattle.rx_register.proofs.Laws.Connecting.{connects_none, connects_one}
 use Rattle.rx_ground.specs.Told.{is_connected_manual}
 use Rattle.rx_book.specs.declared.key.Key.{Key}
-use Rattle.rx_book.specs.State.{State, AreJust, IsPromised, has_key}
-use Rattle.rx_book.specs.Requests.{Request, stands, dispose_request, disconnect_request}
+use Rattle.rx_book.specs.declared.key.LeaseKey.{LeaseKey}
+use Rattle.rx_book.specs.State.{State, AreJust, IsPromised, has_key, has_lease_key}
+use Rattle.rx_book.specs.Requests.{Request, stands, give_back_request, dispose_request, disconnect_request}
 use Rattle.rx_book.specs.Answers.{Accepts}
 use Rattle.rx_book.specs.Drains.{Takes, none_taken, next_taken}
 use Rattle.rx_book.proofs.Laws.Going.{count_by-append, step_longer}
@@ -67,6 +73,62 @@ pub takes_accepted : (base : Kept) → {h k : List Event} → Takes base h k →
 takes_accepted base none_taken = refl
 takes_accepted base (next_taken {m} {k} {r} before step) = let e = step_count base makes_resource forced_no_accept m k (Taking r) step in let rest = takes_accepted base before in omega arith
 
+pub returned_taken : (base : Kept) → (h k : List Event) (l : ℕ) → IsStepOf base h (GivingBack l) k → taken_count base k ≡ taken_count base h
+returned_taken base h k l step = let e = step_count base is_take forced_no_take h k (GivingBack l) step in omega arith
+
+pub returned_accepted : (base : Kept) → (h k : List Event) (l : ℕ) → IsStepOf base h (GivingBack l) k → accepted_count base k ≡ accepted_count base h
+returned_accepted base h k l step = let e = step_count base makes_resource forced_no_accept h k (GivingBack l) step in omega arith
+
+-- leases ---------------------------------------------------------------------------------------------
+
+-- an event that gives out no lease
+abbrev lends_none : Event → Bool
+lends_none e = not (makes_lease e)
+
+-- brings none anew
+out_before : (h : List Event) (e : Event) → lends_none e ≡ true → (l : ℕ) → is_out (h ++ e ∷ []) l ≡ true → is_out h l ≡ true
+out_before h e none l out = by_place (cases_order l (length h)) where
+  no_lease : (b : Bool) → not b ≡ true → b ≡ false
+  no_lease false n = refl
+  no_lease true n = absurd (false≢true n)
+
+  by_place : (l ≡ length h) ⊎ ((l < length h) ⊎ (length h < l)) → is_out h l ≡ true
+  by_place (inl same) =
+      let made : at makes_lease (h ++ e ∷ []) (length h) ≡ true = ap (at makes_lease (h ++ e ∷ [])) (sym same) ∙ out_lease (h ++ e ∷ []) l out in
+      absurd (both_ways (makes_lease e) (no_lease (makes_lease e) none) (sym (ap (λ o. option_map_or makes_lease o false) (slice_get_last h e)) ∙ made))
+  by_place (inr (inl less)) = (and_parts (is_out h l) _ (sym (is_out-push h e l less) ∙ out)).0
+  by_place (inr (inr above)) = absurd (let w = is_out_within (h ++ e ∷ []) l out in omega (arith, length-append h (e ∷ [])))
+
+out_before_all : (h es : List Event) → list_all lends_none es ≡ true → (l : ℕ) → is_out (h ++ es) l ≡ true → is_out h l ≡ true
+out_before_all h [] none l out = subst (λ (k : List Event). is_out k l ≡ true) (append-nil h) out
+out_before_all h (e ∷ es) none l out =
+    let parts = and_parts (lends_none e) (list_all lends_none es) none in
+    let later = subst (λ (k : List Event). is_out k l ≡ true) (sym (append_assoc h (e ∷ []) es)) out in
+    out_before h e parts.0 l (out_before_all (h ++ e ∷ []) es parts.1 l later)
+
+forced_no_lease : (e : Event) → may_be_forced e ≡ true → lends_none e ≡ true
+forced_no_lease (Lease r) m = absurd (cc)
+forced_no_lease _ m = refl
+
+forced_out : (base : Kept) → {h k : List Event} → IsForcedOn base h k → (l : ℕ) → is_out k l ≡ true → is_out h l ≡ true
+forced_out base stays l out = out
+forced_out base (more {h} {k} {e} before is_forced) l out = forced_out base before l (out_before k e (forced_no_lease e (forced_kind base is_forced)) l out)
+
+pub step_out : (base : Kept) → {h k : List Event} (call : Call) → IsStepOf base h call k → list_all lends_none (outside_of h call) ≡ true →
+    (l : ℕ) → is_out k l ≡ true → is_out h l ≡ true
+step_out base {h} {k} call step none l out = out_before_all h (outside_of h call) none l (forced_out base step.forced l out)
+
+takes_out : (base : Kept) → {h k : List Event} → Takes base h k → (l : ℕ) → is_out k l ≡ true → is_out h l ≡ true
+takes_out base none_taken l out = out
+takes_out base (next_taken {m} {k} {r} before step) l out = takes_out base before l (step_out base (Taking r) step refl l out)
+
+closings_lend_none : (cs : List ℕ) → list_all lends_none (map (λ c. Close c) cs) ≡ true
+closings_lend_none [] = refl
+closings_lend_none (c ∷ cs) = closings_lend_none cs
+
+pub disconnected_out : (base : Kept) → {h k : List Event} (g : ℕ) → IsStepOf base h (Disconnecting g) k → (l : ℕ) → is_out k l ≡ true → is_out h l ≡ true
+disconnected_out base {h} g step = step_out base (Disconnecting g) step (closings_lend_none (open_connections h g))
+
 -- what a caller lets go --------------------------------------------------------------------------------
 
 step_neither : (base : Kept) → {h k : List Event} (call : Call) → IsStepOf base h call k → list_all makes_neither (outside_of h call) ≡ true → OpensNoneUpTo h k
@@ -84,11 +146,27 @@ closings_neither (c ∷ cs) = closings_neither cs
 pub roots_older : (base : Kept) → {h k : List Event} (g : ℕ) → IsStepOf base h (Disconnecting g) k → (n : ℕ) → is_open_root k n ≡ true → is_open_root h n ≡ true
 roots_older base {h} g step = roots_before (step_neither base (Disconnecting g) step (closings_neither (open_connections h g)))
 
-none_held : (h : List Event) → ((n : ℕ) → is_open h n ≡ false) → (r : ℕ) → is_held h r ≡ false
-unfolding is_held
-none_held h closed r =
+none_owned : (h : List Event) → ((n : ℕ) → is_open h n ≡ false) → (r : ℕ) → is_owned h r ≡ false
+unfolding is_owned
+none_owned h closed r =
     let nowhere : (o : Option ℕ) → option_map_or (is_open h) o false ≡ false = λ o. elim o as (λ o. option_map_or (is_open h) o false ≡ false) [ None ↦ refl | Some n ↦ closed n ] in
     and_left _ _ (nowhere (option_and_then node_of_accept (slice_get h r)))
+
+counted_none : (p : ℕ → Bool) → ((n : ℕ) → p n ≡ false) → (ns : List ℕ) → count_by p ns ≡ 0
+counted_none p never [] = refl
+counted_none p never (n ∷ ns) =
+    let rest = counted_none p never ns in
+    let one = ap (λ b. cond {A = ℕ} b 1 0) (never n) in
+    omega (arith, sum_by-cons (λ k. cond {A = ℕ} (p k) 1 0) n ns)
+
+-- where nothing is open and no lease is out nothing is held
+none_held : (h : List Event) → ((n : ℕ) → is_open h n ≡ false) → ((l : ℕ) → is_out h l ≡ false) → (r : ℕ) → is_held h r ≡ false
+none_held h closed returned r =
+    let no_leases = none_leased h (counted_none (is_out h) returned (places h)) r in
+    held_is h r ∙ ap (λ b. b || is_leased h r) (none_owned h closed r) ∙ ap (λ k. at makes_resource h r && nat_lt 0 k) no_leases ∙ and_false (at makes_resource h r) where
+      and_false : (b : Bool) → (b && false) ≡ false
+      and_false true = refl
+      and_false false = refl
 
 -- a list whose numbers pass a test that nothing passes
 none_listed : {A : Type 0} (number : A → ℕ) (test : ℕ → Bool) (xs : List A) → AreJust test (map number xs) → ((n : ℕ) → test n ≡ false) → xs ≡ []
@@ -97,10 +175,14 @@ none_listed number test (x ∷ xs) just never = absurd (both_ways _ (never (numb
 
 -- a book that was closed --------------------------------------------------------------------------
 
-pub closed_book : (mid new : State) → IsLetGo mid.history → Takes mid.base mid.history new.history → IsPromised new → (new.keys ≡ []) × (new.held ≡ [])
-closed_book mid new free takes kept =
+pub closed_book : (mid new : State) → IsLetGo mid.history → ((l : ℕ) → is_out mid.history l ≡ false) → Takes mid.base mid.history new.history → IsPromised new →
+    (new.keys ≡ []) × (new.held ≡ []) × (new.lease_keys ≡ [])
+closed_book mid new free returned takes kept =
     let closed = nothing_open new.base new.history kept.lawful kept.settled (takes_let_go mid.base takes free) in
-    (none_listed (λ k. k.number) (is_open new.history) new.keys kept.keys closed, none_listed (λ b. b.number) (is_held new.history) new.held kept.held (none_held new.history closed))
+    let out : (l : ℕ) → is_out new.history l ≡ false = λ l. false_from_ne_true _ (λ found. both_ways (is_out mid.history l) (returned l) (takes_out mid.base takes l found)) in
+    (none_listed (λ k. k.number) (is_open new.history) new.keys kept.keys closed,
+    none_listed (λ b. b.number) (is_held new.history) new.held kept.held (none_held new.history closed out),
+    none_listed (λ k. k.number) (is_out new.history) new.lease_keys kept.lease_keys out)
 
 -- what was accepted and not yet taken is taken at last
 pub closed_released : (old mid new : State) (released : ℕ) → new.base ≡ mid.base → IsPromised old → accepted_count mid.base mid.history ≡ accepted_count old.base old.history → taken_count mid.base mid.history ≡ taken_count old.base old.history → Takes mid.base mid.history new.history
@@ -119,7 +201,7 @@ place_listed h n within =
     let long : length (places h) ≡ length h = length-range_with_len 0 (length h) in
     (n, omega arith, get_or-range_with_len 0 (length h) n n within ∙ zero-add n)
 
--- disposing of roots -------------------------------------------------------------------------------
+-- what a search finds ------------------------------------------------------------------------------
 
 find_holds : {A : Type 0} (p : A → Bool) (xs : List A) (x : A) → find p xs ≡ Some x → p x ≡ true
 find_holds p [] x found = absurd (cc)
@@ -134,6 +216,28 @@ find_none p (x ∷ xs) missing =
     let branch : (b : Bool) → p x ≡ b → cond b (Some x) (find p xs) ≡ None → All (λ y. p y ≡ false) (x ∷ xs) =
     λ b. elim b as (λ b. p x ≡ b → cond b (Some x) (find p xs) ≡ None → All (λ y. p y ≡ false) (x ∷ xs)) [ true ↦ λ is here. absurd (cc) | false ↦ λ is rest. All-cons (λ y. p y ≡ false) x xs is (find_none p xs rest) ] in
     branch (p x) refl missing
+
+-- giving leases back -------------------------------------------------------------------------------
+
+pub lease_found : (h : List Event) (l : ℕ) → Some l ≡ find (is_out h) (places h) → is_out h l ≡ true
+lease_found h l found = find_holds (is_out h) (places h) l (sym found)
+
+pub lease_missing : (h : List Event) → None ≡ find (is_out h) (places h) → (l : ℕ) → is_out h l ≡ false
+lease_missing h missing l =
+    ⊎_elim
+    (λ within. let listed = place_listed h l within in ap (is_out h) (sym listed.2) ∙ find_none (is_out h) (places h) (sym missing) listed.0 l listed.1)
+    (λ past. is_out_past h l past)
+    (cases_lt l (length h))
+
+-- no cause stands against giving back a lease that is out
+pub returnable : (s : State) (k : LeaseKey) (why : Refusal) → has_lease_key s.lease_keys k ≡ true → is_out s.history k.number ≡ true →
+    first_cause (stands s (give_back_request s k)) ≡ Some why → ⊥
+returnable s k why known out cause =
+    let nothing : first_cause (stands s (give_back_request s k)) ≡ None = rw (known, out) refl in
+    let clash : Some why ≡ None = sym cause ∙ nothing in
+    absurd (cc)
+
+-- disposing of roots -------------------------------------------------------------------------------
 
 pub root_found : (h : List Event) (n : ℕ) → Some n ≡ find (is_open_root h) (places h) → is_open_root h n ≡ true
 root_found h n found = find_holds (is_open_root h) (places h) n (sym found)

@@ -11,3 +11,4 @@ pub mod Taken
 pub mod Emitted
 pub mod Closings
 pub mod Laws
+mod ShownLeases

@@ -8,7 +8,9 @@ use Rattle.std.proofs.lemmas.List.Folds.{list_any_at, Any-from_list_any}
 use Rattle.std.specs.Cmp.{both_ways as same_test}
 use Rattle.rx_event.specs.Events.{named_by}
 use Rattle.rx_slots.specs.declared.Key.{Key as TreeKey}
-use Rattle.rx_slots.specs.Slots.{find}
+use Rattle.rx_slots.specs.Slots.{Slots, find}
+use Rattle.rx_lease.specs.Leases.{lease_key, is_out_at}
+use Rattle.rx_tree.specs.declared.node.ResKey.{ResKey as TreeResKey}
 use Rattle.rx_tree.specs.declared.node.Node.{Node}
 use Rattle.rx_tree.specs.declared.node.Stowed.{Stowed}
 use Rattle.rx_tree.specs.Tree.{Tree}
@@ -19,12 +21,13 @@ use Rattle.rx_ground.specs.Ties.{is_there}
 use Rattle.rx_ground.proofs.Laws.Keys.{kept_finds, finds_kept, held_finds, finds_held}
 use Rattle.rx_book.specs.declared.key.Key.{Key}
 use Rattle.rx_book.specs.declared.key.ResKey.{ResKey}
+use Rattle.rx_book.specs.declared.key.LeaseKey.{LeaseKey}
 use Rattle.rx_book.specs.declared.answer.At.{At}
 use Rattle.rx_book.specs.declared.answer.At.TheVariants.{Root, Source, Inner, Notifier}
-use Rattle.rx_book.specs.State.{has_key, has_res_key}
+use Rattle.rx_book.specs.State.{has_key, has_res_key, has_lease_key}
 use Rattle.rx_book.specs.Requests.{place_of, is_known_place}
 use Rattle.rx_book.specs.Places.{key_above}
-use Rattle.rx_book.specs.Shown.{tree_key_of, tree_res_key_of, key_shown, keys_of, res_keys_of}
+use Rattle.rx_book.specs.Shown.{tree_key_of, tree_res_key_of, ground_lease_key_of, key_shown, keys_of, res_keys_of, lease_keys_of}
 use Rattle.rx_ground.proofs.Laws.Members.{Contains-map, Contains-from_map}
 use Rattle.rx_book.proofs.Laws.Keys.{Contains-has_key}
 
@@ -122,3 +125,41 @@ module _ {T : Type 0} (tree : Tree T) where
       same_test _ _
       (λ has. res_key_finds k (Contains-has_res_key (res_keys_of tree) k has))
       (λ held. has_res_key-Contains (res_keys_of tree) k (finding_res_key k held))
+
+-- leases ------------------------------------------------------------------------------------------
+
+pub same_lease_key : (j k : LeaseKey) → j.slot ≡ k.slot → j.number ≡ k.number → j ≡ k
+same_lease_key j k slot number = λ i. record { slot = slot i; number = number i }
+
+has_lease_key-Contains : (keys : List LeaseKey) (k : LeaseKey) → Contains keys k → has_lease_key keys k ≡ true
+has_lease_key-Contains keys k c =
+    let itself = and_from _ _ (eq-eqb k.slot k.slot refl) (eq-eqb k.number k.number refl) in
+    list_any_at (λ (j : LeaseKey). nat_eq j.slot k.slot && nat_eq j.number k.number) keys c.0 k c.1 (rw c.2 itself)
+
+Contains-has_lease_key : (keys : List LeaseKey) (k : LeaseKey) → has_lease_key keys k ≡ true → Contains keys k
+Contains-has_lease_key keys k found =
+    let a = Any-from_list_any (λ (j : LeaseKey). nat_eq j.slot k.slot && nat_eq j.number k.number) keys found in
+    let parts = and_parts _ _ a.4 in
+    let same = same_lease_key a.1 k (eqb-true a.1.slot k.slot parts.0) (eqb-true a.1.number k.number parts.1) in
+    subst (λ (j : LeaseKey). Contains keys j) same (a.0, a.2, a.3)
+
+module _ (leases : Slots TreeResKey) where
+  abbrev shown_lease : Kept TreeResKey → LeaseKey
+  shown_lease x = record { slot = x.key.slot; number = x.key.number }
+
+  pub lease_key_finds : (k : LeaseKey) → Contains (lease_keys_of leases) k → IsSome (find leases (lease_key (ground_lease_key_of k)))
+  lease_key_finds k c =
+      let from = Contains-from_map shown_lease (kept_in leases) k c in
+      ap (λ (j : LeaseKey). is_some (find leases (lease_key (ground_lease_key_of j)))) (sym from.2) ∙ ap is_some (kept_finds leases from.0 from.1)
+
+  pub finding_lease_key : (k : LeaseKey) → IsSome (find leases (lease_key (ground_lease_key_of k))) → Contains (lease_keys_of leases) k
+  finding_lease_key k some =
+      let found = some_of (find leases (lease_key (ground_lease_key_of k))) some in
+      let here : Kept TreeResKey = record { key = lease_key (ground_lease_key_of k); value = found.0 } in
+      Contains-map shown_lease (kept_in leases) here (finds_kept leases here.key found.0 found.1)
+
+  pub has_lease_key_is : (k : LeaseKey) → has_lease_key (lease_keys_of leases) k ≡ is_out_at leases (ground_lease_key_of k)
+  has_lease_key_is k =
+      same_test _ _
+      (λ has. lease_key_finds k (Contains-has_lease_key (lease_keys_of leases) k has))
+      (λ out. has_lease_key-Contains (lease_keys_of leases) k (finding_lease_key k out))

@@ -12,7 +12,7 @@ use Rattle.rx_event.specs.Events.{is_auto_hub}
 use Rattle.rx_event.specs.Tree.{at, is_open, open_subscribers}
 use Rattle.rx_event.specs.Forced.{IsSettled}
 use Rattle.rx_event.specs.Lawful.{IsLawful}
-use Rattle.rx_event.specs.Resources.{is_held, is_waiting}
+use Rattle.rx_event.specs.Resources.{is_out, is_held, is_waiting}
 use Rattle.rx_event.specs.Totals.{accepted_count, taken_count}
 use Rattle.rx_event.proofs.Laws.Totals.{accepted_count-parts}
 use Rattle.rx_event.proofs.Laws.Notes.{notes_grammatical}
@@ -20,15 +20,17 @@ use Rattle.rx_event.proofs.Laws.Hubs.{one_open_connection, one_where_subscribed,
 use Rattle.rx_slots.specs.Slots.{Slots}
 use Rattle.rx_tree.specs.declared.node.Node.{Node}
 use Rattle.rx_tree.specs.declared.node.Stowed.{Stowed}
-use Rattle.rx_tree.specs.Tree.{IsPromised as IsTreePromised}
+use Rattle.rx_tree.specs.declared.node.ResKey.{ResKey as TreeResKey}
+use Rattle.rx_tree.specs.Tree.{AreApart, IsPromised as IsTreePromised}
 use Rattle.rx_register.specs.State.{IsPromised as IsRegisterPromised}
 use Rattle.rx_register.specs.Causes.{has_connection}
 use Rattle.rx_ground.specs.Shown.{Ground, Label, Kept, kept_in, held_in, waiting_in, label_in}
 use Rattle.rx_ground.specs.Ties.{IsStored, IsStanding}
 use Rattle.rx_ground.proofs.Laws.Numbers.{ListsJust}
-use Rattle.rx_ground.proofs.Laws.Kept.{numbers, stored_held, stored_waiting, just_nodes, just_held, just_waiting, length-held, length-waiting}
+use Rattle.rx_ground.proofs.Laws.Kept.{numbers, stored_held, stored_waiting, just_nodes, just_held, just_waiting, just_out, length-held, length-waiting}
 use Rattle.rx_book.specs.declared.key.Key.{Key}
 use Rattle.rx_book.specs.declared.key.ResKey.{ResKey}
+use Rattle.rx_book.specs.declared.key.LeaseKey.{LeaseKey}
 use Rattle.rx_book.specs.State.{IsPromised, IsLabelOf, AreJust, accepted_tag, has_subscriber}
 use Rattle.rx_book.specs.Shown.{key_shown, state_of}
 use Rattle.rx_ground.proofs.Laws.Members.{All-members}
@@ -68,7 +70,7 @@ module _ {T : Type 0} (g : Ghosts T) where
     label : (k : Kept (Stowed T)) → Contains ks k → IsLabelOf base h (label_in g k)
     label k c = let is = stored k c in record { live = is.live; tag = ap (option_and_then accepted_tag) is.accepted; uses = is.uses }
 
-  module _ (b : Ground T) (register : IsRegisterPromised b.register) (tree : IsTreePromised b.tree) (standing : IsStanding g b) where
+  module _ (b : Ground T) (register : IsRegisterPromised b.register) (tree : IsTreePromised b.tree) (apart : AreApart b.leases) (standing : IsStanding g b) where
     abbrev h : List Event
     h = b.register.history
 
@@ -80,6 +82,12 @@ module _ {T : Type 0} (g : Ghosts T) where
 
     held_numbers : ListsJust (is_held h) (numbers (held_in b.tree))
     held_numbers = just_held b.register.base g h b.tree standing.tied.of_tree register.lawful tree.resources_apart
+
+    abbrev lease_shown : Kept TreeResKey → LeaseKey
+    lease_shown k = record { slot = k.key.slot; number = k.key.number }
+
+    out_numbers : ListsJust (is_out h) (numbers (kept_in b.leases))
+    out_numbers = just_out h b.tree.resources b.leases standing.leased apart
 
     waiting_numbers : ListsJust (is_waiting h) (numbers (waiting_in b.tree))
     waiting_numbers = just_waiting b.register.base g h b.tree standing.tied.of_tree tree.resources_apart
@@ -101,6 +109,7 @@ module _ {T : Type 0} (g : Ghosts T) where
       one_connection = one_open_connection b.register.base h register.lawful;
       keys = shown_just (is_open h) (λ (k : Kept Node). key_shown k.key) (λ (k : Key). k.number) (λ k. refl) (kept_in b.tree.nodes) open_numbers;
       res_keys = shown_just (is_held h) held_key (λ (k : ResKey). k.number) (λ k. refl) (held_in b.tree) held_numbers;
+      lease_keys = shown_just (is_out h) lease_shown (λ (k : LeaseKey). k.number) (λ k. refl) (kept_in b.leases) out_numbers;
       held = shown_just (is_held h) (label_in g) (λ (l : Label). l.number) (λ k. refl) (held_in b.tree) held_numbers;
       waiting = shown_just (is_waiting h) (label_in g) (λ (l : Label). l.number) (λ k. refl) (waiting_in b.tree) waiting_numbers;
       held_labels = labels b.register.base h b.tree.nodes (held_in b.tree) (stored_held b.register.base g h b.tree standing.tied.of_tree);

@@ -13,10 +13,11 @@ use Rattle.rx_event.specs.Refusals.{first_cause, IsRefusal}
 use Rattle.rx_ground.specs.Shown.{label_of}
 use Rattle.rx_book.specs.declared.key.Key.{Key}
 use Rattle.rx_book.specs.declared.key.ResKey.{ResKey}
+use Rattle.rx_book.specs.declared.key.LeaseKey.{LeaseKey}
 use Rattle.rx_book.specs.declared.answer.Opened.{Opened}
 use Rattle.rx_book.specs.declared.answer.OpenedUsing.{OpenedUsing}
 use Rattle.rx_book.specs.declared.answer.Refused.{Refused}
-use Rattle.rx_book.specs.State.{State, has_key, has_res_key}
+use Rattle.rx_book.specs.State.{State, has_key, has_res_key, has_lease_key}
 use Rattle.rx_book.specs.Requests.{Request, stands, take_request}
 
 abbrev pub makes_connection : Event → Bool
@@ -37,6 +38,7 @@ pub record Accepts (old : State) (asked : Request) (new : State) : Type 0 where
   pub given : new.given ≡ old.given
   pub keys : (k : Key) → Contains new.keys k → k.number < length old.history → Contains old.keys k
   pub res_keys : (k : ResKey) → Contains new.res_keys k → k.number < length old.history → Contains old.res_keys k
+  pub lease_keys : (k : LeaseKey) → Contains new.lease_keys k → k.number < length old.history → Contains old.lease_keys k
 
 -- refusals ----------------------------------------------------------------------------------------
 
@@ -69,6 +71,11 @@ pub record IsNewResKey (new : State) (place : ℕ) (k : ResKey) : Type 0 where
   pub number : k.number ≡ place
   pub listed : IsTrue (has_res_key new.res_keys k)
 
+-- the key of a lease that was given out at this place
+pub record IsNewLeaseKey (new : State) (place : ℕ) (k : LeaseKey) : Type 0 where
+  pub number : k.number ≡ place
+  pub listed : IsTrue (has_lease_key new.lease_keys k)
+
 -- a new node's key, and the key of the connection that its opening forced, if it did
 pub record IsOpened (old new : State) (o : Opened) : Type 0 where
   pub key : IsNewKey new (length old.history) o.key
@@ -99,6 +106,10 @@ AnswersPlaceOrWant old asked = Answers (IsPlace old) (IsCauseOrWant old asked) o
 -- the key of the new node
 abbrev pub AnswersKey : State → Request → State → Result Key Refusal → Type 0
 AnswersKey old asked new = Answers (IsNewKey new (length old.history)) (IsCauseOrWant old asked) old asked new
+
+-- the key of the new lease
+abbrev pub AnswersLeaseKey : State → Request → State → Result LeaseKey Refusal → Type 0
+AnswersLeaseKey old asked new = Answers (IsNewLeaseKey new (length old.history)) (IsCauseOrWant old asked) old asked new
 
 -- a resource's own word, of which nothing is said
 abbrev pub AnswersWord : State → Request → State → Result ℕ Refusal → Type 0

@@ -9,16 +9,18 @@ use Rattle.rx_event.specs.declared.event.Place.TheVariants.{Root, Source, Inner,
 use Rattle.rx_event.specs.declared.event.Kind.{Kind}
 use Rattle.rx_event.specs.declared.event.Mode.{Mode}
 use Rattle.rx_event.specs.declared.refusal.Refusal.{Refusal}
-use Rattle.rx_event.specs.Calls.{Call, Opening, OpeningUsing, Holding, Applying, Removing, Emitting, Ending, Aborting, Declining, Failing, Disposing, Publishing, Connecting, Disconnecting, Taking}
+use Rattle.rx_event.specs.Calls.{Call, Opening, OpeningUsing, Holding, Applying, Removing, Leasing, GivingBack, Emitting, Ending, Aborting, Declining}
+use Rattle.rx_event.specs.Calls.{Failing, Disposing, Publishing, Connecting, Disconnecting, Taking}
 use Rattle.rx_register.specs.Causes.{causes, by_key_of}
 use Rattle.rx_book.specs.declared.key.Key.{Key}
 use Rattle.rx_book.specs.declared.key.ResKey.{ResKey}
+use Rattle.rx_book.specs.declared.key.LeaseKey.{LeaseKey}
 use Rattle.rx_book.specs.declared.answer.At.{At}
 use Rattle.rx_book.specs.declared.answer.At.TheVariants.{Root as AtRoot, Source as AtSource, Inner as AtInner, Notifier as AtNotifier}
-use Rattle.rx_book.specs.State.{State, has_key, has_res_key}
+use Rattle.rx_book.specs.State.{State, has_key, has_res_key, has_lease_key}
 
--- a call with numbers in place of keys, whether its key is that of an open node or a held resource (true where it has none), and
--- whether the resource that is handed in is live and was never used (true where there is none)
+-- a call with numbers in place of keys, whether its key is that of an open node, a held resource or a lease that is out (true where it
+-- has none), and whether the resource that is handed in is live and was never used (true where there is none)
 pub record Request : Type 0 where
   pub call : Call
   pub is_known : Bool
@@ -64,6 +66,12 @@ apply_request s res = res_request s res (Applying res.number)
 
 abbrev pub remove_request : State → ResKey → Request
 remove_request s res = res_request s res (Removing res.number)
+
+abbrev pub lease_request : State → ResKey → Request
+lease_request s res = res_request s res (Leasing res.number)
+
+abbrev pub give_back_request : State → LeaseKey → Request
+give_back_request s lease = record { call = GivingBack lease.number; is_known = has_lease_key s.lease_keys lease; is_fresh = true }
 
 abbrev pub next_request : State → Key → ℤ → Request
 next_request s leaf value = node_request s leaf (Emitting leaf.number value)

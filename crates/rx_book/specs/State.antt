@@ -9,7 +9,7 @@ use Rattle.rx_event.specs.declared.event.Event.TheVariants.{Accept}
 use Rattle.rx_event.specs.Kept.{Kept, nothing_kept}
 use Rattle.rx_event.specs.Events.{is_auto_hub}
 use Rattle.rx_event.specs.Tree.{at, is_open, open_subscribers, open_connections}
-use Rattle.rx_event.specs.Resources.{is_held, is_waiting, accepted_by, uses}
+use Rattle.rx_event.specs.Resources.{is_out, is_held, is_waiting, accepted_by, uses}
 use Rattle.rx_event.specs.Notes.{notes, notes_to}
 use Rattle.rx_event.specs.Totals.{debt, item_count, accepted_count, taken_count}
 use Rattle.rx_event.specs.Lawful.{IsLawful}
@@ -18,15 +18,17 @@ use Rattle.rx_register.specs.Causes.{has_connection}
 use Rattle.rx_ground.specs.Shown.{Label}
 use Rattle.rx_book.specs.declared.key.Key.{Key}
 use Rattle.rx_book.specs.declared.key.ResKey.{ResKey}
+use Rattle.rx_book.specs.declared.key.LeaseKey.{LeaseKey}
 
--- a book: what a checkpoint kept, the history as one list with it, the limit on the events since, the keys of the open nodes and of
--- the held resources, the resources held and those waiting, and how many notes were handed out
+-- a book: what a checkpoint kept, the history as one list with it, the limit on the events since, the keys of the open nodes, of the
+-- held resources and of the leases out, the resources held and those waiting, and how many notes were handed out
 pub record State : Type 0 where
   pub base : Kept
   pub history : List Event
   pub limit : ℕ
   pub keys : List Key
   pub res_keys : List ResKey
+  pub lease_keys : List LeaseKey
   pub held : List Label
   pub waiting : List Label
   pub given : ℕ
@@ -36,6 +38,9 @@ has_key keys k = list_any (λ j. j.slot == k.slot && j.number == k.number) keys
 
 abbrev pub has_res_key : List ResKey → ResKey → Bool
 has_res_key keys k = list_any (λ j. j.slot == k.slot && j.number == k.number) keys
+
+abbrev pub has_lease_key : List LeaseKey → LeaseKey → Bool
+has_lease_key keys k = list_any (λ j. j.slot == k.slot && j.number == k.number) keys
 
 -- the numbers of the list are those that pass the test, each once
 pub record AreJust (test : ℕ → Bool) (numbers : List ℕ) : Type 0 where
@@ -71,6 +76,7 @@ pub record IsPromised (s : State) : Type 0 where
   pub one_connection : (g : ℕ) → length (open_connections s.history g) ≤ 1
   pub keys : AreJust (is_open s.history) (map (λ k. k.number) s.keys)
   pub res_keys : AreJust (is_held s.history) (map (λ k. k.number) s.res_keys)
+  pub lease_keys : AreJust (is_out s.history) (map (λ k. k.number) s.lease_keys)
   pub held : AreJust (is_held s.history) (map (λ l. l.number) s.held)
   pub waiting : AreJust (is_waiting s.history) (map (λ l. l.number) s.waiting)
   pub held_labels : All (IsLabelOf s.base s.history) s.held
@@ -94,3 +100,4 @@ pub record Continues (old new : State) : Type 0 where
   pub longer : length old.history ≤ length new.history
   pub keys : (k : Key) → Contains new.keys k → k.number < length old.history → Contains old.keys k
   pub res_keys : (k : ResKey) → Contains new.res_keys k → k.number < length old.history → Contains old.res_keys k
+  pub lease_keys : (k : LeaseKey) → Contains new.lease_keys k → k.number < length old.history → Contains old.lease_keys k

@@ -8,12 +8,13 @@ ghost use Rattle.rx_event.specs.Events.{is_merging};
 ghost use Rattle.rx_event.specs.Tree.{at, places};
 ghost use Rattle.rx_event.specs.Moments.{owed};
 ghost use Rattle.rx_event.specs.Notes.{notes};
-ghost use Rattle.rx_event.specs.Totals.{open_count as open_count_in, held_count, waiting_count};
+ghost use Rattle.rx_event.specs.Totals.{open_count as open_count_in, held_count, waiting_count, lease_count};
 ghost use Rattle.rx_event.specs.Totals.{accepted_count, taken_count, item_count};
-ghost use Rattle.rx_book.specs.State.{IsPromised, has_key, has_res_key};
+ghost use Rattle.rx_event.specs.Resources.{is_out};
+ghost use Rattle.rx_book.specs.State.{IsPromised, has_key, has_res_key, has_lease_key};
 ghost use Rattle.rx_event.specs.Claims.Closing.{is_open_root};
 
-use crate::key::{Key, ResKey, shown_key, tree_key, tree_res_key};
+use crate::key::{Key, LeaseKey, ResKey, shown_key, shown_lease_key, tree_key, tree_res_key};
 use rx_event::{Event, Mail};
 use rx_ground::Ground;
 use rx_resource::Resource;
@@ -23,8 +24,9 @@ use std::marker::Model;
 /// A book of subscriptions, whose resources are of type `R`: `Box<dyn Resource>` where there are
 /// many kinds.
 ///
-/// To its callers it is a state: its history and limit, the keys of the open nodes and of the held
-/// resources, the resources that it holds and those that wait, and the number of notes handed out.
+/// To its callers it is a state: its history and limit, the keys of the open nodes, of the held
+/// resources and of the leases that are out, the resources that it holds and those that wait, and the
+/// number of notes handed out.
 /// A book that is dropped drops its resources unreleased.
 pub struct Book<R: Resource> {
     pub(crate) ground: Ground<R>,
@@ -54,7 +56,7 @@ impl<R: Resource> Book<R> {
     /// memory.
     pub fn new(alloc: Global, max_events: u64) -> Self
         requires { max_events ≤ 4294967295 }
-        ensures { result ≡ record { base = nothing_kept; history = []; limit = max_events; keys = []; res_keys = []; held = []; waiting = []; given = 0 } }
+        ensures { result ≡ record { base = nothing_kept; history = []; limit = max_events; keys = []; res_keys = []; lease_keys = []; held = []; waiting = []; given = 0 } }
     {
         Book {
             ground: Ground::new(alloc, max_events),
@@ -92,6 +94,22 @@ impl<R: Resource> Book<R> {
         ensures { result ≡ held_count self.now.history }
     {
         self.ground.held_count()
+    }
+
+    /// How many leases are out.
+    pub fn leases(&self) -> u64
+        ensures { result ≡ lease_count self.now.history }
+    {
+        self.ground.lease_count()
+    }
+
+    /// The key of the lease of least number that is out.
+    pub fn open_lease(&self) -> Option<LeaseKey>
+        ensures least { option_map (λ k. k.number) result ≡ find (is_out self.now.history) (places self.now.history) }
+        ensures key { IfSome result (λ k. IsTrue (has_lease_key self.now.lease_keys k)) }
+    {
+        let lease = self.ground.first_lease()?;
+        Some(shown_lease_key(lease))
     }
 
     /// How many resources wait for their release.

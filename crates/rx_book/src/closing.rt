@@ -1,8 +1,10 @@
-//! Ending a book: all that is open is unsubscribed or disconnected, and all that waits is released.
+//! Ending a book: all leases are given back, all that is open is unsubscribed or disconnected, and all
+//! that waits is released.
 
 ghost use Rattle.std.specs.Prelude.{◌≡◌, ◌+◌, ◌≤◌, ℕ, [], true, false};
 ghost use Rattle.rx_event.specs.Events.{is_manual_hub};
 ghost use Rattle.rx_event.specs.Tree.{at, open_connections};
+ghost use Rattle.rx_event.specs.Resources.{is_out};
 ghost use Rattle.rx_event.specs.Totals.{accepted_count, taken_count, held_count, waiting_count};
 ghost use Rattle.rx_event.specs.Claims.Closing.{is_open_root};
 ghost use Rattle.rx_book.specs.Drains.{Drains};
@@ -46,12 +48,29 @@ impl<R: Resource> Book<R> {
         }
     }
 
+    /// Gives back all leases that are out. It takes no memory.
+    fn return_leases(&mut self)
+        ensures base { self.new.base ≡ self.old.base }
+        ensures none_out { (l : ℕ) → is_out self.new.history l ≡ false }
+        ensures accepted { accepted_count self.new.base self.new.history ≡ accepted_count self.old.base self.old.history }
+        ensures taken { taken_count self.new.base self.new.history ≡ taken_count self.old.base self.old.history }
+    {
+        self.promise();
+        while let Some(lease) = self.open_lease() {
+            match self.give_back(lease) {
+                Ok(_) => self.promise(),
+                Err(_) => unreachable!(),
+            }
+        }
+    }
+
     /// Unsubscribes all open roots. It takes no memory.
     fn dispose_roots(&mut self)
         ensures base { self.new.base ≡ self.old.base }
         ensures limit { self.new.limit ≡ self.old.limit }
         ensures given { self.new.given ≡ self.old.given }
         ensures none_open { (n : ℕ) → is_open_root self.new.history n ≡ false }
+        ensures out { (l : ℕ) → is_out self.new.history l ≡ true → is_out self.old.history l ≡ true }
         ensures accepted { accepted_count self.new.base self.new.history ≡ accepted_count self.old.base self.old.history }
         ensures taken { taken_count self.new.base self.new.history ≡ taken_count self.old.base self.old.history }
     {
@@ -71,6 +90,7 @@ impl<R: Resource> Book<R> {
         ensures given { self.new.given ≡ self.old.given }
         ensures disconnected { (g : ℕ) → at is_manual_hub self.new.history g ≡ true → open_connections self.new.history g ≡ [] }
         ensures roots { (n : ℕ) → is_open_root self.new.history n ≡ true → is_open_root self.old.history n ≡ true }
+        ensures out { (l : ℕ) → is_out self.new.history l ≡ true → is_out self.old.history l ≡ true }
         ensures accepted { accepted_count self.new.base self.new.history ≡ accepted_count self.old.base self.old.history }
         ensures taken { taken_count self.new.base self.new.history ≡ taken_count self.old.base self.old.history }
     {
@@ -83,12 +103,14 @@ impl<R: Resource> Book<R> {
         }
     }
 
-    /// Unsubscribes all open roots, disconnects all hubs that were connected by hand, and takes and
-    /// releases all that waits then: nothing is open, held or waiting afterwards. The limit stays, and the
-    /// notes that were not handed out yet still are. It takes no memory.
+    /// Gives back all leases, unsubscribes all open roots, disconnects all hubs that were connected by
+    /// hand, and takes and releases all that waits then: nothing is open, held or waiting afterwards, and
+    /// no lease is out. The limit stays, and the notes that were not handed out yet still are. It takes no
+    /// memory.
     pub fn close(&mut self) -> Closed
         ensures none_open { self.new.keys ≡ [] }
         ensures none_held { self.new.held ≡ [] }
+        ensures none_out { self.new.lease_keys ≡ [] }
         ensures none_waits { self.new.waiting ≡ [] }
         ensures base { self.new.base ≡ self.old.base }
         ensures limit { self.new.limit ≡ self.old.limit }
@@ -99,6 +121,7 @@ impl<R: Resource> Book<R> {
         ensures faults { result.faults ≤ result.released }
     {
         self.promise();
+        self.return_leases();
         self.dispose_roots();
         self.disconnect_hubs();
         let closed = self.release_waiting();

@@ -29,6 +29,7 @@ impl<R: Resource> Book<R> {
             nodes: 0,
             resources: 0,
             hubs: 0,
+            leases: 0,
         })?;
         self.ground.promise();
         let place = self.ground.len();

@@ -37,6 +37,7 @@ impl<R: Resource> Book<R> {
             nodes: 0,
             resources: 1,
             hubs: 0,
+            leases: 0,
         };
         if let Err(why) = admit(&mut self.ground, cause, wanted) {
             return Err(Refused {
@@ -65,6 +66,7 @@ impl<R: Resource> Book<R> {
             nodes: 0,
             resources: 0,
             hubs: 0,
+            leases: 0,
         };
         admit(&mut self.ground, cause, wanted)?;
         self.ground.promise();

@@ -29,6 +29,7 @@ impl<R: Resource> Book<R> {
             nodes: 0,
             resources: 0,
             hubs: 1,
+            leases: 0,
         };
         admit(&mut self.ground, cause, wanted)?;
         self.ground.promise();
@@ -52,6 +53,7 @@ impl<R: Resource> Book<R> {
             nodes: 1,
             resources: 0,
             hubs: 0,
+            leases: 0,
         };
         admit(&mut self.ground, cause, wanted)?;
         self.ground.promise();

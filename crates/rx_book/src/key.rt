@@ -1,8 +1,9 @@
-//! Names of open nodes and held resources.
+//! Names of open nodes, held resources and leases.
 
 ghost use Rattle.std.specs.Prelude.{◌≡◌};
-ghost use Rattle.rx_book.specs.Shown.{tree_key_of, tree_res_key_of, key_shown, res_key_shown};
+ghost use Rattle.rx_book.specs.Shown.{tree_key_of, tree_res_key_of, ground_lease_key_of, key_shown, res_key_shown, lease_key_shown};
 
+use rx_lease::LeaseKey as GroundLeaseKey;
 use rx_tree::{Key as TreeKey, ResKey as TreeResKey};
 
 /// The key of an open node. It stays the node's key while the node is open, and is nobody's
@@ -23,6 +24,15 @@ pub struct ResKey {
     /// Where the resource's record lies, which is the book's own affair.
     pub slot: u64,
     /// The number of the resource: the place of the event that accepted it, from 0.
+    pub number: u64,
+}
+
+/// The key of a lease. It stays the lease's key while that is out, and is nobody's afterwards.
+#[derive(Clone, Copy, Debug, PartialEq, Eq)]
+pub struct LeaseKey {
+    /// Where the lease's record lies, which is the book's own affair.
+    pub slot: u64,
+    /// The number of the lease: the place of the event that gave it out, from 0.
     pub number: u64,
 }
 
@@ -63,5 +73,25 @@ pub(crate) fn shown_res_key(res: TreeResKey) -> ResKey
     ResKey {
         slot: res.slot as u64,
         number: res.number,
+    }
+}
+
+/// The lease's key as the ground has it.
+pub(crate) fn ground_lease_key(lease: LeaseKey) -> GroundLeaseKey
+    ensures { result ≡ ground_lease_key_of lease }
+{
+    GroundLeaseKey {
+        slot: lease.slot as usize,
+        number: lease.number,
+    }
+}
+
+/// The lease's key as callers have it.
+pub(crate) fn shown_lease_key(lease: GroundLeaseKey) -> LeaseKey
+    ensures { result ≡ lease_key_shown lease }
+{
+    LeaseKey {
+        slot: lease.slot as u64,
+        number: lease.number,
     }
 }

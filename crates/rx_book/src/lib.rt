@@ -23,13 +23,14 @@
 //!   completion back: a FlatMap completes once its source and all inners have completed and nothing is
 //!   owed, a Switch once its source and its latest inner have. That inners are opened by hand, and what
 //!   is owed counts, is this project's own.
-//! - A **resource** is **held** as long as its node is open, **waits** from then on, and is **taken** by
-//!   [`Book::take`], which gives it as an `rx_resource::Handed` that can only be released.
+//! - A **resource** is **held** as long as its node is open or a **lease** of it is out, **waits** from
+//!   then on, and is **taken** by [`Book::take`], which gives it as an `rx_resource::Handed` that can only
+//!   be released. A lease is given out by [`Book::lease`] and named by a [`LeaseKey`].
 //! - A **note** tells the observer at a root of an item or of the end. [`Book::take_mail`] hands the
 //!   notes out as [`Mail`].
 //! - A contract sees a [`Book`] as a `State` of `specs/`: the history and its limit, the keys of what
-//!   is open and held, the resources held and waiting, each by number, tag and uses, and the number of
-//!   notes handed out. `Request` says what is asked, `stands` which causes
+//!   is open and held and of the leases out, the resources held and waiting, each by number, tag and
+//!   uses, and the number of notes handed out. `Request` says what is asked, `stands` which causes
 //!   stand against it, `Accepts` what an accepted call does, `Answers` what a call answers, and
 //!   `IsPromised` what holds of every book.
 //! - What a program that embeds a book needs beside is offered here too: [`Kind`], [`Terminal`],
@@ -46,11 +47,11 @@
 //!   nothing, and gives a resource that was handed in back as it came. The refusals of each call, and
 //!   their order, are exact; that want of memory is given only where memory was really refused is
 //!   tested and not proved, as no contract can say what memory is left.
-//! - `remove`, `end`, `abort`, `decline`, `fail`, `dispose`, `disconnect`, `take` and `take_mail` are
-//!   refused for no want of memory or room, and `close` and `finish` cannot fail: each opening call, and
-//!   each item that is projected, keeps room for all that closing needs. That they take no memory, and
-//!   `Book::new` none, is tested and not proved, as no contract of a book tells its room; of the ground
-//!   below it, which does all of that, it is proved (`TakesNoMemory` of `rx_ground`).
+//! - `remove`, `give_back`, `end`, `abort`, `decline`, `fail`, `dispose`, `disconnect`, `take` and
+//!   `take_mail` are refused for no want of memory or room, and `close` and `finish` cannot fail: each
+//!   opening call, and each item that is projected, keeps room for all that closing needs. That they take
+//!   no memory, and `Book::new` none, is tested and not proved, as no contract of a book tells its room;
+//!   of the ground below it, which does all of that, it is proved (`TakesNoMemory` of `rx_ground`).
 //! - A key is its node's as long as that is open, and nobody's afterwards, also where it was made up or
 //!   its slot has another node now.
 //! - No call searches the history. What opening, holding, emitting and using cost does not grow with
@@ -69,13 +70,14 @@ mod ending;
 mod holding;
 mod hubs;
 mod key;
+mod leasing;
 mod opening;
 mod place;
 
 pub use answer::{At, Opened, OpenedUsing, Refused};
 pub use book::Book;
 pub use closing::Closed;
-pub use key::{Key, ResKey};
+pub use key::{Key, LeaseKey, ResKey};
 pub use rx_event::{Event, Kind, Mail, Mode, Refusal, Terminal};
 pub use rx_note::Note;
 pub use rx_resource::{Handed, Life, Released, Resource};

@@ -44,6 +44,7 @@ impl<R: Resource> Book<R> {
             nodes: nodes as usize,
             resources: 0,
             hubs: 0,
+            leases: 0,
         };
         admit(&mut self.ground, cause, wanted)?;
         self.ground.promise();
@@ -91,6 +92,7 @@ impl<R: Resource> Book<R> {
             nodes: 1,
             resources: 1,
             hubs: 0,
+            leases: 0,
         };
         if let Err(why) = admit(&mut self.ground, cause, wanted) {
             return Err(Refused {

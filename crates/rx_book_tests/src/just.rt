@@ -46,6 +46,7 @@ fn memory_for(alloc: Global, room: Room) -> Result<Memory, AllocError> {
         nodes: room.nodes,
         resources: room.resources,
         hubs: 0,
+        leases: 0,
     })?;
     Ok(Memory { ground })
 }

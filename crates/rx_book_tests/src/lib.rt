@@ -19,6 +19,8 @@ mod fresh;
 #[cfg(test)]
 mod just;
 #[cfg(test)]
+mod leases;
+#[cfg(test)]
 mod load;
 #[cfg(test)]
 mod probe;

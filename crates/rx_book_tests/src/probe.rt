@@ -1,7 +1,7 @@
 //! A book as the tests see it: its calls with answers that can be compared. They have no contract, as
 //! a test compares values when it runs.
 
-use rx_book::{At, Book, Closed, Key, Mail, Opened, OpenedUsing, Refused, ResKey};
+use rx_book::{At, Book, Closed, Key, LeaseKey, Mail, Opened, OpenedUsing, Refused, ResKey};
 use rx_event::{Event, Kind, Mode, Refusal, Terminal};
 use rx_resource::{Life, Resource};
 use std::alloc::Global;
@@ -79,6 +79,22 @@ impl<R: Resource> Probe<R> {
 
     pub(super) fn remove(&mut self, res: ResKey) -> Result<u64, Refusal> {
         self.book.remove(res)
+    }
+
+    pub(super) fn lease(&mut self, res: ResKey) -> Result<LeaseKey, Refusal> {
+        self.book.lease(res)
+    }
+
+    pub(super) fn give_back(&mut self, lease: LeaseKey) -> Result<u64, Refusal> {
+        self.book.give_back(lease)
+    }
+
+    pub(super) fn leases(&self) -> u64 {
+        self.book.leases()
+    }
+
+    pub(super) fn open_lease(&self) -> Option<LeaseKey> {
+        self.book.open_lease()
     }
 
     pub(super) fn next(&mut self, leaf: Key, value: i64) -> Result<u64, Refusal> {

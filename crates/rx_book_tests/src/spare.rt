@@ -2,7 +2,7 @@
 
 use super::probe::Probe;
 use super::same::same;
-use rx_book::{At, Key, ResKey};
+use rx_book::{At, Key, LeaseKey, ResKey};
 use rx_event::{Kind, Mode, Refusal, Terminal};
 use rx_resource::Sample;
 use rx_scarce::Scarce;
@@ -13,6 +13,7 @@ use std::test::Fail;
 #[derive(Clone, Copy, Debug)]
 pub(super) enum Closing {
     Remove(ResKey),
+    GiveBack(LeaseKey),
     Decline(Key),
     Fail(Key),
     End(Key),
@@ -26,12 +27,13 @@ pub(super) enum Closing {
 }
 
 // How many calls there are.
-pub(super) const CLOSINGS: usize = 11;
+pub(super) const CLOSINGS: usize = 12;
 
 // Whether it is accepted, and does something.
 pub(super) fn is_done(book: &mut Probe<Sample>, closing: Closing) -> bool {
     match closing {
         Closing::Remove(res) => book.remove(res).is_ok(),
+        Closing::GiveBack(lease) => book.give_back(lease).is_ok(),
         Closing::Decline(node) => book.decline(node).is_ok(),
         Closing::Fail(node) => book.fail(node, 1).is_ok(),
         Closing::End(node) => book.end(node, Terminal::Completed).is_ok(),
@@ -103,9 +105,11 @@ pub(super) fn new_closings(book: &mut Probe<Sample>) -> Result<(Key, [Closing; C
     let (disposed, _, _) = using_two(book)?;
     let (_, _, waiting) = using_two(book)?;
     book.remove(waiting)?;
+    let lease = book.lease(removed)?;
     let leaf = book.open(At::Root, Kind::Leaf)?.key;
     let closings = [
         Closing::Remove(removed),
+        Closing::GiveBack(lease),
         Closing::Decline(flat),
         Closing::Fail(flat),
         Closing::Abort(lowest),
@@ -140,7 +144,7 @@ fn closings_and_handing_out_take_no_memory(rt: HostRuntime) -> Result<(), Fail> 
         fill(&mut book, leaf)
     };
     same(&rt, why, Some(Refusal::NoMemory));
-    same(&rt, done_of(rt.alloc(), &mut book, closings), 11);
+    same(&rt, done_of(rt.alloc(), &mut book, closings), 12);
     let totals = book.totals();
     same(
         &rt,
@@ -155,7 +159,7 @@ fn a_full_book_closes_and_hands_out_with_no_memory_left(rt: HostRuntime) -> Resu
     let mut book = Probe::new(rt.alloc(), 64);
     let (leaf, closings) = new_closings(&mut book)?;
     same(&rt, fill(&mut book, leaf), Some(Refusal::Full));
-    same(&rt, done_of(rt.alloc(), &mut book, closings), 11);
+    same(&rt, done_of(rt.alloc(), &mut book, closings), 12);
     let totals = book.totals();
     same(
         &rt,

@@ -2,14 +2,14 @@
 use Rattle.std.proofs.Common.{◌≡◌, ◌+◌, true, false, List, [], ◌∷◌, ◌++◌, length, refl, sym, ap, ◌∙◌, arith, append_assoc, cond, ℕ, map}
 use Rattle.rx_event.specs.Kept.{Kept}
 use Rattle.rx_event.specs.declared.event.Event.{Event}
-use Rattle.rx_event.specs.declared.event.Event.TheVariants.{Open, Hub, Connect, Accept, Use, Remove, Item, Decline, End, Close, Take}
+use Rattle.rx_event.specs.declared.event.Event.TheVariants.{Open, Hub, Connect, Accept, Use, Remove, Lease, Return, Item, Decline, End, Close, Take}
 use Rattle.rx_note.specs.declared.note.Terminal.TheVariants.{Error}
 use Rattle.rx_event.specs.declared.event.Kind.TheVariants.{Pass}
 use Rattle.rx_event.specs.Events.{is_item, makes_resource, is_take}
 use Rattle.rx_event.specs.Tree.{open_connections}
 use Rattle.rx_event.specs.Lawful.{stays, more, IsForcedOn}
 use Rattle.rx_event.specs.Calls.{Call, outside_of, IsStepOf}
-use Rattle.rx_event.specs.Calls.{Opening, OpeningUsing, Holding, Applying, Removing, Emitting, Ending, Aborting}
+use Rattle.rx_event.specs.Calls.{Opening, OpeningUsing, Holding, Applying, Removing, Leasing, GivingBack, Emitting, Ending, Aborting}
 use Rattle.rx_event.specs.Calls.{Declining, Failing, Disposing, Publishing, Connecting, Disconnecting, Taking}
 use Rattle.rx_event.specs.Totals.{item_count, accepted_count, taken_count}
 use Rattle.rx_event.proofs.Laws.Steps.{forced_kind, may_be_forced}
@@ -39,6 +39,8 @@ counts_none (Hub mode) s m = cc
 counts_none (Accept n tag) s m = cc
 counts_none (Use r) s m = cc
 counts_none (Remove r) s m = cc
+counts_none (Lease r) s m = cc
+counts_none (Return l) s m = cc
 counts_none (Item l v) s m = cc
 counts_none (Decline f) s m = cc
 counts_none (Take r) s m = cc
@@ -70,6 +72,8 @@ sums-outside base h (Holding node tag) =
     one_more base h (Accept node tag) more (same_sums (counts (Accept node tag) (sums_of base h)) more (omega arith) refl (omega arith))
 sums-outside base h (Applying r) = one_more base h (Use r) (sums_of base h) (plain (Use r) (sums_of base h) refl refl refl)
 sums-outside base h (Removing r) = one_more base h (Remove r) (sums_of base h) (plain (Remove r) (sums_of base h) refl refl refl)
+sums-outside base h (Leasing r) = one_more base h (Lease r) (sums_of base h) (plain (Lease r) (sums_of base h) refl refl refl)
+sums-outside base h (GivingBack l) = one_more base h (Return l) (sums_of base h) (plain (Return l) (sums_of base h) refl refl refl)
 sums-outside base h (Emitting leaf value) =
     let more : Sums = record (sums_of base h) { items = item_count base h + 1 } in
     one_more base h (Item leaf value) more (same_sums (counts (Item leaf value) (sums_of base h)) more refl (omega arith) (omega arith))

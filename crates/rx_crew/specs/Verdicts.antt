@@ -3,7 +3,7 @@ use Rattle.std.specs.Prelude.{◌≡◌, ◌≢◌, ℕ, ◌<◌, List, Result, 
 use Rattle.std.specs.List.{All}
 use Rattle.rx_event.specs.declared.event.Event.{Event}
 use Rattle.rx_event.specs.Kept.{Kept, event_since}
-use Rattle.rx_event.specs.Totals.{open_count, held_count, waiting_count, item_count, accepted_count, taken_count}
+use Rattle.rx_event.specs.Totals.{open_count, held_count, lease_count, waiting_count, item_count, accepted_count, taken_count}
 use Rattle.rx_ledger.specs.declared.ledgers.Sums.{Sums}
 use Rattle.rx_ledger.specs.declared.receipt.Receipt.{Receipt as Slip}
 use Rattle.rx_crew.specs.declared.finishing.Totals.{Totals}
@@ -53,6 +53,6 @@ IsVerdict base h s receipts (Err (Taken shares book)) =
 IsVerdict base h s receipts (Err (Receipt place)) =
     (s.items ≡ item_count base h) × (s.accepted ≡ accepted_count base h) × (s.taken ≡ taken_count base h) × IsFirstWrong base h receipts place
 
--- where no node is open and nothing waits, each resource that was accepted was taken
+-- where no node is open, no lease is out and nothing waits, each resource that was accepted was taken
 abbrev pub AllTaken : List Event → Sums → Type 0
-AllTaken h s = open_count h ≡ 0 → waiting_count h ≡ 0 → s.taken ≡ s.accepted
+AllTaken h s = open_count h ≡ 0 → lease_count h ≡ 0 → waiting_count h ≡ 0 → s.taken ≡ s.accepted

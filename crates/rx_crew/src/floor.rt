@@ -8,6 +8,7 @@ ghost use Rattle.rx_crew.specs.Counting.{sums_of, AreCountable};
 mod ending;
 mod holding;
 mod hubs;
+mod leasing;
 mod opening;
 mod reading;
 

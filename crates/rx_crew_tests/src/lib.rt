@@ -12,6 +12,8 @@ mod feeds;
 #[cfg(test)]
 mod hubs;
 #[cfg(test)]
+mod leases;
+#[cfg(test)]
 mod meetings;
 #[cfg(test)]
 mod parts;

@@ -12,7 +12,7 @@ use Rattle.rx_event.specs.declared.event.Kind.{Kind}
 use Rattle.rx_event.specs.declared.event.Kind.TheVariants.{Leaf, Pass, Flat, Switch, Until, Sub}
 use Rattle.rx_event.specs.declared.event.Mode.TheVariants.{Auto, Manual}
 use Rattle.rx_event.specs.declared.event.Event.{Event}
-use Rattle.rx_event.specs.declared.event.Event.TheVariants.{Open, Hub, Connect, Accept, Use, Remove, Item, Decline, End, Close, Take}
+use Rattle.rx_event.specs.declared.event.Event.TheVariants.{Open, Hub, Connect, Accept, Use, Remove, Lease, Return, Item, Decline, End, Close, Take}
 use Rattle.rx_dump.specs.Dump.{place_text, kind_text, terminal_text, event_text, next_text, events_text, dump}
 use Rattle.rx_dump.specs.Claims.Dumps.{kind_parts, place_parts, terminal_parts, event_data, history_data}
 
@@ -47,6 +47,8 @@ event_compact (Connect hub) = refl
 event_compact (Accept node tag) = simp append_assoc
 event_compact (Use res) = refl
 event_compact (Remove res) = refl
+event_compact (Lease res) = refl
+event_compact (Return lease) = refl
 event_compact (Item leaf (pos n)) = simp append_assoc
 event_compact (Item leaf (negsuc n)) = simp append_assoc
 event_compact (Decline node) = refl

@@ -11,7 +11,7 @@ use Rattle.rx_event.specs.declared.event.Kind.{Kind}
 use Rattle.rx_event.specs.declared.event.Kind.TheVariants.{Leaf, Pass, Flat, Switch, Until, Sub}
 use Rattle.rx_event.specs.declared.event.Mode.TheVariants.{Auto, Manual}
 use Rattle.rx_event.specs.declared.event.Event.{Event}
-use Rattle.rx_event.specs.declared.event.Event.TheVariants.{Open, Hub, Connect, Accept, Use, Remove, Item, Decline, End, Close, Take}
+use Rattle.rx_event.specs.declared.event.Event.TheVariants.{Open, Hub, Connect, Accept, Use, Remove, Lease, Return, Item, Decline, End, Close, Take}
 use Rattle.rx_dump.specs.History.{has_count, word_at, number_at, value_at, only_number, plain_kind, kind_from, place_below}
 use Rattle.rx_dump.specs.History.{open_below, open_by, open_of, terminal_by, end_of, mode_by, hub_of, accept_of, item_of, event_by, event_of, each_event}
 use Rattle.rx_dump.specs.History.{history_of}
@@ -51,6 +51,8 @@ event_read (Connect hub) h = refl
 event_read (Accept node tag) h = refl
 event_read (Use res) h = refl
 event_read (Remove res) h = refl
+event_read (Lease res) h = refl
+event_read (Return lease) h = refl
 event_read (Item leaf (pos n)) h = rw h refl
 event_read (Item leaf (negsuc n)) h = refl
 event_read (Decline node) h = refl

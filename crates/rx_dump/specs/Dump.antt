@@ -10,7 +10,7 @@ use Rattle.rx_event.specs.declared.event.Kind.TheVariants.{Leaf, Pass, Flat, Swi
 use Rattle.rx_event.specs.declared.event.Mode.{Mode}
 use Rattle.rx_event.specs.declared.event.Mode.TheVariants.{Auto, Manual}
 use Rattle.rx_event.specs.declared.event.Event.{Event}
-use Rattle.rx_event.specs.declared.event.Event.TheVariants.{Open, Hub, Connect, Accept, Use, Remove, Item, Decline, End, Close, Take}
+use Rattle.rx_event.specs.declared.event.Event.TheVariants.{Open, Hub, Connect, Accept, Use, Remove, Lease, Return, Item, Decline, End, Close, Take}
 
 abbrev pub place_text : Place → List ℕ
 place_text Root = codes "\"root\""
@@ -41,6 +41,8 @@ event_text (Connect hub) = codes "[\"connect\"," ++ decimal hub ++ codes "]"
 event_text (Accept node tag) = codes "[\"accept\"," ++ decimal node ++ codes "," ++ decimal tag ++ codes "]"
 event_text (Use res) = codes "[\"use\"," ++ decimal res ++ codes "]"
 event_text (Remove res) = codes "[\"remove\"," ++ decimal res ++ codes "]"
+event_text (Lease res) = codes "[\"lease\"," ++ decimal res ++ codes "]"
+event_text (Return lease) = codes "[\"return\"," ++ decimal lease ++ codes "]"
 event_text (Item leaf value) = codes "[\"item\"," ++ decimal leaf ++ codes "," ++ signed_decimal value ++ codes "]"
 event_text (Decline node) = codes "[\"decline\"," ++ decimal node ++ codes "]"
 event_text (End node terminal) = codes "[\"end\"," ++ decimal node ++ codes "," ++ terminal_text terminal ++ codes "]"

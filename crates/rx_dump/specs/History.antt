@@ -14,7 +14,7 @@ use Rattle.rx_event.specs.declared.event.Kind.TheVariants.{Leaf, Pass, Flat, Swi
 use Rattle.rx_event.specs.declared.event.Mode.{Mode}
 use Rattle.rx_event.specs.declared.event.Mode.TheVariants.{Auto, Manual}
 use Rattle.rx_event.specs.declared.event.Event.{Event}
-use Rattle.rx_event.specs.declared.event.Event.TheVariants.{Open, Hub, Connect, Accept, Use, Remove, Item, Decline, End, Close, Take}
+use Rattle.rx_event.specs.declared.event.Event.TheVariants.{Open, Hub, Connect, Accept, Use, Remove, Lease, Return, Item, Decline, End, Close, Take}
 
 -- the parts of an event ---------------------------------------------------------------------------
 
@@ -29,7 +29,7 @@ has_count n d = option_map_or (λ ds. count ds == n) (as_array d) false
 unfoldable pub word_at : ℕ → Data → Option (List ℕ)
 word_at i d = option_and_then as_str (at i d)
 
--- the number of a node, a hub or a resource, or a tag: they fit 64 bits
+-- the number of a node, a hub, a resource or a lease, or a tag: they fit 64 bits
 unfoldable pub number_at : ℕ → Data → Option ℕ
 number_at i d = option_and_then as_u64 (option_and_then as_number (at i d))
 
@@ -129,6 +129,8 @@ event_by word d =
     else if bytes_eq word (codes "accept") then accept_of d
     else if bytes_eq word (codes "use") then option_map Use (only_number d)
     else if bytes_eq word (codes "remove") then option_map Remove (only_number d)
+    else if bytes_eq word (codes "lease") then option_map Lease (only_number d)
+    else if bytes_eq word (codes "return") then option_map Return (only_number d)
     else if bytes_eq word (codes "item") then item_of d
     else if bytes_eq word (codes "decline") then option_map Decline (only_number d)
     else if bytes_eq word (codes "end") then end_of d

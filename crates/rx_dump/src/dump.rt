@@ -82,6 +82,8 @@ fn push_event(text: &mut String, event: Event) -> Result<(), AllocError>
         Event::Accept(node, tag) => write!(text, "[\"accept\",{node},{tag}]"),
         Event::Use(res) => write!(text, "[\"use\",{res}]"),
         Event::Remove(res) => write!(text, "[\"remove\",{res}]"),
+        Event::Lease(res) => write!(text, "[\"lease\",{res}]"),
+        Event::Return(lease) => write!(text, "[\"return\",{lease}]"),
         Event::Item(leaf, value) => write!(text, "[\"item\",{leaf},{value}]"),
         Event::Decline(node) => write!(text, "[\"decline\",{node}]"),
         Event::End(node, terminal) => push_end(text, node, terminal),

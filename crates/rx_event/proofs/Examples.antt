@@ -6,3 +6,4 @@ pub mod Hubs
 pub mod Marking
 pub mod Orders
 pub mod Bases
+pub mod Leases

@@ -7,6 +7,7 @@ pub mod Counts
 pub mod Sums
 pub mod Steps
 pub mod Switches
+pub mod Leases
 pub mod Resources
 pub mod Totals
 pub mod Projections

@@ -8,12 +8,12 @@ use Rattle.rx_event.specs.declared.event.Kind.{Kind}
 use Rattle.rx_event.specs.declared.event.Kind.TheVariants.{Leaf, Pass, Flat, Switch, Until, Sub}
 use Rattle.rx_event.specs.declared.event.Mode.{Mode}
 use Rattle.rx_event.specs.declared.event.Event.{Event}
-use Rattle.rx_event.specs.declared.event.Event.TheVariants.{Open, Hub, Connect, Accept, Use, Remove, Item, Decline, End, Close, Take}
+use Rattle.rx_event.specs.declared.event.Event.TheVariants.{Open, Hub, Connect, Accept, Use, Remove, Lease, Return, Item, Decline, End, Close, Take}
 use Rattle.rx_event.specs.Events.{makes_hub, has_source, is_leaf, is_merging, is_until, is_root, is_manual_hub}
 use Rattle.rx_event.specs.Kept.{Kept}
 use Rattle.rx_event.specs.Opened.{source_opened, notifier_opened}
 use Rattle.rx_event.specs.Tree.{at, hubs, is_open, is_within, open_nodes, open_connections, parent}
-use Rattle.rx_event.specs.Resources.{is_held, is_waiting}
+use Rattle.rx_event.specs.Resources.{is_owned, is_out, is_held, is_waiting}
 use Rattle.rx_event.specs.Climb.{visits, most_visits}
 use Rattle.rx_event.specs.Moments.{owed}
 use Rattle.rx_event.specs.Forced.{IsConnectDue}
@@ -67,7 +67,9 @@ pub data IsAllowed (b : Kept) (h : List Event) : Event → Type 0 where
   connected : {g : ℕ} → IsTrue (at is_manual_hub h g) → open_connections h g ≡ [] → length (open_nodes h) < most_nodes → IsAllowed b h (Connect g)
   accepted : {n tag : ℕ} → IsTrue (is_open h n) → IsAllowed b h (Accept n tag)
   used : {r : ℕ} → IsTrue (is_held h r) → IsAllowed b h (Use r)
-  removed : {r : ℕ} → IsTrue (is_held h r) → IsAllowed b h (Remove r)
+  removed : {r : ℕ} → IsTrue (is_owned h r) → IsAllowed b h (Remove r)
+  leased : {r : ℕ} → IsTrue (is_owned h r) → IsAllowed b h (Lease r)
+  returned : {l : ℕ} → IsTrue (is_out h l) → IsAllowed b h (Return l)
   emitted : {l : ℕ} {value : ℤ} → IsTrue (is_open h l) → IsTrue (at is_leaf h l) → visits h l ≤ most_visits → IsAllowed b h (Item l value)
   declined : {f : ℕ} → IsTrue (is_open h f) → IsTrue (at is_merging h f) → 0 < owed b h f → IsAllowed b h (Decline f)
   leaf_ended : {l : ℕ} {t : Terminal} → IsTrue (is_open h l) → IsTrue (at is_leaf h l) → IsAllowed b h (End l t)

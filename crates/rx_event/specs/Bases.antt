@@ -1,18 +1,21 @@
 -- The base of a stored history, and which stored histories agree. b is the base, h the list that base and events read as.
-use Rattle.std.specs.Prelude.{◌≡◌, ℕ, Bool, ◌||◌, Some, List, [], map, filter, length, slice_get, IsTrue, false}
+use Rattle.std.specs.Prelude.{◌≡◌, ℕ, Bool, ◌||◌, Some, List, [], map, filter, length, slice_get, IsTrue, false, if◌then◌else◌}
 use Rattle.std.specs.Option.{option_map_or}
 use Rattle.rx_note.specs.declared.note.Terminal.{Terminal}
 use Rattle.rx_note.specs.declared.note.Terminal.TheVariants.{Error}
 use Rattle.rx_event.specs.declared.event.Mode.{Mode}
 use Rattle.rx_event.specs.declared.event.Event.{Event}
-use Rattle.rx_event.specs.declared.event.Event.TheVariants.{Hub, Connect, Accept, Close}
+use Rattle.rx_event.specs.declared.event.Event.TheVariants.{Hub, Connect, Accept, Lease, Close}
 use Rattle.rx_event.specs.declared.base.BaseHub.{BaseHub}
 use Rattle.rx_event.specs.declared.base.BaseNode.{BaseNode}
 use Rattle.rx_event.specs.declared.base.BaseResource.{BaseResource}
+use Rattle.rx_event.specs.declared.base.BaseLease.{BaseLease}
+use Rattle.rx_event.specs.declared.base.BaseState.{BaseState}
+use Rattle.rx_event.specs.declared.base.BaseState.TheVariants.{Owned, Leased, Waiting}
 use Rattle.rx_event.specs.Kept.{Kept}
 use Rattle.rx_event.specs.Events.{is_merging, is_until, is_mirroring, is_auto_hub}
 use Rattle.rx_event.specs.Tree.{at, places, hubs, parent, is_open, open_nodes, open_subscribers}
-use Rattle.rx_event.specs.Resources.{is_held, is_waiting, uses, accepted_by}
+use Rattle.rx_event.specs.Resources.{is_owned, is_out, is_held, is_waiting, uses, accepted_by}
 use Rattle.rx_event.specs.Moments.{is_fired, owed}
 use Rattle.rx_event.specs.Opened.{source_opened, notifier_opened}
 use Rattle.rx_event.specs.Marks.{source_completed}
@@ -50,6 +53,10 @@ abbrev pub accept_tag : Event → ℕ
 accept_tag (Accept node tag) = tag
 accept_tag _ = 0
 
+-- held by its node, held by leases alone, or waiting
+abbrev pub state_of : List Event → ℕ → BaseState
+state_of h r = if is_owned h r then Owned else (if is_held h r then Leased else Waiting)
+
 abbrev pub keep_resource : Kept → List Event → ℕ → BaseResource
 keep_resource b h r =
     record {
@@ -57,13 +64,20 @@ keep_resource b h r =
       node = option_map_or accept_node (accepted_by b h r) 0;
       tag = option_map_or accept_tag (accepted_by b h r) 0;
       uses = uses b h r;
-      owned = is_held h r;
+      state = state_of h r;
     }
+
+abbrev pub lease_resource : Event → ℕ
+lease_resource (Lease r) = r
+lease_resource _ = 0
+
+abbrev pub keep_lease : List Event → ℕ → BaseLease
+keep_lease h l = record { number = l; resource = lease_resource (event_or h l) }
 
 abbrev pub is_untaken : List Event → ℕ → Bool
 is_untaken h r = is_held h r || is_waiting h r
 
--- of a stored history: each open node, each hub and each resource that is not taken, by rising number
+-- of a stored history: each open node, each hub, each resource that is not taken and each lease that is out, by rising number
 unfoldable pub base_of : Kept → List Event → Kept
 base_of b h =
     record {
@@ -74,6 +88,7 @@ base_of b h =
       hubs = map (keep_hub h) (hubs h);
       nodes = map (keep_node b h) (open_nodes h);
       resources = map (keep_resource b h) (filter (is_untaken h) (places h));
+      leases = map (keep_lease h) (filter (is_out h) (places h));
     }
 
 -- agreement in what is open ---------------------------------------------------------------------------
@@ -132,10 +147,13 @@ pub record Agree (b : Kept) (h : List Event) (c : Kept) (k : List Event) : Type 
   pub notifiers : (n : ℕ) → IsTrue (is_open h n) → notifier_opened b h n ≡ notifier_opened c k n
   pub completions : (n : ℕ) → IsTrue (is_open h n) → source_completed b h n ≡ source_completed c k n
   pub debts : (n : ℕ) → IsTrue (is_open h n) → owed b h n ≡ owed c k n
+  pub owned : (r : ℕ) → is_owned h r ≡ is_owned k r
   pub held : (r : ℕ) → is_held h r ≡ is_held k r
   pub waiting : (r : ℕ) → is_waiting h r ≡ is_waiting k r
   pub accepts : (r : ℕ) → IsTrue (is_untaken h r) → accepted_by b h r ≡ accepted_by c k r
   pub used : (r : ℕ) → IsTrue (is_untaken h r) → uses b h r ≡ uses c k r
+  pub out : (l : ℕ) → is_out h l ≡ is_out k l
+  pub leased : (l : ℕ) → IsTrue (is_out h l) → slice_get h l ≡ slice_get k l
   pub item_total : item_count b h ≡ item_count c k
   pub accepted_total : accepted_count b h ≡ accepted_count c k
   pub taken_total : taken_count b h ≡ taken_count c k

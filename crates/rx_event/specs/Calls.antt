@@ -7,7 +7,7 @@ use Rattle.rx_event.specs.declared.event.Kind.{Kind}
 use Rattle.rx_event.specs.declared.event.Kind.TheVariants.{Pass}
 use Rattle.rx_event.specs.declared.event.Mode.{Mode}
 use Rattle.rx_event.specs.declared.event.Event.{Event}
-use Rattle.rx_event.specs.declared.event.Event.TheVariants.{Open, Hub, Connect, Accept, Use, Remove, Item, Decline, End, Close, Take}
+use Rattle.rx_event.specs.declared.event.Event.TheVariants.{Open, Hub, Connect, Accept, Use, Remove, Lease, Return, Item, Decline, End, Close, Take}
 use Rattle.rx_event.specs.Kept.{Kept}
 use Rattle.rx_event.specs.Tree.{open_connections}
 use Rattle.rx_event.specs.Lawful.{IsStep}
@@ -19,6 +19,8 @@ pub data Call : Type 0 where
   Holding : (node tag : ℕ) → Call
   Applying : (resource : ℕ) → Call
   Removing : (resource : ℕ) → Call
+  Leasing : (resource : ℕ) → Call
+  GivingBack : (lease : ℕ) → Call
   Emitting : (leaf : ℕ) → (value : ℤ) → Call
   Ending : (leaf : ℕ) → Terminal → Call
   Aborting : (node code : ℕ) → Call
@@ -36,6 +38,8 @@ outside_of h (OpeningUsing place tag) = Open place Pass ∷ Accept (length h) ta
 outside_of h (Holding node tag) = Accept node tag ∷ []
 outside_of h (Applying r) = Use r ∷ []
 outside_of h (Removing r) = Remove r ∷ []
+outside_of h (Leasing r) = Lease r ∷ []
+outside_of h (GivingBack l) = Return l ∷ []
 outside_of h (Emitting leaf value) = Item leaf value ∷ []
 outside_of h (Ending leaf t) = End leaf t ∷ []
 outside_of h (Aborting n code) = End n (Error code) ∷ []

@@ -6,7 +6,7 @@ use Rattle.rx_event.specs.declared.event.Place.TheVariants.{Root, Source, Inner,
 use Rattle.rx_event.specs.declared.event.Kind.TheVariants.{Leaf, Pass, Flat, Switch, Until, Sub}
 use Rattle.rx_event.specs.declared.event.Mode.TheVariants.{Auto, Manual}
 use Rattle.rx_event.specs.declared.event.Event.{Event}
-use Rattle.rx_event.specs.declared.event.Event.TheVariants.{Open, Hub, Connect, Accept, Use, Remove, Item, Decline, End, Close, Take}
+use Rattle.rx_event.specs.declared.event.Event.TheVariants.{Open, Hub, Connect, Accept, Use, Remove, Lease, Return, Item, Decline, End, Close, Take}
 
 -- what an event makes -----------------------------------------------------------------------------
 
@@ -23,6 +23,10 @@ makes_hub _ = false
 abbrev pub makes_resource : Event → Bool
 makes_resource (Accept node tag) = true
 makes_resource _ = false
+
+abbrev pub makes_lease : Event → Bool
+makes_lease (Lease r) = true
+makes_lease _ = false
 
 -- the node that a resource is held at
 abbrev pub node_of_accept : Event → Option ℕ
@@ -164,6 +168,23 @@ abbrev pub is_take_of : ℕ → Event → Bool
 is_take_of r (Take q) = q == r
 is_take_of r _ = false
 
+-- the resource that is leased, and the lease that is returned
+abbrev pub leased_of : Event → Option ℕ
+leased_of (Lease r) = Some r
+leased_of _ = None
+
+abbrev pub returned_of : Event → Option ℕ
+returned_of (Return l) = Some l
+returned_of _ = None
+
+abbrev pub is_lease_of : ℕ → Event → Bool
+is_lease_of r (Lease q) = q == r
+is_lease_of r _ = false
+
+abbrev pub is_return_of : ℕ → Event → Bool
+is_return_of l (Return m) = m == l
+is_return_of l _ = false
+
 -- what is counted ---------------------------------------------------------------------------------
 
 -- an inner observable of f is opened, or declined: so one projected item of f is paid
@@ -184,6 +205,10 @@ is_item _ = false
 abbrev pub is_take : Event → Bool
 is_take (Take r) = true
 is_take _ = false
+
+abbrev pub is_return : Event → Bool
+is_return (Return l) = true
+is_return _ = false
 
 abbrev pub is_end : Event → Bool
 is_end (End n t) = true
@@ -212,5 +237,6 @@ is_making (Open place kind) = true
 is_making (Connect g) = true
 is_making (Hub mode) = true
 is_making (Accept n tag) = true
+is_making (Lease r) = true
 is_making (Close n) = true
 is_making _ = false

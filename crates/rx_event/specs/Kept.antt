@@ -5,8 +5,11 @@ use Rattle.std.specs.Option.{option_map_or}
 use Rattle.rx_event.specs.declared.base.BaseHub.{BaseHub}
 use Rattle.rx_event.specs.declared.base.BaseNode.{BaseNode}
 use Rattle.rx_event.specs.declared.base.BaseResource.{BaseResource}
+use Rattle.rx_event.specs.declared.base.BaseLease.{BaseLease}
+use Rattle.rx_event.specs.declared.base.BaseState.{BaseState}
+use Rattle.rx_event.specs.declared.base.BaseState.TheVariants.{Owned, Leased, Waiting}
 use Rattle.rx_event.specs.declared.event.Event.{Event}
-use Rattle.rx_event.specs.declared.event.Event.TheVariants.{Hub, Accept, Close}
+use Rattle.rx_event.specs.declared.event.Event.TheVariants.{Hub, Accept, Lease, Close}
 
 -- records -----------------------------------------------------------------------------------------
 
@@ -19,6 +22,7 @@ pub record Kept : Type 0 where
   pub hubs : List BaseHub
   pub nodes : List BaseNode
   pub resources : List BaseResource
+  pub leases : List BaseLease
 
 -- nothing happened yet
 abbrev pub nothing_kept : Kept
@@ -31,6 +35,7 @@ nothing_kept =
       hubs = [];
       nodes = [];
       resources = [];
+      leases = [];
     }
 
 -- the first record of this number
@@ -47,15 +52,28 @@ hub_kept b n = find_by (λ k. k.number) b.hubs n
 abbrev pub resource_kept : Kept → ℕ → Option BaseResource
 resource_kept b n = find_by (λ k. k.number) b.resources n
 
+abbrev pub lease_kept : Kept → ℕ → Option BaseLease
+lease_kept b n = find_by (λ k. k.number) b.leases n
+
 -- as a list of events ------------------------------------------------------------------------------
 
--- a resource that waits stands at no node
+-- a resource that its node does not hold stands at no node, and so names itself
+abbrev pub node_shown : ℕ → ℕ → BaseState → ℕ
+node_shown n node Owned = node
+node_shown n node Leased = n
+node_shown n node Waiting = n
+
 abbrev pub resource_shown : ℕ → BaseResource → Event
-resource_shown n k = if k.owned then Accept k.node k.tag else Accept n k.tag
+resource_shown n k = Accept (node_shown n k.node k.state) k.tag
+
+-- a lease that is out reads as itself, where no other record is
+abbrev pub lease_shown : Kept → ℕ → Event
+lease_shown b n = option_map_or (λ k. Lease k.resource) (lease_kept b n) (Close n)
 
 -- the event that a place of the base reads as
 abbrev pub shown_at : Kept → ℕ → Event
-shown_at b n = option_map_or (λ k. k.made) (node_kept b n) (option_map_or (λ k. Hub k.mode) (hub_kept b n) (option_map_or (resource_shown n) (resource_kept b n) (Close n)))
+shown_at b n = option_map_or (λ k. k.made) (node_kept b n) (option_map_or (λ k. Hub k.mode) (hub_kept b n)
+    (option_map_or (resource_shown n) (resource_kept b n) (lease_shown b n)))
 
 unfoldable pub shown : Kept → List Event
 shown b = map (shown_at b) (range_with_len 0 b.at_length)

@@ -7,11 +7,12 @@ use Rattle.rx_event.specs.declared.event.Place.TheVariants.{Root, Source, Inner,
 use Rattle.rx_event.specs.declared.event.Kind.{Kind}
 use Rattle.rx_event.specs.declared.event.Kind.TheVariants.{Pass}
 use Rattle.rx_event.specs.declared.event.Event.{Event}
-use Rattle.rx_event.specs.declared.event.Event.TheVariants.{Open, Connect, Accept, End}
-use Rattle.rx_event.specs.Events.{has_source, is_merging, is_until, is_switch, is_source_of, is_inner_of, is_connect_of, makes_hub, makes_node, parent_named, is_making, pays}
+use Rattle.rx_event.specs.declared.event.Event.TheVariants.{Open, Connect, Accept, Lease, End}
+use Rattle.rx_event.specs.Events.{has_source, is_merging, is_until, is_switch, is_source_of, is_inner_of, is_connect_of, makes_hub, makes_node, makes_resource}
+use Rattle.rx_event.specs.Events.{parent_named, is_making, pays}
 use Rattle.rx_event.specs.Kept.{Kept, shown, stored, node_kept, resource_kept}
 use Rattle.rx_event.specs.Tree.{at, is_open}
-use Rattle.rx_event.specs.Resources.{is_held, accepted_by, uses}
+use Rattle.rx_event.specs.Resources.{is_owned, accepted_by, uses}
 use Rattle.rx_event.specs.Moments.{moments_after, projected_by, owed}
 use Rattle.rx_event.specs.Totals.{accepted_count, held_count, waiting_count, taken_count}
 use Rattle.rx_event.specs.Forced.{IsDue, IsForced, IsSettled}
@@ -40,6 +41,7 @@ pub record Started (base : Kept) : Type 0 where
   pub accepts : (r n tag : ℕ) → slice_get (shown base) r ≡ Some (Accept n tag) → n ≤ r
   pub holds : (r n tag : ℕ) → slice_get (shown base) r ≡ Some (Accept n tag) → n < r → IsTrue (is_open (shown base) n)
   pub one_source : (f x y : ℕ) → IsTrue (at (is_source_of f) (shown base) x) → IsTrue (at (is_source_of f) (shown base) y) → x ≡ y
+  pub leases : (l r : ℕ) → slice_get (shown base) l ≡ Some (Lease r) → IsTrue (at makes_resource (take l (shown base)) r)
   pub one_inner : (f x y : ℕ) → IsTrue (at is_switch (shown base) f) → IsTrue (at (is_inner_of f) (shown base) x) → IsTrue (is_open (shown base) x) →
       IsTrue (at (is_inner_of f) (shown base) y) → IsTrue (is_open (shown base) y) → x ≡ y
   pub one_connection : (g x y : ℕ) → IsTrue (at (is_connect_of g) (shown base) x) → IsTrue (is_open (shown base) x) →
@@ -55,7 +57,7 @@ pub record Started (base : Kept) : Type 0 where
   -- nothing happens in what it shows, and its records of resources are below its length and read as what accepted them
   pub making : (i : ℕ) (e : Event) → slice_get (shown base) i ≡ Some e → IsTrue (is_making e)
   pub unnumbered : (r : ℕ) → length (shown base) ≤ r → resource_kept base r ≡ None
-  pub reads_held : (r : ℕ) → IsTrue (is_held (shown base) r) → accepted_by base (shown base) r ≡ slice_get (shown base) r
+  pub reads_owned : (r : ℕ) → IsTrue (is_owned (shown base) r) → accepted_by base (shown base) r ≡ slice_get (shown base) r
   pub undue : (n : ℕ) (t : Terminal) → ¬ IsDue base (shown base) (End n t)
 
 -- each event may follow those before it

@@ -8,16 +8,17 @@ use Rattle.rx_event.specs.declared.event.Kind.{Kind}
 use Rattle.rx_event.specs.declared.event.Kind.TheVariants.{Leaf, Pass, Flat, Switch, Until, Sub}
 use Rattle.rx_event.specs.declared.event.Mode.{Mode}
 use Rattle.rx_event.specs.declared.event.Event.{Event}
-use Rattle.rx_event.specs.declared.event.Event.TheVariants.{Open, Hub, Connect, Accept, Use, Remove, Item, Decline, End, Close, Take}
-use Rattle.rx_event.specs.Events.{makes_node, makes_hub, makes_resource}
+use Rattle.rx_event.specs.declared.event.Event.TheVariants.{Open, Hub, Connect, Accept, Use, Remove, Lease, Return, Item, Decline, End, Close, Take}
+use Rattle.rx_event.specs.Events.{makes_node, makes_hub, makes_resource, makes_lease}
 use Rattle.rx_event.specs.Tree.{at, is_open}
-use Rattle.rx_event.specs.Resources.{is_held, is_taken, uses}
+use Rattle.rx_event.specs.Resources.{is_owned, is_out, leases_of, is_held, is_taken, uses}
 use Rattle.rx_event.specs.Notes.{notes_to}
 use Rattle.rx_event.specs.Totals.{accepted_count, taken_count}
 use Rattle.rx_event.specs.Forced.{SourceEnded}
 use Rattle.rx_event.specs.Marks.{marks_of}
 use Rattle.rx_event.specs.Lawful.{IsLawful}
-use Rattle.rx_event.specs.Calls.{Opening, OpeningUsing, Holding, Applying, Removing, Emitting, Ending, Aborting, Declining, Failing, Disposing, Publishing, Connecting, Disconnecting, Taking, Call}
+use Rattle.rx_event.specs.Calls.{Opening, OpeningUsing, Holding, Applying, Removing, Leasing, GivingBack, Emitting, Ending, Aborting, Declining, Failing}
+use Rattle.rx_event.specs.Calls.{Disposing, Publishing, Connecting, Disconnecting, Taking, Call}
 
 -- with other numbers ------------------------------------------------------------------------------
 
@@ -42,6 +43,8 @@ event_by r (Connect g) = Connect (r g)
 event_by r (Accept n tag) = Accept (r n) tag
 event_by r (Use q) = Use (r q)
 event_by r (Remove q) = Remove (r q)
+event_by r (Lease q) = Lease (r q)
+event_by r (Return l) = Return (r l)
 event_by r (Item leaf value) = Item (r leaf) value
 event_by r (Decline f) = Decline (r f)
 event_by r (End n t) = End (r n) t
@@ -67,21 +70,25 @@ pub record AreRenumbered (base : Kept) (r s : ℕ → ℕ) (h c : List Event) : 
   pub there : IsRead base r s h c
   pub back : IsRead base s r c h
 
--- what may be named later: a node, a hub, a resource
+-- what may be named later: a node, a hub, a resource, a lease
 abbrev pub is_named : Event → Bool
 is_named (Open place kind) = true
 is_named (Hub mode) = true
 is_named (Connect g) = true
 is_named (Accept n tag) = true
+is_named (Lease q) = true
 is_named _ = false
 
--- All that was ever made in h was made in c, by the number that r gives: nodes were told the same, and resources fared the same
+-- All that was ever made in h was made in c, by the number that r gives: nodes were told the same, and resources and leases fared the same
 pub record IsShown (base : Kept) (r s : ℕ → ℕ) (h c : List Event) : Type 0 where
   pub kept : (n : ℕ) (e : Event) → IsTrue (is_named e) → slice_get h n ≡ Some e → slice_get c (r n) ≡ Some (event_by r e)
   pub apart : (n : ℕ) → IsTrue (at is_named h n) → s (r n) ≡ n
   pub in_order : (m n : ℕ) → IsTrue (at is_named h m) → IsTrue (at is_named h n) → m < n → r m < r n
   pub told : (n : ℕ) → IsTrue (at makes_node h n) → notes_to c (r n) ≡ notes_to h n
+  pub owned : (q : ℕ) → IsTrue (at makes_resource h q) → is_owned c (r q) ≡ is_owned h q
+  pub leases : (q : ℕ) → IsTrue (at makes_resource h q) → leases_of c (r q) ≡ leases_of h q
   pub held : (q : ℕ) → IsTrue (at makes_resource h q) → is_held c (r q) ≡ is_held h q
+  pub out : (l : ℕ) → IsTrue (at makes_lease h l) → is_out c (r l) ≡ is_out h l
   pub taken : (q : ℕ) → IsTrue (at makes_resource h q) → is_taken c (r q) ≡ is_taken h q
   pub used : (q : ℕ) → IsTrue (at makes_resource h q) → uses base c (r q) ≡ uses base h q
   pub node_total : count_by makes_node c ≡ count_by makes_node h
@@ -114,6 +121,8 @@ call_by r (OpeningUsing place tag) = OpeningUsing (place_by r place) tag
 call_by r (Holding n tag) = Holding (r n) tag
 call_by r (Applying q) = Applying (r q)
 call_by r (Removing q) = Removing (r q)
+call_by r (Leasing q) = Leasing (r q)
+call_by r (GivingBack l) = GivingBack (r l)
 call_by r (Emitting l v) = Emitting (r l) v
 call_by r (Ending l t) = Ending (r l) t
 call_by r (Aborting n code) = Aborting (r n) code

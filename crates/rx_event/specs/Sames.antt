@@ -10,7 +10,7 @@ use Rattle.rx_event.specs.declared.event.Kind.TheVariants.{Leaf, Pass, Flat, Swi
 use Rattle.rx_event.specs.declared.event.Mode.{Mode}
 use Rattle.rx_event.specs.declared.event.Mode.TheVariants.{Auto, Manual}
 use Rattle.rx_event.specs.declared.event.Event.{Event}
-use Rattle.rx_event.specs.declared.event.Event.TheVariants.{Open, Hub, Connect, Accept, Use, Remove, Item, Decline, End, Close, Take}
+use Rattle.rx_event.specs.declared.event.Event.TheVariants.{Open, Hub, Connect, Accept, Use, Remove, Lease, Return, Item, Decline, End, Close, Take}
 
 abbrev pub same_terminal : Terminal → Terminal → Bool
 same_terminal Completed Completed = true
@@ -45,6 +45,8 @@ same_event (Connect g) (Connect h) = g == h
 same_event (Accept n t) (Accept m u) = n == m && t == u
 same_event (Use r) (Use q) = r == q
 same_event (Remove r) (Remove q) = r == q
+same_event (Lease r) (Lease q) = r == q
+same_event (Return l) (Return m) = l == m
 same_event (Item l v) (Item m w) = l == m && int_eq v w
 same_event (Decline f) (Decline g) = f == g
 same_event (End n t) (End m u) = n == m && same_terminal t u

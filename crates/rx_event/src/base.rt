@@ -33,6 +33,17 @@ pub struct BaseNode {
     pub owed: u64,
 }
 
+/// What holds a resource.
+#[derive(Clone, Copy, Debug, PartialEq, Eq)]
+pub enum BaseState {
+    /// Its node, and the leases of it that are out.
+    Owned,
+    /// Leases alone.
+    Leased,
+    /// Nothing: it waits for its release.
+    Waiting,
+}
+
 /// A resource that was not taken.
 #[derive(Clone, Copy, Debug, PartialEq, Eq)]
 pub struct BaseResource {
@@ -44,8 +55,17 @@ pub struct BaseResource {
     pub tag: u64,
     /// How often it was used.
     pub uses: u64,
-    /// Whether its node holds it; else it waits.
-    pub owned: bool,
+    /// What holds it.
+    pub state: BaseState,
+}
+
+/// A lease that is out.
+#[derive(Clone, Copy, Debug, PartialEq, Eq)]
+pub struct BaseLease {
+    /// Its number.
+    pub number: u64,
+    /// The resource that it keeps held.
+    pub resource: u64,
 }
 
 /// What is kept.
@@ -58,6 +78,7 @@ pub struct Base {
     hubs: Vec<BaseHub>,
     nodes: Vec<BaseNode>,
     resources: Vec<BaseResource>,
+    leases: Vec<BaseLease>,
 }
 
 impl Model for Base {
@@ -65,7 +86,16 @@ impl Model for Base {
 
     ghost Value = { Kept };
 
-    ghost view = { λ b. record { at_length = b.at; items = b.items; accepted = b.accepted; taken = b.taken; hubs = b.hubs.items; nodes = b.nodes.items; resources = b.resources.items } };
+    ghost view = { λ b. record {
+      at_length = b.at;
+      items = b.items;
+      accepted = b.accepted;
+      taken = b.taken;
+      hubs = b.hubs.items;
+      nodes = b.nodes.items;
+      resources = b.resources.items;
+      leases = b.leases.items;
+    } };
 }
 
 impl Base {
@@ -81,6 +111,7 @@ impl Base {
             hubs: Vec::new(alloc),
             nodes: Vec::new(alloc),
             resources: Vec::new(alloc),
+            leases: Vec::new(alloc),
         }
     }
 

@@ -47,8 +47,8 @@ pub enum Mode {
     Manual,
 }
 
-/// What may happen. Each event has a place in the history, from 0; a node, a hub and a resource
-/// are numbered by the place of the event that made them.
+/// What may happen. Each event has a place in the history, from 0; a node, a hub, a resource and
+/// a lease are numbered by the place of the event that made them.
 #[derive(Clone, Copy, Debug, PartialEq, Eq)]
 pub enum Event {
     /// A node is opened.
@@ -63,6 +63,10 @@ pub enum Event {
     Use(u64),
     /// A resource is removed from its node before that closes.
     Remove(u64),
+    /// A lease of a resource is given out, which keeps it held.
+    Lease(u64),
+    /// A lease is given back.
+    Return(u64),
     /// A leaf emits an item.
     Item(u64, i64),
     /// A FlatMap's or Switch's projected item gets no inner observable.

@@ -5,7 +5,7 @@ use thiserror::Error;
 /// Why a call was refused. A refused call changes nothing, and gives back what was handed in.
 /// Where several causes stand, the first in this order is given: `NoHub`, `Gone`, `WrongKind`,
 /// `PlaceTaken`, `NothingOwed`, `NotRoot`, `HubOrder`, `Connected`, `NotConnected`, `NotFresh`,
-/// `NotHeld`, `HasChild`, `TooMany`, `Full`, `NoMemory`.
+/// `NoLease`, `NotHeld`, `Leased`, `HasChild`, `TooMany`, `Full`, `NoMemory`.
 #[derive(Clone, Copy, Debug, PartialEq, Eq, Error)]
 pub enum Refusal {
     /// Memory was asked for and refused.
@@ -53,4 +53,10 @@ pub enum Refusal {
     /// A limit of nodes, of hubs or of an item's visits would be passed.
     #[error("a limit of nodes, hubs or visits would be passed")]
     TooMany,
+    /// The lease was given back, or never was.
+    #[error("no lease that is out has this key")]
+    NoLease,
+    /// The resource is held by leases alone: its node closed, or it was removed.
+    #[error("the resource is held by leases alone")]
+    Leased,
 }

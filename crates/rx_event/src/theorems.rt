@@ -26,5 +26,7 @@ pub use hubs::{
 pub use marks::marks_say_what_is_due;
 pub use nodes::{a_switch_has_one_open_inner, closed_stays_closed, nodes_stand_below_nodes};
 pub use notes::notes_obey_the_grammar;
-pub use resources::{a_closed_history_holds_nothing, each_resource_is_in_one_place};
+pub use resources::{
+    a_closed_history_holds_nothing, a_leased_resource_is_held, each_resource_is_in_one_place,
+};
 pub use stays::{calm_events_force_little, what_is_opened_stays_open};

@@ -1,14 +1,16 @@
 -- Which resources' keys stay: those held after one event were held before it.
-use Rattle.std.proofs.Common.{◌≡◌, ◌≢◌, ℕ, ◌<◌, true, false, Option, Some, None, option_map, sym, ap, ◌∙◌, inl, inr, ◌⊎◌, arith}
+use Rattle.std.proofs.Common.{◌≡◌, ◌≢◌, ℕ, zero, suc, ◌-◌, ◌<◌, ◌==◌, Bool, true, false, Option, Some, None, is_some, option_map, refl, sym, ap, ◌∙◌}
+use Rattle.std.proofs.Common.{inl, inr, ◌⊎◌, arith}
+use Rattle.std.proofs.Math.Bool.{not, ◌&&◌, ◌||◌}
 use Rattle.std.specs.Option.{option_map_or}
-use Rattle.std.proofs.lemmas.Bool.{false≢true}
+use Rattle.std.proofs.lemmas.Bool.{false≢true, ne_eqb}
 use Rattle.rx_slots.specs.declared.Key.{Key}
 use Rattle.rx_slots.specs.Slots.{Slots, find, KeepsOthers}
 use Rattle.rx_tree.specs.declared.node.Node.{Node}
 use Rattle.rx_tree.specs.declared.node.Stowed.{Stowed}
 use Rattle.rx_tree.specs.declared.node.ResKey.{ResKey}
 use Rattle.rx_tree.specs.Tree.{Tree, Rewrites}
-use Rattle.rx_tree.specs.Resources.{store_key, is_held, is_held_at}
+use Rattle.rx_tree.specs.Resources.{store_key, is_owned, is_owned_at, is_lent, is_held, is_held_at, removed, one_lease_less}
 use Rattle.rx_tree.proofs.Laws.Keys.{cases_key}
 use Rattle.rx_ground.specs.Ties.{KeepsHeld}
 
@@ -34,6 +36,30 @@ held_rewritten {T = T} old new number k change nodes w keeps = held_but old new 
   here : (res : ResKey) → store_key res ≡ k → is_held_at new res ≡ true → res.number < number → is_held_at old res ≡ true
   here res same held l =
       ap (λ (j : Key). option_map_or (is_held old.nodes) (find old.resources j) false) same ∙ mapped (find old.resources k) (sym (ap (λ (j : Key). option_map_or (is_held new.nodes) (find new.resources j) false) same ∙ ap (λ (ns : Slots Node). option_map_or (is_held ns) (find new.resources k) false) nodes ∙ ap (λ (o : Option (Stowed T)). option_map_or (is_held old.nodes) o false) w.changed) ∙ held)
+
+-- one that is removed was held where a lease of it is out, and so was one of which a lease was given back
+pub removed_held : {T : Type 0} (nodes : Slots Node) (x : Stowed T) → is_held nodes (removed x) ≡ true → is_held nodes x ≡ true
+removed_held nodes x = shape (is_some (find nodes x.node)) (not x.removed) (is_lent x) where
+  shape : (a b l : Bool) → ((a && false) || l) ≡ true → ((a && b) || l) ≡ true
+  shape true true l held = refl
+  shape true false l held = held
+  shape false b l held = held
+
+pub less_held : {T : Type 0} (nodes : Slots Node) (x : Stowed T) → is_held nodes (one_lease_less x) ≡ true → is_held nodes x ≡ true
+less_held nodes x = shape (is_owned nodes x) x.leases where
+  shape : (a : Bool) (n : ℕ) → (a || not ((n - 1) == 0)) ≡ true → (a || not (n == 0)) ≡ true
+  shape true n held = refl
+  shape false zero held = held
+  shape false (suc n) held = rw (ne_eqb (suc n) 0 (λ e. omega arith)) refl
+
+-- one that is owned was held, whatever became of it
+pub held_owned : {T : Type 0} (old new : Tree T) (number : ℕ) (res : ResKey) → new.nodes ≡ old.nodes → KeepsOthers old.resources new.resources (store_key res) →
+    is_owned_at old res ≡ true → KeepsHeld old new number
+held_owned {T = T} old new number res nodes others owned = held_but old new number nodes (store_key res) others (λ r same held l.
+    ap (λ (j : Key). option_map_or (is_held old.nodes) (find old.resources j) false) same ∙ by_value (find old.resources (store_key res)) owned) where
+      by_value : (o : Option (Stowed T)) → option_map_or (is_owned old.nodes) o false ≡ true → option_map_or (is_held old.nodes) o false ≡ true
+      by_value None e = e
+      by_value (Some x) e = ap (λ b. b || is_lent x) e
 
 -- one that is out is not held
 pub held_gone : {T : Type 0} (old new : Tree T) (number : ℕ) (k : Key) → new.nodes ≡ old.nodes → KeepsOthers old.resources new.resources k → find new.resources k ≡ None → KeepsHeld old new number

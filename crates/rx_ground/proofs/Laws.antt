@@ -6,3 +6,4 @@ pub mod Numbers
 pub mod Ranges
 pub mod Kept
 pub mod StaysHeld
+pub mod Owned

@@ -1,6 +1,8 @@
 pub mod Listed
 pub mod Records
 pub mod Stored
+mod Lent
+mod Leases
 pub mod Owing
 pub mod Tied
 pub mod Written

@@ -1,22 +1,50 @@
 -- What closing everything needs, counted from what is there.
-use Rattle.std.proofs.Common.{◌≡◌, ℕ, ◌+◌, ◌-◌, ◌*◌, ◌≤◌, List, [], length, ap, arith}
+use Rattle.std.proofs.Common.{◌≡◌, ℕ, ◌+◌, ◌-◌, ◌*◌, ◌≤◌, Bool, true, false, List, [], ◌∷◌, length, cond, count_by, refl, ap, arith}
+use Rattle.std.proofs.Math.Bool.{not, ◌&&◌}
+use Rattle.std.proofs.lemmas.Bool.{false≢true}
+use Rattle.std.proofs.lemmas.List.Sums.{sum_by-cons}
 use Rattle.rx_event.specs.Kept.{Kept}
 use Rattle.rx_event.specs.declared.event.Event.{Event}
-use Rattle.rx_event.specs.Totals.{open_count, waiting_count, accepted_count, taken_count, owed_count, debt}
+use Rattle.rx_event.specs.Tree.{places}
+use Rattle.rx_event.specs.Resources.{is_owned, is_held}
+use Rattle.rx_event.specs.Totals.{open_count, owned_count, held_count, lease_count, waiting_count, accepted_count, taken_count, owed_count, debt}
 use Rattle.rx_event.specs.Lawful.{IsLawful}
 use Rattle.rx_event.proofs.Laws.Debt.{debt-counts}
 use Rattle.rx_event.proofs.Laws.Totals.{accepted_count-parts}
+use Rattle.rx_event.proofs.Laws.Resources.{owned_held}
 use Rattle.rx_register.specs.State.{State, IsPromised}
 use Rattle.rx_register.specs.Paid.{IsPaid}
 use Rattle.rx_register.proofs.Laws.Empty.{debt_empty}
+use Rattle.rx_ground.proofs.Lent.{is_alone}
 
--- the debt is counted from the open nodes, those that wait, what was accepted and taken, and what is owed
-pub debt_counted : (base : Kept) → (h : List Event) → IsLawful base h → (nodes waiting accepted taken owing : ℕ) → nodes ≡ open_count h →
-    waiting ≡ waiting_count h → accepted ≡ accepted_count base h → taken ≡ taken_count base h → owing ≡ owed_count base h →
-    nodes + 2 * (accepted - taken - waiting) + waiting + owing ≡ debt base h
-debt_counted base h law nodes waiting accepted taken owing o w a t p =
+-- what is held is owned, or leases alone hold it
+counted_apart : (p q : ℕ → Bool) → ((n : ℕ) → q n ≡ true → p n ≡ true) → (ns : List ℕ) →
+    count_by p ns ≡ count_by q ns + count_by (λ n. p n && not (q n)) ns
+counted_apart p q within [] = refl
+counted_apart p q within (n ∷ ns) =
+    let rest = counted_apart p q within ns in
+    let one = shape (p n) (q n) (within n) in
+    omega (arith, sum_by-cons (λ k. cond {A = ℕ} (p k) 1 0) n ns, sum_by-cons (λ k. cond {A = ℕ} (q k) 1 0) n ns,
+        sum_by-cons (λ k. cond {A = ℕ} (p k && not (q k)) 1 0) n ns) where
+      shape : (a b : Bool) → (b ≡ true → a ≡ true) → cond {A = ℕ} a 1 0 ≡ cond {A = ℕ} b 1 0 + cond {A = ℕ} (a && not b) 1 0
+      shape true true w = refl
+      shape true false w = refl
+      shape false false w = refl
+      shape false true w = absurd (false≢true (w refl))
+
+pub held_counted : (h : List Event) → held_count h ≡ owned_count h + count_by (is_alone h) (places h)
+held_counted h = counted_apart (is_held h) (is_owned h) (owned_held h) (places h)
+
+-- the debt is counted from the open nodes, those that wait, those that leases alone hold, what was accepted and taken, the leases out,
+-- and what is owed
+pub debt_counted : (base : Kept) → (h : List Event) → IsLawful base h → (nodes waiting accepted taken alone leases owing : ℕ) → nodes ≡ open_count h →
+    waiting ≡ waiting_count h → accepted ≡ accepted_count base h → taken ≡ taken_count base h → alone ≡ count_by (is_alone h) (places h) →
+    leases ≡ lease_count h → owing ≡ owed_count base h →
+    nodes + 2 * ((accepted - taken - waiting) - alone) + alone + waiting + leases + owing ≡ debt base h
+debt_counted base h law nodes waiting accepted taken alone leases owing o w a t k l p =
     let parts = accepted_count-parts base h law in
     let counts = debt-counts base h in
+    let apart = held_counted h in
     omega arith
 
 -- a register that is paid for has room for it

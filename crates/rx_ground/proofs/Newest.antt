@@ -11,7 +11,7 @@ use Rattle.rx_slots.specs.Slots.{find}
 use Rattle.rx_tree.specs.declared.node.Stowed.{Stowed}
 use Rattle.rx_tree.specs.declared.node.ResKey.{ResKey}
 use Rattle.rx_tree.specs.Tree.{Tree, IsNewest, IsPast}
-use Rattle.rx_tree.specs.Resources.{store_key, is_held, is_held_at}
+use Rattle.rx_tree.specs.Resources.{store_key, is_owned, is_owned_at, is_held, is_held_at}
 use Rattle.rx_tree.proofs.Laws.Keys.{some_of}
 use Rattle.rx_ground.specs.Ties.{IsTied}
 use Rattle.rx_ground.proofs.Stored.{stored_within}
@@ -41,6 +41,18 @@ held_found {T = T} tree res held = by_value (find tree.resources (store_key res)
   by_value : (o : Option (Stowed T)) → find tree.resources (store_key res) ≡ o → option_map_or (is_held tree.nodes) o false ≡ true → IsFoundHeld tree res
   by_value None found held = absurd (false≢true held)
   by_value (Some x) found held = record { stowed = x; found = found; held = held }
+
+-- and that of an owned one
+pub record IsFoundOwned {T : Type 0} (tree : Tree T) (res : ResKey) : Type 0 where
+  pub stowed : Stowed T
+  pub found : find tree.resources (store_key res) ≡ Some stowed
+  pub owned : is_owned tree.nodes stowed ≡ true
+
+pub owned_found : {T : Type 0} (tree : Tree T) (res : ResKey) → is_owned_at tree res ≡ true → IsFoundOwned tree res
+owned_found {T = T} tree res owned = by_value (find tree.resources (store_key res)) refl owned where
+  by_value : (o : Option (Stowed T)) → find tree.resources (store_key res) ≡ o → option_map_or (is_owned tree.nodes) o false ≡ true → IsFoundOwned tree res
+  by_value None found owned = absurd (false≢true owned)
+  by_value (Some x) found owned = record { stowed = x; found = found; owned = owned }
 
 -- what is said of what is found
 pub of_found : {X : Type 0} (o : Option X) (x : X) (P : X → Type 0) → o ≡ Some x → IfSome o P → P x

@@ -168,6 +168,6 @@ pub tied_item : (base : Kept) → {T : Type 0} (g : Ghosts T) (h : List Event) (
 tied_item base g h leaf v law next old new hubs tied passed still same =
     tied_on g base (Item leaf v) law next tied refl refl refl still (record {
       records = passed_all base h leaf v new.nodes new.chain law next passed;
-      stored = all_stored base g h law (Item leaf v) old new tied.of_tree.stored same refl (λ r. record { removes = refl; takes = refl; uses = refl })
+      stored = all_stored base g h law (Item leaf v) old new tied.of_tree.stored same refl (λ r. record { removes = refl; takes = refl; uses = refl; leases = refl; returns = refl })
           (λ key there alive. still key there);
     })

@@ -32,7 +32,7 @@ use Rattle.rx_register.specs.Paid.{IsPaid}
 use Rattle.rx_register.proofs.Laws.Paid.{forced_room, end_room, forced_pays}
 use Rattle.rx_register.proofs.Laws.Fits.{told_by_end}
 use Rattle.rx_ground.specs.declared.settle.Due.{Due}
-use Rattle.rx_ground.specs.Ties.{IsTied, AreTied, IsReady, WithChain, IsDueNext, IsNext, AllQuiet, KeepsNodes, KeepsOlder, Remarks, Cuts, HasRoomToConnect, is_there, key_due}
+use Rattle.rx_ground.specs.Ties.{AreLeased, IsTied, AreTied, IsReady, WithChain, IsDueNext, IsNext, AllQuiet, KeepsNodes, KeepsOlder, Remarks, Cuts, HasRoomToConnect, is_there, key_due}
 use Rattle.rx_ground.specs.Memory.{TakesNoMemory}
 use Rattle.rx_ground.proofs.Memory.{memory_on}
 use Rattle.rx_ground.specs.Shown.{Ground}
@@ -160,6 +160,7 @@ none_newer number kept = record { from = λ key some l. kept.from key some; stil
 -- what was forced so far was written
 pub record IsOnTheWay {T : Type 0} (g : Ghosts T) (start now : Ground T) : Type 0 where
   pub tied : AreTied now.register.base g now.register.history now.tree now.hubs
+  pub leased : AreLeased now.register.history now.tree.resources now.leases
   pub paid : IsPaid now.register
   pub room : HasRoomToConnect now.register.history now.tree.nodes.room now.space
   pub base : now.register.base ≡ start.register.base
@@ -168,15 +169,18 @@ pub record IsOnTheWay {T : Type 0} (g : Ghosts T) (start now : Ground T) : Type 
   pub within : (key : Key) → IsSome (find start.tree.nodes key) → key.number < length now.register.history
   pub nodes : KeepsOlder now.register.history (length start.register.history) start.tree.nodes now.tree.nodes
   pub resources : now.tree.resources ≡ start.tree.resources
+  pub same_leases : now.leases ≡ start.leases
   pub hubs : length now.hubs.hubs ≡ length start.hubs.hubs
   pub limit : now.register.limit ≡ start.register.limit
   pub given : now.register.given ≡ start.register.given
   pub memory : TakesNoMemory start now
 
-pub way_starts : {T : Type 0} (g : Ghosts T) (b : Ground T) → AreTied b.register.base g b.register.history b.tree b.hubs → IsPaid b.register →
+pub way_starts : {T : Type 0} (g : Ghosts T) (b : Ground T) → AreTied b.register.base g b.register.history b.tree b.hubs →
+    AreLeased b.register.history b.tree.resources b.leases → IsPaid b.register →
     HasRoomToConnect b.register.history b.tree.nodes.room b.space → IsOnTheWay g b b
-way_starts g b tied paid room = record {
+way_starts g b tied leased paid room = record {
   tied = tied;
+  leased = leased;
   paid = paid;
   room = room;
   base = refl;
@@ -185,6 +189,7 @@ way_starts g b tied paid room = record {
   within = λ key some. let x = some_of (find b.tree.nodes key) some in is_open_within b.register.history key.number (tied.of_tree.records.each key x.0 x.1).alive;
   nodes = record { from = λ key some l. some; still = λ key some alive. some };
   resources = refl;
+  same_leases = refl;
   hubs = refl;
   limit = refl;
   given = refl;
@@ -195,6 +200,7 @@ way_starts g b tied paid room = record {
 pub way_rechained : {T : Type 0} (g : Ghosts T) (start old new : Ground T) → IsOnTheWay g start old → WithChain old new → AreTied new.register.base g new.register.history new.tree new.hubs → IsOnTheWay g start new
 way_rechained {T = T} g start old new w kept tied = record {
   tied = tied;
+  leased = subst (λ (b : Ground T). AreLeased b.register.history b.tree.resources b.leases) (sym kept.same) w.leased;
   paid = subst IsPaid (sym register) w.paid;
   room = subst (λ (b : Ground T). HasRoomToConnect b.register.history b.tree.nodes.room b.space) (sym kept.same) w.room;
   base = ap (λ (s : Register). s.base) register ∙ w.base;
@@ -203,6 +209,7 @@ way_rechained {T = T} g start old new w kept tied = record {
   within = λ key some. let l = ap (λ (s : Register). length s.history) register in let n = w.within key some in omega arith;
   nodes = subst (λ (b : Ground T). KeepsOlder b.register.history (length start.register.history) start.tree.nodes b.tree.nodes) (sym kept.same) w.nodes;
   resources = ap (λ (b : Ground T). b.tree.resources) kept.same ∙ w.resources;
+  same_leases = ap (λ (b : Ground T). b.leases) kept.same ∙ w.same_leases;
   hubs = ap (λ (b : Ground T). length b.hubs.hubs) kept.same ∙ w.hubs;
   limit = ap (λ (s : Register). s.limit) register ∙ w.limit;
   given = ap (λ (s : Register). s.given) register ∙ w.given;
@@ -221,10 +228,12 @@ next_room b d next room n is = room n (connect_due b.register.base (subst (λ (x
 pub way_on : {T : Type 0} (g : Ghosts T) (start old new : Ground T) (d : HubDue) → IsOnTheWay g start old → IsLawful old.register.base old.register.history →
     IsNext old d →
     Writes old.register (event_of d ∷ []) new.register → AreTied new.register.base g new.register.history new.tree new.hubs →
+    AreLeased new.register.history new.tree.resources new.leases →
     KeepsOlder new.register.history (length old.register.history) old.tree.nodes new.tree.nodes → new.tree.resources ≡ old.tree.resources →
-    length new.hubs.hubs ≡ length old.hubs.hubs → TakesNoMemory old new → IsOnTheWay g start new
-way_on g start old new d w law next written tied kept resources hubs memory = record {
+    length new.hubs.hubs ≡ length old.hubs.hubs → new.leases ≡ old.leases → TakesNoMemory old new → IsOnTheWay g start new
+way_on g start old new d w law next written tied leased kept resources hubs leases memory = record {
   tied = tied;
+  leased = leased;
   paid = forced_pays old.register new.register (event_of d) law next.forced w.paid written;
   room = λ n waits. absurd (forced_connected old.register.base old.register.history (event_of d) w.paid.waits w.paid.may_wait next.forced n
       (subst (λ (k : List Event). IsConnectDue k n) written.history waits));
@@ -237,6 +246,7 @@ way_on g start old new d w law next written tied kept resources hubs memory = re
       (older_on old.register.history (event_of d) (length start.register.history) start.tree.nodes old.tree.nodes new.tree.nodes w.grown w.within w.nodes
       (subst (λ (k : List Event). KeepsOlder k (length old.register.history) old.tree.nodes new.tree.nodes) written.history kept));
   resources = resources ∙ w.resources;
+  same_leases = leases ∙ w.same_leases;
   hubs = hubs ∙ w.hubs;
   limit = written.limit ∙ w.limit;
   given = written.given ∙ w.given;

@@ -13,13 +13,16 @@ use Rattle.rx_slots.specs.declared.Entry.{Entry}
 use Rattle.rx_slots.specs.declared.Key.{Key}
 use Rattle.rx_slots.specs.Slots.{Slots, find, with_number}
 use Rattle.rx_tree.specs.declared.node.Node.{Node}
+use Rattle.rx_tree.specs.declared.node.ResKey.{ResKey}
 use Rattle.rx_tree.specs.declared.node.Stowed.{Stowed}
+use Rattle.rx_tree.specs.Resources.{store_key}
 use Rattle.rx_tree.specs.Tree.{Tree, is_on}
 use Rattle.rx_register.specs.State.{State as Register}
 use Rattle.rx_register.proofs.Laws.Empty.{settled_empty, paid_empty}
 use Rattle.rx_ground.specs.Shown.{Ground}
 use Rattle.rx_hub.specs.Hubs.{Hub, Hubs}
-use Rattle.rx_ground.specs.Ties.{HasKey, AreRecords, IsStored, IsTied, AreTied, IsStanding, IsRoomier}
+use Rattle.rx_ground.specs.Ties.{HasKey, AreRecords, IsStored, IsTied, AreTied, AreLeased, IsStanding, IsRoomier}
+use Rattle.rx_ground.proofs.Leases.{leased_empty, leased_same}
 use Rattle.rx_ground.proofs.Published.{tied_beside}
 
 -- slots of the same entries find the same
@@ -63,9 +66,10 @@ module _ {T : Type 0} (g : Ghosts T) where
 
   -- a ground with no events, nodes, resources and hubs
   pub standing_empty : (b : Ground T) → b.register.history ≡ [] → b.register.pending ≡ [] → b.tree.nodes.entries ≡ [] →
-      b.tree.resources.entries ≡ [] → b.hubs.hubs ≡ [] → IsStanding g b
-  standing_empty b empty told nodes resources none = record {
+      b.tree.resources.entries ≡ [] → b.hubs.hubs ≡ [] → b.leases.entries ≡ [] → IsStanding g b
+  standing_empty b empty told nodes resources none no_leases = record {
     tied = subst (λ (h : List Event). AreTied b.register.base g h b.tree b.hubs) (sym empty) (hubs_empty b.register.base b.tree b.hubs none (tied_empty b.register.base b.tree nodes resources));
+    leased = leased_empty b.register.history b.tree.resources b.leases empty (none_found b.leases no_leases);
     settled = subst (IsSettled b.register.base) (sym empty) (settled_empty b.register.base);
     paid = paid_empty b.register empty told;
   }
@@ -100,7 +104,8 @@ module _ {T : Type 0} (g : Ghosts T) where
         made = is.made;
         accepted = is.accepted;
         older = is.older;
-        held = is.held;
+        owned = is.owned;
+        lent = is.lent;
         untaken = is.untaken;
         home = λ alive. ap is_some (at_node s.node) ∙ is.home alive;
         live = is.live;
@@ -112,6 +117,7 @@ module _ {T : Type 0} (g : Ghosts T) where
   pub standing_roomier : (old new : Ground T) → IsRoomier old new → IsStanding g old → IsStanding g new
   standing_roomier old new more s = record {
     tied = subst (λ (r : Register). AreTied r.base g r.history new.tree new.hubs) (sym more.register) tied;
+    leased = subst (λ (h : List Event). AreLeased h new.tree.resources new.leases) (sym history) leased;
     settled = subst (λ (r : Register). IsSettled r.base r.history) (sym more.register) s.settled;
     paid = record {
       waits = s.paid.waits;
@@ -130,6 +136,13 @@ module _ {T : Type 0} (g : Ghosts T) where
 
       resources : new.tree.resources.entries ≡ old.tree.resources.entries
       resources = ap (λ (slots : Slots (Stowed T)). slots.entries) more.resources
+
+      leases : new.leases.entries ≡ old.leases.entries
+      leases = ap (λ (slots : Slots ResKey). slots.entries) more.leases
+
+      leased : AreLeased old.register.history new.tree.resources new.leases
+      leased = leased_same old.register.history old.tree.resources old.leases s.leased new.tree.resources new.leases
+          (λ l res is. ap is_some (same_finds old.tree.resources new.tree.resources resources (store_key res)) ∙ is.stored) (same_finds old.leases new.leases leases)
 
       tied : AreTied old.register.base g old.register.history new.tree new.hubs
       tied = tied_beside g old.register.base (ap (λ (hubs : Hubs). hubs.hubs) more.hubs) (λ key some. ap is_some (same_finds old.tree.nodes new.tree.nodes nodes key) ∙ some) s.tied

@@ -1,5 +1,5 @@
 -- What one event leaves of the resources in the store.
-use Rattle.std.proofs.Common.{◌≡◌, ◌≢◌, ℕ, ◌+◌, ◌<◌, ◌≤◌, Bool, true, false, cond, List, [], ◌∷◌, ◌++◌, length, Option, Some, None, is_some, IsSome, option_map, slice_get, refl, sym, ap, subst, ◌∙◌, inl, inr, ◌⊎◌, arith, length-append}
+use Rattle.std.proofs.Common.{◌≡◌, ◌≢◌, ℕ, ◌+◌, ◌-◌, ◌<◌, ◌≤◌, Bool, true, false, cond, List, [], ◌∷◌, ◌++◌, length, Option, Some, None, is_some, IsSome, option_map, slice_get, refl, sym, ap, subst, ◌∙◌, inl, inr, ◌⊎◌, arith, length-append}
 use Rattle.std.proofs.Math.Bool.{not, ◌&&◌, ◌||◌}
 use Rattle.std.specs.List.{list_any}
 use Rattle.std.specs.Option.{option_and_then, option_map_or}
@@ -9,31 +9,34 @@ use Rattle.rx_event.specs.Kept.{Kept}
 use Rattle.rx_resource.specs.declared.Resource.{Ghosts}
 use Rattle.rx_resource.specs.declared.Life.TheVariants.{Live}
 use Rattle.rx_event.specs.declared.event.Event.{Event}
-use Rattle.rx_event.specs.declared.event.Event.TheVariants.{Accept, Use, Remove, Take}
-use Rattle.rx_event.specs.Events.{makes_resource, node_of_accept, is_remove_of, is_take_of, is_use_of}
+use Rattle.rx_event.specs.declared.event.Event.TheVariants.{Accept, Use, Remove, Lease, Return, Take}
+use Rattle.rx_event.specs.Events.{makes_resource, node_of_accept, is_remove_of, is_lease_of, is_return, is_take_of, is_use_of}
 use Rattle.rx_event.specs.Tree.{at, is_open}
-use Rattle.rx_event.specs.Resources.{is_held, uses}
-use Rattle.rx_event.specs.Lawful.{IsLawful}
+use Rattle.rx_event.specs.Resources.{is_owned, is_out, leases_of, uses}
+use Rattle.rx_event.specs.Lawful.{MayFollow, IsLawful}
 use Rattle.rx_event.proofs.Laws.Places.{slice_get_last, at-append, at_within}
 use Rattle.rx_event.proofs.Laws.Searches.{list_any_push, or_false}
 use Rattle.rx_event.proofs.Laws.Openness.{is_cut, is_open_cut, is_open_unchanged, is_open_within, stays_closed}
-use Rattle.rx_event.proofs.Laws.Resources.{node_of, loses, is_held-push, is_held-remove, is_held_last, no_take, accepted_by-push, accepted_by_new}
-use Rattle.rx_event.proofs.Laws.Sound.{reads_held}
+use Rattle.rx_event.proofs.Laws.Resources.{node_of, loses, is_owned-push, is_owned-remove, is_owned_last, no_take, accepted_by-push, accepted_by_new}
+use Rattle.rx_event.proofs.Laws.Leases.{leases_of_kept, leases_of_still, leases_of_new, leases_of-return}
+use Rattle.rx_event.proofs.Laws.Sound.{reads_owned}
 use Rattle.rx_event.proofs.Laws.Totals.{uses-push, uses_new}
 use Rattle.rx_slots.specs.declared.Key.{Key}
 use Rattle.rx_slots.specs.Slots.{Slots, find, entry_at, with_number, KeepsOthers}
 use Rattle.rx_tree.specs.declared.node.Node.{Node}
 use Rattle.rx_tree.specs.declared.node.Stowed.{Stowed}
 use Rattle.rx_tree.specs.Tree.{Tree, AreApart, Rewrites}
-use Rattle.rx_tree.specs.Resources.{stowed_at, removed, with_resource}
+use Rattle.rx_tree.specs.Resources.{stowed_at, removed, one_lease_more, one_lease_less, with_resource}
 use Rattle.rx_tree.proofs.Laws.Keys.{cases_key, some_of}
 use Rattle.rx_ground.specs.Ties.{HasKey, IsStored, AreStored}
 
--- the event is about no resource of this number
+-- the event is about no resource of this number, and gives no lease back
 pub record IsApart (r : ℕ) (e : Event) : Type 0 where
   pub removes : is_remove_of r e ≡ false
   pub takes : is_take_of r e ≡ false
   pub uses : is_use_of r e ≡ false
+  pub leases : is_lease_of r e ≡ false
+  pub returns : is_return e ≡ false
 
 at_most_one : (test : Bool) → cond {A = ℕ} test 1 0 ≤ 1
 at_most_one true = omega arith
@@ -63,11 +66,11 @@ module _ (base : Kept) {T : Type 0} (g : Ghosts T) (h : List Event) (law : IsLaw
         let o = at_most_one (is_use_of r e) in
         omega (arith, length-append h (e ∷ []))
 
-    -- a resource that it does not remove is held after it where it was, and its node stays open
-    held_still : (nodes : Slots Node) (r : ℕ) (s : Stowed T) → IsStored base g h nodes r s → is_remove_of r e ≡ false →
-        is_held (h ++ e ∷ []) r ≡ (is_open (h ++ e ∷ []) s.node.number && not s.removed)
-    held_still nodes r s is kept =
-        is_held-push base h e law r within.0 ∙ by_test (is_held h r) refl ∙
+    -- a resource that it does not remove is owned after it where it was, and its node stays open
+    owned_still : (nodes : Slots Node) (r : ℕ) (s : Stowed T) → IsStored base g h nodes r s → is_remove_of r e ≡ false →
+        is_owned (h ++ e ∷ []) r ≡ (is_open (h ++ e ∷ []) s.node.number && not s.removed)
+    owned_still nodes r s is kept =
+        is_owned-push base h e law r within.0 ∙ by_test (is_owned h r) refl ∙
         ap (λ o. o && not s.removed) (sym (is_open_cut h e n (let a = within.0 in let b = within.1 in omega arith)))
       where
         n : ℕ
@@ -88,25 +91,29 @@ module _ (base : Kept) {T : Type 0} (g : Ghosts T) (h : List Event) (law : IsLaw
         shape_lost true false true lost = refl
         shape_lost false c m lost = refl
 
-        by_test : (b : Bool) → is_held h r ≡ b → (b && not (loses h e r)) ≡ ((is_open h n && not (is_cut h e n)) && not s.removed)
-        by_test true held =
-            let node : node_of h r ≡ Some n = ap (option_and_then node_of_accept) (sym (reads_held base h law r held) ∙ is.accepted) in
+        by_test : (b : Bool) → is_owned h r ≡ b → (b && not (loses h e r)) ≡ ((is_open h n && not (is_cut h e n)) && not s.removed)
+        by_test true owned =
+            let node : node_of h r ≡ Some n = ap (option_and_then node_of_accept) (sym (reads_owned base h law r owned) ∙ is.accepted) in
             ap (λ o. not (option_map_or (is_cut h e) o false || is_remove_of r e)) node ∙ ap (λ b. not (is_cut h e n || b)) kept ∙
-            shape (is_open h n) (is_cut h e n) s.removed (sym is.held ∙ held)
-        by_test false lost = shape_lost (is_open h n) (is_cut h e n) s.removed (sym is.held ∙ lost)
+            shape (is_open h n) (is_cut h e n) s.removed (sym is.owned ∙ owned)
+        by_test false lost = shape_lost (is_open h n) (is_cut h e n) s.removed (sym is.owned ∙ lost)
 
-    pub stored_still : (nodes new : Slots Node) (r : ℕ) (s : Stowed T) → IsStored base g h nodes r s → IsApart r e →
-        ((key : Key) → IsSome (find nodes key) → is_open (h ++ e ∷ []) key.number ≡ true → IsSome (find new key)) → IsStored base g (h ++ e ∷ []) new r s
-    stored_still nodes new r s is apart kept = record {
+    -- so many leases of it are out after the event as are kept
+    stored_so : (nodes new : Slots Node) (r leases : ℕ) (s : Stowed T) → IsStored base g h nodes r s → is_remove_of r e ≡ false → is_take_of r e ≡ false →
+        is_use_of r e ≡ false → leases ≡ leases_of (h ++ e ∷ []) r →
+        ((key : Key) → IsSome (find nodes key) → is_open (h ++ e ∷ []) key.number ≡ true → IsSome (find new key)) →
+        IsStored base g (h ++ e ∷ []) new r (record s { leases = leases })
+    stored_so nodes new r leases s is removes takes no_use lent kept = record {
       made = at-append makes_resource h (e ∷ []) r within.0 ∙ is.made;
       accepted = accepted_by-push base h e r within.0 ∙ is.accepted;
       older = is.older;
-      held = held_still nodes r s is apart.removes;
-      untaken = still (is_take_of r) apart.takes ∙ is.untaken;
+      owned = owned_still nodes r s is removes;
+      lent = lent;
+      untaken = still (is_take_of r) takes ∙ is.untaken;
       home = λ alive. kept s.node (is.home (open_before s.node.number (let a = within.0 in let b = within.1 in omega arith) alive)) alive;
       live = is.live;
       few = few_after r is.few;
-      uses = is.uses ∙ sym (uses-push base h e r ∙ ap (λ b. uses base h r + cond {A = ℕ} b 1 0) apart.uses ∙ no_more (uses base h r));
+      uses = is.uses ∙ sym (uses-push base h e r ∙ ap (λ b. uses base h r + cond {A = ℕ} b 1 0) no_use ∙ no_more (uses base h r));
     }
       where
         within : (r < length h) × (s.node.number < r)
@@ -114,6 +121,11 @@ module _ (base : Kept) {T : Type 0} (g : Ghosts T) (h : List Event) (law : IsLaw
 
         no_more : (n : ℕ) → n + 0 ≡ n
         no_more n = omega arith
+
+    pub stored_still : (nodes new : Slots Node) (r : ℕ) (s : Stowed T) → IsStored base g h nodes r s → IsApart r e →
+        ((key : Key) → IsSome (find nodes key) → is_open (h ++ e ∷ []) key.number ≡ true → IsSome (find new key)) → IsStored base g (h ++ e ∷ []) new r s
+    stored_still nodes new r s is apart kept =
+        stored_so nodes new r s.leases s is apart.removes apart.takes apart.uses (is.lent ∙ sym (leases_of_still base h e law apart.returns r apart.leases)) kept
 
     -- an acceptance is not of this event
     accepted_before : (r : ℕ) → makes_resource e ≡ false → at makes_resource (h ++ e ∷ []) r ≡ true → at makes_resource h r ≡ true
@@ -139,11 +151,8 @@ module _ (base : Kept) {T : Type 0} (g : Ghosts T) (h : List Event) (law : IsLaw
     }
 
     -- one that is about the resource of one key alone
-    pub all_stored_but : (old new : Tree T) (k : Key) → AreStored base g h old → AreApart old.resources → IsSome (find old.resources k) → new.nodes ≡ old.nodes → KeepsOthers old.resources new.resources k → makes_resource e ≡ false → ((r : ℕ) → r ≢ k.number → IsApart r e) → ((x : Stowed T) → find new.resources k ≡ Some x → IsStored base g (h ++ e ∷ []) old.nodes k.number x) → (list_any (is_take_of k.number) (h ++ e ∷ []) ≡ false → IsSome (find new.resources k)) → AreStored base g (h ++ e ∷ []) new
-    all_stored_but old new k s unique there nodes others none apart here left = record { each = each; every = every } where
-      kept : (key : Key) → IsSome (find old.nodes key) → is_open (h ++ e ∷ []) key.number ≡ true → IsSome (find old.nodes key)
-      kept key some alive = some
-
+    pub all_stored_but : (old new : Tree T) (k : Key) → AreStored base g h old → AreApart old.resources → IsSome (find old.resources k) → new.nodes ≡ old.nodes → KeepsOthers old.resources new.resources k → makes_resource e ≡ false → ((r : ℕ) (x : Stowed T) → r ≢ k.number → IsStored base g h old.nodes r x → IsStored base g (h ++ e ∷ []) old.nodes r x) → ((x : Stowed T) → find new.resources k ≡ Some x → IsStored base g (h ++ e ∷ []) old.nodes k.number x) → (list_any (is_take_of k.number) (h ++ e ∷ []) ≡ false → IsSome (find new.resources k)) → AreStored base g (h ++ e ∷ []) new
+    all_stored_but old new k s unique there nodes others none stays here left = record { each = each; every = every } where
       each : (key : Key) (x : Stowed T) → find new.resources key ≡ Some x → IsStored base g (h ++ e ∷ []) new.nodes key.number x
       each key x found = subst (λ (ns : Slots Node). IsStored base g (h ++ e ∷ []) ns key.number x) (sym nodes) (by_key (cases_key key k)) where
         by_key : (key ≡ k) ⊎ (key ≢ k) → IsStored base g (h ++ e ∷ []) old.nodes key.number x
@@ -151,7 +160,7 @@ module _ (base : Kept) {T : Type 0} (g : Ghosts T) (h : List Event) (law : IsLaw
             found))
         by_key (inr differs) =
             let was : find old.resources key ≡ Some x = sym (others key differs) ∙ found in
-            stored_still old.nodes old.nodes key.number x (s.each key x was) (apart key.number (λ same. differs (unique key k (ap is_some was) there same))) kept
+            stays key.number x (λ same. differs (unique key k (ap is_some was) there same)) (s.each key x was)
 
       every : (r : ℕ) → at makes_resource (h ++ e ∷ []) r ≡ true → list_any (is_take_of r) (h ++ e ∷ []) ≡ false → HasKey new.resources r
       every r made untaken = by_key (s.every r (accepted_before r none made) (untaken_before r untaken)) where
@@ -167,9 +176,17 @@ module _ (base : Kept) {T : Type 0} (g : Ghosts T) (h : List Event) (law : IsLaw
 -- each event --------------------------------------------------------------------------------------
 
 module _ (base : Kept) {T : Type 0} (g : Ghosts T) (h : List Event) (law : IsLawful base h) (old new : Tree T) (s : AreStored base g h old) (unique : AreApart old.resources) (nodes : new.nodes ≡ old.nodes) where
+  kept_all : (e : Event) (key : Key) → IsSome (find old.nodes key) → is_open (h ++ e ∷ []) key.number ≡ true → IsSome (find old.nodes key)
+  kept_all e key some alive = some
+
+  -- each other resource is as it was
+  others_still : (e : Event) (k : ℕ) → ((r : ℕ) → r ≢ k → IsApart r e) → (r : ℕ) (x : Stowed T) → r ≢ k → IsStored base g h old.nodes r x →
+      IsStored base g (h ++ e ∷ []) old.nodes r x
+  others_still e k apart r x differs is = stored_still base g h law e old.nodes old.nodes r x is (apart r differs) (kept_all e)
+
   -- a resource is used
   pub stored_used : (k : Key) (before : Stowed T) (after : T) → find old.resources k ≡ Some before → g.uses_of after ≡ g.uses_of before.resource + 1 → g.tag_of after ≡ g.tag_of before.resource → g.life_of after ≡ g.life_of before.resource → Rewrites old.resources new.resources k (with_resource after) → AreStored base g (h ++ Use k.number ∷ []) new
-  stored_used k before after found used tagged lives w = all_stored_but base g h law (Use k.number) old new k s unique (ap is_some found) nodes w.others refl apart here (λ untaken. ap is_some now) where
+  stored_used k before after found used tagged lives w = all_stored_but base g h law (Use k.number) old new k s unique (ap is_some found) nodes w.others refl (others_still (Use k.number) k.number apart) here (λ untaken. ap is_some now) where
     now : find new.resources k ≡ Some (with_resource after before)
     now = w.changed ∙ ap (option_map (with_resource after)) found
 
@@ -180,14 +197,15 @@ module _ (base : Kept) {T : Type 0} (g : Ghosts T) (h : List Event) (law : IsLaw
     within = stored_within base g h law old.nodes k.number before was
 
     apart : (r : ℕ) → r ≢ k.number → IsApart r (Use k.number)
-    apart r differs = record { removes = refl; takes = refl; uses = ne_eqb k.number r (λ same. differs (sym same)) }
+    apart r differs = record { removes = refl; takes = refl; uses = ne_eqb k.number r (λ same. differs (sym same)); leases = refl; returns = refl }
 
     after_it : IsStored base g (h ++ Use k.number ∷ []) old.nodes k.number (with_resource after before)
     after_it = record {
       made = at-append makes_resource h (Use k.number ∷ []) k.number within.0 ∙ was.made;
       accepted = accepted_by-push base h (Use k.number) k.number within.0 ∙ was.accepted ∙ ap (λ (t : ℕ). Some (Accept before.node.number t)) (sym tagged);
       older = was.older;
-      held = held_still base g h law (Use k.number) old.nodes k.number before was refl;
+      owned = owned_still base g h law (Use k.number) old.nodes k.number before was refl;
+      lent = was.lent ∙ sym (leases_of_still base h (Use k.number) law refl k.number refl);
       untaken = still base g h law (Use k.number) (is_take_of k.number) refl ∙ was.untaken;
       home = λ alive. was.home (open_before base g h law (Use k.number) before.node.number (let a = within.0 in let b = within.1 in omega arith) alive);
       live = lives ∙ was.live;
@@ -201,7 +219,7 @@ module _ (base : Kept) {T : Type 0} (g : Ghosts T) (h : List Event) (law : IsLaw
 
   -- a resource is removed
   pub stored_removed : (k : Key) (before : Stowed T) → find old.resources k ≡ Some before → Rewrites old.resources new.resources k removed → AreStored base g (h ++ Remove k.number ∷ []) new
-  stored_removed k before found w = all_stored_but base g h law (Remove k.number) old new k s unique (ap is_some found) nodes w.others refl apart here (λ untaken. ap is_some now) where
+  stored_removed k before found w = all_stored_but base g h law (Remove k.number) old new k s unique (ap is_some found) nodes w.others refl (others_still (Remove k.number) k.number apart) here (λ untaken. ap is_some now) where
     now : find new.resources k ≡ Some (removed before)
     now = w.changed ∙ ap (option_map removed) found
 
@@ -212,7 +230,7 @@ module _ (base : Kept) {T : Type 0} (g : Ghosts T) (h : List Event) (law : IsLaw
     within = stored_within base g h law old.nodes k.number before was
 
     apart : (r : ℕ) → r ≢ k.number → IsApart r (Remove k.number)
-    apart r differs = record { removes = ne_eqb k.number r (λ same. differs (sym same)); takes = refl; uses = refl }
+    apart r differs = record { removes = ne_eqb k.number r (λ same. differs (sym same)); takes = refl; uses = refl; leases = refl; returns = refl }
 
     no_more : (n : ℕ) → n + 0 ≡ n
     no_more n = omega arith
@@ -228,8 +246,9 @@ module _ (base : Kept) {T : Type 0} (g : Ghosts T) (h : List Event) (law : IsLaw
       made = at-append makes_resource h (Remove k.number ∷ []) k.number within.0 ∙ was.made;
       accepted = accepted_by-push base h (Remove k.number) k.number within.0 ∙ was.accepted;
       older = was.older;
-      held = is_held-remove base h k.number law k.number within.0 ∙ ap (λ b. is_held h k.number && not b) (eq-eqb k.number k.number refl) ∙
-          both_false (is_held h k.number) (is_open (h ++ Remove k.number ∷ []) before.node.number);
+      owned = is_owned-remove base h k.number law k.number within.0 ∙ ap (λ b. is_owned h k.number && not b) (eq-eqb k.number k.number refl) ∙
+          both_false (is_owned h k.number) (is_open (h ++ Remove k.number ∷ []) before.node.number);
+      lent = was.lent ∙ sym (leases_of_still base h (Remove k.number) law refl k.number refl);
       untaken = still base g h law (Remove k.number) (is_take_of k.number) refl ∙ was.untaken;
       home = λ alive. was.home (open_before base g h law (Remove k.number) before.node.number (let a = within.0 in let b = within.1 in omega arith) alive);
       live = was.live;
@@ -240,11 +259,70 @@ module _ (base : Kept) {T : Type 0} (g : Ghosts T) (h : List Event) (law : IsLaw
     here : (x : Stowed T) → find new.resources k ≡ Some x → IsStored base g (h ++ Remove k.number ∷ []) old.nodes k.number x
     here x f = subst (IsStored base g (h ++ Remove k.number ∷ []) old.nodes k.number) (same_Some _ x (sym now ∙ f)) after_it
 
+  -- so many leases of a resource are out after an event that is about its leases alone
+  stored_lent : (e : Event) (k : Key) (before after : Stowed T) → find old.resources k ≡ Some before → find new.resources k ≡ Some after →
+      after ≡ record before { leases = after.leases } → after.leases ≡ leases_of (h ++ e ∷ []) k.number → KeepsOthers old.resources new.resources k →
+      makes_resource e ≡ false → is_remove_of k.number e ≡ false → is_take_of k.number e ≡ false → is_use_of k.number e ≡ false →
+      ((r : ℕ) (x : Stowed T) → r ≢ k.number → IsStored base g h old.nodes r x → IsStored base g (h ++ e ∷ []) old.nodes r x) →
+      AreStored base g (h ++ e ∷ []) new
+  stored_lent e k before after found now same lent others none removes takes no_use stays =
+      all_stored_but base g h law e old new k s unique (ap is_some found) nodes others none stays here (λ untaken. ap is_some now) where
+        after_it : IsStored base g (h ++ e ∷ []) old.nodes k.number after
+        after_it = subst (IsStored base g (h ++ e ∷ []) old.nodes k.number) (sym same)
+            (stored_so base g h law e old.nodes old.nodes k.number after.leases before (s.each k before found) removes takes no_use lent (kept_all e))
+
+        here : (x : Stowed T) → find new.resources k ≡ Some x → IsStored base g (h ++ e ∷ []) old.nodes k.number x
+        here x f = subst (IsStored base g (h ++ e ∷ []) old.nodes k.number) (same_Some _ x (sym now ∙ f)) after_it
+
+  -- a resource is leased
+  pub stored_leased : (k : Key) (before : Stowed T) → find old.resources k ≡ Some before → Rewrites old.resources new.resources k one_lease_more →
+      AreStored base g (h ++ Lease k.number ∷ []) new
+  stored_leased k before found w =
+      stored_lent e k before (one_lease_more before) found (w.changed ∙ ap (option_map one_lease_more) found) refl lent w.others refl refl refl refl
+      (others_still e k.number apart) where
+        e : Event
+        e = Lease k.number
+
+        apart : (r : ℕ) → r ≢ k.number → IsApart r e
+        apart r differs = record { removes = refl; takes = refl; uses = refl; leases = ne_eqb k.number r (λ same. differs (sym same)); returns = refl }
+
+        lent : before.leases + 1 ≡ leases_of (h ++ e ∷ []) k.number
+        lent =
+            let one = ap (λ b. cond {A = ℕ} b 1 0) (eq-eqb k.number k.number refl) in
+            let more = leases_of_kept base h e law refl k.number in
+            let was = (s.each k before found).lent in
+            omega arith
+
+  -- a lease of a resource is given back
+  pub stored_returned : (l : ℕ) (k : Key) (before : Stowed T) → MayFollow base h (Return l) → slice_get h l ≡ Some (Lease k.number) →
+      find old.resources k ≡ Some before → Rewrites old.resources new.resources k one_lease_less → AreStored base g (h ++ Return l ∷ []) new
+  stored_returned l k before next made found w =
+      stored_lent e k before (one_lease_less before) found (w.changed ∙ ap (option_map one_lease_less) found) refl lent w.others refl refl refl refl stays where
+        e : Event
+        e = Return l
+
+        lent : before.leases - 1 ≡ leases_of (h ++ e ∷ []) k.number
+        lent =
+            let one = ap (λ b. cond {A = ℕ} b 1 0) (eq-eqb k.number k.number refl) in
+            let fewer = leases_of-return base h l k.number law next made k.number in
+            let was = (s.each k before found).lent in
+            omega arith
+
+        same_leases : (r : ℕ) → r ≢ k.number → leases_of (h ++ e ∷ []) r ≡ leases_of h r
+        same_leases r differs =
+            let none = ap (λ b. cond {A = ℕ} b 1 0) (ne_eqb k.number r (λ same. differs (sym same))) in
+            let fewer = leases_of-return base h l k.number law next made r in
+            omega arith
+
+        stays : (r : ℕ) (x : Stowed T) → r ≢ k.number → IsStored base g h old.nodes r x → IsStored base g (h ++ e ∷ []) old.nodes r x
+        stays r x differs is =
+            stored_so base g h law e old.nodes old.nodes r x.leases x is refl refl refl (is.lent ∙ sym (same_leases r differs)) (kept_all e)
+
   -- a resource is taken
   pub stored_taken : (k : Key) → IsSome (find old.resources k) → find new.resources k ≡ None → KeepsOthers old.resources new.resources k → AreStored base g (h ++ Take k.number ∷ []) new
-  stored_taken k there gone others = all_stored_but base g h law (Take k.number) old new k s unique there nodes others refl apart (λ x f. absurd (none-some x (sym gone ∙ f))) (λ untaken. absurd (both_ways _ untaken (list_any_push (is_take_of k.number) h (Take k.number) ∙ or_right (list_any (is_take_of k.number) h) _ (eq-eqb k.number k.number refl)))) where
+  stored_taken k there gone others = all_stored_but base g h law (Take k.number) old new k s unique there nodes others refl (others_still (Take k.number) k.number apart) (λ x f. absurd (none-some x (sym gone ∙ f))) (λ untaken. absurd (both_ways _ untaken (list_any_push (is_take_of k.number) h (Take k.number) ∙ or_right (list_any (is_take_of k.number) h) _ (eq-eqb k.number k.number refl)))) where
     apart : (r : ℕ) → r ≢ k.number → IsApart r (Take k.number)
-    apart r differs = record { removes = refl; takes = ne_eqb k.number r (λ same. differs (sym same)); uses = refl }
+    apart r differs = record { removes = refl; takes = ne_eqb k.number r (λ same. differs (sym same)); uses = refl; leases = refl; returns = refl }
 
   -- a fresh resource is accepted
   pub stored_accepted : (home k : Key) (x : T) → IsSome (find old.nodes home) → is_open h home.number ≡ true → g.life_of x ≡ Live → g.uses_of x ≡ 0 → k.number ≡ length h → entry_at old.resources k.slot ≡ None → find new.resources k ≡ Some (stowed_at home x) → KeepsOthers old.resources new.resources k → AreStored base g (h ++ Accept home.number (g.tag_of x) ∷ []) new
@@ -261,7 +339,8 @@ module _ (base : Kept) {T : Type 0} (g : Ghosts T) (h : List Event) (law : IsLaw
       made = ap (λ o. option_map_or makes_resource o false) (slice_get_last h e);
       accepted = accepted_by_new base h e law;
       older = is_open_within h home.number alive;
-      held = is_held_last base h e law ∙ sym (is_open_unchanged h e refl refl home.number) ∙ by_open (is_open (h ++ e ∷ []) home.number);
+      owned = is_owned_last base h e law ∙ sym (is_open_unchanged h e refl refl home.number) ∙ by_open (is_open (h ++ e ∷ []) home.number);
+      lent = sym (leases_of_new base h e law refl);
       untaken = still base g h law e (is_take_of (length h)) refl ∙ no_take base h law (length h) (omega arith);
       home = λ alive. there;
       live = lives;
@@ -278,7 +357,7 @@ module _ (base : Kept) {T : Type 0} (g : Ghosts T) (h : List Event) (law : IsLaw
       by_key (inl same) =
           let at_end : key.number ≡ length h = ap (λ (j : Key). j.number) same ∙ numbered in
           subst (λ (n : ℕ). IsStored base g (h ++ e ∷ []) old.nodes n y) (sym at_end) (subst (IsStored base g (h ++ e ∷ []) old.nodes (length h)) (same_Some _ y (sym found ∙ sym (ap (find new.resources) same) ∙ f)) after_it)
-      by_key (inr differs) = stored_still base g h law e old.nodes old.nodes key.number y (s.each key y (sym (others key differs) ∙ f)) (record { removes = refl; takes = refl; uses = refl }) kept
+      by_key (inr differs) = stored_still base g h law e old.nodes old.nodes key.number y (s.each key y (sym (others key differs) ∙ f)) (record { removes = refl; takes = refl; uses = refl; leases = refl; returns = refl }) kept
 
     every : (r : ℕ) → at makes_resource (h ++ e ∷ []) r ≡ true → list_any (is_take_of r) (h ++ e ∷ []) ≡ false → HasKey new.resources r
     every r made untaken = by_place (cases_order r (length h)) where

@@ -1,8 +1,7 @@
 -- What is known of a resource that is taken out of a tree.
-use Rattle.std.proofs.Common.{◌≡◌, ℕ, Bool, true, false, List, [], ◌∷◌, map, Some, is_some, refl, sym, ap, subst, ◌∙◌}
-use Rattle.std.proofs.Math.Bool.{not, ◌&&◌}
+use Rattle.std.proofs.Common.{◌≡◌, ℕ, Bool, true, false, List, [], ◌∷◌, map, Some, refl, sym, ap, subst, ◌∙◌}
+use Rattle.std.proofs.Math.Bool.{not, ◌&&◌, ◌||◌}
 use Rattle.std.specs.Prelude.{IsTrue}
-use Rattle.std.specs.Cmp.{both_ways as same_test}
 use Rattle.std.specs.List.{Contains, list_any}
 use Rattle.std.proofs.lemmas.Bool.{false≢true}
 use Rattle.rx_event.specs.Kept.{Kept as Base}
@@ -10,28 +9,35 @@ use Rattle.rx_resource.specs.declared.Resource.{Ghosts}
 use Rattle.rx_resource.specs.declared.Life.TheVariants.{Live}
 use Rattle.rx_event.specs.declared.event.Event.{Event}
 use Rattle.rx_event.specs.Events.{makes_resource, is_take_of}
-use Rattle.rx_event.specs.Tree.{at, is_open}
-use Rattle.rx_event.specs.Resources.{is_held as is_held_in, is_waiting, is_taken}
+use Rattle.rx_event.specs.Tree.{at}
+use Rattle.rx_event.specs.Resources.{is_owned as is_owned_in, is_held as is_held_in, is_waiting, is_taken}
 use Rattle.rx_slots.specs.declared.Key.{Key}
 use Rattle.rx_slots.specs.Slots.{find}
 use Rattle.rx_tree.specs.declared.node.Stowed.{Stowed}
 use Rattle.rx_tree.specs.Tree.{Tree}
-use Rattle.rx_tree.specs.Resources.{Takes, is_held}
-use Rattle.rx_tree.proofs.Laws.Keys.{some_of}
+use Rattle.rx_tree.specs.Resources.{Takes, is_owned, is_lent, is_held}
 use Rattle.rx_ground.specs.Shown.{Label, label_of, Kept, kept_in, waiting_in, label_in}
 use Rattle.rx_ground.specs.Ties.{IsTied, IsStored, IsListed}
 use Rattle.rx_ground.proofs.Laws.Members.{Contains-head, Contains-map}
+use Rattle.rx_ground.proofs.Lent.{owned_agrees, held_agrees as stored_held, is_alone}
 use Rattle.rx_ground.proofs.Listed.{filter_member, filter_has, kept_found, kept_listed}
 
 module _ (base : Base) {T : Type 0} (g : Ghosts T) (h : List Event) (tree : Tree T) (tied : IsTied base g h tree) where
   -- a stored resource is held in the tree just where it is in the history
   pub held_agrees : (k : Kept (Stowed T)) → Contains (kept_in tree.resources) k → is_held_in h k.key.number ≡ is_held tree.nodes k.value
-  held_agrees k c = is.held ∙ ap (λ b. b && not k.value.removed) node where
-    is : IsStored base g h tree.nodes k.key.number k.value
-    is = tied.stored.each k.key k.value (kept_found tree.resources k c)
+  held_agrees k c = stored_held base g h tree tied k.key k.value (kept_found tree.resources k c)
 
-    node : is_open h k.value.node.number ≡ is_some (find tree.nodes k.value.node)
-    node = same_test _ _ is.home (λ some. let f = some_of (find tree.nodes k.value.node) some in (tied.records.each k.value.node f.0 f.1).alive)
+  -- and leases alone hold it there just where they do in the history
+  pub alone_agrees : (k : Kept (Stowed T)) → Contains (kept_in tree.resources) k →
+      is_alone h k.key.number ≡ (is_lent k.value && not (is_owned tree.nodes k.value))
+  alone_agrees k c = (λ i. held_agrees k c i && not (owned i)) ∙ shape (is_owned tree.nodes k.value) (is_lent k.value) where
+    owned : is_owned_in h k.key.number ≡ is_owned tree.nodes k.value
+    owned = owned_agrees base g h tree tied k.key k.value (kept_found tree.resources k c)
+
+    shape : (a b : Bool) → ((a || b) && not a) ≡ (b && not a)
+    shape true true = refl
+    shape true false = refl
+    shape false b = refl
 
   pub waits_agrees : (k : Kept (Stowed T)) → Contains (kept_in tree.resources) k → is_waiting h k.key.number ≡ not (is_held tree.nodes k.value)
   unfolding is_waiting is_taken

@@ -142,7 +142,7 @@ module _ (base : Kept) {T : Type 0} (g : Ghosts T) (h : List Event) (law : IsLaw
 
 module _ (base : Kept) {T : Type 0} (g : Ghosts T) (h : List Event) (kind : Kind) (law : IsLawful base h) (old left mid new : Tree T) (tied : IsTied base g h old) (key : Key) where
   apart_all : (place : Place) (r : ℕ) → IsApart r (Open place kind)
-  apart_all place r = record { removes = refl; takes = refl; uses = refl }
+  apart_all place r = record { removes = refl; takes = refl; uses = refl; leases = refl; returns = refl }
 
   pub tied_root : MayFollow base h (Open Root kind) → AreLeft h (Open Root kind) old.nodes left.nodes old.chain left.chain → left.resources ≡ old.resources →
       IsOpenedIn h (Open Root kind) None left mid key → IsTied base g (h ++ Open Root kind ∷ []) mid
@@ -183,7 +183,7 @@ module _ (base : Kept) {T : Type 0} (g : Ghosts T) (h : List Event) (law : IsLaw
   pub tied_decline : MayFollow base h (Decline u.number) → Remarks old new u after_decline → IsTied base g (h ++ Decline u.number ∷ []) new
   tied_decline next marked =
       tied_marked base g h (Decline u.number) law next old tied new sound u there after_decline refl refl refl
-      (λ r. record { removes = refl; takes = refl; uses = refl })
+      (λ r. record { removes = refl; takes = refl; uses = refl; leases = refl; returns = refl })
       (λ n differs. ne_eqb u.number n differs) (marks-decline_at base h u.number law next) marked
 
 -- closings ----------------------------------------------------------------------------------------
@@ -222,7 +222,7 @@ module _ (base : Kept) {T : Type 0} (g : Ghosts T) (h : List Event) (c : ℕ) (t
   no_child o above n differs = false_from_ne_true (is_child_of h n c) (λ child. differs (sym above ∙ is_child_parent h n c child))
 
   apart_end : (r : ℕ) → IsApart r (End c t)
-  apart_end r = record { removes = refl; takes = refl; uses = refl }
+  apart_end r = record { removes = refl; takes = refl; uses = refl; leases = refl; returns = refl }
 
   -- the end of a node that stands below none
   pub tied_end_top : parent h c ≡ None → IsTied base g (h ++ End c t ∷ []) mid
@@ -253,5 +253,5 @@ module _ (base : Kept) {T : Type 0} (g : Ghosts T) (h : List Event) (c : ℕ) (t
 pub tied_close : (base : Kept) → {T : Type 0} (g : Ghosts T) (h : List Event) (c : ℕ) → IsLawful base h → MayFollow base h (Close c) → (old mid : Tree T) → IsTied base g h old → IsSound old.nodes → Cuts old mid c → IsTied base g (h ++ Close c ∷ []) mid
 tied_close base g h c law next old mid tied sound cuts = record {
   records = all_fresh _ _ mid.nodes mid.chain (records_cut base h (Close c) law next old.nodes old.chain tied.records mid.nodes mid.chain c None sound (λ n fresh alive. marks_closed base h c law next n alive) (is_open_outside-close h c) cuts.nodes cuts.chain);
-  stored = all_stored base g h law (Close c) old mid tied.stored cuts.resources refl (λ r. record { removes = refl; takes = refl; uses = refl }) (cut_keeps base h (Close c) old mid tied.records sound c (is_open_outside-close h c) cuts).still;
+  stored = all_stored base g h law (Close c) old mid tied.stored cuts.resources refl (λ r. record { removes = refl; takes = refl; uses = refl; leases = refl; returns = refl }) (cut_keeps base h (Close c) old mid tied.records sound c (is_open_outside-close h c) cuts).still;
 }

@@ -2,7 +2,6 @@
 use Rattle.std.proofs.Common.{◌≡◌, ℕ, ◌+◌, ◌==◌, Bool, true, false, cond, List, [], ◌∷◌, Option, Some, None, is_some, option_map, slice_get, refl, sym, ap, ◌∙◌, arith, zero-add}
 use Rattle.std.specs.Prelude.{nat_lt}
 use Rattle.std.proofs.Math.Bool.{not, ◌&&◌, ◌||◌}
-use Rattle.std.specs.Cmp.{both_ways as same_test}
 use Rattle.std.specs.List.{list_any, count_by}
 use Rattle.std.specs.Option.{option_map_or}
 use Rattle.std.proofs.lemmas.Bool.{lt-ltb}
@@ -18,19 +17,24 @@ use Rattle.rx_event.specs.Events.{has_source, is_merging, is_until, named_by}
 use Rattle.rx_event.specs.Tree.{at, places, is_open, is_open_child_of, has_open_child}
 use Rattle.rx_event.specs.Opened.{source_opened, notifier_opened}
 use Rattle.rx_event.specs.Moments.{owed}
-use Rattle.rx_event.specs.Resources.{is_held as is_held_in}
+use Rattle.rx_event.specs.Resources.{is_owned as is_owned_in, is_out, is_held as is_held_in}
 use Rattle.rx_event.specs.Marks.{marks_of, open_children}
 use Rattle.rx_register.specs.Causes.{is_wrong_place, is_taken_place, is_unowed_place}
 use Rattle.rx_slots.specs.declared.Key.{Key}
 use Rattle.rx_slots.specs.Slots.{Slots, find}
 use Rattle.rx_tree.specs.declared.node.Node.{Node}
+use Rattle.rx_tree.specs.declared.node.Stowed.{Stowed}
 use Rattle.rx_tree.specs.declared.node.ResKey.{ResKey}
 use Rattle.rx_tree.specs.Tree.{Tree}
-use Rattle.rx_tree.specs.Resources.{store_key, is_held_at}
+use Rattle.rx_tree.specs.Resources.{store_key, is_owned, is_owned_at, is_held_at}
 use Rattle.rx_tree.proofs.Laws.Keys.{some_of}
+use Rattle.rx_lease.specs.declared.leases.LeaseKey.{LeaseKey}
+use Rattle.rx_lease.specs.Leases.{is_out_at}
 use Rattle.rx_ground.specs.declared.base.Record.{Record}
-use Rattle.rx_ground.specs.Ties.{IsTied, record_of}
+use Rattle.rx_ground.specs.Ties.{IsTied, AreLeased, record_of}
 use Rattle.rx_ground.specs.Told.{IsTold, has_place, is_used, is_unowed}
+use Rattle.rx_ground.proofs.Lent.{owned_agrees, held_agrees}
+use Rattle.rx_ground.proofs.Leases.{out_in_history as lease_in_history}
 use Rattle.rx_ground.proofs.Newest.{held_found}
 
 module _ (base : Kept) {T : Type 0} (g : Ghosts T) (h : List Event) (tree : Tree T) (tied : IsTied base g h tree) where
@@ -42,9 +46,14 @@ module _ (base : Kept) {T : Type 0} (g : Ghosts T) (h : List Event) (tree : Tree
   pub held_in_history : (res : ResKey) → is_held_at tree res ≡ true → is_held_in h res.number ≡ true
   held_in_history res held =
       let f = held_found tree res held in
-      let is = tied.stored.each (store_key res) f.stowed f.found in
-      let node : is_open h f.stowed.node.number ≡ is_some (find tree.nodes f.stowed.node) = same_test _ _ is.home (there_open f.stowed.node) in
-      is.held ∙ ap (λ b. b && not f.stowed.removed) node ∙ f.held
+      held_agrees base g h tree tied (store_key res) f.stowed f.found ∙ f.held
+
+  -- and one that is held is owned there just where it is in the history
+  pub owned_in_history : (res : ResKey) → is_held_at tree res ≡ true → is_owned_in h res.number ≡ is_owned_at tree res
+  owned_in_history res held =
+      let f = held_found tree res held in
+      owned_agrees base g h tree tied (store_key res) f.stowed f.found ∙
+      sym (ap (λ (o : Option (Stowed T)). option_map_or (is_owned tree.nodes) o false) f.found)
 
   -- what a record tells
   pub told : (key : Key) (r : Record) → Some r ≡ option_map record_of (find tree.nodes key) → IsTold base h tree.nodes key r
@@ -60,6 +69,11 @@ module _ (base : Kept) {T : Type 0} (g : Ghosts T) (h : List Event) (tree : Tree
           made = is.made ∙ ap (λ (x : Record). Some x.made) (sym same);
           marks = ap (λ (x : Record). x.marks) same ∙ is.marks;
         }
+
+-- a lease that is out under its key is out in the history
+pub out_in_history : {T : Type 0} (h : List Event) (resources : Slots (Stowed T)) (leases : Slots ResKey) → AreLeased h resources leases →
+    (lease : LeaseKey) → is_out_at leases lease ≡ true → is_out h lease.number ≡ true
+out_in_history h resources leases leased lease out = lease_in_history h resources leases leased lease out
 
 -- a test of the event that made a node
 told_at : (p : Event → Bool) (h : List Event) (n : ℕ) (made : Event) → slice_get h n ≡ Some made → at p h n ≡ p made

@@ -3,7 +3,7 @@ use Rattle.std.specs.Prelude.{Bool, true, Option, is_some}
 use Rattle.rx_event.specs.declared.refusal.Refusal.{Refusal}
 use Rattle.rx_event.specs.Calls.{Call}
 use Rattle.rx_event.specs.Refusals.{first_cause}
-use Rattle.rx_register.specs.Causes.{causes, by_key, by_res_key}
+use Rattle.rx_register.specs.Causes.{causes, by_key, by_res_key, by_lease_key}
 use Rattle.rx_slots.specs.declared.Key.{Key}
 use Rattle.rx_slots.specs.Slots.{find}
 use Rattle.rx_ground.specs.Shown.{Ground}
@@ -26,3 +26,8 @@ module _ {T : Type 0} where
   -- against a call by a held resource's key
   abbrev pub first_by_res_key : Ground T → (is_known : Bool) → Call → Option Refusal
   first_by_res_key b is_known call = first_cause (by_res_key is_known (causes b.register.base b.register.history b.register.limit true call))
+
+  -- against a call by the key of a lease
+  abbrev pub first_by_lease_key : Ground T → (is_known : Bool) → Call → Option Refusal
+  first_by_lease_key b is_known call =
+      first_cause (by_lease_key is_known (causes b.register.base b.register.history b.register.limit true call))

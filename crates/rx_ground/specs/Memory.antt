@@ -14,10 +14,11 @@ pub record TakesNoMemory {T : Type 0} (old new : Ground T) : Type 0 where
   pub slots : new.hubs.slots ≡ old.hubs.slots
   pub closing : new.tree.nodes.count + new.space ≡ old.tree.nodes.count + old.space
 
--- there is no room for events, nodes, resources, hubs and closings
+-- there is no room for events, nodes, resources, leases, hubs and closings
 pub record HasNoRoom {T : Type 0} (b : Ground T) : Type 0 where
   pub events : b.register.room ≡ 0
   pub nodes : b.tree.nodes.room ≡ 0
   pub resources : b.tree.resources.room ≡ 0
+  pub leases : b.leases.room ≡ 0
   pub hubs : b.hubs.room ≡ 0
   pub closing : b.space ≡ 0

@@ -1,4 +1,4 @@
--- What contracts see of a register, a tree and hubs of one history, and of the resources that wait there.
+-- What contracts see of a register, a tree, hubs and leases of one history, and of the resources that wait there.
 use Rattle.std.specs.Prelude.{ℕ, suc, List, [], ◌∷◌, Option, Some, None}
 use Rattle.std.proofs.Math.Bool.{not}
 use Rattle.std.specs.List.{filter}
@@ -7,6 +7,7 @@ use Rattle.rx_resource.specs.declared.Life.{Life}
 use Rattle.rx_slots.specs.declared.Entry.{Entry}
 use Rattle.rx_slots.specs.declared.Key.{Key as SlotKey}
 use Rattle.rx_slots.specs.Slots.{Slots}
+use Rattle.rx_tree.specs.declared.node.ResKey.{ResKey}
 use Rattle.rx_tree.specs.declared.node.Stowed.{Stowed}
 use Rattle.rx_tree.specs.Tree.{Tree}
 use Rattle.rx_tree.specs.Resources.{is_held}
@@ -38,11 +39,12 @@ module _ {X : Type 0} where
   abbrev pub kept_in : Slots X → List (Kept X)
   kept_in slots = kept_from 0 slots.entries
 
--- a register, the tree and the hubs beside it, and for how many more nodes a closing has room
+-- a register, the tree, the hubs and the leases beside it, and for how many more nodes a closing has room
 pub record Ground (T : Type 0) : Type 0 where
   pub register : Register
   pub tree : Tree T
   pub hubs : Hubs
+  pub leases : Slots ResKey
   pub space : ℕ
 
 module _ {T : Type 0} where

@@ -10,11 +10,11 @@ use Rattle.rx_event.specs.declared.marks.Marks.{Marks}
 use Rattle.rx_event.specs.declared.event.Place.{Place}
 use Rattle.rx_event.specs.declared.event.Place.TheVariants.{Root, Source, Inner, Notifier}
 use Rattle.rx_event.specs.declared.event.Event.{Event}
-use Rattle.rx_event.specs.declared.event.Event.TheVariants.{Accept}
+use Rattle.rx_event.specs.declared.event.Event.TheVariants.{Accept, Lease}
 use Rattle.rx_event.specs.Events.{makes_resource, is_take_of}
 use Rattle.rx_event.specs.Kept.{Kept}
 use Rattle.rx_event.specs.Tree.{at, is_open}
-use Rattle.rx_event.specs.Resources.{accepted_by, is_held, uses}
+use Rattle.rx_event.specs.Resources.{accepted_by, is_owned, is_out, leases_of, uses}
 use Rattle.rx_event.specs.Marks.{marks_of, due_at, terminal_due, after_source, after_notifier, after_inner}
 use Rattle.rx_event.specs.Notes.{mail_of}
 use Rattle.rx_event.specs.Totals.{debt, open_count}
@@ -27,7 +27,7 @@ use Rattle.rx_tree.specs.declared.node.Stowed.{Stowed}
 use Rattle.rx_tree.specs.declared.node.ResKey.{ResKey}
 use Rattle.rx_tree.specs.Below.{is_below}
 use Rattle.rx_tree.specs.Closing.{outside}
-use Rattle.rx_tree.specs.Resources.{is_held_at}
+use Rattle.rx_tree.specs.Resources.{is_held_at, store_key}
 use Rattle.rx_tree.specs.Tree.{Tree, Rewrites, is_on, with_last, with_marks}
 use Rattle.rx_hub.specs.declared.hub.HubDue.{HubDue}
 use Rattle.rx_hub.specs.declared.hub.HubDue.TheVariants.{Connect as ConnectDue, End as EndDue, Close as CloseDue}
@@ -86,12 +86,13 @@ left_inside h top ended hubs = record hubs { hubs = map (without_gone (is_inside
 -- resources ---------------------------------------------------------------------------------------
 
 module _ {T : Type 0} where
-  -- an accepted resource that is not taken: live, at its node, held as the history says, with its tag and its uses
+  -- an accepted resource that is not taken: live, at its node, owned and leased as the history says, with its tag and its uses
   pub record IsStored (base : Kept) (g : Ghosts T) (h : List Event) (nodes : Slots Node) (r : ℕ) (s : Stowed T) : Type 0 where
     pub made : at makes_resource h r ≡ true
     pub accepted : accepted_by base h r ≡ Some (Accept s.node.number (g.tag_of s.resource))
     pub older : s.node.number < r
-    pub held : is_held h r ≡ (is_open h s.node.number && not s.removed)
+    pub owned : is_owned h r ≡ (is_open h s.node.number && not s.removed)
+    pub lent : s.leases ≡ leases_of h r
     pub untaken : list_any (is_take_of r) h ≡ false
     pub home : is_open h s.node.number ≡ true → IsSome (find nodes s.node)
     pub live : g.life_of s.resource ≡ Live
@@ -102,6 +103,19 @@ module _ {T : Type 0} where
   pub record AreStored (base : Kept) (g : Ghosts T) (h : List Event) (tree : Tree T) : Type 0 where
     pub each : (key : Key) (s : Stowed T) → find tree.resources key ≡ Some s → IsStored base g h tree.nodes key.number s
     pub every : (r : ℕ) → at makes_resource h r ≡ true → list_any (is_take_of r) h ≡ false → HasKey tree.resources r
+
+  -- leases ----------------------------------------------------------------------------------------
+
+  -- a lease that is out, of a resource that is stored under this key
+  pub record IsLeaseOf (h : List Event) (resources : Slots (Stowed T)) (l : ℕ) (res : ResKey) : Type 0 where
+    pub out : is_out h l ≡ true
+    pub made : slice_get h l ≡ Some (Lease res.number)
+    pub stored : IsSome (find resources (store_key res))
+
+  -- the leases kept are just those that are out
+  pub record AreLeased (h : List Event) (resources : Slots (Stowed T)) (leases : Slots ResKey) : Type 0 where
+    pub each : (key : Key) (res : ResKey) → find leases key ≡ Some res → IsLeaseOf h resources key.number res
+    pub every : (l : ℕ) → is_out h l ≡ true → HasKey leases l
 
   -- ties ------------------------------------------------------------------------------------------
 
@@ -119,6 +133,7 @@ module _ {T : Type 0} where
   -- and no rule is left undone, and what closing everything needs is reserved
   pub record IsStanding (g : Ghosts T) (b : Ground T) : Type 0 where
     pub tied : AreTied b.register.base g b.register.history b.tree b.hubs
+    pub leased : AreLeased b.register.history b.tree.resources b.leases
     pub settled : IsSettled b.register.base b.register.history
     pub paid : IsPaid b.register
 
@@ -131,6 +146,7 @@ module _ {T : Type 0} where
     pub resources : new.tree.resources ≡ record old.tree.resources { room = new.tree.resources.room }
     pub chain : new.tree.chain ≡ old.tree.chain
     pub hubs : new.hubs ≡ record old.hubs { room = new.hubs.room; slots = new.hubs.slots }
+    pub leases : new.leases ≡ record old.leases { room = new.leases.room }
 
   -- there is room for what a call wants; where there are hubs, a subscriber may stand at each slot of the tree
   pub record HasRoom (b : Ground T) (wanted : Wanted) : Type 0 where
@@ -141,6 +157,7 @@ module _ {T : Type 0} where
     pub resources : wanted.resources ≤ b.tree.resources.room
     pub hubs : wanted.hubs ≤ b.hubs.room
     pub slots : 0 < length b.hubs.hubs → b.tree.nodes.count + b.tree.nodes.room ≤ b.hubs.slots
+    pub leases : wanted.leases ≤ b.leases.room
 
   -- there is room for what a call wants beside what closing everything needs
   pub record HasRoomBeside (b : Ground T) (wanted : Wanted) : Type 0 where
@@ -151,6 +168,7 @@ module _ {T : Type 0} where
     pub resources : wanted.resources ≤ b.tree.resources.room
     pub hubs : wanted.hubs ≤ b.hubs.room
     pub slots : 0 < length b.hubs.hubs → b.tree.nodes.count + b.tree.nodes.room ≤ b.hubs.slots
+    pub leases : wanted.leases ≤ b.leases.room
 
   -- of its resources, those held now that are older than this were held
   pub record KeepsHeld (old new : Tree T) (number : ℕ) : Type 0 where
@@ -175,6 +193,10 @@ module _ {T : Type 0} where
     pub nodes : Rewrites old.nodes new.nodes key (λ node. with_marks (change node.marks) node)
     pub chain : new.chain ≡ with_last key old.chain
     pub resources : new.resources ≡ old.resources
+
+-- of its leases, those out now that are older than this were out
+pub record KeepsLeases (old new : Slots ResKey) (number : ℕ) : Type 0 where
+  pub from : (key : Key) → IsSome (find new key) → key.number < number → IsSome (find old key)
 
 -- the key of the node that a place names finds a record, or the place names none
 abbrev pub is_there : Slots Node → Option Key → Bool

@@ -1,28 +1,30 @@
-//! What a book stands on: the register of what happened, the tree of what is open, held and waiting, and
-//! the hubs that were made.
+//! What a book stands on: the register of what happened, the tree of what is open, held and waiting, the
+//! hubs that were made, and the leases that are out.
 
 ghost use Rattle.std.specs.Prelude.{◌≡◌, ◌+◌, ◌<◌, ◌≤◌, length, option_map, OnOk};
 ghost use Rattle.rx_register.specs.State.{IsPromised as IsRegisterPromised};
-ghost use Rattle.rx_tree.specs.Tree.{IsPromised as IsTreePromised};
+ghost use Rattle.rx_tree.specs.Tree.{AreApart, IsPromised as IsTreePromised};
 ghost use Rattle.rx_hub.specs.Hubs.{IsPromised as IsHubsPromised};
 ghost use Rattle.rx_slots.specs.Slots.{find};
 ghost use Rattle.rx_ground.specs.Ties.{IsRoomier, HasRoom, record_of};
 
 use rx_event::{Event, Marks};
 use rx_hub::{Hubs, Route};
+use rx_lease::Leases;
 use rx_register::Register;
 use rx_resource::Resource;
 use rx_tree::{Closed, Key, Tree};
 use std::alloc::AllocError;
 use std::marker::Model;
 
-/// The register, the tree and the hubs. Between a caller's event and the last that it forces they are of
+/// The register, the tree, the hubs and the leases. Between a caller's event and the last that it forces they are of
 /// one history, in which something is still due.
 #[derive(Drop)]
 pub struct Ground<R: Resource> {
     pub(crate) register: Register,
     pub(crate) tree: Tree<R>,
     pub(crate) hubs: Hubs,
+    pub(crate) leases: Leases,
     // What a closing moves out, which then is done with.
     pub(crate) closed: Vec<Closed>,
     // Where an item stands on its way. It has room for all hubs, so that an item takes no memory.
@@ -35,7 +37,7 @@ impl<R: Resource> Model for Ground<R> {
 
     ghost Value = { Shown R };
 
-    ghost view = { λ b. record { register = b.register; tree = b.tree; hubs = b.hubs; space = vec_capacity b.closed - b.tree.nodes.count } };
+    ghost view = { λ b. record { register = b.register; tree = b.tree; hubs = b.hubs; leases = b.leases; space = vec_capacity b.closed - b.tree.nodes.count } };
 
     ghost invariant = { λ b. (b.closed.items ≡ []) × (b.tree.nodes.count ≤ vec_capacity b.closed) ×
         (length b.hubs.hubs + b.hubs.room ≤ b.route.room) };
@@ -54,6 +56,8 @@ pub struct Wanted {
     pub resources: usize,
     /// Hubs to make.
     pub hubs: usize,
+    /// Leases to give out.
+    pub leases: usize,
 }
 
 /// What a node's record says of it.
@@ -82,10 +86,12 @@ impl<R: Resource> Ground<R> {
         ensures register { IsRegisterPromised self.now.register }
         ensures tree { IsTreePromised self.now.tree }
         ensures hubs { IsHubsPromised self.now.hubs }
+        ensures leases { AreApart self.now.leases }
     {
         self.register.promise();
         self.tree.promise();
         self.hubs.promise();
+        self.leases.promise();
     }
 
     /// Gets room for what is wanted in all, with what is kept for closing everything counted in. Where there
@@ -110,6 +116,7 @@ impl<R: Resource> Ground<R> {
         self.closed.reserve(space)?;
         self.tree.reserve(wanted.nodes)?;
         self.tree.reserve_resources(wanted.resources)?;
+        self.leases.reserve(wanted.leases)?;
         self.route.reserve(hubs)?;
         reserve_slots(&mut self.hubs, self.tree.slots())?;
         self.hubs.reserve(wanted.hubs)

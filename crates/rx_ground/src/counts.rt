@@ -3,11 +3,13 @@
 ghost use Rattle.std.specs.Prelude.{◌≡◌, ◌+◌, ◌≤◌, ◌↔◌, [], length, slice_get, is_some, if◌then◌else◌, IsTrue, IsSome, IfSome, IfNone, IfErr, OnOk};
 ghost use Rattle.rx_event.specs.Kept.{nothing_kept, event_since};
 ghost use Rattle.rx_event.specs.Notes.{notes};
-ghost use Rattle.rx_event.specs.Totals.{open_count as open_count_in, held_count, waiting_count, accepted_count, taken_count, item_count, debt};
+ghost use Rattle.rx_event.specs.Totals.{open_count as open_count_in, held_count, waiting_count, lease_count};
+ghost use Rattle.rx_event.specs.Totals.{accepted_count, taken_count, item_count, debt};
 ghost use Rattle.rx_event.specs.declared.refusal.Refusal.{Refusal};
 ghost use Rattle.rx_slots.specs.Slots.{find};
 ghost use Rattle.rx_tree.specs.Tree.{IsFirst, IsRoot, HasNone};
-ghost use Rattle.rx_tree.specs.Resources.{is_held_at};
+ghost use Rattle.rx_tree.specs.Resources.{is_held_at, is_owned_at};
+ghost use Rattle.rx_lease.specs.Leases.{IsOut, is_out_at, lease_key};
 ghost use Rattle.rx_register.specs.State.{IsLoadOf};
 ghost use Rattle.rx_ground.specs.Ties.{IsStanding, IsRoomier, HasRoomBeside};
 ghost use Rattle.rx_ground.specs.Memory.{HasNoRoom};
@@ -15,6 +17,7 @@ ghost use Rattle.rx_ground.specs.Memory.{HasNoRoom};
 use crate::base::{Ground, Wanted};
 use rx_event::{Event, Mail, Refusal};
 use rx_hub::{Hubs, Route};
+use rx_lease::{LeaseKey, Leases};
 use rx_register::{Load, Register};
 use rx_resource::Resource;
 use rx_tree::{Key, ResKey, Tree};
@@ -33,12 +36,14 @@ impl<R: Resource> Ground<R> {
         ensures nodes { result.tree.nodes.entries ≡ [] }
         ensures resources { result.tree.resources.entries ≡ [] }
         ensures hubs { result.hubs.hubs ≡ [] }
+        ensures leases { result.leases.entries ≡ [] }
         ensures no_room { HasNoRoom result }
     {
         Ground {
             register: Register::new(alloc, limit),
             tree: Tree::new(alloc),
             hubs: Hubs::new(alloc),
+            leases: Leases::new(alloc),
             closed: Vec::new(alloc),
             route: Route::new(alloc),
         }
@@ -113,6 +118,37 @@ impl<R: Resource> Ground<R> {
         self.tree.holds(res)
     }
 
+    /// Whether the resource of the key is owned: its node is open, and it was not removed.
+    pub fn owns(&self, res: ResKey) -> bool
+        ensures { result ≡ is_owned_at self.now.tree res }
+    {
+        self.tree.owns(res)
+    }
+
+    /// How many leases are out.
+    pub fn lease_count(&self) -> u64
+        requires standing { IsStanding R.Resource self.now }
+        ensures { result ≡ lease_count self.now.register.history }
+    {
+        self.leases.promise();
+        self.leases.len() as u64
+    }
+
+    /// Whether the key is that of a lease that is out.
+    pub fn lends(&self, lease: LeaseKey) -> bool
+        ensures { result ≡ is_out_at self.now.leases lease }
+    {
+        self.leases.get(lease).is_some()
+    }
+
+    /// The key of the lease of least number that is out; None where none is.
+    pub fn first_lease(&self) -> Option<LeaseKey>
+        ensures some { IfSome result (λ lease. IsFirst (IsOut self.now.leases) 0 (lease_key lease)) }
+        ensures none { IfNone result (HasNone (IsOut self.now.leases) 0) }
+    {
+        self.leases.first()
+    }
+
     /// The key of the open root of least number; None where no root is open.
     pub fn first_root(&self) -> Option<Key>
         ensures some { IfSome result (IsFirst (IsRoot self.now.tree.nodes) 0) }
@@ -121,8 +157,9 @@ impl<R: Resource> Ground<R> {
         self.tree.first_root()
     }
 
-    /// What is open, and what its closing may need: an event for each open node, two for each held
-    /// resource, one for each that waits, and one for each projected item that is owed.
+    /// What is open, and what its closing may need: an event for each open node, two for each resource
+    /// that its node owns, one for each that leases alone hold or that waits, one for each lease that is
+    /// out, and one for each projected item that is owed.
     pub(crate) fn load(&self) -> Load
         requires standing { IsStanding R.Resource self.now }
         ensures load { IsLoadOf self.now.register.base self.now.register.history result }
@@ -132,10 +169,12 @@ impl<R: Resource> Ground<R> {
         let open = self.open_count();
         let waiting = self.waiting_count();
         let held = self.accepted() - self.taken() - waiting;
+        let alone = self.tree.lent_alone();
+        let leases = self.lease_count();
         let owed = self.tree.owed();
         Load {
             open,
-            debt: open + 2 * held + waiting + owed,
+            debt: open + 2 * (held - alone) + alone + waiting + leases + owed,
         }
     }
 
@@ -161,6 +200,7 @@ impl<R: Resource> Ground<R> {
             nodes: wanted.nodes,
             resources: wanted.resources,
             hubs: wanted.hubs,
+            leases: wanted.leases,
         };
         match self.reserve(in_all) {
             Ok(()) => Ok(()),

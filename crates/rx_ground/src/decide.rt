@@ -5,22 +5,24 @@ ghost use Rattle.std.specs.Prelude.{if◌then◌else◌, IfSome, IfNone};
 ghost use Rattle.rx_event.specs.Events.{named_by, is_merging};
 ghost use Rattle.rx_event.specs.Tree.{at};
 ghost use Rattle.rx_event.specs.Moments.{owed};
-ghost use Rattle.rx_event.specs.Calls.{Opening, OpeningUsing, Holding, Applying, Removing};
+ghost use Rattle.rx_event.specs.Calls.{Opening, OpeningUsing, Holding, Applying, Removing, Leasing, GivingBack};
 ghost use Rattle.rx_event.specs.Calls.{Ending, Aborting, Declining, Failing, Disposing};
 ghost use Rattle.rx_event.specs.Refusals.{first_cause};
 ghost use Rattle.rx_slots.specs.Slots.{find};
 ghost use Rattle.rx_tree.specs.Resources.{is_held_at};
+ghost use Rattle.rx_lease.specs.Leases.{is_out_at};
 ghost use Rattle.rx_register.specs.Causes.{by_key, projecting_causes, end_at as end_at_in};
 ghost use Rattle.rx_register.specs.Causes.{is_without_hub as is_without_hub_in, is_wrong_place as is_wrong_place_in};
 ghost use Rattle.rx_register.specs.Causes.{is_taken_place as is_taken_place_in, is_unowed_place as is_unowed_place_in};
 ghost use Rattle.rx_register.specs.Causes.{is_crowded as is_crowded_in, is_over as is_over_in};
-ghost use Rattle.rx_ground.specs.FirstCause.{first_at, first_by_key, first_by_res_key, has_node};
+ghost use Rattle.rx_ground.specs.FirstCause.{first_at, first_by_key, first_by_res_key, first_by_lease_key, has_node};
 ghost use Rattle.rx_ground.specs.Ties.{IsStanding, is_there};
 ghost use Rattle.rx_ground.specs.Told.{IsTold, has_place as has_place_in};
 ghost use Rattle.rx_ground.specs.Told.{is_used as is_used_in, is_unowed as is_unowed_in};
 
 use crate::base::{Ground, Record};
 use rx_event::{Event, Kind, Marks, Place, Refusal};
+use rx_lease::LeaseKey;
 use rx_note::Terminal;
 use rx_resource::Resource;
 use rx_tree::{Key, ResKey};
@@ -278,13 +280,47 @@ impl<R: Resource> Ground<R> {
     }
 
     /// What stands first against removing the resource from its node.
-    #[tactic(auto, using(crate::proofs::Told::held_in_history))]
+    #[tactic(auto, using(crate::proofs::Told::held_in_history, crate::proofs::Told::owned_in_history))]
     pub fn removing_cause(&self, res: ResKey) -> Option<Refusal>
         requires standing { IsStanding R.Resource self.now }
         ensures { result ≡ first_by_res_key self.now (is_held_at self.now.tree res) (Removing res.number) }
     {
         if !self.holds(res) {
             return Some(Refusal::NotHeld);
+        }
+        if !self.owns(res) {
+            return Some(Refusal::Leased);
+        }
+        None
+    }
+
+    /// What stands first against leasing the resource.
+    #[tactic(auto, using(crate::proofs::Told::held_in_history, crate::proofs::Told::owned_in_history))]
+    pub fn leasing_cause(&self, res: ResKey) -> Option<Refusal>
+        requires standing { IsStanding R.Resource self.now }
+        ensures { result ≡ first_by_res_key self.now (is_held_at self.now.tree res) (Leasing res.number) }
+    {
+        if !self.holds(res) {
+            return Some(Refusal::NotHeld);
+        }
+        if !self.owns(res) {
+            return Some(Refusal::Leased);
+        }
+        if self.is_over(2) {
+            return Some(Refusal::Full);
+        }
+        None
+    }
+
+    /// What stands first against giving the lease back.
+    #[tactic(auto, using(crate::proofs::Told::out_in_history))]
+    pub fn returning_cause(&self, lease: LeaseKey) -> Option<Refusal>
+        requires standing { IsStanding R.Resource self.now }
+        ensures { result ≡
+            first_by_lease_key self.now (is_out_at self.now.leases lease) (GivingBack lease.number) }
+    {
+        if !self.lends(lease) {
+            return Some(Refusal::NoLease);
         }
         None
     }

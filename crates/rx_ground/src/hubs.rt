@@ -17,7 +17,7 @@ ghost use Rattle.rx_register.specs.Causes.{forces_connect, nodes_opened, added_b
 ghost use Rattle.rx_register.specs.State.{Writes};
 ghost use Rattle.rx_ground.specs.FirstCause.{first_by_key};
 ghost use Rattle.rx_ground.specs.Memory.{TakesNoMemory};
-ghost use Rattle.rx_ground.specs.Ties.{AreTied, IsReady, IsStanding, IsNewNode, KeepsOlder};
+ghost use Rattle.rx_ground.specs.Ties.{AreTied, AreLeased, IsReady, IsStanding, IsNewNode, KeepsOlder};
 ghost use Rattle.rx_ground.specs.Told.{IsHubTold, is_connected_manual};
 
 use crate::base::Ground;
@@ -190,13 +190,16 @@ impl<R: Resource> Ground<R> {
     pub fn write_hub(&mut self, mode: Mode) -> u64
         requires tied { AreTied self.old.register.base R.Resource self.old.register.history self.old.tree
             self.old.hubs }
+        requires leased { AreLeased self.old.register.history self.old.tree.resources self.old.leases }
         requires ready { IsReady self.old.register (Event.Hub mode) }
         requires room { 0 < self.old.hubs.room }
         ensures written { Writes self.old.register (Event.Hub mode ∷ []) self.new.register }
         ensures tied { AreTied self.new.register.base R.Resource self.new.register.history self.new.tree self.new.hubs }
+        ensures leased { AreLeased self.new.register.history self.new.tree.resources self.new.leases }
         ensures number { result ≡ length self.old.register.history }
         ensures hubs { self.new.hubs.hubs ≡ self.old.hubs.hubs ++ new_hub result mode ∷ [] }
         ensures tree { self.new.tree ≡ self.old.tree }
+        ensures leases { self.new.leases ≡ self.old.leases }
         ensures memory { TakesNoMemory self.old self.new }
     {
         self.register.promise();
@@ -211,11 +214,13 @@ impl<R: Resource> Ground<R> {
     pub fn write_connect(&mut self, hub: u64) -> Key
         requires tied { AreTied self.old.register.base R.Resource self.old.register.history self.old.tree
             self.old.hubs }
+        requires leased { AreLeased self.old.register.history self.old.tree.resources self.old.leases }
         requires ready { IsReady self.old.register (Event.Connect hub) }
         requires room { 0 < self.old.tree.nodes.room }
         requires space { 0 < self.old.space }
         ensures written { Writes self.old.register (Event.Connect hub ∷ []) self.new.register }
         ensures tied { AreTied self.new.register.base R.Resource self.new.register.history self.new.tree self.new.hubs }
+        ensures leased { AreLeased self.new.register.history self.new.tree.resources self.new.leases }
         ensures new { IsNewNode self.old.tree.nodes self.new.tree.nodes (length self.old.register.history) result }
         ensures nodes { KeepsOlder self.new.register.history (length self.old.register.history)
             self.old.tree.nodes self.new.tree.nodes }
@@ -223,6 +228,7 @@ impl<R: Resource> Ground<R> {
         ensures hubs { self.new.hubs ≡ record self.old.hubs {
           hubs = hubs_after self.old.register.history (Event.Connect hub) result.slot self.old.hubs.hubs;
         } }
+        ensures leases { self.new.leases ≡ self.old.leases }
         ensures memory { TakesNoMemory self.old self.new }
     {
         self.register.promise();

@@ -48,6 +48,7 @@ mod base;
 mod counts;
 mod decide;
 mod hubs;
+mod leasing;
 mod opening;
 mod order;
 mod route;

@@ -10,7 +10,7 @@ ghost use Rattle.rx_tree.specs.Owed.{owed_in};
 ghost use Rattle.rx_tree.specs.Tree.{IsPlaced};
 ghost use Rattle.rx_register.specs.State.{Writes};
 ghost use Rattle.rx_ground.specs.Inners.{IsInner, HasNoInner, IsReplaced, ReplacesNone, MakesWay, ClearsHubs};
-ghost use Rattle.rx_ground.specs.Ties.{AreTied, IsReady, IsNewNode, Remarks, opened_marks};
+ghost use Rattle.rx_ground.specs.Ties.{AreTied, AreLeased, IsReady, IsNewNode, Remarks, opened_marks};
 ghost use Rattle.rx_event.specs.declared.event.Kind.{Kind};
 ghost use Rattle.rx_hub.specs.After.{hubs_after, with_made};
 ghost use Rattle.rx_hub.specs.Hubs.{find_hub, AreBelow, IsFree};
@@ -124,6 +124,7 @@ impl<R: Resource> Ground<R> {
         ensures owed { owed_in self.new.tree.nodes ≤ owed_in self.old.tree.nodes }
         ensures hubs { ClearsHubs self.old.register.history place self.old.tree self.new.tree
             self.old.hubs self.new.hubs result }
+        ensures leases { self.new.leases ≡ self.old.leases }
         ensures memory { TakesNoMemory self.old self.new }
     {
         let Some(inner) = self.replaced(place, above) else {
@@ -139,6 +140,7 @@ impl<R: Resource> Ground<R> {
     pub fn write_open(&mut self, place: Place, kind: Kind, above: Option<Key>) -> Key
         requires tied { AreTied self.old.register.base R.Resource self.old.register.history self.old.tree
             self.old.hubs }
+        requires leased { AreLeased self.old.register.history self.old.tree.resources self.old.leases }
         requires ready { IsReady self.old.register (Event.Open place kind) }
         requires placed { IsPlaced self.old.tree.nodes (length self.old.register.history) (Event.Open place kind) above }
         requires room { 0 < self.old.tree.nodes.room }
@@ -147,12 +149,14 @@ impl<R: Resource> Ground<R> {
             self.old.tree.nodes.count + self.old.tree.nodes.room ≤ self.old.hubs.slots }
         ensures written { Writes self.old.register (Event.Open place kind ∷ []) self.new.register }
         ensures tied { AreTied self.new.register.base R.Resource self.new.register.history self.new.tree self.new.hubs }
+        ensures leased { AreLeased self.new.register.history self.new.tree.resources self.new.leases }
         ensures new { IsNewNode self.old.tree.nodes self.new.tree.nodes (length self.old.register.history) result }
         ensures resources { self.new.tree.resources ≡ self.old.tree.resources }
         ensures left { self.old.tree.nodes.room ≤ self.new.tree.nodes.room + 1 }
         ensures hubs { self.new.hubs ≡ record self.old.hubs {
           hubs = hubs_after self.old.register.history (Event.Open place kind) result.slot self.old.hubs.hubs;
         } }
+        ensures leases { self.new.leases ≡ self.old.leases }
         ensures memory { TakesNoMemory self.old self.new }
     {
         self.register.promise();

@@ -10,7 +10,7 @@ ghost use Rattle.rx_register.specs.Paid.{IsPaid};
 ghost use Rattle.rx_register.specs.State.{Writes};
 ghost use Rattle.rx_hub.specs.declared.hub.HubDue.{HubDue};
 ghost use Rattle.rx_hub.specs.Due.{event_of};
-ghost use Rattle.rx_ground.specs.Ties.{AreTied, IsStanding, IsReady, IsDueNext, IsNext, KeepsOlder, AllQuiet, WithChain};
+ghost use Rattle.rx_ground.specs.Ties.{AreTied, AreLeased, IsStanding, IsReady, IsDueNext, IsNext, KeepsOlder, AllQuiet, WithChain};
 ghost use Rattle.rx_ground.specs.Ties.{HasRoomToConnect, is_there, key_due};
 ghost use Rattle.rx_ground.specs.Memory.{TakesNoMemory};
 
@@ -78,15 +78,18 @@ impl<R: Resource> Ground<R> {
     fn write_due(&mut self, due: HubDue)
         requires tied { AreTied self.old.register.base R.Resource self.old.register.history self.old.tree
             self.old.hubs }
+        requires leased { AreLeased self.old.register.history self.old.tree.resources self.old.leases }
         requires ready { IsReady self.old.register (event_of due) }
         requires there { is_there self.old.tree.nodes (key_due due) ≡ true }
         requires room { (g : _) → due ≡ HubDue.Connect g → (0 < self.old.tree.nodes.room) × (0 < self.old.space) }
         ensures written { Writes self.old.register (event_of due ∷ []) self.new.register }
         ensures tied { AreTied self.new.register.base R.Resource self.new.register.history self.new.tree self.new.hubs }
+        ensures leased { AreLeased self.new.register.history self.new.tree.resources self.new.leases }
         ensures nodes { KeepsOlder self.new.register.history (length self.old.register.history)
             self.old.tree.nodes self.new.tree.nodes }
         ensures resources { self.new.tree.resources ≡ self.old.tree.resources }
         ensures hubs { length self.new.hubs.hubs ≡ length self.old.hubs.hubs }
+        ensures leases { self.new.leases ≡ self.old.leases }
         ensures memory { TakesNoMemory self.old self.new }
     {
         match due {
@@ -103,6 +106,7 @@ impl<R: Resource> Ground<R> {
     pub fn settle(&mut self)
         requires tied { AreTied self.old.register.base R.Resource self.old.register.history self.old.tree
             self.old.hubs }
+        requires leased { AreLeased self.old.register.history self.old.tree.resources self.old.leases }
         requires paid { IsPaid self.old.register }
         requires room { HasRoomToConnect self.old.register.history self.old.tree.nodes.room self.old.space }
         ensures standing { IsStanding R.Resource self.new }
@@ -114,6 +118,7 @@ impl<R: Resource> Ground<R> {
         ensures limit { self.new.register.limit ≡ self.old.register.limit }
         ensures given { self.new.register.given ≡ self.old.register.given }
         ensures hubs { length self.new.hubs.hubs ≡ length self.old.hubs.hubs }
+        ensures leases { self.new.leases ≡ self.old.leases }
         ensures memory { TakesNoMemory self.old self.new }
     {
         while let Some(due) = self.next_forced() {

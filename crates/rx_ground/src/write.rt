@@ -12,9 +12,9 @@ ghost use Rattle.rx_event.specs.Resources.{is_waiting};
 ghost use Rattle.rx_resource.specs.declared.Life.{Life};
 ghost use Rattle.rx_slots.specs.Slots.{find};
 ghost use Rattle.rx_tree.specs.Owed.{owed_in};
-ghost use Rattle.rx_tree.specs.Resources.{is_held_at};
+ghost use Rattle.rx_tree.specs.Resources.{is_held_at, is_owned_at};
 ghost use Rattle.rx_register.specs.State.{Writes};
-ghost use Rattle.rx_ground.specs.Ties.{AreTied, IsReady, KeepsNodes, KeepsHeld, IsListed, Remarks, Cuts, left_inside};
+ghost use Rattle.rx_ground.specs.Ties.{AreTied, AreLeased, IsReady, KeepsNodes, KeepsHeld, IsListed, Remarks, Cuts, left_inside};
 ghost use Rattle.rx_hub.specs.After.{end_by};
 ghost use Rattle.rx_ground.specs.Memory.{TakesNoMemory};
 
@@ -75,6 +75,7 @@ impl<R: Resource> Ground<R> {
     pub fn write_accept(&mut self, node: Key, resource: R) -> ResKey
         requires tied { AreTied self.old.register.base R.Resource self.old.register.history self.old.tree
             self.old.hubs }
+        requires leased { AreLeased self.old.register.history self.old.tree.resources self.old.leases }
         requires ready { IsReady self.old.register (Event.Accept node.number (R.tag_of resource)) }
         requires open { IsSome (find self.old.tree.nodes node) }
         requires live { R.life_of resource ≡ Life.Live }
@@ -82,12 +83,14 @@ impl<R: Resource> Ground<R> {
         requires room { 0 < self.old.tree.resources.room }
         ensures written { Writes self.old.register (Event.Accept node.number (R.tag_of resource) ∷ []) self.new.register }
         ensures tied { AreTied self.new.register.base R.Resource self.new.register.history self.new.tree self.new.hubs }
+        ensures leased { AreLeased self.new.register.history self.new.tree.resources self.new.leases }
         ensures number { result.number ≡ length self.old.register.history }
         ensures held { is_held_at self.new.tree result ≡ true }
         ensures nodes { self.new.tree.nodes ≡ self.old.tree.nodes }
         ensures chain { self.new.tree.chain ≡ self.old.tree.chain }
         ensures kept { KeepsHeld self.old.tree self.new.tree (length self.old.register.history) }
         ensures hubs { self.new.hubs ≡ self.old.hubs }
+        ensures leases { self.new.leases ≡ self.old.leases }
         ensures memory { TakesNoMemory self.old self.new }
     {
         self.register.promise();
@@ -105,13 +108,16 @@ impl<R: Resource> Ground<R> {
     pub fn write_use(&mut self, res: ResKey, word: u64) -> u64
         requires tied { AreTied self.old.register.base R.Resource self.old.register.history self.old.tree
             self.old.hubs }
+        requires leased { AreLeased self.old.register.history self.old.tree.resources self.old.leases }
         requires ready { IsReady self.old.register (Event.Use res.number) }
         requires held { IsTrue (is_held_at self.old.tree res) }
         ensures written { Writes self.old.register (Event.Use res.number ∷ []) self.new.register }
         ensures tied { AreTied self.new.register.base R.Resource self.new.register.history self.new.tree self.new.hubs }
+        ensures leased { AreLeased self.new.register.history self.new.tree.resources self.new.leases }
         ensures nodes { self.new.tree.nodes ≡ self.old.tree.nodes }
         ensures kept { KeepsHeld self.old.tree self.new.tree (length self.old.register.history) }
         ensures hubs { self.new.hubs ≡ self.old.hubs }
+        ensures leases { self.new.leases ≡ self.old.leases }
         ensures memory { TakesNoMemory self.old self.new }
     {
         self.register.promise();
@@ -121,17 +127,20 @@ impl<R: Resource> Ground<R> {
         answer
     }
 
-    /// Removes a held resource from its node.
+    /// Removes an owned resource from its node.
     pub fn write_remove(&mut self, res: ResKey)
         requires tied { AreTied self.old.register.base R.Resource self.old.register.history self.old.tree
             self.old.hubs }
+        requires leased { AreLeased self.old.register.history self.old.tree.resources self.old.leases }
         requires ready { IsReady self.old.register (Event.Remove res.number) }
-        requires held { IsTrue (is_held_at self.old.tree res) }
+        requires owned { IsTrue (is_owned_at self.old.tree res) }
         ensures written { Writes self.old.register (Event.Remove res.number ∷ []) self.new.register }
         ensures tied { AreTied self.new.register.base R.Resource self.new.register.history self.new.tree self.new.hubs }
+        ensures leased { AreLeased self.new.register.history self.new.tree.resources self.new.leases }
         ensures nodes { self.new.tree.nodes ≡ self.old.tree.nodes }
         ensures kept { KeepsHeld self.old.tree self.new.tree (length self.old.register.history) }
         ensures hubs { self.new.hubs ≡ self.old.hubs }
+        ensures leases { self.new.leases ≡ self.old.leases }
         ensures memory { TakesNoMemory self.old self.new }
     {
         self.register.promise();
@@ -144,13 +153,16 @@ impl<R: Resource> Ground<R> {
     pub fn write_decline(&mut self, merging: Key)
         requires tied { AreTied self.old.register.base R.Resource self.old.register.history self.old.tree
             self.old.hubs }
+        requires leased { AreLeased self.old.register.history self.old.tree.resources self.old.leases }
         requires ready { IsReady self.old.register (Event.Decline merging.number) }
         requires open { IsSome (find self.old.tree.nodes merging) }
         ensures written { Writes self.old.register (Event.Decline merging.number ∷ []) self.new.register }
         ensures tied { AreTied self.new.register.base R.Resource self.new.register.history self.new.tree self.new.hubs }
+        ensures leased { AreLeased self.new.register.history self.new.tree.resources self.new.leases }
         ensures kept { KeepsNodes self.new.register.history self.old.tree.nodes self.new.tree.nodes }
         ensures resources { self.new.tree.resources ≡ self.old.tree.resources }
         ensures hubs { self.new.hubs ≡ self.old.hubs }
+        ensures leases { self.new.leases ≡ self.old.leases }
         ensures memory { TakesNoMemory self.old self.new }
     {
         self.register.promise();
@@ -167,13 +179,16 @@ impl<R: Resource> Ground<R> {
     pub fn write_item(&mut self, leaf: Key, value: i64)
         requires tied { AreTied self.old.register.base R.Resource self.old.register.history self.old.tree
             self.old.hubs }
+        requires leased { AreLeased self.old.register.history self.old.tree.resources self.old.leases }
         requires ready { IsReady self.old.register (Event.Item leaf.number value) }
         requires open { IsSome (find self.old.tree.nodes leaf) }
         ensures written { Writes self.old.register (Event.Item leaf.number value ∷ []) self.new.register }
         ensures tied { AreTied self.new.register.base R.Resource self.new.register.history self.new.tree self.new.hubs }
+        ensures leased { AreLeased self.new.register.history self.new.tree.resources self.new.leases }
         ensures kept { KeepsNodes self.new.register.history self.old.tree.nodes self.new.tree.nodes }
         ensures resources { self.new.tree.resources ≡ self.old.tree.resources }
         ensures hubs { self.new.hubs ≡ self.old.hubs }
+        ensures leases { self.new.leases ≡ self.old.leases }
         ensures memory { TakesNoMemory self.old self.new }
     {
         self.register.promise();
@@ -200,6 +215,7 @@ impl<R: Resource> Ground<R> {
         ensures register { self.new.register ≡ self.old.register }
         ensures room { self.old.tree.nodes.room ≤ self.new.tree.nodes.room }
         ensures hubs { self.new.hubs ≡ left_inside self.old.register.history node.number ended self.old.hubs }
+        ensures leases { self.new.leases ≡ self.old.leases }
         ensures memory { TakesNoMemory self.old self.new }
     {
         self.register.promise();
@@ -213,14 +229,17 @@ impl<R: Resource> Ground<R> {
     pub fn write_end(&mut self, node: Key, terminal: Terminal)
         requires tied { AreTied self.old.register.base R.Resource self.old.register.history self.old.tree
             self.old.hubs }
+        requires leased { AreLeased self.old.register.history self.old.tree.resources self.old.leases }
         requires ready { IsReady self.old.register (Event.End node.number terminal) }
         requires open { IsSome (find self.old.tree.nodes node) }
         ensures written { Writes self.old.register (Event.End node.number terminal ∷ []) self.new.register }
         ensures tied { AreTied self.new.register.base R.Resource self.new.register.history self.new.tree self.new.hubs }
+        ensures leased { AreLeased self.new.register.history self.new.tree.resources self.new.leases }
         ensures kept { KeepsNodes self.new.register.history self.old.tree.nodes self.new.tree.nodes }
         ensures resources { self.new.tree.resources ≡ self.old.tree.resources }
         ensures hubs { self.new.hubs ≡ left_inside self.old.register.history node.number
             (end_by (length self.old.register.history) (Event.End node.number terminal)) self.old.hubs }
+        ensures leases { self.new.leases ≡ self.old.leases }
         ensures memory { TakesNoMemory self.old self.new }
     {
         self.register.promise();
@@ -251,13 +270,16 @@ impl<R: Resource> Ground<R> {
     pub fn write_close(&mut self, node: Key)
         requires tied { AreTied self.old.register.base R.Resource self.old.register.history self.old.tree
             self.old.hubs }
+        requires leased { AreLeased self.old.register.history self.old.tree.resources self.old.leases }
         requires ready { IsReady self.old.register (Event.Close node.number) }
         requires open { IsSome (find self.old.tree.nodes node) }
         ensures written { Writes self.old.register (Event.Close node.number ∷ []) self.new.register }
         ensures tied { AreTied self.new.register.base R.Resource self.new.register.history self.new.tree self.new.hubs }
+        ensures leased { AreLeased self.new.register.history self.new.tree.resources self.new.leases }
         ensures kept { KeepsNodes self.new.register.history self.old.tree.nodes self.new.tree.nodes }
         ensures resources { self.new.tree.resources ≡ self.old.tree.resources }
         ensures hubs { self.new.hubs ≡ left_inside self.old.register.history node.number None self.old.hubs }
+        ensures leases { self.new.leases ≡ self.old.leases }
         ensures memory { TakesNoMemory self.old self.new }
     {
         self.register.promise();
@@ -270,15 +292,18 @@ impl<R: Resource> Ground<R> {
     pub fn write_take(&mut self) -> Option<Handed<R>>
         requires tied { AreTied self.old.register.base R.Resource self.old.register.history self.old.tree
             self.old.hubs }
+        requires leased { AreLeased self.old.register.history self.old.tree.resources self.old.leases }
         requires settled { IsSettled self.old.register.base self.old.register.history }
         requires room { (r : _) → is_waiting self.old.register.history r ≡ true → IsReady self.old.register (Event.Take r) }
         ensures written { IfSome result (λ handed. Writes self.old.register (Event.Take handed.0 ∷ []) self.new.register) }
         ensures tied { AreTied self.new.register.base R.Resource self.new.register.history self.new.tree self.new.hubs }
+        ensures leased { AreLeased self.new.register.history self.new.tree.resources self.new.leases }
         ensures nodes { self.new.tree.nodes ≡ self.old.tree.nodes }
         ensures kept { KeepsHeld self.old.tree self.new.tree (length self.old.register.history) }
         ensures none { IfNone result (self.new ≡ self.old) }
         ensures waited { MatchOption result (waiting_in self.old.tree ≡ []) (IsListed R.Resource self.old.tree) }
         ensures hubs { self.new.hubs ≡ self.old.hubs }
+        ensures leases { self.new.leases ≡ self.old.leases }
         ensures memory { TakesNoMemory self.old self.new }
     {
         self.register.promise();

@@ -13,7 +13,7 @@ use Rattle.rx_hub.specs.declared.hub.HubDue.{HubDue}
 use Rattle.rx_hub.specs.Chains.{IsCalm, Notes, IsLinked}
 use Rattle.rx_hub.specs.Due.{connect_of, due_of}
 use Rattle.rx_hub.specs.Hubs.{Hub, Hubs, IsPromised, find_hub, at_hub, new_hub}
-use Rattle.rx_hub.specs.Lists.{Lists, list_at, is_in}
+use Rattle.rx_lists.specs.Lists.{Lists, list_at, is_in}
 
 eq_is : (a b : ℕ) → (a == b) ≡ true → a ≡ b
 eq_is a b e = grind (arith, nat_tests, e)

@@ -1,8 +1,4 @@
 pub mod Laws
-mod Places
-mod TieLemmas
-mod Ringed
-mod RingSteps
 mod Stored
 mod Found
 mod ClosedLemmas

@@ -18,7 +18,7 @@ use Rattle.rx_hub.specs.declared.forcing.Rule.TheVariants.{Connect, Other}
 use Rattle.rx_hub.specs.Chains.{IsCalm, IsChain, IsAt}
 use Rattle.rx_hub.specs.Due.{IsDueIn, NoneWaits, connects, acts, is_auto, is_cut, connect_of, due_of, cut_of, left_of}
 use Rattle.rx_hub.specs.Hubs.{Hub, Hubs, IsPromised, AreAbove, Rises, published_of, last_from}
-use Rattle.rx_hub.specs.Lists.{Lists, list_at, is_in, take_out, head_of}
+use Rattle.rx_lists.specs.Lists.{Lists, list_at, is_in, take_out, head_of}
 use Rattle.rx_hub.specs.Rules.{connect_by, cut_by, due_by, given_by}
 
 -- the youngest tells ------------------------------------------------------------------------------

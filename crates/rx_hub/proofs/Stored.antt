@@ -14,7 +14,7 @@ use Rattle.rx_tree.proofs.Laws.Keys.{same_key}
 use Rattle.rx_hub.specs.declared.hub.Published.{Published}
 use Rattle.rx_hub.specs.Hubs.{Hub, IsPromised, IsFree, AreBelow, AreAbove, Rises, hub_of, at_hub, published_of, with_published, subscribed}
 use Rattle.rx_hub.specs.Hubs.{unsubscribed, without_key, last_from, key_after}
-use Rattle.rx_hub.specs.Lists.{Lists, IsPlain, list_at, is_in, take_out, head_of, last_from as last_after, after}
+use Rattle.rx_lists.specs.Lists.{Lists, IsPlain, list_at, is_in, take_out, head_of, last_from as last_after, after}
 use Rattle.rx_hub.specs.Store.{no_hub, record_at, key_in, keys_at, hub_in, hubs_in, store_in, IsKept}
 
 -- tables ------------------------------------------------------------------------------------------

@@ -8,7 +8,4 @@ pub mod Route
 pub mod Claims
 pub mod Chains
 pub mod Store
-pub mod Lists
-pub mod Rings
-pub mod Places
 pub mod Rules

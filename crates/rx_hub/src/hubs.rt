@@ -4,11 +4,11 @@ ghost use Rattle.std.specs.Prelude.{◌≡◌, ◌+◌, ◌<◌, ◌≤◌, ◌+
 ghost use Rattle.std.specs.Prelude.{OnOk, OnErr, IsOk, IsTrue, IfSome, IfNone, IsSome, Some, None};
 ghost use Rattle.std.specs.Option.{option_and_then};
 ghost use Rattle.rx_hub.specs.Chains.{IsChain, Notes};
-ghost use Rattle.rx_hub.specs.Lists.{list_at};
+ghost use Rattle.rx_lists.specs.Lists.{list_at};
 
 use crate::forcing::{Rule, next_at};
 use crate::hub::{HubDue, LastEnd, Published};
-use crate::rings::Rings;
+use rx_lists::Rings;
 use crate::store::Store;
 use rx_event::Mode;
 use rx_slots::Key;

@@ -33,8 +33,6 @@ mod closing;
 mod forcing;
 mod hub;
 mod hubs;
-mod links;
-mod rings;
 mod route;
 mod store;
 mod theorems;

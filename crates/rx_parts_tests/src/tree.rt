@@ -110,9 +110,9 @@ impl<R: Resource> Grown<R> {
         }
     }
 
-    // Removes a resource where it is held.
+    // Removes a resource where it is owned.
     fn remove(&mut self, res: ResKey) {
-        if self.tree.holds(res) {
+        if self.tree.owns(res) {
             self.tree.unhold(res);
         }
     }
@@ -449,6 +449,7 @@ fn a_resource_is_used_where_it_is_held(rt: HostRuntime) -> Result<(), Fail> {
     same(&rt, tree.apply(res, 5), 5);
     same(&rt, tree.apply(res, 3), 6);
     assert!(rt; tree.holds(res) && tree.take_waiting().is_none());
+    assert!(rt; tree.owns(res));
     tree.unhold(res);
     assert!(rt; !tree.holds(res));
     let (number, resource) = tree.take_waiting().ok_or("none waits")?;

@@ -11,17 +11,19 @@ use Rattle.rx_event.specs.declared.event.Mode.{Mode}
 use Rattle.rx_event.specs.declared.event.Event.{Event}
 use Rattle.rx_event.specs.declared.event.Event.TheVariants.{Connect}
 use Rattle.rx_event.specs.declared.refusal.Refusal.{Refusal}
-use Rattle.rx_event.specs.declared.refusal.Refusal.TheVariants.{Full, Gone, WrongKind, PlaceTaken, NothingOwed, NotRoot, NoHub, HubOrder, Connected, NotConnected, NotFresh, NotHeld, HasChild, TooMany}
+use Rattle.rx_event.specs.declared.refusal.Refusal.TheVariants.{Full, Gone, WrongKind, PlaceTaken, NothingOwed, NotRoot, NoHub, HubOrder, Connected, NotConnected}
+use Rattle.rx_event.specs.declared.refusal.Refusal.TheVariants.{NotFresh, NoLease, NotHeld, Leased, HasChild, TooMany}
 use Rattle.rx_event.specs.Events.{makes_hub, named_by, has_source, is_leaf, is_merging, is_until, is_root, is_auto_hub, is_manual_hub}
 use Rattle.rx_event.specs.Kept.{Kept}
 use Rattle.rx_event.specs.Opened.{source_opened, notifier_opened}
 use Rattle.rx_event.specs.Tree.{at, ancestors, hubs, is_open, has_open_child, open_connections}
-use Rattle.rx_event.specs.Resources.{is_held}
+use Rattle.rx_event.specs.Resources.{is_owned, is_out, is_held}
 use Rattle.rx_event.specs.Climb.{stops, visits, most_visits}
 use Rattle.rx_event.specs.Moments.{is_projection, owed}
 use Rattle.rx_event.specs.Allowed.{most_hubs, most_nodes, may_abort}
 use Rattle.rx_event.specs.Totals.{debt, open_count}
-use Rattle.rx_event.specs.Calls.{Call, Opening, OpeningUsing, Holding, Applying, Removing, Emitting, Ending, Aborting, Declining, Failing, Disposing, Publishing, Connecting, Disconnecting, Taking}
+use Rattle.rx_event.specs.Calls.{Call, Opening, OpeningUsing, Holding, Applying, Removing, Leasing, GivingBack, Emitting, Ending, Aborting, Declining}
+use Rattle.rx_event.specs.Calls.{Failing, Disposing, Publishing, Connecting, Disconnecting, Taking}
 
 -- hubs ------------------------------------------------------------------------------------------------------------------------
 
@@ -95,12 +97,13 @@ end_at (Inner f) = 0
 end_at _ = 1
 
 -- the events that a call adds, and with them the reservations: one for the end of each node, two for each resource (its removal
--- and its taking), one for each item that is projected
+-- and its taking), one for each lease (its return), one for each item that is projected
 abbrev pub added_by : List Event → Call → ℕ
 added_by h (Opening place kind) = 1 + end_at place + 2 * (if forces_connect h kind then 1 else 0)
 added_by h (OpeningUsing place tag) = 2 + end_at place + 2
 added_by h (Holding node tag) = 1 + 2
 added_by h (Applying resource) = 1
+added_by h (Leasing resource) = 1 + 1
 added_by h (Emitting leaf value) = 1 + count_by is_projection (stops h leaf)
 added_by h (Publishing mode) = 1
 added_by h (Connecting hub) = 1 + 1
@@ -142,7 +145,19 @@ applying_causes base h limit resource _ = false
 
 abbrev pub removing_causes : List Event → (resource : ℕ) → Refusal → Bool
 removing_causes h resource NotHeld = not (is_held h resource)
+removing_causes h resource Leased = not (is_owned h resource)
 removing_causes h resource _ = false
+
+-- leases are given out of what its node owns; what leases alone hold is leased to nobody else
+abbrev pub leasing_causes : Kept → List Event → ℕ → (resource : ℕ) → Refusal → Bool
+leasing_causes base h limit resource NotHeld = not (is_held h resource)
+leasing_causes base h limit resource Leased = not (is_owned h resource)
+leasing_causes base h limit resource Full = is_over base h limit (added_by h (Leasing resource))
+leasing_causes base h limit resource _ = false
+
+abbrev pub returning_causes : List Event → (lease : ℕ) → Refusal → Bool
+returning_causes h lease NoLease = not (is_out h lease)
+returning_causes h lease _ = false
 
 abbrev pub emitting_causes : Kept → List Event → ℕ → (leaf : ℕ) → ℤ → Refusal → Bool
 emitting_causes base h limit leaf value Gone = not (is_open h leaf)
@@ -201,6 +216,8 @@ causes base h limit is_fresh (OpeningUsing place tag) why = using_causes base h 
 causes base h limit is_fresh (Holding node tag) why = holding_causes base h limit is_fresh node tag why
 causes base h limit is_fresh (Applying resource) why = applying_causes base h limit resource why
 causes base h limit is_fresh (Removing resource) why = removing_causes h resource why
+causes base h limit is_fresh (Leasing resource) why = leasing_causes base h limit resource why
+causes base h limit is_fresh (GivingBack lease) why = returning_causes h lease why
 causes base h limit is_fresh (Emitting leaf value) why = emitting_causes base h limit leaf value why
 causes base h limit is_fresh (Ending leaf t) why = ending_causes h leaf why
 causes base h limit is_fresh (Aborting node code) why = aborting_causes h node why
@@ -233,8 +250,16 @@ by_res_key true stand why = stand why
 by_res_key false stand NotHeld = true
 by_res_key false stand _ = false
 
+-- where a lease's key is no lease's that is out: that there is no such lease
+abbrev pub by_lease_key : Bool → (Refusal → Bool) → Refusal → Bool
+by_lease_key true stand why = stand why
+by_lease_key false stand NoLease = true
+by_lease_key false stand _ = false
+
 -- the same, by the kind of key that the call has
 abbrev pub by_key_of : Call → Bool → (Refusal → Bool) → Refusal → Bool
 by_key_of (Applying r) = by_res_key
 by_key_of (Removing r) = by_res_key
+by_key_of (Leasing r) = by_res_key
+by_key_of (GivingBack l) = by_lease_key
 by_key_of _ = by_key

@@ -7,11 +7,12 @@ use Rattle.std.proofs.lemmas.List.{get_or-map, get_or_default, length-map}
 use Rattle.std.proofs.lemmas.List.Folds.{list_any_at}
 use Rattle.std.proofs.lemmas.Map.Views.{Contains-from_any}
 use Rattle.rx_event.specs.Tree.{is_open}
-use Rattle.rx_event.specs.Resources.{is_held}
+use Rattle.rx_event.specs.Resources.{is_held, is_out}
 use Rattle.rx_book.specs.declared.key.Key.{Key}
 use Rattle.rx_book.specs.declared.key.ResKey.{ResKey}
-use Rattle.rx_book.specs.State.{State, has_key, has_res_key, AreJust, IsPromised}
-use Rattle.rx_report.specs.Keys.{IsNodeKey, IsHeldKey}
+use Rattle.rx_book.specs.declared.key.LeaseKey.{LeaseKey}
+use Rattle.rx_book.specs.State.{State, has_key, has_res_key, has_lease_key, AreJust, IsPromised}
+use Rattle.rx_report.specs.Keys.{IsNodeKey, IsHeldKey, IsLeaseKey}
 
 Contains-map : {A B : Type 0} (f : A → B) (xs : List A) (x : A) → Contains xs x → Contains (map f xs) (f x)
 Contains-map f xs x h =
@@ -64,11 +65,19 @@ same_res_key k j h =
     let parts = and_parts (j.slot == k.slot) (j.number == k.number) h in
     ap (λ n. record { slot = n; number = k.number }) (sym (eqb-true j.slot k.slot parts.0)) ∙ ap (λ n. record { slot = j.slot; number = n }) (sym (eqb-true j.number k.number parts.1))
 
+same_lease_key : (k j : LeaseKey) → (j.slot == k.slot && j.number == k.number) ≡ true → k ≡ j
+same_lease_key k j h =
+    let parts = and_parts (j.slot == k.slot) (j.number == k.number) h in
+    ap (λ n. record { slot = n; number = k.number }) (sym (eqb-true j.slot k.slot parts.0)) ∙ ap (λ n. record { slot = j.slot; number = n }) (sym (eqb-true j.number k.number parts.1))
+
 pub has_key-contained : (keys : List Key) (k : Key) → has_key keys k ≡ true → Contains keys k
 has_key-contained keys k h = Contains-from_any {eq = λ q j. j.slot == q.slot && j.number == q.number} same_key k keys h
 
 pub has_res_key-contained : (keys : List ResKey) (k : ResKey) → has_res_key keys k ≡ true → Contains keys k
 has_res_key-contained keys k h = Contains-from_any {eq = λ q j. j.slot == q.slot && j.number == q.number} same_res_key k keys h
+
+pub has_lease_key-contained : (keys : List LeaseKey) (k : LeaseKey) → has_lease_key keys k ≡ true → Contains keys k
+has_lease_key-contained keys k h = Contains-from_any {eq = λ q j. j.slot == q.slot && j.number == q.number} same_lease_key k keys h
 
 has_key-from_contained : (keys : List Key) (k : Key) → Contains keys k → has_key keys k ≡ true
 has_key-from_contained keys k h =
@@ -77,6 +86,11 @@ has_key-from_contained keys k h =
 
 has_res_key-from_contained : (keys : List ResKey) (k : ResKey) → Contains keys k → has_res_key keys k ≡ true
 has_res_key-from_contained keys k h =
+    list_any_at (λ j. j.slot == k.slot && j.number == k.number) keys h.0 k h.1
+    (and_from _ _ (eq-eqb _ _ (ap (λ j. j.slot) h.2)) (eq-eqb _ _ (ap (λ j. j.number) h.2)))
+
+has_lease_key-from_contained : (keys : List LeaseKey) (k : LeaseKey) → Contains keys k → has_lease_key keys k ≡ true
+has_lease_key-from_contained keys k h =
     list_any_at (λ j. j.slot == k.slot && j.number == k.number) keys h.0 k h.1
     (and_from _ _ (eq-eqb _ _ (ap (λ j. j.slot) h.2)) (eq-eqb _ _ (ap (λ j. j.number) h.2)))
 
@@ -98,3 +112,9 @@ has_res_key-is_held s k kept held =
     same_test _ _
     (λ h. let listed = Contains-map (λ (j : ResKey). j.number) s.res_keys k (has_res_key-contained s.res_keys k h) in subst (λ n. is_held s.history n ≡ true) listed.2 (kept.res_keys.each listed.0 k.number listed.1))
     (λ held_now. has_res_key-from_contained s.res_keys k (held.found held_now))
+
+pub has_lease_key-is_out : (s : State) (k : LeaseKey) → IsPromised s → IsLeaseKey s k → has_lease_key s.lease_keys k ≡ is_out s.history k.number
+has_lease_key-is_out s k kept out =
+    same_test _ _
+    (λ h. let listed = Contains-map (λ (j : LeaseKey). j.number) s.lease_keys k (has_lease_key-contained s.lease_keys k h) in subst (λ n. is_out s.history n ≡ true) listed.2 (kept.lease_keys.each listed.0 k.number listed.1))
+    (λ out_now. has_lease_key-from_contained s.lease_keys k (out.found out_now))

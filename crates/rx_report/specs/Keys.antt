@@ -2,9 +2,10 @@
 use Rattle.std.specs.Prelude.{◌<◌, length, IsTrue}
 use Rattle.std.specs.List.{Contains}
 use Rattle.rx_event.specs.Tree.{is_open}
-use Rattle.rx_event.specs.Resources.{is_held}
+use Rattle.rx_event.specs.Resources.{is_held, is_out}
 use Rattle.rx_book.specs.declared.key.Key.{Key}
 use Rattle.rx_book.specs.declared.key.ResKey.{ResKey}
+use Rattle.rx_book.specs.declared.key.LeaseKey.{LeaseKey}
 use Rattle.rx_book.specs.State.{State}
 use Rattle.rx_agenda.specs.declared.names.Named.{Named}
 use Rattle.rx_agenda.specs.Names.{name_of}
@@ -16,6 +17,9 @@ node_binding n = record { name = name_of n; number = n.key.number }
 abbrev pub res_binding : Named ResKey → Binding
 res_binding n = record { name = name_of n; number = n.key.number }
 
+abbrev pub lease_binding : Named LeaseKey → Binding
+lease_binding n = record { name = name_of n; number = n.key.number }
+
 -- a key that a book gave: it is the key of its node as long as that is open
 pub record IsNodeKey (s : State) (k : Key) : Type 0 where
   pub within : k.number < length s.history
@@ -24,3 +28,7 @@ pub record IsNodeKey (s : State) (k : Key) : Type 0 where
 pub record IsHeldKey (s : State) (k : ResKey) : Type 0 where
   pub within : k.number < length s.history
   pub found : IsTrue (is_held s.history k.number) → Contains s.res_keys k
+
+pub record IsLeaseKey (s : State) (k : LeaseKey) : Type 0 where
+  pub within : k.number < length s.history
+  pub found : IsTrue (is_out s.history k.number) → Contains s.lease_keys k

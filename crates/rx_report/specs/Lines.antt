@@ -8,7 +8,7 @@ use Rattle.rx_event.specs.declared.event.Event.TheVariants.{Open}
 use Rattle.rx_event.specs.Events.{makes_node}
 use Rattle.rx_event.specs.Tree.{at, is_open}
 use Rattle.rx_event.specs.Kept.{Kept, nothing_kept}
-use Rattle.rx_event.specs.Resources.{is_held, is_taken, uses}
+use Rattle.rx_event.specs.Resources.{is_held, is_taken, leases_of, uses}
 use Rattle.rx_event.specs.Notes.{notes_to}
 use Rattle.rx_event.specs.Totals.{open_count, accepted_count, held_count, waiting_count, taken_count}
 use Rattle.rx_book.specs.State.{accepted_tag}
@@ -42,7 +42,7 @@ abbrev pub whereabouts : List Event → ℕ → Whereabouts
 whereabouts h r = if is_held h r then Held else if is_taken h r then Taken else Waiting
 
 abbrev pub account_of : List Event → ℕ → Account
-account_of h r = record { tag = unwrap_or (option_and_then accepted_tag (slice_get h r)) 0; uses = uses nothing_kept h r; whereabouts = whereabouts h r }
+account_of h r = record { tag = unwrap_or (option_and_then accepted_tag (slice_get h r)) 0; uses = uses nothing_kept h r; whereabouts = whereabouts h r; leases = leases_of h r }
 
 -- a resource that the scenario handed in; what happened is told from its beginning
 abbrev pub res_shown : List Event → Binding → List ℕ

@@ -1,11 +1,11 @@
 -- The lines of a report, from what they show.
-use Rattle.std.specs.Prelude.{ℕ, Bool, List, [], ◌++◌, codes, flat_map, if◌then◌else◌}
+use Rattle.std.specs.Prelude.{ℕ, ◌==◌, Bool, List, [], ◌++◌, codes, flat_map, if◌then◌else◌}
 use Rattle.std.specs.Fmt.{decimal, signed_decimal}
 use Rattle.rx_note.specs.declared.note.Terminal.TheVariants.{Completed, Error}
 use Rattle.rx_note.specs.declared.note.Note.{Note}
 use Rattle.rx_note.specs.declared.note.Note.TheVariants.{Next, Project, End}
 use Rattle.rx_event.specs.declared.refusal.Refusal.{Refusal}
-use Rattle.rx_event.specs.declared.refusal.Refusal.TheVariants.{NoMemory, Full, Gone, WrongKind, PlaceTaken, NothingOwed, NotRoot, NoHub, HubOrder, Connected, NotConnected, NotFresh, NotHeld, HasChild, TooMany}
+use Rattle.rx_event.specs.declared.refusal.Refusal.TheVariants.{NoMemory, Full, Gone, WrongKind, PlaceTaken, NothingOwed, NotRoot, NoHub, HubOrder, Connected, NotConnected, NotFresh, NotHeld, HasChild, TooMany, NoLease, Leased}
 use Rattle.rx_agenda.specs.declared.answer.Answer.{Answer}
 use Rattle.rx_agenda.specs.declared.answer.Answer.TheVariants.{Accepted, Refused}
 use Rattle.rx_agenda.specs.declared.answer.Cause.{Cause}
@@ -34,6 +34,8 @@ refusal_name NotFresh = codes "NotFresh"
 refusal_name NotHeld = codes "NotHeld"
 refusal_name HasChild = codes "HasChild"
 refusal_name TooMany = codes "TooMany"
+refusal_name NoLease = codes "NoLease"
+refusal_name Leased = codes "Leased"
 
 abbrev pub cause_name : Cause → List ℕ
 cause_name NoName = codes "NoName"
@@ -70,8 +72,12 @@ whereabouts_text Held = codes "held"
 whereabouts_text Waiting = codes "waiting"
 whereabouts_text Taken = codes "taken"
 
+-- how many leases of it are out, where one is
+abbrev pub leases_text : ℕ → List ℕ
+leases_text n = if n == 0 then [] else codes " leases=" ++ decimal n
+
 unfoldable pub res_line : Name → Account → List ℕ
-res_line name a = codes "res " ++ name ++ codes " tag=" ++ decimal a.tag ++ codes " uses=" ++ decimal a.uses ++ codes " " ++ whereabouts_text a.whereabouts ++ codes "\n"
+res_line name a = codes "res " ++ name ++ codes " tag=" ++ decimal a.tag ++ codes " uses=" ++ decimal a.uses ++ codes " " ++ whereabouts_text a.whereabouts ++ leases_text a.leases ++ codes "\n"
 
 -- the last two lines -------------------------------------------------------------------------------
 

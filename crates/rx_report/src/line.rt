@@ -3,20 +3,21 @@
 /// Where a resource is.
 #[derive(Clone, Copy, Debug, PartialEq, Eq)]
 pub enum Whereabouts {
-    /// Its node is open.
+    /// Its node is open and it was not removed from there, or a lease of it is out.
     Held,
-    /// Its node is closed, and it is not yet released.
+    /// It is held no more, and it is not yet released.
     Waiting,
     /// It was handed out for its release.
     Taken,
 }
 
-/// A resource: its tag, how often it was used, and where it is.
+/// A resource: its tag, how often it was used, where it is, and how many leases of it are out.
 #[derive(Clone, Copy, Debug, PartialEq, Eq)]
 pub struct Account {
     pub tag: u64,
     pub uses: u64,
     pub whereabouts: Whereabouts,
+    pub leases: u64,
 }
 
 /// Counts over all that happened.

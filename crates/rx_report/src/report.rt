@@ -155,6 +155,7 @@ fn account_of<R: Resource>(
         tag,
         uses,
         whereabouts,
+        leases: tallies.leases_of(res.number),
     }
 }
 

@@ -6,8 +6,8 @@ ghost use Rattle.std.specs.List.{list_any};
 ghost use Rattle.std.specs.Option.{option_map_or};
 ghost use Rattle.std.specs.HashMap.{get};
 ghost use Rattle.std.specs.HashSet.{contains};
-ghost use Rattle.rx_event.specs.Events.{is_take_of};
-ghost use Rattle.rx_event.specs.Resources.{uses};
+ghost use Rattle.rx_event.specs.Events.{is_take_of, is_return_of};
+ghost use Rattle.rx_event.specs.Resources.{uses, leases_of};
 ghost use Rattle.rx_event.specs.Notes.{notes};
 ghost use Rattle.rx_report.specs.Tallies.{AreTalliesOf};
 
@@ -17,11 +17,12 @@ use rx_note::Note;
 use std::alloc::{AllocError, Global};
 use std::collections::{HashMap, HashSet};
 
-/// By the numbers of resources and of nodes: how often each resource was used, which of them were
-/// handed out for their release, and the notes to each node in order.
+/// By the numbers of resources and of nodes: how often each resource was used, how many leases of it are
+/// out, which of them were handed out for their release, and the notes to each node in order.
 #[derive(Drop)]
 pub struct Tallies {
     pub uses: HashMap<u64, u64>,
+    pub leases: HashMap<u64, u64>,
     pub taken: HashSet<u64>,
     pub notes: HashMap<u64, Vec<Note>>,
 }
@@ -32,6 +33,13 @@ impl Tallies {
         ensures { result ≡ unwrap_or (get nat_eq self.now.uses resource) 0 }
     {
         self.uses.get(&resource).copied().unwrap_or(0)
+    }
+
+    /// How many leases of the resource are out.
+    pub fn leases_of(&self, resource: u64) -> u64
+        ensures { result ≡ unwrap_or (get nat_eq self.now.leases resource) 0 }
+    {
+        self.leases.get(&resource).copied().unwrap_or(0)
     }
 
     /// The notes to the node.
@@ -54,6 +62,36 @@ fn uses_in(alloc: Global, events: &[Event]) -> Result<HashMap<u64, u64>, AllocEr
     for event in events {
         if let Event::Use(resource) = *event {
             *counts.entry(resource)?.or_insert(0u64) += 1;
+        }
+    }
+    Ok(counts)
+}
+
+// The leases that were given back.
+fn returned_in(alloc: Global, events: &[Event]) -> Result<HashSet<u64>, AllocError>
+    ensures { IfOk result (λ s. (l : ℕ) → contains nat_eq s l ≡ list_any (is_return_of l) events.now) }
+{
+    let mut returned = HashSet::new(alloc);
+    for event in events {
+        if let Event::Return(lease) = *event {
+            returned.insert(lease)?;
+        }
+    }
+    Ok(returned)
+}
+
+// How many leases of each resource are out; one of which none is has no entry.
+#[tactic(auto, unfolding(rx_event::specs::Resources::leases_of), unfolding(rx_event::specs::Resources::is_out))]
+fn leases_in(alloc: Global, events: &[Event]) -> Result<HashMap<u64, u64>, AllocError>
+    ensures { IfOk result (λ m. (r : ℕ) → unwrap_or (get nat_eq m r) 0 ≡ leases_of events.now r) }
+{
+    let returned = returned_in(alloc, events)?;
+    let mut counts = HashMap::new(alloc);
+    for place in 0..events.len() {
+        if let Event::Lease(resource) = events[place] {
+            if !returned.contains(&(place as u64)) {
+                *counts.entry(resource)?.or_insert(0u64) += 1;
+            }
         }
     }
     Ok(counts)
@@ -91,6 +129,7 @@ pub fn tally(alloc: Global, events: &[Event], mail: &[Mail]) -> Result<Tallies, 
 {
     Ok(Tallies {
         uses: uses_in(alloc, events)?,
+        leases: leases_in(alloc, events)?,
         taken: taken_in(alloc, events)?,
         notes: notes_in(alloc, mail)?,
     })

@@ -1,7 +1,7 @@
 //! The lines of a report, each written behind a text.
 
 ghost use Rattle.std.specs.Prelude.{◌≡◌, ◌++◌, flat_map, string_bytes, OnOk};
-ghost use Rattle.rx_report.specs.Text.{refusal_name, cause_name, refused_line, note_text, node_line, whereabouts_text, res_line, totals_line, closed_line};
+ghost use Rattle.rx_report.specs.Text.{refusal_name, cause_name, refused_line, note_text, node_line, whereabouts_text, leases_text, res_line, totals_line, closed_line};
 ghost use Rattle.rx_report.specs.Lines.{refused_lines};
 
 use crate::line::{Account, Totals, Whereabouts};
@@ -29,6 +29,8 @@ fn refusal_name(why: Refusal) -> &'static str
         Refusal::NotHeld => "NotHeld",
         Refusal::HasChild => "HasChild",
         Refusal::TooMany => "TooMany",
+        Refusal::NoLease => "NoLease",
+        Refusal::Leased => "Leased",
     }
 }
 
@@ -114,6 +116,16 @@ fn whereabouts_text(whereabouts: Whereabouts) -> &'static str
     }
 }
 
+// How many leases of a resource are out, where one is.
+fn push_leases(text: &mut String, leases: u64) -> Result<(), AllocError>
+    ensures { OnOk result (string_bytes text.new ≡ string_bytes text.old ++ leases_text leases) }
+{
+    if leases == 0 {
+        return Ok(());
+    }
+    write!(text, " leases={leases}")
+}
+
 /// The line of a resource.
 #[tactic(auto, unfolding(crate::specs::Text::res_line))]
 pub fn push_res(text: &mut String, name: &str, account: Account) -> Result<(), AllocError>
@@ -123,9 +135,12 @@ pub fn push_res(text: &mut String, name: &str, account: Account) -> Result<(), A
         tag,
         uses,
         whereabouts,
+        leases,
     } = account;
     let whereabouts = whereabouts_text(whereabouts);
-    writeln!(text, "res {name} tag={tag} uses={uses} {whereabouts}")
+    write!(text, "res {name} tag={tag} uses={uses} {whereabouts}")?;
+    push_leases(text, leases)?;
+    text.push_str("\n")
 }
 
 /// The line of the totals.

@@ -8,7 +8,7 @@ use Rattle.rx_note.specs.declared.note.Terminal.{Terminal}
 use Rattle.rx_note.specs.declared.note.Terminal.TheVariants.{Completed, Error}
 use Rattle.rx_event.specs.declared.event.Mode.{Mode}
 use Rattle.rx_event.specs.declared.event.Mode.TheVariants.{Auto, Manual}
-use Rattle.rx_scenario.specs.Scenario.{Name, Site, root, source, inner, notifier, Sort, leaf, pass, flat, switch, until, sub, Command, using, open_node, hold, apply, remove, next, end, abort, decline, fail, dispose, make_hub, connect, disconnect, drain, Action, command, cancel, Step, no_steps, steps_of, labels_in, Script}
+use Rattle.rx_scenario.specs.Scenario.{Name, Site, root, source, inner, notifier, Sort, leaf, pass, flat, switch, until, sub, Command, using, open_node, hold, apply, remove, lease, give_back, next, end, abort, decline, fail, dispose, make_hub, connect, disconnect, drain, Action, command, cancel, Step, no_steps, steps_of, labels_in, Script}
 
 -- members -----------------------------------------------------------------------------------------
 
@@ -180,6 +180,18 @@ remove_of d =
     then option_map remove (name_in (codes "res") d)
     else None
 
+unfoldable pub lease_of : Data → Option Command
+lease_of d =
+    if is_step_of (codes "res" ∷ codes "name" ∷ []) d
+    then option_and_then (λ r. option_map (lease r) (name_in (codes "name") d)) (name_in (codes "res") d)
+    else None
+
+unfoldable pub return_of : Data → Option Command
+return_of d =
+    if is_step_of (codes "lease" ∷ []) d
+    then option_map give_back (name_in (codes "lease") d)
+    else None
+
 unfoldable pub next_of : Data → Option Command
 next_of d =
     if is_step_of (codes "node" ∷ codes "value" ∷ []) d
@@ -244,6 +256,8 @@ command_by what d =
     else if bytes_eq what (codes "hold") then hold_of d
     else if bytes_eq what (codes "apply") then apply_of d
     else if bytes_eq what (codes "remove") then remove_of d
+    else if bytes_eq what (codes "lease") then lease_of d
+    else if bytes_eq what (codes "return") then return_of d
     else if bytes_eq what (codes "next") then next_of d
     else if bytes_eq what (codes "end") then end_of d
     else if bytes_eq what (codes "abort") then abort_of d

@@ -8,7 +8,7 @@ use Rattle.rx_scenario.specs.declared.scenario.Site.TheVariants.{Root, Source, I
 use Rattle.rx_scenario.specs.declared.scenario.Sort.{Sort as SortInCode}
 use Rattle.rx_scenario.specs.declared.scenario.Sort.TheVariants.{Leaf, Pass, Flat, Switch, Until, Sub}
 use Rattle.rx_scenario.specs.declared.scenario.Command.{Command as CommandInCode}
-use Rattle.rx_scenario.specs.declared.scenario.Command.TheVariants.{Using, Open, Hold, Apply, Remove, Next, End, Abort, Decline, Fail, Dispose, Hub, Connect, Disconnect, Drain}
+use Rattle.rx_scenario.specs.declared.scenario.Command.TheVariants.{Using, Open, Hold, Apply, Remove, Lease, Return, Next, End, Abort, Decline, Fail, Dispose, Hub, Connect, Disconnect, Drain}
 use Rattle.rx_scenario.specs.declared.scenario.Action.{Action as ActionInCode}
 use Rattle.rx_scenario.specs.declared.scenario.Action.TheVariants.{Command as CommandThere, Cancel}
 use Rattle.rx_scenario.specs.declared.scenario.Step.{Step as StepInCode, fold-Step}
@@ -43,6 +43,8 @@ pub data Command : Type 0 where
   hold : (node res : Name) → Command
   apply : (res : Name) → (word : ℕ) → Command
   remove : (res : Name) → Command
+  lease : (res name : Name) → Command
+  give_back : (lease : Name) → Command
   next : (node : Name) → (value : ℤ) → Command
   end : (node : Name) → Terminal → Command
   abort : (node : Name) → (code : ℕ) → Command
@@ -117,6 +119,8 @@ command_of (Open n s k) = open_node (string_bytes n) (site_of s) (sort_of k)
 command_of (Hold n r) = hold (string_bytes n) (string_bytes r)
 command_of (Apply r w) = apply (string_bytes r) w
 command_of (Remove r) = remove (string_bytes r)
+command_of (Lease r n) = lease (string_bytes r) (string_bytes n)
+command_of (Return l) = give_back (string_bytes l)
 command_of (Next n v) = next (string_bytes n) v
 command_of (End n t) = end (string_bytes n) t
 command_of (Abort n c) = abort (string_bytes n) c

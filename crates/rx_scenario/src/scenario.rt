@@ -124,7 +124,8 @@ pub enum Action {
     Cancel(String),
 }
 
-/// What is done with a book. Nodes, hubs and resources go by the names that earlier steps gave them.
+/// What is done with a book. Nodes, hubs, resources and leases go by the names that earlier steps gave
+/// them.
 #[derive(Drop)]
 pub enum Command {
     /// Opens a mirroring node with the first resource of the stock.
@@ -152,6 +153,15 @@ pub enum Command {
     /// A held resource is taken off its node.
     Remove {
         res: String,
+    },
+    /// A lease of an owned resource is given out, and gets the name.
+    Lease {
+        res: String,
+        name: String,
+    },
+    /// A lease is given back.
+    Return {
+        lease: String,
     },
     /// A leaf emits an item.
     Next {

@@ -24,14 +24,14 @@ use Rattle.rx_script.specs.Stage.{Ware, is_empty, own_cause, front, front_is_fre
 use Rattle.rx_agenda.specs.Bindings.{bound, is_unbound, with_binding}
 use Rattle.rx_script.specs.Shelf.{Shelf}
 use Rattle.rx_agenda.specs.Names.{name_of, key_of}
-use Rattle.rx_report.specs.Keys.{node_binding, res_binding, IsNodeKey, IsHeldKey}
+use Rattle.rx_report.specs.Keys.{node_binding, res_binding, lease_binding, IsNodeKey, IsHeldKey, IsLeaseKey}
 use Rattle.rx_agenda.specs.Shown.{number_binding}
 use Rattle.rx_script.specs.Engine.{at_of, stage_of, IsSound, Carries}
 use Rattle.rx_report.proofs.Laws.{has_key-is_open}
 use Rattle.rx_agenda.proofs.Laws.{key_of-holds}
 use Rattle.rx_script.proofs.Naming.{node_bound, node_unbound}
 use Rattle.rx_book.proofs.Laws.Going.{accepted_continues}
-use Rattle.rx_script.proofs.Going.{node_keys_kept, held_keys_kept}
+use Rattle.rx_script.proofs.Going.{node_keys_kept, held_keys_kept, lease_keys_kept}
 use Rattle.rx_script.proofs.Carrying.{Agrees, first_cause-by_key, with, refused_own, refused_there, accepted_to}
 use Rattle.rx_script.proofs.Commands.{cause_of}
 use Rattle.rx_script.proofs.Openings.{is_bound-nodes, is_bound-resources, IsPlaced, site_placed, site_nameless, new_node_key, new_held_key, nodes_bound, resources_bound, same_stage, all_pushed}
@@ -110,17 +110,18 @@ module _ {R : Type 0} (e : Engine R) (name : Name) (site : Site) (res : Name) (s
         pub using_accepted : (new : Engine R) (x : Named Key) (y : Named ResKey) → IsPromised new.book
             → Accepts e.book (record { call = OpeningUsing (place_of place) w.tag; is_known = is_known_place e.book.keys place; is_fresh = w.is_fresh }) new.book
             → x.key.number ≡ length e.book.history → IsTrue (has_key new.book.keys x.key) → name_of x ≡ name → y.key.number ≡ length e.book.history + 1 → IsTrue (has_res_key new.book.res_keys y.key) → name_of y ≡ res
-            → new.nodes ≡ e.nodes ++ x ∷ [] → new.hubs ≡ e.hubs → new.resources ≡ e.resources ++ y ∷ [] → new.stock.wares ≡ rest → new.faults ≡ e.faults → Carries e (using name site res) Accepted new
-        using_accepted new x y kept accepts number listed same_name res_number res_listed same_res pushed same_hubs res_pushed same_stock same_faults =
+            → new.nodes ≡ e.nodes ++ x ∷ [] → new.hubs ≡ e.hubs → new.resources ≡ e.resources ++ y ∷ [] → new.leases ≡ e.leases → new.stock.wares ≡ rest → new.faults ≡ e.faults → Carries e (using name site res) Accepted new
+        using_accepted new x y kept accepts number listed same_name res_number res_listed same_res pushed same_hubs res_pushed same_leases same_stock same_faults =
             let goes = accepted_continues e.book new.book asked accepts in
             accepted_to e new (using name site res) asked sound kept no_own_cause agrees accepts
-            (same_stage new.book.history _ _ _ _ _ _ _ _
+            (same_stage new.book.history _ _ _ _ _ _ _ _ _ _
             (nodes_bound e.nodes new.nodes x (length e.book.history) pushed number ∙ ap (λ n. with_binding (map node_binding e.nodes) n (length e.book.history)) same_name)
             (ap (map number_binding) same_hubs)
             (resources_bound e.resources new.resources y (length e.book.history + 1) res_pushed res_number ∙ ap (λ n. with_binding (map res_binding e.resources) n (length e.book.history + 1)) same_res)
-            (same_stock ∙ sym (rest_stocked e w rest stocked)))
+            (ap (map lease_binding) same_leases) (same_stock ∙ sym (rest_stocked e w rest stocked)))
             (all_pushed (λ n. IsNodeKey new.book n.key) e.nodes new.nodes x pushed (node_keys_kept e.book new.book e.nodes sound.kept kept goes sound.nodes) (new_node_key e.book new.book asked x.key accepts number (omega arith) listed))
             (all_pushed (λ n. IsHeldKey new.book n.key) e.resources new.resources y res_pushed (held_keys_kept e.book new.book e.resources sound.kept kept goes sound.resources) (new_held_key e.book new.book asked y.key 1 accepts res_number (omega arith) res_listed))
+            (subst (All (λ n. IsLeaseKey new.book n.key)) (sym same_leases) (lease_keys_kept e.book new.book e.leases sound.kept kept goes sound.leases))
             same_faults
 
 -- holding ------------------------------------------------------------------------------------------
@@ -178,15 +179,16 @@ module _ {R : Type 0} (e : Engine R) (node : Name) (res : Name) (sound : IsSound
 
         pub hold_accepted : (new : Engine R) (y : Named ResKey) → IsPromised new.book → Accepts e.book (record { call = Holding k.number w.tag; is_known = has_key e.book.keys k; is_fresh = w.is_fresh }) new.book
             → y.key.number ≡ length e.book.history → IsTrue (has_res_key new.book.res_keys y.key) → name_of y ≡ res
-            → new.nodes ≡ e.nodes → new.hubs ≡ e.hubs → new.resources ≡ e.resources ++ y ∷ [] → new.stock.wares ≡ rest → new.faults ≡ e.faults → Carries e (hold node res) Accepted new
-        hold_accepted new y kept accepts number listed same_res same_nodes same_hubs pushed same_stock same_faults =
+            → new.nodes ≡ e.nodes → new.hubs ≡ e.hubs → new.resources ≡ e.resources ++ y ∷ [] → new.leases ≡ e.leases → new.stock.wares ≡ rest → new.faults ≡ e.faults → Carries e (hold node res) Accepted new
+        hold_accepted new y kept accepts number listed same_res same_nodes same_hubs pushed same_leases same_stock same_faults =
             let goes = accepted_continues e.book new.book hold_asked accepts in
             accepted_to e new (hold node res) hold_asked sound kept hold_no_own_cause hold_agrees accepts
-            (same_stage new.book.history _ _ _ _ _ _ _ _ (ap (map node_binding) same_nodes) (ap (map number_binding) same_hubs)
+            (same_stage new.book.history _ _ _ _ _ _ _ _ _ _ (ap (map node_binding) same_nodes) (ap (map number_binding) same_hubs)
             (resources_bound e.resources new.resources y (length e.book.history) pushed number ∙ ap (λ n. with_binding (map res_binding e.resources) n (length e.book.history)) same_res)
-            (same_stock ∙ sym (rest_stocked e w rest stocked)))
+            (ap (map lease_binding) same_leases) (same_stock ∙ sym (rest_stocked e w rest stocked)))
             (subst (All (λ n. IsNodeKey new.book n.key)) (sym same_nodes) (node_keys_kept e.book new.book e.nodes sound.kept kept goes sound.nodes))
             (all_pushed (λ n. IsHeldKey new.book n.key) e.resources new.resources y pushed (held_keys_kept e.book new.book e.resources sound.kept kept goes sound.resources) (new_held_key e.book new.book hold_asked y.key 0 accepts (number ∙ sym (add-zero (length e.book.history))) (omega arith) listed))
+            (subst (All (λ n. IsLeaseKey new.book n.key)) (sym same_leases) (lease_keys_kept e.book new.book e.leases sound.kept kept goes sound.leases))
             same_faults
 
 -- a resource that was put back in front

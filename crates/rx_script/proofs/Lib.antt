@@ -6,6 +6,7 @@ pub mod Commands
 pub mod Openings
 pub mod Nodes
 pub mod Holdings
+pub mod Leasing
 pub mod Publishing
 pub mod CoursesInOrder
 pub mod Calling

@@ -1,14 +1,15 @@
--- What the names of nodes and of resources stand for.
+-- What the names of nodes, of resources and of leases stand for.
 use Rattle.std.proofs.Common.{◌≡◌, List, map, ap, ◌∙◌}
 use Rattle.std.specs.Prelude.{Some, None, option_map}
 use Rattle.rx_book.specs.declared.key.Key.{Key}
 use Rattle.rx_book.specs.declared.key.ResKey.{ResKey}
+use Rattle.rx_book.specs.declared.key.LeaseKey.{LeaseKey}
 use Rattle.rx_scenario.specs.Scenario.{Name}
 use Rattle.rx_agenda.specs.declared.names.Named.{Named}
 use Rattle.rx_agenda.specs.Bindings.{bound}
 use Rattle.rx_agenda.specs.Names.{key_of}
 use Rattle.rx_agenda.proofs.Laws.{bound-keys}
-use Rattle.rx_report.specs.Keys.{node_binding, res_binding}
+use Rattle.rx_report.specs.Keys.{node_binding, res_binding, lease_binding}
 
 pub bound-nodes : (names : List (Named Key)) (name : Name) → bound (map node_binding names) name ≡ option_map (λ k. k.number) (key_of names name)
 bound-nodes names name = bound-keys (λ k. k.number) names name
@@ -28,3 +29,12 @@ res_bound names name k e = bound-resources names name ∙ ap (option_map (λ k. 
 
 pub res_unbound : (names : List (Named ResKey)) (name : Name) → key_of names name ≡ None → bound (map res_binding names) name ≡ None
 res_unbound names name e = bound-resources names name ∙ ap (option_map (λ k. k.number)) e
+
+pub bound-leases : (names : List (Named LeaseKey)) (name : Name) → bound (map lease_binding names) name ≡ option_map (λ k. k.number) (key_of names name)
+bound-leases names name = bound-keys (λ k. k.number) names name
+
+pub lease_bound : (names : List (Named LeaseKey)) (name : Name) (k : LeaseKey) → key_of names name ≡ Some k → bound (map lease_binding names) name ≡ Some k.number
+lease_bound names name k e = bound-leases names name ∙ ap (option_map (λ k. k.number)) e
+
+pub lease_unbound : (names : List (Named LeaseKey)) (name : Name) → key_of names name ≡ None → bound (map lease_binding names) name ≡ None
+lease_unbound names name e = bound-leases names name ∙ ap (option_map (λ k. k.number)) e

@@ -22,12 +22,12 @@ use Rattle.rx_scenario.specs.Scenario.{Name, Site, Sort, leaf, pass, flat, switc
 use Rattle.rx_agenda.specs.Bindings.{Binding, with_binding}
 use Rattle.rx_script.specs.Stage.{is_unbound_hub, connection_name, own_cause, kind_at, with_connection}
 use Rattle.rx_agenda.specs.Names.{name_of, key_of}
-use Rattle.rx_report.specs.Keys.{node_binding, res_binding, IsNodeKey, IsHeldKey}
+use Rattle.rx_report.specs.Keys.{node_binding, res_binding, lease_binding, IsNodeKey, IsHeldKey, IsLeaseKey}
 use Rattle.rx_agenda.specs.Shown.{number_binding}
 use Rattle.rx_script.specs.Engine.{at_of, kind_of, is_taken_beside, with_named, stage_of, IsSound, Carries}
 use Rattle.rx_agenda.proofs.Laws.{bound-numbers}
 use Rattle.rx_book.proofs.Laws.Going.{accepted_continues}
-use Rattle.rx_script.proofs.Going.{node_keys_kept, held_keys_kept}
+use Rattle.rx_script.proofs.Going.{node_keys_kept, held_keys_kept, lease_keys_kept}
 use Rattle.rx_script.proofs.Carrying.{Agrees, first_cause-by_key, with, refused_own, refused_there, accepted_to}
 use Rattle.rx_script.proofs.Commands.{cause_of}
 use Rattle.rx_script.proofs.Openings.{is_bound-nodes, taken_beside-bound, named_bound, all_named, forced_node_key, IsPlaced, site_placed, site_nameless, new_node_key, nodes_bound, same_stage, all_pushed}
@@ -146,15 +146,16 @@ module _ {R : Type 0} (e : Engine R) (name : Name) (site : Site) (sort : Sort) (
                 ∙ ap (with_connection bound_then (connection_name sort)) opened.connection
 
             pub open_accepted : IsPromised new.book → Accepts e.book (open_request e.book place kind) new.book
-                → new.hubs ≡ e.hubs → new.resources ≡ e.resources → new.stock.wares ≡ e.stock.wares → new.faults ≡ e.faults
+                → new.hubs ≡ e.hubs → new.resources ≡ e.resources → new.leases ≡ e.leases → new.stock.wares ≡ e.stock.wares → new.faults ≡ e.faults
                 → Carries e (open_node name site sort) Accepted new
-            open_accepted kept accepts same_hubs same_resources same_stock same_faults =
+            open_accepted kept accepts same_hubs same_resources same_leases same_stock same_faults =
                 let goes = accepted_continues e.book new.book asked accepts in
                 let older = node_keys_kept e.book new.book e.nodes sound.kept kept goes sound.nodes in
                 let nodes : All (λ n. IsNodeKey new.book n.key) between =
                 all_pushed (λ n. IsNodeKey new.book n.key) e.nodes between x pushed older (new_node_key e.book new.book asked x.key accepts opened.key.number (omega arith) opened.key.listed) in
                 accepted_to e new (open_node name site sort) asked sound kept no_own_cause agrees accepts
-                (same_stage new.book.history _ _ _ _ _ _ _ _ nodes_opened (ap (map number_binding) same_hubs) (ap (map res_binding) same_resources) same_stock)
+                (same_stage new.book.history _ _ _ _ _ _ _ _ _ _ nodes_opened (ap (map number_binding) same_hubs) (ap (map res_binding) same_resources) (ap (map lease_binding) same_leases) same_stock)
                 (subst (All (λ n. IsNodeKey new.book n.key)) (sym named_on) (all_named (IsNodeKey new.book) between connection made nodes (forced_node_key e.book new.book made opened)))
                 (subst (All (λ n. IsHeldKey new.book n.key)) (sym same_resources) (held_keys_kept e.book new.book e.resources sound.kept kept goes sound.resources))
+                (subst (All (λ n. IsLeaseKey new.book n.key)) (sym same_leases) (lease_keys_kept e.book new.book e.leases sound.kept kept goes sound.leases))
                 same_faults

@@ -15,9 +15,10 @@ use Rattle.rx_event.proofs.Laws.Places.{at_within}
 use Rattle.rx_event.specs.Calls.{outside_of}
 use Rattle.rx_book.specs.declared.key.Key.{Key}
 use Rattle.rx_book.specs.declared.key.ResKey.{ResKey}
+use Rattle.rx_book.specs.declared.key.LeaseKey.{LeaseKey}
 use Rattle.rx_book.specs.declared.answer.At.{At}
 use Rattle.rx_book.specs.declared.answer.At.TheVariants.{Root as AtRoot, Source as AtSource, Inner as AtInner, Notifier as AtNotifier}
-use Rattle.rx_book.specs.State.{State, has_key, has_res_key}
+use Rattle.rx_book.specs.State.{State, has_key, has_res_key, has_lease_key}
 use Rattle.rx_register.specs.Causes.{is_gone}
 use Rattle.rx_book.specs.Requests.{Request, place_of, is_known_place}
 use Rattle.rx_book.specs.Answers.{Accepts, IsOpened, makes_connection}
@@ -27,13 +28,13 @@ use Rattle.rx_scenario.specs.Scenario.{Name, Site, root, source, inner, notifier
 use Rattle.rx_agenda.specs.Bindings.{Binding, bound, is_bound, is_unbound, with_binding}
 use Rattle.rx_script.specs.Stage.{Ware, Stage, is_unbound_site, place_at, with_connection}
 use Rattle.rx_agenda.specs.Names.{name_of, key_of}
-use Rattle.rx_report.specs.Keys.{node_binding, res_binding, IsNodeKey, IsHeldKey}
+use Rattle.rx_report.specs.Keys.{node_binding, res_binding, lease_binding, IsNodeKey, IsHeldKey, IsLeaseKey}
 use Rattle.rx_agenda.specs.Shown.{number_binding}
 use Rattle.rx_script.specs.Engine.{at_of, is_taken, is_taken_beside, with_named, stage_of, IsSound}
 use Rattle.rx_agenda.proofs.Laws.{key_of-bind, none_there}
-use Rattle.rx_report.proofs.Laws.{has_key-is_open, has_key-contained, has_res_key-contained}
+use Rattle.rx_report.proofs.Laws.{has_key-is_open, has_key-contained, has_res_key-contained, has_lease_key-contained}
 use Rattle.rx_agenda.proofs.Laws.{key_of-holds, bound-numbers}
-use Rattle.rx_script.proofs.Naming.{bound-nodes, bound-resources, node_bound, node_unbound}
+use Rattle.rx_script.proofs.Naming.{bound-nodes, bound-resources, bound-leases, node_bound, node_unbound}
 use Rattle.rx_book.proofs.Laws.Going.{step_longer}
 
 -- names that are taken -----------------------------------------------------------------------------
@@ -47,6 +48,9 @@ is_bound-nodes names name = ap is_some (bound-nodes names name) ∙ is_some-map 
 
 pub is_bound-resources : (names : List (Named ResKey)) (name : Name) → is_bound (map res_binding names) name ≡ is_some (key_of names name)
 is_bound-resources names name = ap is_some (bound-resources names name) ∙ is_some-map _ (key_of names name)
+
+pub is_bound-leases : (names : List (Named LeaseKey)) (name : Name) → is_bound (map lease_binding names) name ≡ is_some (key_of names name)
+is_bound-leases names name = ap is_some (bound-leases names name) ∙ is_some-map _ (key_of names name)
 
 pub is_bound-hubs : (names : List (Named ℕ)) (name : Name) → is_bound (map number_binding names) name ≡ is_some (key_of names name)
 is_bound-hubs names name = ap is_some (bound-numbers names name)
@@ -130,6 +134,12 @@ new_held_key old new asked k place accepts number some listed =
     let longer = step_longer old.base old.history new.history asked.call accepts.step in
     record { within = omega arith; found = λ held_now. has_res_key-contained new.res_keys k listed }
 
+pub new_out_key : (old new : State) (asked : Request) (k : LeaseKey) → Accepts old asked new → k.number ≡ length old.history → 0 < length (outside_of old.history asked.call)
+    → IsTrue (has_lease_key new.lease_keys k) → IsLeaseKey new k
+new_out_key old new asked k accepts number some listed =
+    let longer = step_longer old.base old.history new.history asked.call accepts.step in
+    record { within = omega arith; found = λ out_now. has_lease_key-contained new.lease_keys k listed }
+
 pub nodes_bound : (xs ys : List (Named Key)) (x : Named Key) (number : ℕ) → ys ≡ xs ++ x ∷ [] → x.key.number ≡ number → map node_binding ys ≡ with_binding (map node_binding xs) (name_of x) number
 nodes_bound xs ys x number pushed same =
     ap (map node_binding) pushed ∙ map-append node_binding xs (x ∷ []) ∙ ap (λ n. with_binding (map node_binding xs) (name_of x) n) same
@@ -138,11 +148,16 @@ pub resources_bound : (xs ys : List (Named ResKey)) (x : Named ResKey) (number :
 resources_bound xs ys x number pushed same =
     ap (map res_binding) pushed ∙ map-append res_binding xs (x ∷ []) ∙ ap (λ n. with_binding (map res_binding xs) (name_of x) n) same
 
-pub same_stage : (h : List Event) (n m g i r s : List Binding) (u v : List Ware) → n ≡ m → g ≡ i → r ≡ s → u ≡ v
-    → let stage : List Binding → List Binding → List Binding → List Ware → Stage = λ x y z w. record { history = h; nodes = x; hubs = y; resources = z; stock = w } in stage n g r u ≡ stage m i s v
-same_stage h n m g i r s u v p o q t =
-    let stage : List Binding → List Binding → List Binding → List Ware → Stage = λ x y z w. record { history = h; nodes = x; hubs = y; resources = z; stock = w } in
-    ap (λ x. stage x g r u) p ∙ ap (λ y. stage m y r u) o ∙ ap (λ z. stage m i z u) q ∙ ap (λ w. stage m i s w) t
+pub leases_bound : (xs ys : List (Named LeaseKey)) (x : Named LeaseKey) (number : ℕ) → ys ≡ xs ++ x ∷ [] → x.key.number ≡ number → map lease_binding ys ≡ with_binding (map lease_binding xs) (name_of x) number
+leases_bound xs ys x number pushed same =
+    ap (map lease_binding) pushed ∙ map-append lease_binding xs (x ∷ []) ∙ ap (λ n. with_binding (map lease_binding xs) (name_of x) n) same
+
+pub same_stage : (h : List Event) (n m g i r s j k : List Binding) (u v : List Ware) → n ≡ m → g ≡ i → r ≡ s → j ≡ k → u ≡ v
+    → let stage : List Binding → List Binding → List Binding → List Binding → List Ware → Stage = λ x y z l w. record { history = h; nodes = x; hubs = y; resources = z; leases = l; stock = w } in
+    stage n g r j u ≡ stage m i s k v
+same_stage h n m g i r s j k u v p o q a t =
+    let stage : List Binding → List Binding → List Binding → List Binding → List Ware → Stage = λ x y z l w. record { history = h; nodes = x; hubs = y; resources = z; leases = l; stock = w } in
+    ap (λ x. stage x g r j u) p ∙ ap (λ y. stage m y r j u) o ∙ ap (λ z. stage m i z j u) q ∙ ap (λ l. stage m i s l u) a ∙ ap (λ w. stage m i s k w) t
 
 pub all_pushed : {A : Type 0} (P : A → Type 0) (xs ys : List A) (x : A) → ys ≡ xs ++ x ∷ [] → All P xs → P x → All P ys
 all_pushed P xs ys x pushed all here = subst (All P) (sym pushed) (All-push P xs x all here)

@@ -19,12 +19,12 @@ use Rattle.rx_scenario.specs.Scenario.{Name, make_hub, connect, disconnect}
 use Rattle.rx_agenda.specs.Bindings.{bound, is_unbound, with_binding}
 use Rattle.rx_script.specs.Stage.{own_cause, with_connection}
 use Rattle.rx_agenda.specs.Names.{name_of, key_of}
-use Rattle.rx_report.specs.Keys.{node_binding, res_binding, IsNodeKey, IsHeldKey}
+use Rattle.rx_report.specs.Keys.{node_binding, res_binding, lease_binding, IsNodeKey, IsHeldKey, IsLeaseKey}
 use Rattle.rx_agenda.specs.Shown.{number_binding}
 use Rattle.rx_script.specs.Engine.{is_taken, with_named, stage_of, IsSound, Carries}
 use Rattle.rx_agenda.proofs.Laws.{bound-numbers}
 use Rattle.rx_book.proofs.Laws.Going.{accepted_continues}
-use Rattle.rx_script.proofs.Going.{node_keys_kept, held_keys_kept}
+use Rattle.rx_script.proofs.Going.{node_keys_kept, held_keys_kept, lease_keys_kept}
 use Rattle.rx_script.proofs.Carrying.{Agrees, with, refused_own, refused_there, accepted_to, accepted_plain}
 use Rattle.rx_script.proofs.Commands.{cause_of}
 use Rattle.rx_script.proofs.Openings.{is_bound-hubs, taken-bound, named_bound, all_named, new_node_key, same_stage}
@@ -51,16 +51,17 @@ module _ {R : Type 0} (e : Engine R) (name : Name) (mode : Mode) (sound : IsSoun
         refused_there e (make_hub name mode) (hub_request mode) why book e.stock sound same refl hub_no_own_cause hub_agrees (cause_of (stands e.book (hub_request mode)) why refusal other)
 
     pub hub_accepted : (new : Engine R) (x : Named ℕ) → IsPromised new.book → Accepts e.book (hub_request mode) new.book
-        → x.key ≡ length e.book.history → name_of x ≡ name → new.nodes ≡ e.nodes → new.hubs ≡ e.hubs ++ x ∷ [] → new.resources ≡ e.resources → new.stock.wares ≡ e.stock.wares → new.faults ≡ e.faults
+        → x.key ≡ length e.book.history → name_of x ≡ name → new.nodes ≡ e.nodes → new.hubs ≡ e.hubs ++ x ∷ [] → new.resources ≡ e.resources → new.leases ≡ e.leases → new.stock.wares ≡ e.stock.wares → new.faults ≡ e.faults
         → Carries e (make_hub name mode) Accepted new
-    hub_accepted new x kept accepts number same_name same_nodes pushed same_resources same_stock same_faults =
+    hub_accepted new x kept accepts number same_name same_nodes pushed same_resources same_leases same_stock same_faults =
         let goes = accepted_continues e.book new.book (hub_request mode) accepts in
         accepted_to e new (make_hub name mode) (hub_request mode) sound kept hub_no_own_cause hub_agrees accepts
-        (same_stage new.book.history _ _ _ _ _ _ _ _ (ap (map node_binding) same_nodes)
+        (same_stage new.book.history _ _ _ _ _ _ _ _ _ _ (ap (map node_binding) same_nodes)
         (hubs_bound e.hubs new.hubs x (length e.book.history) pushed number ∙ ap (λ n. with_binding (map number_binding e.hubs) n (length e.book.history)) same_name)
-        (ap (map res_binding) same_resources) same_stock)
+        (ap (map res_binding) same_resources) (ap (map lease_binding) same_leases) same_stock)
         (subst (All (λ n. IsNodeKey new.book n.key)) (sym same_nodes) (node_keys_kept e.book new.book e.nodes sound.kept kept goes sound.nodes))
         (subst (All (λ n. IsHeldKey new.book n.key)) (sym same_resources) (held_keys_kept e.book new.book e.resources sound.kept kept goes sound.resources))
+        (subst (All (λ n. IsLeaseKey new.book n.key)) (sym same_leases) (lease_keys_kept e.book new.book e.leases sound.kept kept goes sound.leases))
         same_faults
 
 -- connecting ---------------------------------------------------------------------------------------
@@ -97,18 +98,19 @@ module _ {R : Type 0} (e : Engine R) (hub : Name) (name : Option (String Global)
           refused_there e (connect hub (option_map string_bytes name)) (connect_request number) why book e.stock sound same refl connect_no_own_cause connect_agrees (cause_of (stands e.book (connect_request number)) why refusal other)
 
       pub connect_accepted : (new : Engine R) (k : Key) → IsPromised new.book → Accepts e.book (connect_request number) new.book → IsNewKey new.book (length e.book.history) k
-          → new.nodes ≡ with_named e.nodes name (Some k) → new.hubs ≡ e.hubs → new.resources ≡ e.resources → new.stock.wares ≡ e.stock.wares → new.faults ≡ e.faults
+          → new.nodes ≡ with_named e.nodes name (Some k) → new.hubs ≡ e.hubs → new.resources ≡ e.resources → new.leases ≡ e.leases → new.stock.wares ≡ e.stock.wares → new.faults ≡ e.faults
           → Carries e (connect hub (option_map string_bytes name)) Accepted new
-      connect_accepted new k kept accepts made named_on same_hubs same_resources same_stock same_faults =
+      connect_accepted new k kept accepts made named_on same_hubs same_resources same_leases same_stock same_faults =
           let goes = accepted_continues e.book new.book (connect_request number) accepts in
           let older = node_keys_kept e.book new.book e.nodes sound.kept kept goes sound.nodes in
           accepted_to e new (connect hub (option_map string_bytes name)) (connect_request number) sound kept connect_no_own_cause connect_agrees accepts
-          (same_stage new.book.history _ _ _ _ _ _ _ _
+          (same_stage new.book.history _ _ _ _ _ _ _ _ _ _
           (ap (map node_binding) named_on ∙ named_bound e.nodes name (Some k) ∙ ap (λ n. with_connection (map node_binding e.nodes) (option_map string_bytes name) (Some n)) made.number)
-          (ap (map number_binding) same_hubs) (ap (map res_binding) same_resources) same_stock)
+          (ap (map number_binding) same_hubs) (ap (map res_binding) same_resources) (ap (map lease_binding) same_leases) same_stock)
           (subst (All (λ n. IsNodeKey new.book n.key)) (sym named_on)
           (all_named (IsNodeKey new.book) e.nodes name (Some k) older (new_node_key e.book new.book (connect_request number) k accepts made.number (omega arith) made.listed)))
           (subst (All (λ n. IsHeldKey new.book n.key)) (sym same_resources) (held_keys_kept e.book new.book e.resources sound.kept kept goes sound.resources))
+          (subst (All (λ n. IsLeaseKey new.book n.key)) (sym same_leases) (lease_keys_kept e.book new.book e.leases sound.kept kept goes sound.leases))
           same_faults
 
 -- disconnecting ------------------------------------------------------------------------------------

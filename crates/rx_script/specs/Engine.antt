@@ -21,7 +21,7 @@ use Rattle.rx_scenario.specs.declared.scenario.Step.{Step as StepInCode}
 use Rattle.rx_scenario.specs.Scenario.{Name, Site, root, source, inner, notifier, Sort, leaf, pass, flat, switch, until, sub, Command, action_of, list_of, step_of}
 use Rattle.rx_agenda.specs.Names.{key_of}
 use Rattle.rx_agenda.specs.Shown.{number_binding, agenda_of, size_of, size_left}
-use Rattle.rx_report.specs.Keys.{node_binding, res_binding, IsNodeKey, IsHeldKey}
+use Rattle.rx_report.specs.Keys.{node_binding, res_binding, lease_binding, IsNodeKey, IsHeldKey, IsLeaseKey}
 use Rattle.rx_script.specs.Stage.{Stage}
 use Rattle.rx_agenda.specs.Agenda.{followed_by}
 use Rattle.rx_script.specs.Course.{limited, Executes}
@@ -62,13 +62,14 @@ with_named names _ _ = names
 
 -- the stage that an engine is at
 abbrev pub stage_of : {R : Type 0} → Engine R → Stage
-stage_of e = record { history = e.book.history; nodes = map node_binding e.nodes; hubs = map number_binding e.hubs; resources = map res_binding e.resources; stock = e.stock.wares }
+stage_of e = record { history = e.book.history; nodes = map node_binding e.nodes; hubs = map number_binding e.hubs; resources = map res_binding e.resources; leases = map lease_binding e.leases; stock = e.stock.wares }
 
 -- what an engine keeps
 pub record IsSound {R : Type 0} (e : Engine R) : Type 0 where
   pub kept : IsPromised e.book
   pub nodes : All (λ n. IsNodeKey e.book n.key) e.nodes
   pub resources : All (λ n. IsHeldKey e.book n.key) e.resources
+  pub leases : All (λ n. IsLeaseKey e.book n.key) e.leases
   pub faults : e.faults ≤ taken_count e.book.base e.book.history
   -- a scenario makes no checkpoint
   pub base : e.book.base ≡ nothing_kept

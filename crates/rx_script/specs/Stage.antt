@@ -7,14 +7,14 @@ use Rattle.rx_event.specs.declared.event.Place.TheVariants.{Root, Source, Inner,
 use Rattle.rx_event.specs.declared.event.Kind.{Kind}
 use Rattle.rx_event.specs.declared.event.Kind.TheVariants.{Leaf, Pass, Flat, Switch, Until, Sub}
 use Rattle.rx_event.specs.declared.event.Event.{Event}
-use Rattle.rx_event.specs.Calls.{Call, Opening, OpeningUsing, Holding, Applying, Removing, Emitting, Ending, Aborting, Declining, Failing, Disposing, Publishing, Connecting, Disconnecting}
+use Rattle.rx_event.specs.Calls.{Call, Opening, OpeningUsing, Holding, Applying, Removing, Leasing, GivingBack, Emitting, Ending, Aborting, Declining, Failing, Disposing, Publishing, Connecting, Disconnecting}
 use Rattle.rx_resource.specs.declared.Resource.{Ghosts}
 use Rattle.rx_book.specs.Requests.{is_fresh_in}
 use Rattle.rx_book.specs.Answers.{connection_made}
 use Rattle.rx_agenda.specs.declared.answer.Cause.{Cause}
 use Rattle.rx_agenda.specs.declared.answer.Cause.TheVariants.{NoName, NameTaken, NoStock}
 use Rattle.rx_agenda.specs.Bindings.{Binding, bound, is_unbound, is_bound, with_binding}
-use Rattle.rx_scenario.specs.Scenario.{Name, Site, root, source, inner, notifier, Sort, leaf, pass, flat, switch, until, sub, Command, using, open_node, hold, apply, remove, next, end, abort, decline, fail, dispose, make_hub, connect, disconnect, drain}
+use Rattle.rx_scenario.specs.Scenario.{Name, Site, root, source, inner, notifier, Sort, leaf, pass, flat, switch, until, sub, Command, using, open_node, hold, apply, remove, lease, give_back, next, end, abort, decline, fail, dispose, make_hub, connect, disconnect, drain}
 
 -- a resource of the stock: its tag, and whether a book would take it
 pub record Ware : Type 0 where
@@ -25,17 +25,18 @@ pub record Ware : Type 0 where
 abbrev pub ware_of : {T : Type 0} → Ghosts T → T → Ware
 ware_of g x = record { tag = g.tag_of x; is_fresh = is_fresh_in g x }
 
--- what has happened, what the names of nodes, of hubs and of resources stand for, in order of binding, and what is left of the stock
+-- what has happened, what the names of nodes, of hubs, of resources and of leases stand for, in order of binding, and what is left of the stock
 pub record Stage : Type 0 where
   pub history : List Event
   pub nodes : List Binding
   pub hubs : List Binding
   pub resources : List Binding
+  pub leases : List Binding
   pub stock : List Ware
 
 -- before the first step
 abbrev pub start : List Ware → Stage
-start stock = record { history = []; nodes = []; hubs = []; resources = []; stock = stock }
+start stock = record { history = []; nodes = []; hubs = []; resources = []; leases = []; stock = stock }
 
 -- the causes of the scenario's own -----------------------------------------------------------------
 
@@ -57,6 +58,8 @@ lacks_name s (open_node name site sort) = is_unbound_site s site || is_unbound_h
 lacks_name s (hold node res) = is_unbound s.nodes node
 lacks_name s (apply res word) = is_unbound s.resources res
 lacks_name s (remove res) = is_unbound s.resources res
+lacks_name s (lease res name) = is_unbound s.resources res
+lacks_name s (give_back name) = is_unbound s.leases name
 lacks_name s (next node value) = is_unbound s.nodes node
 lacks_name s (end node t) = is_unbound s.nodes node
 lacks_name s (abort node code) = is_unbound s.nodes node
@@ -73,13 +76,16 @@ abbrev pub connection_name : Sort → Option Name
 connection_name (sub hub connection) = connection
 connection_name _ = None
 
--- it would bind a name that is bound, or one name twice; nodes, hubs and resources have a space of names each
+-- it would bind a name that is bound, or one name twice; nodes, hubs, resources and leases have a space of names
+-- each
 abbrev pub takes_name : Stage → Command → Bool
 takes_name s (using name site res) = is_bound s.nodes name || is_bound s.resources res
 takes_name s (open_node name site sort) = is_bound s.nodes name || option_map_or (λ c. is_bound s.nodes c || bytes_eq name c) (connection_name sort) false
 takes_name s (hold node res) = is_bound s.resources res
 takes_name s (apply res word) = false
 takes_name s (remove res) = false
+takes_name s (lease res name) = is_bound s.leases name
+takes_name s (give_back name) = false
 takes_name s (next node value) = false
 takes_name s (end node t) = false
 takes_name s (abort node code) = false
@@ -102,6 +108,8 @@ lacks_stock s (open_node name site sort) = false
 lacks_stock s (hold node res) = is_empty s.stock
 lacks_stock s (apply res word) = false
 lacks_stock s (remove res) = false
+lacks_stock s (lease res name) = false
+lacks_stock s (give_back name) = false
 lacks_stock s (next node value) = false
 lacks_stock s (end node t) = false
 lacks_stock s (abort node code) = false
@@ -152,6 +160,8 @@ call_of s (open_node name site sort) = option_and_then (λ place. option_map (Op
 call_of s (hold node res) = option_and_then (λ n. option_map (λ w. Holding n w.tag) (front s)) (bound s.nodes node)
 call_of s (apply res word) = option_map Applying (bound s.resources res)
 call_of s (remove res) = option_map Removing (bound s.resources res)
+call_of s (lease res name) = option_map Leasing (bound s.resources res)
+call_of s (give_back name) = option_map GivingBack (bound s.leases name)
 call_of s (next node value) = option_map (λ n. Emitting n value) (bound s.nodes node)
 call_of s (end node t) = option_map (λ n. Ending n t) (bound s.nodes node)
 call_of s (abort node code) = option_map (λ n. Aborting n code) (bound s.nodes node)
@@ -170,14 +180,16 @@ abbrev pub with_connection : List Binding → Option Name → Option ℕ → Lis
 with_connection bindings (Some name) (Some number) = with_binding bindings name number
 with_connection bindings _ _ = bindings
 
--- after an accepted step that took the history to k: a node or a hub is numbered by the place of the event that made it, and a
--- resource by the place of its acceptance. The connection of a subscriber's hub is named where the history has made one
+-- after an accepted step that took the history to k: a node or a hub is numbered by the place of the event that made it, a
+-- resource by the place of its acceptance, and a lease by the place where it was given out. The connection of a subscriber's hub is named where the history has made one
 abbrev pub after : Stage → Command → List Event → Stage
 after s (using name site res) k = record s { history = k; nodes = with_binding s.nodes name (length s.history); resources = with_binding s.resources res (length s.history + 1); stock = drop 1 s.stock }
 after s (open_node name site sort) k = record s { history = k; nodes = with_connection (with_binding s.nodes name (length s.history)) (connection_name sort) (connection_made s.history k) }
 after s (hold node res) k = record s { history = k; resources = with_binding s.resources res (length s.history); stock = drop 1 s.stock }
 after s (apply res word) k = record s { history = k }
 after s (remove res) k = record s { history = k }
+after s (lease res name) k = record s { history = k; leases = with_binding s.leases name (length s.history) }
+after s (give_back name) k = record s { history = k }
 after s (next node value) k = record s { history = k }
 after s (end node t) k = record s { history = k }
 after s (abort node code) k = record s { history = k }

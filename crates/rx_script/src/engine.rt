@@ -4,25 +4,26 @@ ghost use Rattle.std.specs.Prelude.{◌≡◌, ◌≢◌, ◌≤◌, map, string
 ghost use Rattle.rx_event.specs.declared.refusal.Refusal.{Refusal};
 ghost use Rattle.rx_agenda.specs.declared.answer.Answer.{Answer};
 ghost use Rattle.rx_agenda.specs.declared.answer.Cause.{Cause};
-ghost use Rattle.rx_scenario.specs.Scenario.{site_of, using, hold as holding, apply as applying, remove as removing, next as emitting, end as ending, abort as aborting, decline as declining, fail as failing, dispose as disposing, drain as draining};
+ghost use Rattle.rx_scenario.specs.Scenario.{site_of, using, hold as holding, apply as applying, remove as removing, lease as leasing, give_back as giving_back, next as emitting, end as ending, abort as aborting, decline as declining, fail as failing, dispose as disposing, drain as draining};
 ghost use Rattle.rx_script.specs.Stage.{start, ware_of};
 ghost use Rattle.rx_script.specs.Engine.{at_of, stage_of, IsSound, Carries};
 
 use crate::stock::Stock;
 use rx_agenda::{Answer, Cause, Names};
-use rx_book::{At, Book, Key, ResKey};
+use rx_book::{At, Book, Key, LeaseKey, ResKey};
 use rx_event::{Refusal, Terminal};
 use rx_resource::Resource;
 use rx_scenario::Site;
 use std::alloc::{AllocError, Global};
 
-/// A book, the names of its nodes, of its hubs and of its resources in order of binding, the stock
-/// that is left, and how many releases have met a fault. A hub goes by its number.
+/// A book, the names of its nodes, of its hubs, of its resources and of its leases in order of binding,
+/// the stock that is left, and how many releases have met a fault. A hub goes by its number.
 pub struct Engine<R: Resource> {
     pub book: Book<R>,
     pub nodes: Names<Key>,
     pub hubs: Names<u64>,
     pub resources: Names<ResKey>,
+    pub leases: Names<LeaseKey>,
     pub stock: Stock<R>,
     pub faults: u64,
 }
@@ -35,6 +36,7 @@ impl<R: Resource> Drop for Engine<R> {
             nodes: _nodes,
             hubs: _hubs,
             resources: _resources,
+            leases: _leases,
             stock: _stock,
             faults: _faults,
         } = self;
@@ -56,6 +58,7 @@ pub fn begin<R: Resource>(alloc: Global, max_events: u64, stock: Vec<R>) -> Engi
         nodes: Names::new(alloc),
         hubs: Names::new(alloc),
         resources: Names::new(alloc),
+        leases: Names::new(alloc),
         stock: Stock::new(stock),
         faults: 0,
     }
@@ -156,6 +159,48 @@ pub fn remove<R: Resource>(engine: &mut Engine<R>, res: &str) -> Result<Answer, 
         return Ok(Answer::Refused(Cause::NoName));
     };
     match engine.book.remove(key) {
+        Ok(_) => {
+            engine.book.promise();
+            Ok(Answer::Accepted)
+        }
+        Err(why) => refused(why),
+    }
+}
+
+/// A lease of an owned resource is given out.
+pub fn lease<R: Resource>(
+    engine: &mut Engine<R>,
+    res: &str,
+    name: String,
+) -> Result<Answer, AllocError>
+    requires { IsSound engine.old }
+    ensures { IfOk result (λ a. Carries engine.old (leasing res.now (string_bytes name)) a engine.new) }
+{
+    let Some(key) = engine.resources.get(res) else {
+        return Ok(Answer::Refused(Cause::NoName));
+    };
+    if engine.leases.is_bound(name.as_str()) {
+        return Ok(Answer::Refused(Cause::NameTaken));
+    }
+    match engine.book.lease(key) {
+        Ok(lease) => {
+            engine.book.promise();
+            engine.leases.bind(name, lease)?;
+            Ok(Answer::Accepted)
+        }
+        Err(why) => refused(why),
+    }
+}
+
+/// A lease is given back.
+pub fn give_back<R: Resource>(engine: &mut Engine<R>, lease: &str) -> Result<Answer, AllocError>
+    requires { IsSound engine.old }
+    ensures { IfOk result (λ a. Carries engine.old (giving_back lease.now) a engine.new) }
+{
+    let Some(key) = engine.leases.get(lease) else {
+        return Ok(Answer::Refused(Cause::NoName));
+    };
+    match engine.book.give_back(key) {
         Ok(_) => {
             engine.book.promise();
             Ok(Answer::Accepted)

@@ -5,7 +5,8 @@ ghost use Rattle.rx_scenario.specs.Scenario.{command_of};
 ghost use Rattle.rx_script.specs.Engine.{IsSound, Carries};
 
 use crate::engine::{
-    Engine, abort, apply, decline, dispose, drain, end, fail, hold, next, remove, using,
+    Engine, abort, apply, decline, dispose, drain, end, fail, give_back, hold, lease, next, remove,
+    using,
 };
 use crate::hubs::{connect, disconnect, hub};
 use crate::opening::open;
@@ -25,6 +26,8 @@ pub fn execute<R: Resource>(engine: &mut Engine<R>, command: Command) -> Result<
         Command::Hold { node, res } => hold(engine, node.as_str(), res),
         Command::Apply { res, word } => apply(engine, res.as_str(), word),
         Command::Remove { res } => remove(engine, res.as_str()),
+        Command::Lease { res, name } => lease(engine, res.as_str(), name),
+        Command::Return { lease } => give_back(engine, lease.as_str()),
         Command::Next { node, value } => next(engine, node.as_str(), value),
         Command::End { node, terminal } => end(engine, node.as_str(), terminal),
         Command::Abort { node, code } => abort(engine, node.as_str(), code),

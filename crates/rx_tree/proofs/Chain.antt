@@ -25,7 +25,7 @@ use Rattle.rx_tree.specs.Ties.{home_of, sibling_ring, resource_ring, IsTiedAt, I
 use Rattle.rx_tree.specs.Tree.{IsPromised, AreDistinct, is_key, is_on}
 use Rattle.rx_tree.proofs.Laws.Keys.{same_key}
 use Rattle.rx_tree.proofs.Laws.Written.{entry_found, found_entry}
-use Rattle.rx_tree.specs.Resources.{is_held}
+use Rattle.rx_tree.specs.Resources.{is_owned, is_lent}
 use Rattle.rx_tree.proofs.TieRecords.{home_stands}
 
 module _ {T : Type 0} where
@@ -50,9 +50,12 @@ module _ {T : Type 0} where
     by true s e = true≢false (sym (tells.self (Held s)) ∙ ap (is_place (Held s)) e)
     by false s e = true≢false (sym (tells.self Waiting) ∙ ap (is_place Waiting) e)
 
-    of : (o : Option (Entry (Stowed T))) → option_map (λ e. resource_ring nodes e.value) o ≡ Some Due → ⊥
+    of : (o : Option (Entry (Stowed T))) → option_and_then (λ e. resource_ring nodes e.value) o ≡ Some Due → ⊥
     of None e = true≢false (ap is_some (sym e))
-    of (Some x) e = by (is_held nodes x.value) x.value.node.slot (some_same (resource_ring nodes x.value) Due e)
+    of (Some x) e = lent (is_lent x.value) e where
+      lent : (l : Bool) → cond l None (Some (cond (is_owned nodes x.value) (Held x.value.node.slot) Waiting)) ≡ Some Due → ⊥
+      lent true e = true≢false (ap is_some (sym e))
+      lent false e = by (is_owned nodes x.value) x.value.node.slot (some_same (cond (is_owned nodes x.value) (Held x.value.node.slot) Waiting) Due e)
   due_is nodes resources noted Roots at = absurd (true≢false (ap is_some (sym at)))
   due_is nodes resources noted Due at = absurd (true≢false (ap is_some (sym at)))
   due_is nodes resources noted Waiting at = absurd (true≢false (ap is_some (sym at)))

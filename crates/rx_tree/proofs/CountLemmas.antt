@@ -1,6 +1,6 @@
--- How many resources wait, and how many are held at a node, as records come, change and go.
+-- How many resources of those that pass a test no node owns, and how many each node owns, as records come, change and go.
 use Rattle.std.proofs.Common.{◌≡◌, ◌≢◌, ℕ, suc, ◌+◌, ◌<◌, ◌==◌, ◌&&◌, cond, Bool, true, false, List, [], ◌∷◌, length, get_or, set, Option, Some, None}
-use Rattle.std.proofs.Common.{is_some, count_by, refl, sym, ap, subst, ◌∙◌, inl, inr, arith}
+use Rattle.std.proofs.Common.{is_some, count_by, refl, sym, ap, subst, ◌∙◌, inl, inr, arith, ◌⊎◌}
 use Rattle.std.specs.List.{sum_by}
 use Rattle.std.proofs.Math.Bool.{not}
 use Rattle.std.proofs.lemmas.Bool.{cases_eq}
@@ -9,13 +9,12 @@ use Rattle.std.proofs.lemmas.List.{get_or-set_same, get_or-set_other}
 use Rattle.std.proofs.lemmas.List.Sums.{sum_by-cons, sum_by-set}
 use Rattle.rx_slots.specs.declared.Entry.{Entry}
 use Rattle.rx_slots.specs.declared.Key.{Key}
-use Rattle.rx_slots.specs.Slots.{Slots, entry_of, entry_at, find, with_number, Changes}
+use Rattle.rx_slots.specs.Slots.{Slots, entry_at, find, with_number, Changes}
 use Rattle.rx_tree.specs.declared.node.Node.{Node}
 use Rattle.rx_tree.specs.declared.node.Stowed.{Stowed}
-use Rattle.rx_tree.specs.Resources.{is_held, removed, waits_in}
-use Rattle.rx_tree.specs.Store.{Inserts}
-use Rattle.rx_tree.specs.Ties.{held_in}
-use Rattle.rx_tree.proofs.Laws.Written.{entry_found, found_entry, slot_within}
+use Rattle.rx_tree.specs.Resources.{is_owned}
+use Rattle.rx_tree.specs.Ties.{unowned_in, owned_at, AreCounted}
+use Rattle.rx_tree.proofs.Laws.Written.{found_entry, slot_within}
 
 -- one for what passes a test, none for what does not
 abbrev pub bit : Bool → ℕ
@@ -61,21 +60,24 @@ module _ {X : Type 0} where
       ]) in
       ap (λ n. n + f (get_or xs slot None)) same ∙ sum_by-set f xs slot now None within
 
--- how a node that is taken out changes what is held and what waits
-waits_shape : (s c here : Bool) → bit (not ((s && not here) && c)) ≡ bit (not (s && c)) + bit ((s && c) && here)
-waits_shape true true true = refl
-waits_shape true true false = refl
-waits_shape true false true = refl
-waits_shape true false false = refl
-waits_shape false c here = refl
+-- how a node that is taken out changes what is owned and what is not
+waits_shape : (g s c here : Bool) → bit (g && not ((s && not here) && c)) ≡ bit (g && not (s && c)) + bit (g && ((s && c) && here))
+waits_shape false s c here = refl
+waits_shape true true true true = refl
+waits_shape true true true false = refl
+waits_shape true true false true = refl
+waits_shape true true false false = refl
+waits_shape true false c here = refl
 
-none_shape : (s c : Bool) → bit (((s && false) && c) && true) ≡ 0
-none_shape true c = refl
-none_shape false c = refl
+none_shape : (g s c : Bool) → bit (g && (((s && false) && c) && true)) ≡ 0
+none_shape false s c = refl
+none_shape true true c = refl
+none_shape true false c = refl
 
-false_last : (b : Bool) → bit (b && false) ≡ 0
-false_last true = refl
-false_last false = refl
+false_last : (g b : Bool) → bit (g && (b && false)) ≡ 0
+false_last true true = refl
+false_last true false = refl
+false_last false b = refl
 
 and_true : (a : Bool) → a ≡ (a && true)
 and_true true = refl
@@ -92,7 +94,7 @@ pub same_here : (a b : ℕ) → a ≡ b → (a == b) ≡ true
 same_here a b same = grind (arith, nat_tests, same)
 
 module _ {T : Type 0} where
-  count_changed : (p : Option (Entry (Stowed T)) → Bool) (old new : Slots (Stowed T)) (slot : ℕ) (before after : Option (Entry (Stowed T))) →
+  pub count_changed : (p : Option (Entry (Stowed T)) → Bool) (old new : Slots (Stowed T)) (slot : ℕ) (before after : Option (Entry (Stowed T))) →
       p None ≡ false → slot < length old.entries → entry_at old slot ≡ before → Changes old new slot after →
       count_by p new.entries + bit (p before) ≡ count_by p old.entries + bit (p after)
   count_changed p old new slot before after none within at change =
@@ -100,177 +102,140 @@ module _ {T : Type 0} where
       sum_changed (λ x. bit (p x)) old.entries new.entries slot (ap bit none) within change.others ∙
       ap (λ o. count_by p old.entries + bit (p o)) change.changed
 
-  -- a resource comes that is held
-  module _ (nodes : Slots Node) (old new : Slots (Stowed T)) (key : Key) (number : ℕ) (stowed : Stowed T)
-      (came : Inserts old new key number stowed) (held : is_held nodes stowed ≡ true) where
-    came_within : key.slot < length new.entries
-    came_within = slot_within new key.slot (entry_of number stowed) came.changes.changed
+  -- counts of those that pass a test
+  module _ (test : Stowed T → Bool) where
+    -- one entry changed
+    pub counted_changed : (nodes : Slots Node) (old new : Slots (Stowed T)) (slot : ℕ) (before after : Option (Entry (Stowed T))) (u v : ℕ) (f g : ℕ → ℕ) →
+        AreCounted test nodes old u f → slot < length old.entries → entry_at old slot ≡ before → Changes old new slot after →
+        v + bit (unowned_in test nodes before) ≡ u + bit (unowned_in test nodes after) →
+        ((j : ℕ) → g j + bit (owned_at test nodes j before) ≡ f j + bit (owned_at test nodes j after)) → AreCounted test nodes new v g
+    counted_changed nodes old new slot before after u v f g c within at change none each = record {
+      by_none =
+          let was = c.by_none in
+          let e : count_by (unowned_in test nodes) new.entries + bit (unowned_in test nodes before) ≡ count_by (unowned_in test nodes) old.entries + bit
+          (unowned_in test nodes after) =
+          count_changed (unowned_in test nodes) old new slot before after refl within at change in
+          omega (arith, was, e, none);
+      by_each = λ j.
+          let was = c.by_each j in
+          let e : count_by (owned_at test nodes j) new.entries + bit (owned_at test nodes j before) ≡ count_by (owned_at test nodes j) old.entries + bit
+          (owned_at test nodes j after) =
+          count_changed (owned_at test nodes j) old new slot before after refl within at change in
+          let here = each j in
+          omega (arith, was, e, here);
+    }
 
-    came_back : Changes new old key.slot None
-    came_back = record { changed = came.was_free; others = λ j other. sym (came.changes.others j other) }
+    -- one came to a slot that was free
+    pub counted_placed : (nodes : Slots Node) (old new : Slots (Stowed T)) (slot : ℕ) (after : Entry (Stowed T)) (u v : ℕ) (f g : ℕ → ℕ) →
+        AreCounted test nodes old u f → entry_at old slot ≡ None → Changes old new slot (Some after) →
+        v ≡ u + bit (unowned_in test nodes (Some after)) → ((j : ℕ) → g j ≡ f j + bit (owned_at test nodes j (Some after))) → AreCounted test nodes new v g
+    counted_placed nodes old new slot after u v f g c free change none each = record {
+      by_none =
+          let was = c.by_none in
+          let e : count_by (unowned_in test nodes) old.entries + bit (unowned_in test nodes (Some after)) ≡ count_by (unowned_in test nodes) new.entries + 0 =
+          count_changed (unowned_in test nodes) new old slot (Some after) None refl within change.changed back in
+          omega (arith, was, e, none);
+      by_each = λ j.
+          let was = c.by_each j in
+          let e : count_by (owned_at test nodes j) old.entries + bit (owned_at test nodes j (Some after)) ≡ count_by (owned_at test nodes j) new.entries + 0 =
+          count_changed (owned_at test nodes j) new old slot (Some after) None refl within change.changed back in
+          let here = each j in
+          omega (arith, was, e, here);
+    } where
+      within : slot < length new.entries
+      within = slot_within new slot after change.changed
 
-    pub came_waits : count_by (waits_in nodes) new.entries ≡ count_by (waits_in nodes) old.entries
-    came_waits =
-        let none : bit (not (is_held nodes stowed)) ≡ 0 = ap (λ b. bit (not b)) held in
-        let e : count_by (waits_in nodes) old.entries + bit (not (is_held nodes stowed)) ≡ count_by (waits_in nodes) new.entries + 0 =
-        count_changed (waits_in nodes) new old key.slot (Some (entry_of number stowed)) None refl came_within came.changes.changed came_back in
-        omega (arith, none, e)
+      back : Changes new old slot None
+      back = record { changed = free; others = λ j other. sym (change.others j other) }
 
-    pub came_held : (home : ℕ) →
-        count_by (held_in nodes home) new.entries ≡ count_by (held_in nodes home) old.entries + bit (stowed.node.slot == home)
-    came_held home =
-        let one : bit (is_held nodes stowed && (stowed.node.slot == home)) ≡ bit (stowed.node.slot == home) =
-        ap (λ b. bit (b && (stowed.node.slot == home))) held in
-        let e : count_by (held_in nodes home) old.entries + bit (is_held nodes stowed && (stowed.node.slot == home)) ≡
-        count_by (held_in nodes home) new.entries + 0 =
-        count_changed (held_in nodes home) new old key.slot (Some (entry_of number stowed)) None refl came_within came.changes.changed came_back in
-        omega (arith, one, e)
-
-  module _ (nodes : Slots Node) (old new : Slots (Stowed T)) (key : Key) (stowed : Stowed T) (found : find old key ≡ Some stowed) where
-    was_within : key.slot < length old.entries
-    was_within = slot_within old key.slot (entry_of key.number stowed) (entry_found old key stowed found)
-
-    -- a held one is removed
-    module _ (held : is_held nodes stowed ≡ true) (change : Changes old new key.slot (Some (entry_of key.number (removed stowed)))) where
-      off : is_held nodes (removed stowed) ≡ false
-      off = and_false (is_some (find nodes stowed.node))
-
-      pub removed_waits : count_by (waits_in nodes) new.entries ≡ count_by (waits_in nodes) old.entries + 1
-      removed_waits =
-          let before : bit (not (is_held nodes stowed)) ≡ 0 = ap (λ b. bit (not b)) held in
-          let after : bit (not (is_held nodes (removed stowed))) ≡ 1 = ap (λ b. bit (not b)) off in
-          let e : count_by (waits_in nodes) new.entries + bit (not (is_held nodes stowed)) ≡
-          count_by (waits_in nodes) old.entries + bit (not (is_held nodes (removed stowed))) =
-          count_changed (waits_in nodes) old new key.slot (Some (entry_of key.number stowed)) (Some (entry_of key.number (removed stowed))) refl
-          was_within (entry_found old key stowed found) change in
-          omega (arith, before, after, e)
-
-      pub removed_held : (home : ℕ) →
-          count_by (held_in nodes home) new.entries + bit (stowed.node.slot == home) ≡ count_by (held_in nodes home) old.entries
-      removed_held home =
-          let before : bit (is_held nodes stowed && (stowed.node.slot == home)) ≡ bit (stowed.node.slot == home) =
-          ap (λ b. bit (b && (stowed.node.slot == home))) held in
-          let after : bit (is_held nodes (removed stowed) && (stowed.node.slot == home)) ≡ 0 = ap (λ b. bit (b && (stowed.node.slot == home))) off in
-          let e : count_by (held_in nodes home) new.entries + bit (is_held nodes stowed && (stowed.node.slot == home)) ≡
-          count_by (held_in nodes home) old.entries + bit (is_held nodes (removed stowed) && (stowed.node.slot == home)) =
-          count_changed (held_in nodes home) old new key.slot (Some (entry_of key.number stowed)) (Some (entry_of key.number (removed stowed)))
-          refl was_within (entry_found old key stowed found) change in
-          omega (arith, before, after, e)
-
-    -- one that waits is taken out
-    module _ (waits : is_held nodes stowed ≡ false) (change : Changes old new key.slot None) where
-      pub taken_waits : count_by (waits_in nodes) new.entries + 1 ≡ count_by (waits_in nodes) old.entries
-      taken_waits =
-          let before : bit (not (is_held nodes stowed)) ≡ 1 = ap (λ b. bit (not b)) waits in
-          let e : count_by (waits_in nodes) new.entries + bit (not (is_held nodes stowed)) ≡ count_by (waits_in nodes) old.entries + 0 =
-          count_changed (waits_in nodes) old new key.slot (Some (entry_of key.number stowed)) None refl was_within
-          (entry_found old key stowed found) change in
-          omega (arith, before, e)
-
-      pub taken_held : (home : ℕ) → count_by (held_in nodes home) new.entries ≡ count_by (held_in nodes home) old.entries
-      taken_held home =
-          let before : bit (is_held nodes stowed && (stowed.node.slot == home)) ≡ 0 = ap (λ b. bit (b && (stowed.node.slot == home))) waits in
-          let e : count_by (held_in nodes home) new.entries + bit (is_held nodes stowed && (stowed.node.slot == home)) ≡
-          count_by (held_in nodes home) old.entries + 0 =
-          count_changed (held_in nodes home) old new key.slot (Some (entry_of key.number stowed)) None refl was_within
-          (entry_found old key stowed found) change in
-          omega (arith, before, e)
-
-    -- another comes in its place that is held where it was
-    module _ (other : Stowed T) (home_same : other.node ≡ stowed.node) (removed_same : other.removed ≡ stowed.removed)
-        (change : Changes old new key.slot (Some (entry_of key.number other))) where
-      pub written_waits : count_by (waits_in nodes) new.entries ≡ count_by (waits_in nodes) old.entries
-      written_waits =
-          let same : bit (not (is_held nodes other)) ≡ bit (not (is_held nodes stowed)) =
-          λ i. bit (not (is_some (find nodes (home_same i)) && not (removed_same i))) in
-          let e : count_by (waits_in nodes) new.entries + bit (not (is_held nodes stowed)) ≡
-          count_by (waits_in nodes) old.entries + bit (not (is_held nodes other)) =
-          count_changed (waits_in nodes) old new key.slot (Some (entry_of key.number stowed)) (Some (entry_of key.number other)) refl was_within
-          (entry_found old key stowed found) change in
-          omega (arith, same, e)
-
-      pub written_held : (home : ℕ) → count_by (held_in nodes home) new.entries ≡ count_by (held_in nodes home) old.entries
-      written_held home =
-          let same : bit (is_held nodes other && (other.node.slot == home)) ≡ bit (is_held nodes stowed && (stowed.node.slot == home)) =
-          λ i. bit ((is_some (find nodes (home_same i)) && not (removed_same i)) && ((home_same i).slot == home)) in
-          let e : count_by (held_in nodes home) new.entries + bit (is_held nodes stowed && (stowed.node.slot == home)) ≡
-          count_by (held_in nodes home) old.entries + bit (is_held nodes other && (other.node.slot == home)) =
-          count_changed (held_in nodes home) old new key.slot (Some (entry_of key.number stowed)) (Some (entry_of key.number other)) refl
-          was_within (entry_found old key stowed found) change in
-          omega (arith, same, e)
-
-  -- a node is taken out
-  module _ (nodes rest : Slots Node) (resources : Slots (Stowed T)) (slot : ℕ) (change : Changes nodes rest slot None) where
-    still_found : (key : Key) → is_some (find rest key) ≡ (is_some (find nodes key) && not (key.slot == slot))
-    still_found key = elim (cases_eq key.slot slot) [
-      | inl here ↦
-          let off : is_some (find rest key) ≡ false = ap (λ o. is_some (with_number key.number o)) (ap (entry_at rest) here ∙ change.changed) in
-          off ∙ sym (and_false (is_some (find nodes key))) ∙ ap (λ b. is_some (find nodes key) && not b) (sym (same_here key.slot slot here))
-      | inr apart ↦
-          let on : is_some (find rest key) ≡ is_some (find nodes key) = ap (λ o. is_some (with_number key.number o)) (change.others key.slot apart) in
-          on ∙ and_true (is_some (find nodes key)) ∙ ap (λ b. is_some (find nodes key) && not b) (sym (same_apart key.slot slot apart))
-    ]
-
-    pub out_waits : count_by (waits_in rest) resources.entries ≡
-        count_by (waits_in nodes) resources.entries + count_by (held_in nodes slot) resources.entries
-    out_waits = sum_both (λ e. bit (waits_in rest e)) (λ e. bit (waits_in nodes e)) (λ e. bit (held_in nodes slot e)) resources.entries
-        (λ j. of (entry_at resources j)) where
-          of : (o : Option (Entry (Stowed T))) → bit (waits_in rest o) ≡ bit (waits_in nodes o) + bit (held_in nodes slot o)
-          of None = refl
-          of (Some e) =
-              ap (λ b. bit (not (b && not e.value.removed))) (still_found e.value.node) ∙
-              waits_shape (is_some (find nodes e.value.node)) (not e.value.removed) (e.value.node.slot == slot)
-
-    pub out_here : count_by (held_in rest slot) resources.entries ≡ 0
-    out_here = sum_none (λ e. bit (held_in rest slot e)) resources.entries (λ j. of (entry_at resources j)) where
-      of : (o : Option (Entry (Stowed T))) → bit (held_in rest slot o) ≡ 0
-      of None = refl
-      of (Some e) = elim (cases_eq e.value.node.slot slot) [
+    -- a node is taken out: what it owned no node owns
+    module _ (nodes rest : Slots Node) (resources : Slots (Stowed T)) (slot : ℕ) (change : Changes nodes rest slot None) where
+      still_found : (key : Key) → is_some (find rest key) ≡ (is_some (find nodes key) && not (key.slot == slot))
+      still_found key = elim (cases_eq key.slot slot) [
         | inl here ↦
-            let at = same_here e.value.node.slot slot here in
-            let off : is_some (find rest e.value.node) ≡ (is_some (find nodes e.value.node) && false) =
-            still_found e.value.node ∙ ap (λ b. is_some (find nodes e.value.node) && not b) at in
-            (λ i. bit ((off i && not e.value.removed) && at i)) ∙ none_shape (is_some (find nodes e.value.node)) (not e.value.removed)
+            let off : is_some (find rest key) ≡ false = ap (λ o. is_some (with_number key.number o)) (ap (entry_at rest) here ∙ change.changed) in
+            off ∙ sym (and_false (is_some (find nodes key))) ∙ ap (λ b. is_some (find nodes key) && not b) (sym (same_here key.slot slot here))
         | inr apart ↦
-            ap (λ b. bit (is_held rest e.value && b)) (same_apart e.value.node.slot slot apart) ∙ false_last (is_held rest e.value)
+            let on : is_some (find rest key) ≡ is_some (find nodes key) = ap (λ o. is_some (with_number key.number o)) (change.others key.slot apart) in
+            on ∙ and_true (is_some (find nodes key)) ∙ ap (λ b. is_some (find nodes key) && not b) (sym (same_apart key.slot slot apart))
       ]
 
-    pub out_elsewhere : (home : ℕ) → home ≢ slot → count_by (held_in rest home) resources.entries ≡ count_by (held_in nodes home) resources.entries
-    out_elsewhere home other = sum_same (λ e. bit (held_in rest home e)) (λ e. bit (held_in nodes home e)) resources.entries resources.entries
-        refl refl (λ j. of (entry_at resources j)) where
-          of : (o : Option (Entry (Stowed T))) → bit (held_in rest home o) ≡ bit (held_in nodes home o)
-          of None = refl
-          of (Some e) = elim (cases_eq e.value.node.slot home) [
-            | inl at ↦
-                let apart = same_apart e.value.node.slot slot (λ same. other (sym at ∙ same)) in
-                let on : is_some (find rest e.value.node) ≡ is_some (find nodes e.value.node) =
-                still_found e.value.node ∙ ap (λ b. is_some (find nodes e.value.node) && not b) apart ∙
-                sym (and_true (is_some (find nodes e.value.node))) in
-                ap (λ b. bit ((b && not e.value.removed) && (e.value.node.slot == home))) on
-            | inr apart ↦
-                let off = same_apart e.value.node.slot home apart in
-                ap (λ b. bit (is_held rest e.value && b)) off ∙ false_last (is_held rest e.value) ∙ sym (false_last (is_held nodes e.value)) ∙
-                ap (λ b. bit (is_held nodes e.value && b)) (sym off)
-          ]
+      out_none : count_by (unowned_in test rest) resources.entries ≡
+          count_by (unowned_in test nodes) resources.entries + count_by (owned_at test nodes slot) resources.entries
+      out_none = sum_both (λ e. bit (unowned_in test rest e)) (λ e. bit (unowned_in test nodes e)) (λ e. bit (owned_at test nodes slot e)) resources.entries
+          (λ j. of (entry_at resources j)) where
+            of : (o : Option (Entry (Stowed T))) → bit (unowned_in test rest o) ≡ bit (unowned_in test nodes o) + bit (owned_at test nodes slot o)
+            of None = refl
+            of (Some e) =
+                ap (λ b. bit (test e.value && not (b && not e.value.removed))) (still_found e.value.node) ∙
+                waits_shape (test e.value) (is_some (find nodes e.value.node)) (not e.value.removed) (e.value.node.slot == slot)
 
-  -- other nodes, of which those stand where resources came to be held
-  module _ (nodes now : Slots Node) (old new : Slots (Stowed T)) (entries : new.entries ≡ old.entries)
-      (same : (key : Key) (stowed : Stowed T) → find old key ≡ Some stowed → is_some (find now stowed.node) ≡ is_some (find nodes stowed.node)) where
-    stays : (j : ℕ) (e : Entry (Stowed T)) → entry_at old j ≡ Some e → is_held now e.value ≡ is_held nodes e.value
-    stays j e read =
-        let key : Key = record { slot = j; number = e.number } in
-        ap (λ b. b && not e.value.removed) (same key e.value (found_entry old key e.value read))
+      out_here : count_by (owned_at test rest slot) resources.entries ≡ 0
+      out_here = sum_none (λ e. bit (owned_at test rest slot e)) resources.entries (λ j. of (entry_at resources j)) where
+        of : (o : Option (Entry (Stowed T))) → bit (owned_at test rest slot o) ≡ 0
+        of None = refl
+        of (Some e) = elim (cases_eq e.value.node.slot slot) [
+          | inl here ↦
+              let at = same_here e.value.node.slot slot here in
+              let off : is_some (find rest e.value.node) ≡ (is_some (find nodes e.value.node) && false) =
+              still_found e.value.node ∙ ap (λ b. is_some (find nodes e.value.node) && not b) at in
+              (λ i. bit (test e.value && ((off i && not e.value.removed) && at i))) ∙ none_shape (test e.value) (is_some (find nodes e.value.node))
+              (not e.value.removed)
+          | inr apart ↦
+              ap (λ b. bit (test e.value && (is_owned rest e.value && b))) (same_apart e.value.node.slot slot apart) ∙ false_last (test e.value)
+              (is_owned rest e.value)
+        ]
 
-    pub kept_waits : count_by (waits_in now) new.entries ≡ count_by (waits_in nodes) old.entries
-    kept_waits = ap (count_by (waits_in now)) entries ∙ sum_same (λ e. bit (waits_in now e)) (λ e. bit (waits_in nodes e)) old.entries old.entries
-        refl refl (λ j. of j (entry_at old j) refl) where
-          of : (j : ℕ) (o : Option (Entry (Stowed T))) → entry_at old j ≡ o → bit (waits_in now o) ≡ bit (waits_in nodes o)
-          of j None read = refl
-          of j (Some e) read = ap (λ b. bit (not b)) (stays j e read)
+      out_elsewhere : (home : ℕ) → home ≢ slot → count_by (owned_at test rest home) resources.entries ≡ count_by (owned_at test nodes home) resources.entries
+      out_elsewhere home other = sum_same (λ e. bit (owned_at test rest home e)) (λ e. bit (owned_at test nodes home e)) resources.entries resources.entries
+          refl refl (λ j. of (entry_at resources j)) where
+            of : (o : Option (Entry (Stowed T))) → bit (owned_at test rest home o) ≡ bit (owned_at test nodes home o)
+            of None = refl
+            of (Some e) = elim (cases_eq e.value.node.slot home) [
+              | inl at ↦
+                  let apart = same_apart e.value.node.slot slot (λ same. other (sym at ∙ same)) in
+                  let on : is_some (find rest e.value.node) ≡ is_some (find nodes e.value.node) =
+                  still_found e.value.node ∙ ap (λ b. is_some (find nodes e.value.node) && not b) apart ∙
+                  sym (and_true (is_some (find nodes e.value.node))) in
+                  ap (λ b. bit (test e.value && ((b && not e.value.removed) && (e.value.node.slot == home)))) on
+              | inr apart ↦
+                  let off = same_apart e.value.node.slot home apart in
+                  ap (λ b. bit (test e.value && (is_owned rest e.value && b))) off ∙ false_last (test e.value) (is_owned rest e.value) ∙
+                  sym (false_last (test e.value) (is_owned nodes e.value)) ∙ ap (λ b. bit (test e.value && (is_owned nodes e.value && b))) (sym off)
+            ]
 
-    pub kept_held : (home : ℕ) → count_by (held_in now home) new.entries ≡ count_by (held_in nodes home) old.entries
-    kept_held home = ap (count_by (held_in now home)) entries ∙ sum_same (λ e. bit (held_in now home e)) (λ e. bit (held_in nodes home e))
-        old.entries old.entries refl refl (λ j. of j (entry_at old j) refl) where
-          of : (j : ℕ) (o : Option (Entry (Stowed T))) → entry_at old j ≡ o → bit (held_in now home o) ≡ bit (held_in nodes home o)
-          of j None read = refl
-          of j (Some e) read = ap (λ b. bit (b && (e.value.node.slot == home))) (stays j e read)
+      pub counted_out : (u : ℕ) (f g : ℕ → ℕ) → AreCounted test nodes resources u f → g slot ≡ 0 → ((j : ℕ) → j ≢ slot → g j ≡ f j) →
+          AreCounted test rest resources (u + f slot) g
+      counted_out u f g c here others = record {
+        by_none = let was = c.by_none in let at = c.by_each slot in let more = out_none in omega (arith, was, at, more);
+        by_each = λ j. of j (cases_eq j slot);
+      } where
+        of : (j : ℕ) → (j ≡ slot) ⊎ (j ≢ slot) → g j ≡ count_by (owned_at test rest j) resources.entries
+        of j (inl at) = subst (λ k. g k ≡ count_by (owned_at test rest k) resources.entries) (sym at) (here ∙ sym out_here)
+        of j (inr apart) = others j apart ∙ c.by_each j ∙ sym (out_elsewhere j apart)
+
+    -- other nodes, of which those stand where resources came to be held
+    module _ (nodes now : Slots Node) (old new : Slots (Stowed T)) (entries : new.entries ≡ old.entries)
+        (same : (key : Key) (stowed : Stowed T) → find old key ≡ Some stowed → is_some (find now stowed.node) ≡ is_some (find nodes stowed.node)) where
+      stays : (j : ℕ) (e : Entry (Stowed T)) → entry_at old j ≡ Some e → is_owned now e.value ≡ is_owned nodes e.value
+      stays j e read =
+          let key : Key = record { slot = j; number = e.number } in
+          ap (λ b. b && not e.value.removed) (same key e.value (found_entry old key e.value read))
+
+      kept_none : count_by (unowned_in test now) new.entries ≡ count_by (unowned_in test nodes) old.entries
+      kept_none = ap (count_by (unowned_in test now)) entries ∙ sum_same (λ e. bit (unowned_in test now e)) (λ e. bit (unowned_in test nodes e)) old.entries
+          old.entries
+          refl refl (λ j. of j (entry_at old j) refl) where
+            of : (j : ℕ) (o : Option (Entry (Stowed T))) → entry_at old j ≡ o → bit (unowned_in test now o) ≡ bit (unowned_in test nodes o)
+            of j None read = refl
+            of j (Some e) read = ap (λ b. bit (test e.value && not b)) (stays j e read)
+
+      kept_each : (home : ℕ) → count_by (owned_at test now home) new.entries ≡ count_by (owned_at test nodes home) old.entries
+      kept_each home = ap (count_by (owned_at test now home)) entries ∙ sum_same (λ e. bit (owned_at test now home e)) (λ e. bit (owned_at test nodes home e))
+          old.entries old.entries refl refl (λ j. of j (entry_at old j) refl) where
+            of : (j : ℕ) (o : Option (Entry (Stowed T))) → entry_at old j ≡ o → bit (owned_at test now home o) ≡ bit (owned_at test nodes home o)
+            of j None read = refl
+            of j (Some e) read = ap (λ b. bit (test e.value && (b && (e.value.node.slot == home)))) (stays j e read)
+
+      pub are_counted_still : (u : ℕ) (f : ℕ → ℕ) → AreCounted test nodes old u f → AreCounted test now new u f
+      are_counted_still u f c = record { by_none = c.by_none ∙ sym kept_none; by_each = λ j. c.by_each j ∙ sym (kept_each j) }

@@ -1,7 +1,8 @@
 -- How the counts of a store follow what changes of its records.
-use Rattle.std.proofs.Common.{◌≡◌, ◌≢◌, ℕ, ◌+◌, ◌-◌, ◌<◌, ◌≤◌, ◌==◌, cond, true, false, [], length, get_or, map, Option, Some, None, option_map}
-use Rattle.std.proofs.Common.{is_some, count_by, refl, sym, ap, subst, ◌∙◌, inl, inr, ◌⊎◌, arith}
+use Rattle.std.proofs.Common.{◌≡◌, ◌≢◌, ℕ, ◌+◌, ◌-◌, ◌<◌, ◌≤◌, ◌==◌, cond, Bool, true, false, [], length, get_or, map, Option, Some, None, option_map}
+use Rattle.std.proofs.Common.{is_some, count_by, refl, sym, ap, subst, ◌∙◌, inl, inr, ◌⊎◌, arith, true≢false}
 use Rattle.std.specs.Option.{option_map_or}
+use Rattle.std.proofs.Math.Bool.{not, ◌&&◌, ◌||◌}
 use Rattle.std.proofs.lemmas.Bool.{cases_eq}
 use Rattle.std.proofs.lemmas.List.{length-map}
 use Rattle.std.proofs.lemmas.List.Sums.{count_by-le-length}
@@ -11,30 +12,63 @@ use Rattle.rx_slots.specs.Slots.{Slots, entry_of, value_at, find, Changes}
 use Rattle.rx_tree.specs.declared.node.Node.{Node}
 use Rattle.rx_tree.specs.declared.node.Stowed.{Stowed}
 use Rattle.rx_tree.specs.declared.store.Linked.{Linked}
+use Rattle.rx_tree.specs.declared.store.Counts.{Counts}
 use Rattle.rx_tree.specs.declared.store.Store.{Store}
 use Rattle.rx_tree.specs.declared.store.Stored.{Stored as Kept}
 use Rattle.rx_tree.specs.Owed.{owed_in}
-use Rattle.rx_tree.specs.Resources.{is_held, removed, waits_in}
-use Rattle.rx_tree.specs.Store.{on_entry, project, nodes_of, resources_of, held_count_at, Relinks, Inserts}
+use Rattle.rx_tree.specs.Resources.{is_owned, is_lent, is_held, removed, one_lease_more, one_lease_less, waits_in, waiting_count}
+use Rattle.rx_tree.specs.Store.{on_entry, project, nodes_of, resources_of, held_count_at, no_counts, count_if, one_more, one_less, freed, Relinks, Inserts}
+use Rattle.rx_tree.specs.Store.{shown}
 use Rattle.rx_tree.specs.Tree.{Rewrites}
-use Rattle.rx_tree.specs.Ties.{held_in, IsCounted}
-use Rattle.rx_tree.proofs.CountLemmas.{bit, same_here, same_apart, came_waits, came_held, removed_waits, removed_held, taken_waits, taken_held}
-use Rattle.rx_tree.proofs.CountLemmas.{written_waits, written_held, out_waits, out_here, out_elsewhere, kept_waits, kept_held}
+use Rattle.rx_tree.specs.Ties.{unowned_in, owned_at, AreCounted, is_free, IsCounted}
+use Rattle.rx_tree.proofs.CountLemmas.{bit, same_here, same_apart, count_changed, counted_changed, counted_placed, counted_out, are_counted_still}
 use Rattle.rx_tree.proofs.Laws.Keys.{cases_key}
 use Rattle.rx_tree.proofs.Laws.Owed.{owed_came, owed_taken, owed_empty}
-use Rattle.rx_tree.proofs.Laws.Written.{entry_found}
+use Rattle.rx_tree.proofs.Laws.Written.{entry_found, slot_within}
 use Rattle.rx_tree.proofs.StoreLemmas.{find-project}
+
+-- what of the counts is of those with a lease out, or of the others
+abbrev part : Bool → Counts → ℕ
+part l counts = count_if l counts
+
+zero_of : (l : Bool) → part l no_counts ≡ 0
+zero_of true = refl
+zero_of false = refl
+
+-- the test of it
+abbrev test_of : {T : Type 0} → Bool → Stowed T → Bool
+test_of l stowed = cond l (is_lent stowed) (is_free stowed)
+
+module _ {T : Type 0} where
+  -- the counts of one sort
+  abbrev pub AreCountedAs : Bool → Slots Node → Slots (Stowed T) → Counts → (ℕ → Counts) → Type 0
+  AreCountedAs l nodes resources unowned owned = AreCounted (test_of l) nodes resources (part l unowned) (λ j. part l (owned j))
+
+  pub sort_of : (s : Store T) → IsCounted s → (l : Bool) → AreCountedAs l (nodes_of s) (resources_of s) s.waiting_count (held_count_at s)
+  sort_of s c true = c.lent
+  sort_of s c false = c.free
+
+  pub counted_of : (s : Store T) → ((l : Bool) → AreCountedAs l (nodes_of s) (resources_of s) s.waiting_count (held_count_at s)) → s.owed ≡ owed_in
+      (nodes_of s) → IsCounted s
+  counted_of s each owed = record { free = each false; lent = each true; owed = owed }
+
+  -- with counts that are the same
+  re_counted : (l : Bool) (nodes : Slots Node) (resources : Slots (Stowed T)) (u v : Counts) (f g : ℕ → Counts) → u ≡ v → ((j : ℕ) → f j ≡ g j) →
+      AreCountedAs l nodes resources u f → AreCountedAs l nodes resources v g
+  re_counted l nodes resources u v f g same each c = record {
+    by_none = ap (part l) (sym same) ∙ c.by_none;
+    by_each = λ j. ap (part l) (sym (each j)) ∙ c.by_each j;
+  }
 
 module _ {T : Type 0} (a b : Store T) where
   -- no count changes where the same resources are held
   pub counted_kept : IsCounted a → b.waiting_count ≡ a.waiting_count → ((j : ℕ) → held_count_at b j ≡ held_count_at a j) →
       (resources_of b).entries ≡ (resources_of a).entries → ((key : Key) (stowed : Stowed T) → find (resources_of a) key ≡ Some stowed → is_some (find
       (nodes_of b) stowed.node) ≡ is_some (find (nodes_of a) stowed.node)) → b.owed ≡ owed_in (nodes_of b) → IsCounted b
-  counted_kept c waiting held entries same owed = record {
-    owed = owed;
-    waiting = waiting ∙ c.waiting ∙ sym (kept_waits (nodes_of a) (nodes_of b) (resources_of a) (resources_of b) entries same);
-    held = λ j. held j ∙ c.held j ∙ sym (kept_held (nodes_of a) (nodes_of b) (resources_of a) (resources_of b) entries same j);
-  }
+  counted_kept c waiting held entries same owed = counted_of b (λ l.
+      re_counted l (nodes_of b) (resources_of b) a.waiting_count b.waiting_count (held_count_at a) (held_count_at b) (sym waiting) (λ j. sym (held j))
+      (are_counted_still (test_of l) (nodes_of a) (nodes_of b) (resources_of a) (resources_of b) entries same (part l a.waiting_count)
+      (λ j. part l (held_count_at a j)) (sort_of a c l))) owed
 
   pub counted_relinked : Relinks a b → IsCounted a → IsCounted b
   counted_relinked r c = counted_kept c r.waiting_count r.held_count (ap (λ (s : Slots (Stowed T)). s.entries) r.resources)
@@ -69,141 +103,319 @@ module _ {T : Type 0} (a b : Store T) where
     of None = refl
     of (Some node) = refl
 
-  -- a held resource comes
+  -- a resource comes that its node owns and that has no lease out
   module _ (c : IsCounted a) (key : Key) (number : ℕ) (stowed : Stowed T) (came : Inserts (resources_of a) (resources_of b) key number stowed)
-      (held : is_held (nodes_of a) stowed ≡ true) where
-    pub count_fits : held_count_at a stowed.node.slot < length b.resources.entries
+      (owned : is_owned (nodes_of a) stowed ≡ true) (free : is_lent stowed ≡ false) where
+    none_of : (l : Bool) → bit (unowned_in (test_of l) (nodes_of a) (Some (entry_of number stowed))) ≡ 0
+    none_of true = λ i. bit (free i && not (owned i))
+    none_of false = λ i. bit (not (free i) && not (owned i))
+
+    each_of : (l : Bool) (j : ℕ) → bit (owned_at (test_of l) (nodes_of a) j (Some (entry_of number stowed))) ≡ cond l 0 (bit (stowed.node.slot == j))
+    each_of true j = λ i. bit (free i && (owned i && (stowed.node.slot == j)))
+    each_of false j = λ i. bit (not (free i) && (owned i && (stowed.node.slot == j)))
+
+    pub count_fits : (held_count_at a stowed.node.slot).free < length b.resources.entries
     count_fits =
-        let before = c.held stowed.node.slot in
-        let more = came_held (nodes_of a) (resources_of a) (resources_of b) key number stowed came held stowed.node.slot in
+        let was = c.free.by_each stowed.node.slot in
+        let e : count_by (owned_at is_free (nodes_of a) stowed.node.slot) (resources_of a).entries + bit
+        (owned_at is_free (nodes_of a) stowed.node.slot (Some (entry_of number stowed))) ≡
+        count_by (owned_at is_free (nodes_of a) stowed.node.slot) (resources_of b).entries + 0 =
+        count_changed (owned_at is_free (nodes_of a) stowed.node.slot) (resources_of b) (resources_of a) key.slot (Some (entry_of number stowed)) None refl
+        (slot_within (resources_of b) key.slot (entry_of number stowed) came.changes.changed) came.changes.changed
+        (record { changed = came.was_free; others = λ j other. sym (came.changes.others j other) }) in
+        let here = each_of false stowed.node.slot in
         let one : bit (stowed.node.slot == stowed.node.slot) ≡ 1 = ap bit (same_here stowed.node.slot stowed.node.slot refl) in
-        let few = count_by-le-length (held_in (nodes_of a) stowed.node.slot) (resources_of b).entries in
+        let few = count_by-le-length (owned_at is_free (nodes_of a) stowed.node.slot) (resources_of b).entries in
         let l = length-map b.resources.entries (option_map (on_entry (λ r. r.stowed))) in
-        omega (arith, before, more, one, few, l)
+        omega (arith, was, e, here, one, few, l)
 
     pub counted_came : nodes_of b ≡ nodes_of a → b.waiting_count ≡ a.waiting_count → ((j : ℕ) → held_count_at b j ≡ cond (stowed.node.slot == j)
-        (held_count_at a stowed.node.slot + 1) (held_count_at a j)) → b.owed ≡ a.owed → IsCounted b
-    counted_came nodes waiting count owed = record {
-      owed = owed ∙ c.owed ∙ ap owed_in (sym nodes);
-      waiting = waiting ∙ c.waiting ∙ sym (came_waits (nodes_of a) (resources_of a) (resources_of b) key number stowed came held) ∙
-          (λ i. count_by (waits_in (sym nodes i)) (resources_of b).entries);
-      held = λ j. of j (cases_eq stowed.node.slot j) ∙ (λ i. count_by (held_in (sym nodes i) j) (resources_of b).entries);
-    } where
-      of : (j : ℕ) → (stowed.node.slot ≡ j) ⊎ (stowed.node.slot ≢ j) → held_count_at b j ≡ count_by (held_in (nodes_of a) j) (resources_of b).entries
-      of j (inl here) =
-          let at = same_here stowed.node.slot j here in
-          let now : held_count_at b j ≡ held_count_at a stowed.node.slot + 1 =
-          count j ∙ ap (λ t. cond t (held_count_at a stowed.node.slot + 1) (held_count_at a j)) at in
-          let was : held_count_at a stowed.node.slot ≡ held_count_at a j = ap (held_count_at a) here in
-          let before = c.held j in
-          let more = came_held (nodes_of a) (resources_of a) (resources_of b) key number stowed came held j in
-          let one : bit (stowed.node.slot == j) ≡ 1 = ap bit at in
-          omega (arith, now, was, before, more, one)
-      of j (inr apart) =
-          let at = same_apart stowed.node.slot j apart in
-          let now : held_count_at b j ≡ held_count_at a j =
-          count j ∙ ap (λ t. cond t (held_count_at a stowed.node.slot + 1) (held_count_at a j)) at in
-          let before = c.held j in
-          let more = came_held (nodes_of a) (resources_of a) (resources_of b) key number stowed came held j in
-          let none : bit (stowed.node.slot == j) ≡ 0 = ap bit at in
-          omega (arith, now, before, more, none)
-
-  module _ (c : IsCounted a) (key : Key) (stowed : Stowed T) (found : find (resources_of a) key ≡ Some stowed) where
-    -- a held resource is removed
-    module _ (held : is_held (nodes_of a) stowed ≡ true) (change : Changes (resources_of a) (resources_of b) key.slot (Some (entry_of key.number
-        (removed stowed)))) where
-      pub some_held : 1 ≤ held_count_at a stowed.node.slot
-      some_held =
-          let before = c.held stowed.node.slot in
-          let fewer = removed_held (nodes_of a) (resources_of a) (resources_of b) key stowed found held change stowed.node.slot in
-          let one : bit (stowed.node.slot == stowed.node.slot) ≡ 1 = ap bit (same_here stowed.node.slot stowed.node.slot refl) in
-          omega (arith, before, fewer, one)
-
-      pub waiting_fits : a.waiting_count < length b.resources.entries
-      waiting_fits =
-          let before = c.waiting in
-          let more = removed_waits (nodes_of a) (resources_of a) (resources_of b) key stowed found held change in
-          let few = count_by-le-length (waits_in (nodes_of a)) (resources_of b).entries in
-          let l = length-map b.resources.entries (option_map (on_entry (λ r. r.stowed))) in
-          omega (arith, before, more, few, l)
-
-      pub counted_removed : nodes_of b ≡ nodes_of a → b.waiting_count ≡ a.waiting_count + 1 → ((j : ℕ) → held_count_at b j ≡ cond
-          (stowed.node.slot == j) (held_count_at a stowed.node.slot - 1) (held_count_at a j)) → b.owed ≡ a.owed → IsCounted b
-      counted_removed nodes waiting count owed = record {
-        owed = owed ∙ c.owed ∙ ap owed_in (sym nodes);
-        waiting = (let before = c.waiting in let more = removed_waits (nodes_of a) (resources_of a) (resources_of b) key stowed found held change in
-            let e : b.waiting_count ≡ count_by (waits_in (nodes_of a)) (resources_of b).entries = omega (arith, waiting, before, more) in
-            e ∙ (λ i. count_by (waits_in (sym nodes i)) (resources_of b).entries));
-        held = λ j. of j (cases_eq stowed.node.slot j) ∙ (λ i. count_by (held_in (sym nodes i) j) (resources_of b).entries);
-      } where
-        of : (j : ℕ) → (stowed.node.slot ≡ j) ⊎ (stowed.node.slot ≢ j) → held_count_at b j ≡ count_by (held_in
-            (nodes_of a) j) (resources_of b).entries
-        of j (inl here) =
+        (one_more false (held_count_at a stowed.node.slot)) (held_count_at a j)) → b.owed ≡ a.owed → IsCounted b
+    counted_came nodes waiting count owed = counted_of b (λ l. subst (λ n. AreCountedAs l n (resources_of b) b.waiting_count (held_count_at b)) (sym nodes)
+        (counted_placed (test_of l) (nodes_of a) (resources_of a) (resources_of b) key.slot (entry_of number stowed) (part l a.waiting_count)
+        (part l b.waiting_count)
+        (λ j. part l (held_count_at a j)) (λ j. part l (held_count_at b j)) (sort_of a c l) came.was_free came.changes
+        (let none = none_of l in let same = ap (part l) waiting in omega (arith, none, same))
+        (λ j. of l j (cases_eq stowed.node.slot j)))) (owed ∙ c.owed ∙ ap owed_in (sym nodes))
+      where
+        of : (l : Bool) (j : ℕ) → (stowed.node.slot ≡ j) ⊎ (stowed.node.slot ≢ j) →
+            part l (held_count_at b j) ≡ part l (held_count_at a j) + bit (owned_at (test_of l) (nodes_of a) j (Some (entry_of number stowed)))
+        of l j (inl here) =
             let at = same_here stowed.node.slot j here in
-            let now : held_count_at b j ≡ held_count_at a stowed.node.slot - 1 =
-            count j ∙ ap (λ t. cond t (held_count_at a stowed.node.slot - 1) (held_count_at a j)) at in
-            let was : held_count_at a stowed.node.slot ≡ held_count_at a j = ap (held_count_at a) here in
-            let before = c.held j in
-            let fewer = removed_held (nodes_of a) (resources_of a) (resources_of b) key stowed found held change j in
-            let one : bit (stowed.node.slot == j) ≡ 1 = ap bit at in
-            omega (arith, now, was, before, fewer, one)
-        of j (inr apart) =
+            let now : held_count_at b j ≡ one_more false (held_count_at a stowed.node.slot) =
+            count j ∙ ap (λ t. cond t (one_more false (held_count_at a stowed.node.slot)) (held_count_at a j)) at in
+            ap (part l) (now ∙ ap (λ k. one_more false (held_count_at a k)) here) ∙ more l (held_count_at a j) ∙
+            ap (λ n. part l (held_count_at a j) + n) (sym (each_of l j ∙ ap (λ t. cond l 0 (bit t)) at))
+          where
+            more : (l : Bool) (counts : Counts) → part l (one_more false counts) ≡ part l counts + cond l 0 1
+            more true counts = omega arith
+            more false counts = refl
+        of l j (inr apart) =
             let at = same_apart stowed.node.slot j apart in
             let now : held_count_at b j ≡ held_count_at a j =
-            count j ∙ ap (λ t. cond t (held_count_at a stowed.node.slot - 1) (held_count_at a j)) at in
-            let before = c.held j in
-            let fewer = removed_held (nodes_of a) (resources_of a) (resources_of b) key stowed found held change j in
-            let none : bit (stowed.node.slot == j) ≡ 0 = ap bit at in
-            omega (arith, now, before, fewer, none)
+            count j ∙ ap (λ t. cond t (one_more false (held_count_at a stowed.node.slot)) (held_count_at a j)) at in
+            let none : bit (owned_at (test_of l) (nodes_of a) j (Some (entry_of number stowed))) ≡ 0 = each_of l j ∙ ap (λ t. cond l 0 (bit t)) at ∙
+            zero_both l in
+            let same = ap (part l) now in
+            omega (arith, none, same)
+          where
+            zero_both : (l : Bool) → cond {A = ℕ} l 0 0 ≡ 0
+            zero_both true = refl
+            zero_both false = refl
 
+  -- a resource is written in the place of another, at the same home
+  module _ (c : IsCounted a) (key : Key) (stowed other : Stowed T) (found : find (resources_of a) key ≡ Some stowed) (home : other.node ≡ stowed.node)
+      (change : Changes (resources_of a) (resources_of b) key.slot (Some (entry_of key.number other))) where
+    before : Option (Entry (Stowed T))
+    before = Some (entry_of key.number stowed)
+
+    later : Option (Entry (Stowed T))
+    later = Some (entry_of key.number other)
+
+    within : key.slot < length (resources_of a).entries
+    within = slot_within (resources_of a) key.slot (entry_of key.number stowed) (entry_found (resources_of a) key stowed found)
+
+    -- where one sort loses one by it, there is one
+    pub some_unowned : (l : Bool) → unowned_in (test_of l) (nodes_of a) (Some (entry_of key.number stowed)) ≡ true → unowned_in (test_of l) (nodes_of a)
+        (Some (entry_of key.number other)) ≡ false →
+        1 ≤ part l a.waiting_count
+    some_unowned l was now =
+        let counts = (sort_of a c l).by_none in
+        let e : count_by (unowned_in (test_of l) (nodes_of a)) (resources_of b).entries + bit
+        (unowned_in (test_of l) (nodes_of a) (Some (entry_of key.number stowed))) ≡
+        count_by (unowned_in (test_of l) (nodes_of a)) (resources_of a).entries + bit (unowned_in (test_of l) (nodes_of a) (Some (entry_of key.number other))) =
+        count_changed (unowned_in (test_of l) (nodes_of a)) (resources_of a) (resources_of b) key.slot (Some (entry_of key.number stowed))
+        (Some (entry_of key.number other)) refl within
+        (entry_found (resources_of a) key stowed found) change in
+        let one = ap bit was in let none = ap bit now in
+        omega (arith, counts, e, one, none)
+
+    pub some_owned : (l : Bool) (j : ℕ) → owned_at (test_of l) (nodes_of a) j (Some (entry_of key.number stowed)) ≡ true → owned_at (test_of l) (nodes_of a)
+        j (Some (entry_of key.number other)) ≡ false →
+        1 ≤ part l (held_count_at a j)
+    some_owned l j was now =
+        let counts = (sort_of a c l).by_each j in
+        let e : count_by (owned_at (test_of l) (nodes_of a) j) (resources_of b).entries + bit
+        (owned_at (test_of l) (nodes_of a) j (Some (entry_of key.number stowed))) ≡
+        count_by (owned_at (test_of l) (nodes_of a) j) (resources_of a).entries + bit (owned_at (test_of l) (nodes_of a) j (Some (entry_of key.number other))) =
+        count_changed (owned_at (test_of l) (nodes_of a) j) (resources_of a) (resources_of b) key.slot (Some (entry_of key.number stowed))
+        (Some (entry_of key.number other)) refl within
+        (entry_found (resources_of a) key stowed found) change in
+        let one = ap bit was in let none = ap bit now in
+        omega (arith, counts, e, one, none)
+
+    -- and where one sort gains one, it fits
+    pub unowned_fits : (l : Bool) → unowned_in (test_of l) (nodes_of a) (Some (entry_of key.number stowed)) ≡ false → unowned_in (test_of l) (nodes_of a)
+        (Some (entry_of key.number other)) ≡ true →
+        part l a.waiting_count < length b.resources.entries
+    unowned_fits l was now =
+        let counts = (sort_of a c l).by_none in
+        let e : count_by (unowned_in (test_of l) (nodes_of a)) (resources_of b).entries + bit
+        (unowned_in (test_of l) (nodes_of a) (Some (entry_of key.number stowed))) ≡
+        count_by (unowned_in (test_of l) (nodes_of a)) (resources_of a).entries + bit (unowned_in (test_of l) (nodes_of a) (Some (entry_of key.number other))) =
+        count_changed (unowned_in (test_of l) (nodes_of a)) (resources_of a) (resources_of b) key.slot (Some (entry_of key.number stowed))
+        (Some (entry_of key.number other)) refl within
+        (entry_found (resources_of a) key stowed found) change in
+        let one = ap bit now in let none = ap bit was in
+        let few = count_by-le-length (unowned_in (test_of l) (nodes_of a)) (resources_of b).entries in
+        let n = length-map b.resources.entries (option_map (on_entry (λ r. r.stowed))) in
+        omega (arith, counts, e, one, none, few, n)
+
+    pub owned_fits : (l : Bool) (j : ℕ) → owned_at (test_of l) (nodes_of a) j (Some (entry_of key.number stowed)) ≡ false → owned_at (test_of l)
+        (nodes_of a) j (Some (entry_of key.number other)) ≡ true →
+        part l (held_count_at a j) < length b.resources.entries
+    owned_fits l j was now =
+        let counts = (sort_of a c l).by_each j in
+        let e : count_by (owned_at (test_of l) (nodes_of a) j) (resources_of b).entries + bit
+        (owned_at (test_of l) (nodes_of a) j (Some (entry_of key.number stowed))) ≡
+        count_by (owned_at (test_of l) (nodes_of a) j) (resources_of a).entries + bit (owned_at (test_of l) (nodes_of a) j (Some (entry_of key.number other))) =
+        count_changed (owned_at (test_of l) (nodes_of a) j) (resources_of a) (resources_of b) key.slot (Some (entry_of key.number stowed))
+        (Some (entry_of key.number other)) refl within
+        (entry_found (resources_of a) key stowed found) change in
+        let one = ap bit now in let none = ap bit was in
+        let few = count_by-le-length (owned_at (test_of l) (nodes_of a) j) (resources_of b).entries in
+        let n = length-map b.resources.entries (option_map (on_entry (λ r. r.stowed))) in
+        omega (arith, counts, e, one, none, few, n)
+
+    -- the counts follow
+    pub counted_rewritten : nodes_of b ≡ nodes_of a → b.owed ≡ a.owed →
+        ((l : Bool) → part l b.waiting_count + bit (unowned_in (test_of l) (nodes_of a) (Some (entry_of key.number stowed))) ≡
+        part l a.waiting_count + bit (unowned_in (test_of l) (nodes_of a) (Some (entry_of key.number other)))) →
+        ((l : Bool) (j : ℕ) → part l (held_count_at b j) + bit (owned_at (test_of l) (nodes_of a) j (Some (entry_of key.number stowed))) ≡
+        part l (held_count_at a j) + bit (owned_at (test_of l) (nodes_of a) j (Some (entry_of key.number other)))) → IsCounted b
+    counted_rewritten nodes owed none each = counted_of b (λ l. subst (λ n. AreCountedAs l n (resources_of b) b.waiting_count (held_count_at b)) (sym nodes)
+        (counted_changed (test_of l) (nodes_of a) (resources_of a) (resources_of b) key.slot (Some (entry_of key.number stowed))
+        (Some (entry_of key.number other))
+        (part l a.waiting_count) (part l b.waiting_count) (λ j. part l (held_count_at a j)) (λ j. part l (held_count_at b j)) (sort_of a c l) within
+        (entry_found (resources_of a) key stowed found) change (none l) (each l))) (owed ∙ c.owed ∙ ap owed_in (sym nodes))
+
+    -- with a lease out or not, owned or not: where it is counted
+    abbrev same_sort : Bool → Bool → Bool
+    same_sort l lent = cond l lent (not lent)
+
+    bit_none : (st : Stowed T) (lent owned : Bool) → is_lent st ≡ lent → is_owned (nodes_of a) st ≡ owned → (l : Bool) →
+        bit (unowned_in (test_of l) (nodes_of a) (Some (entry_of key.number st))) ≡ bit (same_sort l lent && not owned)
+    bit_none st lent owned is own true = λ i. bit (is i && not (own i))
+    bit_none st lent owned is own false = λ i. bit (not (is i) && not (own i))
+
+    bit_each : (st : Stowed T) (lent owned : Bool) → is_lent st ≡ lent → is_owned (nodes_of a) st ≡ owned → st.node ≡ stowed.node → (l : Bool) (j : ℕ) →
+        bit (owned_at (test_of l) (nodes_of a) j (Some (entry_of key.number st))) ≡ bit (same_sort l lent && (owned && (stowed.node.slot == j)))
+    bit_each st lent owned is own at true j = λ i. bit (is i && (own i && ((at i).slot == j)))
+    bit_each st lent owned is own at false j = λ i. bit (not (is i) && (own i && ((at i).slot == j)))
+
+    -- the counts go with it
+    pub counted_moved : (lent owned lent' owned' : Bool) → is_lent stowed ≡ lent → is_owned (nodes_of a) stowed ≡ owned → is_lent other ≡ lent' →
+        is_owned (nodes_of a) other ≡ owned' → nodes_of b ≡ nodes_of a → b.owed ≡ a.owed → (w x : Counts) → b.waiting_count ≡ w →
+        ((j : ℕ) → held_count_at b j ≡ cond (stowed.node.slot == j) x (held_count_at a j)) →
+        ((l : Bool) → part l w + bit (same_sort l lent && not owned) ≡ part l a.waiting_count + bit (same_sort l lent' && not owned')) →
+        ((l : Bool) → part l x + bit (same_sort l lent && owned) ≡ part l (held_count_at a stowed.node.slot) + bit (same_sort l lent' && owned')) → IsCounted b
+    counted_moved lent owned lent' owned' is own is' own' nodes owed w x waiting count none each = counted_rewritten nodes owed
+        (λ l. let now = ap (part l) waiting in let was = bit_none stowed lent owned is own l in let then = bit_none other lent' owned' is' own' l in let e =
+        none l in omega (arith, now, was, then, e))
+        (λ l j. of l j (cases_eq stowed.node.slot j))
+      where
+        of : (l : Bool) (j : ℕ) → (stowed.node.slot ≡ j) ⊎ (stowed.node.slot ≢ j) → part l (held_count_at b j) + bit
+            (owned_at (test_of l) (nodes_of a) j (Some (entry_of key.number stowed))) ≡
+            part l (held_count_at a j) + bit (owned_at (test_of l) (nodes_of a) j (Some (entry_of key.number other)))
+        of l j (inl here) =
+            let at = same_here stowed.node.slot j here in
+            let now : part l (held_count_at b j) ≡ part l x = ap (part l) (count j ∙ ap (λ t. cond t x (held_count_at a j)) at) in
+            let home_was : part l (held_count_at a stowed.node.slot) ≡ part l (held_count_at a j) = ap (λ k. part l (held_count_at a k)) here in
+            let was = bit_each stowed lent owned is own refl l j ∙ ap (λ t. bit (same_sort l lent && (owned && t))) at ∙ and_yes (same_sort l lent) owned in
+            let then = bit_each other lent' owned' is' own' home l j ∙ ap (λ t. bit (same_sort l lent' && (owned' && t))) at ∙ and_yes (same_sort l lent')
+            owned' in
+            let e = each l in
+            omega (arith, now, home_was, was, then, e)
+          where
+            and_yes : (p q : Bool) → bit (p && (q && true)) ≡ bit (p && q)
+            and_yes p true = refl
+            and_yes p false = refl
+        of l j (inr apart) =
+            let at = same_apart stowed.node.slot j apart in
+            let now : part l (held_count_at b j) ≡ part l (held_count_at a j) = ap (part l) (count j ∙ ap (λ t. cond t x (held_count_at a j)) at) in
+            let was = bit_each stowed lent owned is own refl l j ∙ ap (λ t. bit (same_sort l lent && (owned && t))) at ∙ and_no (same_sort l lent) owned in
+            let then = bit_each other lent' owned' is' own' home l j ∙ ap (λ t. bit (same_sort l lent' && (owned' && t))) at ∙ and_no (same_sort l lent')
+            owned' in
+            omega (arith, now, was, then)
+          where
+            and_no : (p q : Bool) → bit (p && (q && false)) ≡ 0
+            and_no true true = refl
+            and_no true false = refl
+            and_no false q = refl
+
+    -- where it is counted there is one
+    pub some_counted : (lent lent' owned' : Bool) → is_lent stowed ≡ lent → is_owned (nodes_of a) stowed ≡ true → is_lent other ≡ lent' → is_owned
+        (nodes_of a) other ≡ owned' →
+        (same_sort lent lent' && owned') ≡ false → 1 ≤ part lent (held_count_at a stowed.node.slot)
+    some_counted lent lent' owned' is own is' own' leaves = some_owned lent stowed.node.slot (was lent is) (now lent leaves) where
+      here : (stowed.node.slot == stowed.node.slot) ≡ true
+      here = same_here stowed.node.slot stowed.node.slot refl
+
+      was : (l : Bool) → is_lent stowed ≡ l → owned_at (test_of l) (nodes_of a) stowed.node.slot (Some (entry_of key.number stowed)) ≡ true
+      was true is = λ i. is i && (own i && here i)
+      was false is = λ i. not (is i) && (own i && here i)
+
+      drop_here : (p q : Bool) → (p && q) ≡ false → (p && (q && true)) ≡ false
+      drop_here true true e = e
+      drop_here true false e = refl
+      drop_here false q e = refl
+
+      now : (l : Bool) → (same_sort l lent' && owned') ≡ false → owned_at (test_of l) (nodes_of a) stowed.node.slot (Some (entry_of key.number other)) ≡ false
+      now true leaves = (λ i. is' i && (own' i && ((home i).slot == stowed.node.slot))) ∙ ap (λ t. lent' && (owned' && t)) here ∙ drop_here lent' owned' leaves
+      now false leaves = (λ i. not (is' i) && (own' i && ((home i).slot == stowed.node.slot))) ∙ ap (λ t. not lent' && (owned' && t)) here ∙ drop_here
+          (not lent') owned' leaves
+
+  module _ (c : IsCounted a) (key : Key) (stowed : Stowed T) (found : find (resources_of a) key ≡ Some stowed) where
     -- one that waits is taken out
     module _ (waits : is_held (nodes_of a) stowed ≡ false) (change : Changes (resources_of a) (resources_of b) key.slot None) where
-      pub some_waiting : 1 ≤ a.waiting_count
+      out_parts : (is_owned (nodes_of a) stowed ≡ false) × (is_lent stowed ≡ false)
+      out_parts = of (is_owned (nodes_of a) stowed) (is_lent stowed) waits where
+        of : (o l : Bool) → (o || l) ≡ false → (o ≡ false) × (l ≡ false)
+        of false false e = (refl, refl)
+        of false true e = absurd (true≢false e)
+        of true l e = absurd (true≢false e)
+
+      none_out : (l : Bool) → bit (unowned_in (test_of l) (nodes_of a) (Some (entry_of key.number stowed))) ≡ cond l 0 1
+      none_out true = λ i. bit (out_parts.1 i && not (out_parts.0 i))
+      none_out false = λ i. bit (not (out_parts.1 i) && not (out_parts.0 i))
+
+      each_out : (l : Bool) (j : ℕ) → bit (owned_at (test_of l) (nodes_of a) j (Some (entry_of key.number stowed))) ≡ 0
+      each_out true j = λ i. bit (out_parts.1 i && (out_parts.0 i && (stowed.node.slot == j)))
+      each_out false j = λ i. bit (not (out_parts.1 i) && (out_parts.0 i && (stowed.node.slot == j)))
+
+      within_out : key.slot < length (resources_of a).entries
+      within_out = slot_within (resources_of a) key.slot (entry_of key.number stowed) (entry_found (resources_of a) key stowed found)
+
+      pub some_waiting : 1 ≤ a.waiting_count.free
       some_waiting =
-          let before = c.waiting in
-          let fewer = taken_waits (nodes_of a) (resources_of a) (resources_of b) key stowed found waits change in
-          omega (arith, before, fewer)
+          let counts = c.free.by_none in
+          let e : count_by (unowned_in is_free (nodes_of a)) (resources_of b).entries + bit
+          (unowned_in is_free (nodes_of a) (Some (entry_of key.number stowed))) ≡
+          count_by (unowned_in is_free (nodes_of a)) (resources_of a).entries + 0 =
+          count_changed (unowned_in is_free (nodes_of a)) (resources_of a) (resources_of b) key.slot (Some (entry_of key.number stowed)) None refl within_out
+          (entry_found (resources_of a) key stowed found) change in
+          let one = none_out false in
+          omega (arith, counts, e, one)
 
-      pub counted_taken : b.nodes ≡ a.nodes → b.waiting_count ≡ a.waiting_count - 1 → b.owed ≡ a.owed → IsCounted b
-      counted_taken nodes waiting owed = record {
-        owed = owed ∙ c.owed ∙ (λ i. owed_in (project (λ l. l.node) (sym nodes i)));
-        waiting = (let before = c.waiting in let fewer = taken_waits (nodes_of a) (resources_of a) (resources_of b) key stowed found waits change in
-            let e : b.waiting_count ≡ count_by (waits_in (nodes_of a)) (resources_of b).entries = omega (arith, waiting, before, fewer) in
-            e ∙ (λ i. count_by (waits_in (project (λ l. l.node) (sym nodes i))) (resources_of b).entries));
-        held = λ j. (λ i. option_map_or (λ l. l.held_count) (value_at (nodes i) j) 0) ∙ c.held j ∙
-            sym (taken_held (nodes_of a) (resources_of a) (resources_of b) key stowed found waits change j) ∙
-            (λ i. count_by (held_in (project (λ l. l.node) (sym nodes i)) j) (resources_of b).entries);
-      }
+      pub counted_taken : b.nodes ≡ a.nodes → b.waiting_count ≡ one_less false a.waiting_count → b.owed ≡ a.owed → IsCounted b
+      counted_taken nodes waiting owed = counted_of b (λ l. subst (λ (n : Slots Linked). AreCountedAs l (project (λ x. x.node) n) (resources_of b)
+          b.waiting_count (λ j. option_map_or (λ x. x.held_count) (value_at n j) no_counts)) (sym nodes)
+          (counted_changed (test_of l) (nodes_of a) (resources_of a) (resources_of b) key.slot (Some (entry_of key.number stowed)) None
+          (part l a.waiting_count) (part l b.waiting_count) (λ j. part l (held_count_at a j)) (λ j. part l (held_count_at a j)) (sort_of a c l) within_out
+          (entry_found (resources_of a) key stowed found) change (less l) (λ j. let none = each_out l j in omega (arith, none))))
+          (owed ∙ c.owed ∙ (λ i. owed_in (project (λ x. x.node) (sym nodes i))))
+        where
+          less : (l : Bool) → part l b.waiting_count + bit (unowned_in (test_of l) (nodes_of a) (Some (entry_of key.number stowed))) ≡ part l
+              a.waiting_count + 0
+          less true = let same = ap (part true) waiting in let none = none_out true in omega (arith, same, none)
+          less false = let same = ap (part false) waiting in let one = none_out false in let some = some_waiting in omega (arith, same, one, some)
 
-    -- another is written in its place that is held where it was
-    pub counted_written : (other : Stowed T) → other.node ≡ stowed.node → other.removed ≡ stowed.removed → Changes (resources_of a)
+    -- another is written in its place that is the same but for the resource itself
+    pub counted_written : (other : Stowed T) → other.node ≡ stowed.node → other.removed ≡ stowed.removed → other.leases ≡ stowed.leases → Changes
+        (resources_of a)
         (resources_of b) key.slot (Some (entry_of key.number other)) → b.nodes ≡ a.nodes → b.waiting_count ≡ a.waiting_count → b.owed ≡ a.owed →
         IsCounted b
-    counted_written other node off change nodes waiting owed = record {
-      owed = owed ∙ c.owed ∙ (λ i. owed_in (project (λ l. l.node) (sym nodes i)));
-      waiting = waiting ∙ c.waiting ∙
-          sym (written_waits (nodes_of a) (resources_of a) (resources_of b) key stowed found other node off change) ∙
-          (λ i. count_by (waits_in (project (λ l. l.node) (sym nodes i))) (resources_of b).entries);
-      held = λ j. (λ i. option_map_or (λ l. l.held_count) (value_at (nodes i) j) 0) ∙ c.held j ∙
-          sym (written_held (nodes_of a) (resources_of a) (resources_of b) key stowed found other node off change j) ∙
-          (λ i. count_by (held_in (project (λ l. l.node) (sym nodes i)) j) (resources_of b).entries);
-    }
+    counted_written other node off leases change nodes waiting owed = counted_rewritten c key stowed other found node change
+        (ap (project (λ x. x.node)) nodes) owed
+        (λ l. ap (λ w. part l w + bit (unowned_in (test_of l) (nodes_of a) (Some (entry_of key.number stowed)))) waiting ∙ ap
+        (λ n. part l a.waiting_count + n) (sym (none l)))
+        (λ l j. (λ i. part l (option_map_or (λ x. x.held_count) (value_at (nodes i) j) no_counts) + bit
+        (owned_at (test_of l) (nodes_of a) j (Some (entry_of key.number stowed)))) ∙
+        ap (λ n. part l (held_count_at a j) + n) (sym (each l j)))
+      where
+        lent : is_lent other ≡ is_lent stowed
+        lent = ap (λ n. not (n == 0)) leases
 
-  -- a node is taken out, and what was held there waits
+        owns : is_owned (nodes_of a) other ≡ is_owned (nodes_of a) stowed
+        owns = λ i. is_some (find (nodes_of a) (node i)) && not (off i)
+
+        none : (l : Bool) → bit (unowned_in (test_of l) (nodes_of a) (Some (entry_of key.number other))) ≡ bit
+            (unowned_in (test_of l) (nodes_of a) (Some (entry_of key.number stowed)))
+        none true = λ i. bit (lent i && not (owns i))
+        none false = λ i. bit (not (lent i) && not (owns i))
+
+        each : (l : Bool) (j : ℕ) → bit (owned_at (test_of l) (nodes_of a) j (Some (entry_of key.number other))) ≡ bit
+            (owned_at (test_of l) (nodes_of a) j (Some (entry_of key.number stowed)))
+        each true j = λ i. bit (lent i && (owns i && ((node i).slot == j)))
+        each false j = λ i. bit (not (lent i) && (owns i && ((node i).slot == j)))
+
+  -- a node is taken out, and what it owned no node owns
   module _ (c : IsCounted a) (key : Key) (linked : Linked) (found : find a.nodes key ≡ Some linked) (change : Changes
       (nodes_of a) (nodes_of b) key.slot None) where
     here : held_count_at a key.slot ≡ linked.held_count
-    here = ap (λ o. option_map_or (λ l. l.held_count) (option_map (λ e. e.value) o) 0) (entry_found a.nodes key linked found)
+    here = ap (λ o. option_map_or (λ l. l.held_count) (option_map (λ e. e.value) o) no_counts) (entry_found a.nodes key linked found)
 
-    pub out_fits : a.waiting_count + linked.held_count ≤ length a.resources.entries
-    out_fits =
-        let waiting = c.waiting in
-        let held = c.held key.slot in
-        let at = here in
-        let more = out_waits (nodes_of a) (nodes_of b) (resources_of a) key.slot change in
-        let few = count_by-le-length (waits_in (nodes_of b)) (resources_of a).entries in
-        let l = length-map a.resources.entries (option_map (on_entry (λ r. r.stowed))) in
-        omega (arith, waiting, held, at, more, few, l)
+    pub out_fits : (l : Bool) → part l a.waiting_count + part l linked.held_count ≤ length a.resources.entries
+    out_fits l =
+        let out = counted_out (test_of l) (nodes_of a) (nodes_of b) (resources_of a) key.slot change (part l a.waiting_count) (λ j. part l (held_count_at a j))
+        (λ j. cond (j == key.slot) 0 (part l (held_count_at a j))) (sort_of a c l) (ap (λ t. cond t 0 (part l (held_count_at a key.slot)))
+        (same_here key.slot key.slot refl))
+        (λ j apart. ap (λ t. cond t 0 (part l (held_count_at a j))) (same_apart j key.slot apart)) in
+        let total = out.by_none in
+        let at = ap (part l) here in
+        let few = count_by-le-length (unowned_in (test_of l) (nodes_of b)) (resources_of a).entries in
+        let n = length-map a.resources.entries (option_map (on_entry (λ r. r.stowed))) in
+        omega (arith, total, at, few, n)
 
     owed_less : owed_in (nodes_of b) + linked.node.marks.owed ≡ owed_in (nodes_of a)
     owed_less = owed_taken (nodes_of a) (nodes_of b) key linked.node (find-project (λ l. l.node) a.nodes key ∙ ap (option_map (λ l. l.node)) found) change
@@ -211,45 +423,221 @@ module _ {T : Type 0} (a b : Store T) where
     pub some_owed : linked.node.marks.owed ≤ a.owed
     some_owed = let was = c.owed in let less = owed_less in omega (arith, was, less)
 
-    pub counted_out : b.resources ≡ a.resources → b.waiting_count ≡ a.waiting_count + linked.held_count → Changes a.nodes b.nodes key.slot None →
-        b.owed ≡ a.owed - linked.node.marks.owed → IsCounted b
-    counted_out same waiting out owed = record {
-      owed = (let was = c.owed in let less = owed_less in let e : b.owed ≡ owed_in (nodes_of b) = omega (arith, owed, was, less) in e);
-      waiting = (let was = c.waiting in let held = c.held key.slot in let at = here in
-          let more = out_waits (nodes_of a) (nodes_of b) (resources_of a) key.slot change in
-          let e : b.waiting_count ≡ count_by (waits_in (nodes_of b)) (resources_of a).entries = omega (arith, waiting, was, held, at, more) in
-          e ∙ (λ i. count_by (waits_in (nodes_of b)) (project (λ r. r.stowed) (sym same i)).entries));
-      held = λ j. of j (cases_eq j key.slot) ∙ (λ i. count_by (held_in (nodes_of b) j) (project (λ r. r.stowed) (sym same i)).entries);
-    } where
-      part : Option (Entry Linked) → ℕ
-      part o = option_map_or (λ l. l.held_count) (option_map (λ e. e.value) o) 0
+    pub counted_gone : b.resources ≡ a.resources → ((l : Bool) → part l b.waiting_count ≡ part l a.waiting_count + part l linked.held_count) →
+        Changes a.nodes b.nodes key.slot None → b.owed ≡ a.owed - linked.node.marks.owed → IsCounted b
+    counted_gone same waiting out owed = counted_of b (λ l. subst (λ (r : Slots (Kept T)). AreCountedAs l (nodes_of b) (project (λ x. x.stowed) r)
+        b.waiting_count (held_count_at b)) (sym same)
+        (sum l (counted_out (test_of l) (nodes_of a) (nodes_of b) (resources_of a) key.slot change (part l a.waiting_count) (λ j. part l (held_count_at a j))
+        (λ j. part l (held_count_at b j)) (sort_of a c l) (ap (λ o. part l (value o)) out.changed ∙ zero_of l)
+        (λ j apart. ap (λ o. part l (value o)) (out.others j apart)))))
+        (let was = c.owed in let less = owed_less in let e : b.owed ≡ owed_in (nodes_of b) = omega (arith, owed, was, less) in e)
+      where
+        value : Option (Entry Linked) → Counts
+        value o = option_map_or (λ l. l.held_count) (option_map (λ e. e.value) o) no_counts
 
-      of : (j : ℕ) → (j ≡ key.slot) ⊎ (j ≢ key.slot) → held_count_at b j ≡ count_by (held_in (nodes_of b) j) (resources_of a).entries
-      of j (inl at) = subst (λ k. held_count_at b k ≡ count_by (held_in (nodes_of b) k) (resources_of a).entries) (sym at)
-          (ap part out.changed ∙ sym (out_here (nodes_of a) (nodes_of b) (resources_of a) key.slot change))
-      of j (inr apart) = ap part (out.others j apart) ∙ c.held j ∙
-          sym (out_elsewhere (nodes_of a) (nodes_of b) (resources_of a) key.slot change j apart)
+        sum : (l : Bool) → AreCounted (test_of l) (nodes_of b) (resources_of a) (part l a.waiting_count + part l (held_count_at a key.slot))
+            (λ j. part l (held_count_at b j)) →
+            AreCountedAs l (nodes_of b) (resources_of a) b.waiting_count (held_count_at b)
+        sum l each = record {
+          by_none = let total = each.by_none in let at = ap (part l) here in let w = waiting l in omega (arith, total, at, w);
+          by_each = each.by_each;
+        }
 
 module _ {T : Type 0} (s : Store T) (c : IsCounted s) where
   -- more room changes no count
   pub counted_room_nodes : (m : Slots Linked) → m ≡ record s.nodes { room = m.room } → IsCounted (record s { nodes = m })
   counted_room_nodes m same = subst (λ (n : Slots Linked). IsCounted (record s { nodes = n })) (sym same) wider where
     wider : IsCounted (record s { nodes = record s.nodes { room = m.room } })
-    wider = record { waiting = c.waiting; held = c.held; owed = c.owed }
+    wider = record {
+      free = record { by_none = c.free.by_none; by_each = c.free.by_each };
+      lent = record { by_none = c.lent.by_none; by_each = c.lent.by_each };
+      owed = c.owed;
+    }
 
   pub counted_room_resources : (m : Slots (Kept T)) → m ≡ record s.resources { room = m.room } → IsCounted (record s { resources = m })
   counted_room_resources m same = subst (λ (n : Slots (Kept T)). IsCounted (record s { resources = n })) (sym same) wider where
     wider : IsCounted (record s { resources = record s.resources { room = m.room } })
-    wider = record { waiting = c.waiting; held = c.held; owed = c.owed }
+    wider = record {
+      free = record { by_none = c.free.by_none; by_each = c.free.by_each };
+      lent = record { by_none = c.lent.by_none; by_each = c.lent.by_each };
+      owed = c.owed;
+    }
 
 -- nothing is counted where nothing is
-pub counted_empty : {T : Type 0} (s : Store T) → s.nodes.entries ≡ [] → s.resources.entries ≡ [] → s.waiting_count ≡ 0 → s.owed ≡ 0 →
+pub counted_empty : {T : Type 0} (s : Store T) → s.nodes.entries ≡ [] → s.resources.entries ≡ [] → s.waiting_count ≡ no_counts → s.owed ≡ 0 →
     IsCounted s
-counted_empty s nodes resources none owed =
-    let kept : (resources_of s).entries ≡ [] = ap (map (option_map (on_entry (λ r. r.stowed)))) resources in
-    record {
-      owed = owed ∙ sym (owed_empty (nodes_of s) (ap (map (option_map (on_entry (λ l. l.node)))) nodes));
-      waiting = none ∙ ap (count_by (waits_in (nodes_of s))) (sym kept);
-      held = λ j. ap (λ es. option_map_or (λ l. l.held_count) (option_map (λ e. e.value) (get_or es j None)) 0) nodes ∙
-          ap (count_by (held_in (nodes_of s) j)) (sym kept);
-    }
+counted_empty s nodes resources none owed = counted_of s (λ l. record {
+  by_none = ap (part l) none ∙ zero_of l ∙ ap (count_by (unowned_in (test_of l) (nodes_of s))) (sym kept);
+  by_each = λ j. ap (λ es. part l (option_map_or (λ l. l.held_count) (option_map (λ e. e.value) (get_or es j None)) no_counts)) nodes ∙ zero_of l ∙
+      ap (count_by (owned_at (test_of l) (nodes_of s) j)) (sym kept);
+}) (owed ∙ sym (owed_empty (nodes_of s) (ap (map (option_map (on_entry (λ l. l.node)))) nodes)))
+  where
+    kept : (resources_of s).entries ≡ []
+    kept = ap (map (option_map (on_entry (λ r. r.stowed)))) resources
+
+-- those without a lease out that no node owns are those that wait, and the others are held by leases alone
+pub waiting_is : {T : Type 0} (s : Store T) → IsCounted s → s.waiting_count.free ≡ waiting_count (shown s)
+waiting_is {T = T} s c = c.free.by_none ∙ ap (λ p. count_by p (resources_of s).entries) (λ i o. same o i) where
+  shape : (o l : Bool) → (not l && not o) ≡ not (o || l)
+  shape true true = refl
+  shape true false = refl
+  shape false true = refl
+  shape false false = refl
+
+  same : (o : Option (Entry (Stowed T))) → unowned_in is_free (nodes_of s) o ≡ waits_in (nodes_of s) o
+  same None = refl
+  same (Some e) = shape (is_owned (nodes_of s) e.value) (is_lent e.value)
+
+-- what stays at each node, at one of them too
+still : {T : Type 0} (a b : Store T) (home : ℕ) → ((j : ℕ) → held_count_at b j ≡ held_count_at a j) → (j : ℕ) → held_count_at b j ≡ cond (home == j)
+    (held_count_at a home) (held_count_at a j)
+still a b home count j = of (cases_eq home j) where
+  of : (home ≡ j) ⊎ (home ≢ j) → held_count_at b j ≡ cond (home == j) (held_count_at a home) (held_count_at a j)
+  of (inl here) = count j ∙ sym (ap (λ t. cond t (held_count_at a home) (held_count_at a j)) (same_here home j here) ∙ ap (held_count_at a) here)
+  of (inr apart) = count j ∙ sym (ap (λ t. cond t (held_count_at a home) (held_count_at a j)) (same_apart home j apart))
+
+-- an owned resource is removed
+module _ {T : Type 0} (a b : Store T) (c : IsCounted a) (key : Key) (stowed : Stowed T) (found : find (resources_of a) key ≡ Some stowed)
+    (change : Changes (resources_of a) (resources_of b) key.slot (Some (entry_of key.number (removed stowed))))
+    (owned : is_owned (nodes_of a) stowed ≡ true) where
+  off : is_owned (nodes_of a) (removed stowed) ≡ false
+  off = of (is_some (find (nodes_of a) stowed.node)) where
+    of : (b : Bool) → (b && false) ≡ false
+    of true = refl
+    of false = refl
+
+  no_more : (p : Bool) → (p && false) ≡ false
+  no_more true = refl
+  no_more false = refl
+
+  pub removed_some : 1 ≤ count_if (is_lent stowed) (held_count_at a stowed.node.slot)
+  removed_some = some_counted a b c key stowed (removed stowed) found refl change (is_lent stowed) (is_lent stowed) false refl owned refl off (no_more _)
+
+  pub removed_fits : count_if (is_lent stowed) a.waiting_count < length b.resources.entries
+  removed_fits = unowned_fits a b c key stowed (removed stowed) found refl change (is_lent stowed) (was (is_lent stowed) refl) (now (is_lent stowed) refl) where
+    was : (l : Bool) → is_lent stowed ≡ l → unowned_in (test_of l) (nodes_of a) (Some (entry_of key.number stowed)) ≡ false
+    was true is = λ i. is i && not (owned i)
+    was false is = λ i. not (is i) && not (owned i)
+
+    now : (l : Bool) → is_lent stowed ≡ l → unowned_in (test_of l) (nodes_of a) (Some (entry_of key.number (removed stowed))) ≡ true
+    now true is = λ i. is i && not (off i)
+    now false is = λ i. not (is i) && not (off i)
+
+  pub counted_removed : nodes_of b ≡ nodes_of a → b.waiting_count ≡ one_more (is_lent stowed) a.waiting_count →
+      ((j : ℕ) → held_count_at b j ≡ cond (stowed.node.slot == j) (one_less (is_lent stowed) (held_count_at a stowed.node.slot)) (held_count_at a j)) →
+      b.owed ≡ a.owed → IsCounted b
+  counted_removed nodes waiting count owed = counted_moved a b c key stowed (removed stowed) found refl change (is_lent stowed) true (is_lent stowed) false
+      refl owned refl off
+      nodes owed (one_more (is_lent stowed) a.waiting_count) (one_less (is_lent stowed) (held_count_at a stowed.node.slot)) waiting count
+      (λ l. more l (is_lent stowed)) (λ l. less l (is_lent stowed) removed_some)
+    where
+      more : (l lent : Bool) → part l (one_more lent a.waiting_count) + bit (cond l lent (not lent) && not true) ≡ part l a.waiting_count + bit
+          (cond l lent (not lent) && not false)
+      more true true = omega arith
+      more true false = omega arith
+      more false true = omega arith
+      more false false = omega arith
+
+      less : (l lent : Bool) → 1 ≤ count_if lent (held_count_at a stowed.node.slot) → part l (one_less lent (held_count_at a stowed.node.slot)) + bit
+          (cond l lent (not lent) && true) ≡
+          part l (held_count_at a stowed.node.slot) + bit (cond l lent (not lent) && false)
+      less true true some = omega arith
+      less true false some = omega arith
+      less false true some = omega arith
+      less false false some = omega arith
+
+-- what is leased once more has a lease out
+pub more_lent : {T : Type 0} (stowed : Stowed T) → is_lent (one_lease_more stowed) ≡ true
+more_lent stowed = ap not (same_apart (stowed.leases + 1) 0 (λ e. absurd (omega (arith, e))))
+
+-- a lease more is out
+module _ {T : Type 0} (a b : Store T) (c : IsCounted a) (key : Key) (stowed : Stowed T) (found : find (resources_of a) key ≡ Some stowed)
+    (change : Changes (resources_of a) (resources_of b) key.slot (Some (entry_of key.number (one_lease_more stowed))))
+    (owned : is_owned (nodes_of a) stowed ≡ true) where
+  lent_now : is_lent (one_lease_more stowed) ≡ true
+  lent_now = more_lent stowed
+
+  module _ (first : is_lent stowed ≡ false) where
+    pub first_some : 1 ≤ (held_count_at a stowed.node.slot).free
+    first_some = some_counted a b c key stowed (one_lease_more stowed) found refl change false true true first owned lent_now owned refl
+
+    pub first_fits : (held_count_at a stowed.node.slot).lent < length b.resources.entries
+    first_fits = owned_fits a b c key stowed (one_lease_more stowed) found refl change true stowed.node.slot
+        (λ i. first i && (owned i && (stowed.node.slot == stowed.node.slot))) (λ i. lent_now i &&
+        (owned i && same_here stowed.node.slot stowed.node.slot refl i))
+
+    pub counted_first : nodes_of b ≡ nodes_of a → b.waiting_count ≡ a.waiting_count → ((j : ℕ) → held_count_at b j ≡ cond (stowed.node.slot == j)
+        (one_more true (one_less false (held_count_at a stowed.node.slot))) (held_count_at a j)) → b.owed ≡ a.owed → IsCounted b
+    counted_first nodes waiting count owed = counted_moved a b c key stowed (one_lease_more stowed) found refl change false true true true first owned
+        lent_now owned nodes owed
+        a.waiting_count (one_more true (one_less false (held_count_at a stowed.node.slot))) waiting count same (each first_some)
+      where
+        same : (l : Bool) → part l a.waiting_count + bit (cond l false true && not true) ≡ part l a.waiting_count + bit (cond l true false && not true)
+        same true = refl
+        same false = refl
+
+        each : 1 ≤ (held_count_at a stowed.node.slot).free → (l : Bool) → part l (one_more true (one_less false (held_count_at a stowed.node.slot))) + bit
+            (cond l false true && true) ≡
+            part l (held_count_at a stowed.node.slot) + bit (cond l true false && true)
+        each some true = omega arith
+        each some false = omega arith
+
+  -- not the first
+  pub counted_again : is_lent stowed ≡ true → nodes_of b ≡ nodes_of a → b.waiting_count ≡ a.waiting_count →
+      ((j : ℕ) → held_count_at b j ≡ held_count_at a j) → b.owed ≡ a.owed → IsCounted b
+  counted_again lent nodes waiting count owed = counted_moved a b c key stowed (one_lease_more stowed) found refl change true true true true lent owned
+      lent_now owned nodes owed
+      a.waiting_count (held_count_at a stowed.node.slot) waiting (still a b stowed.node.slot count) (λ l. refl) (λ l. refl)
+
+-- a lease less is out
+module _ {T : Type 0} (a b : Store T) (c : IsCounted a) (key : Key) (stowed : Stowed T) (found : find (resources_of a) key ≡ Some stowed)
+    (change : Changes (resources_of a) (resources_of b) key.slot (Some (entry_of key.number (one_lease_less stowed)))) (lent : is_lent stowed ≡ true)
+    (owned : Bool) (own : is_owned (nodes_of a) stowed ≡ owned) where
+  module _ (last : is_lent (one_lease_less stowed) ≡ false) where
+    pub last_some : 1 ≤ (cond owned (held_count_at a stowed.node.slot) a.waiting_count).lent
+    last_some = of owned own where
+      of : (o : Bool) → is_owned (nodes_of a) stowed ≡ o → 1 ≤ (cond o (held_count_at a stowed.node.slot) a.waiting_count).lent
+      of true own = some_counted a b c key stowed (one_lease_less stowed) found refl change true false true lent own last own refl
+      of false own = some_unowned a b c key stowed (one_lease_less stowed) found refl change true (λ i. lent i && not (own i)) (λ i. last i && not (own i))
+
+    pub last_fits : (cond owned (held_count_at a stowed.node.slot) a.waiting_count).free < length b.resources.entries
+    last_fits = of owned own where
+      of : (o : Bool) → is_owned (nodes_of a) stowed ≡ o → (cond o (held_count_at a stowed.node.slot) a.waiting_count).free < length b.resources.entries
+      of true own = owned_fits a b c key stowed (one_lease_less stowed) found refl change false stowed.node.slot
+          (λ i. not (lent i) && (own i && (stowed.node.slot == stowed.node.slot))) (λ i. not (last i) &&
+          (own i && same_here stowed.node.slot stowed.node.slot refl i))
+      of false own = unowned_fits a b c key stowed (one_lease_less stowed) found refl change false (λ i. not (lent i) && not (own i))
+          (λ i. not (last i) && not (own i))
+
+    pub counted_last : nodes_of b ≡ nodes_of a → b.waiting_count ≡ cond owned a.waiting_count (freed a.waiting_count) → ((j : ℕ) → held_count_at b j ≡
+        cond (owned && stowed.node.slot == j) (freed (held_count_at a stowed.node.slot)) (held_count_at a j)) → b.owed ≡ a.owed → IsCounted b
+    counted_last nodes waiting count owed = of owned own waiting count last_some where
+      move : (x : Counts) → 1 ≤ x.lent → (l : Bool) → part l (freed x) + bit (cond l true false && true) ≡ part l x + bit (cond l false true && true)
+      move x some true = omega arith
+      move x some false = omega arith
+
+      none_same : (l : Bool) → part l a.waiting_count + bit (cond l true false && not true) ≡ part l a.waiting_count + bit (cond l false true && not true)
+      none_same true = refl
+      none_same false = refl
+
+      each_same : (x : Counts) (l : Bool) → part l x + bit (cond l true false && false) ≡ part l x + bit (cond l false true && false)
+      each_same x true = refl
+      each_same x false = refl
+
+      of : (o : Bool) → is_owned (nodes_of a) stowed ≡ o → b.waiting_count ≡ cond o a.waiting_count (freed a.waiting_count) → ((j : ℕ) → held_count_at b j ≡
+          cond (o && stowed.node.slot == j) (freed (held_count_at a stowed.node.slot)) (held_count_at a j)) → 1 ≤
+          (cond o (held_count_at a stowed.node.slot) a.waiting_count).lent → IsCounted b
+      of true own waiting count some = counted_moved a b c key stowed (one_lease_less stowed) found refl change true true false true lent own last own nodes
+          owed
+          a.waiting_count (freed (held_count_at a stowed.node.slot)) waiting count none_same (move (held_count_at a stowed.node.slot) some)
+      of false own waiting count some = counted_moved a b c key stowed (one_lease_less stowed) found refl change true false false false lent own last own
+          nodes owed
+          (freed a.waiting_count) (held_count_at a stowed.node.slot) waiting (still a b stowed.node.slot count) (move a.waiting_count some)
+          (each_same (held_count_at a stowed.node.slot))
+
+  pub counted_fewer : is_lent (one_lease_less stowed) ≡ true → nodes_of b ≡ nodes_of a → b.waiting_count ≡ a.waiting_count →
+      ((j : ℕ) → held_count_at b j ≡ held_count_at a j) →
+      b.owed ≡ a.owed → IsCounted b
+  counted_fewer more nodes waiting count owed = counted_moved a b c key stowed (one_lease_less stowed) found refl change true owned true owned lent own more
+      own nodes owed
+      a.waiting_count (held_count_at a stowed.node.slot) waiting (still a b stowed.node.slot count) (λ l. refl) (λ l. refl)

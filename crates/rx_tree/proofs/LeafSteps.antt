@@ -14,7 +14,7 @@ use Rattle.rx_tree.specs.declared.node.Node.{Node}
 use Rattle.rx_tree.specs.declared.node.Stowed.{Stowed}
 use Rattle.rx_tree.specs.declared.store.Store.{Store}
 use Rattle.rx_tree.specs.Cuts.{still_open, waiting_home, LetsWait}
-use Rattle.rx_tree.specs.Resources.{is_held}
+use Rattle.rx_tree.specs.Resources.{is_owned, is_lent}
 use Rattle.rx_tree.specs.Rings.{is_among, without, Steps, set_step, AreRings, PassesBy, Leaves, Merges}
 use Rattle.rx_tree.specs.Places.{is_place, is_end, slot_of, places}
 use Rattle.rx_tree.proofs.Places.{tells}
@@ -224,10 +224,10 @@ module _ {T : Type 0} where
           gone_node k same = ap (find N4) same ∙ taken.gone
 
           -- a resource that was held at the node waits, and each other is as it was
-          waits_now : (stowed : Stowed T) → resource_ring N0 stowed ≡ Held key.slot → resource_ring N4 stowed ≡ Waiting
-          waits_now stowed at = of (is_some (find N0 stowed.node)) (not stowed.removed) refl at where
+          waits_now : (stowed : Stowed T) → resource_ring N0 stowed ≡ Some (Held key.slot) → resource_ring N4 stowed ≡ Some Waiting
+          waits_now stowed at = lent (is_lent stowed) refl at where
             of : (a b : Bool) → is_some (find N0 stowed.node) ≡ a → cond (a && b) (Held stowed.node.slot) Waiting ≡ Held key.slot →
-                resource_ring N4 stowed ≡ Waiting
+                cond (is_owned N4 stowed) (Held stowed.node.slot) Waiting ≡ Waiting
             of true true some e =
                 let x = some_of (find N0 stowed.node) some in
                 let same = (one_key N0 stowed.node key x.0 node (ap slot_of e) x.1 found).0 in
@@ -235,32 +235,45 @@ module _ {T : Type 0} where
             of true false some e = absurd (true≢false (sym (tells.self Waiting) ∙ ap (is_place Waiting) e))
             of false b some e = absurd (true≢false (sym (tells.self Waiting) ∙ ap (is_place Waiting) e))
 
-          ring_kept : (stowed : Stowed T) → resource_ring N0 stowed ≢ Held key.slot → resource_ring N4 stowed ≡ resource_ring N0 stowed
+            lent : (l : Bool) → is_lent stowed ≡ l → cond l None (Some (cond (is_owned N0 stowed) (Held stowed.node.slot) Waiting)) ≡ Some (Held key.slot) →
+                resource_ring N4 stowed ≡ Some Waiting
+            lent true is e = absurd (true≢false (ap is_some (sym e)))
+            lent false is e =
+                ap (λ l. cond l None (Some (cond (is_owned N4 stowed) (Held stowed.node.slot) Waiting))) is ∙
+                ap (λ q. Some q) (of (is_some (find N0 stowed.node)) (not stowed.removed) refl
+                (some_same (cond (is_owned N0 stowed) (Held stowed.node.slot) Waiting) (Held key.slot) e))
+
+          ring_kept : (stowed : Stowed T) → resource_ring N0 stowed ≢ Some (Held key.slot) → resource_ring N4 stowed ≡ resource_ring N0 stowed
           ring_kept stowed other = elim (cases_key stowed.node key) [
-            | inl same ↦ ap (λ o. cond (is_some o && not stowed.removed) (Held stowed.node.slot) Waiting) (gone_node stowed.node same) ∙
-                of (is_held N0 stowed) refl (ap (λ k. Held k.slot) same)
-            | inr apart ↦ ap (λ o. cond (is_some o && not stowed.removed) (Held stowed.node.slot) Waiting) (taken.kept stowed.node apart)
+            | inl same ↦ ap (λ o. cond (is_lent stowed) None (Some (cond (is_some o && not stowed.removed) (Held stowed.node.slot) Waiting)))
+                (gone_node stowed.node same) ∙
+                of (is_lent stowed) refl (is_owned N0 stowed) refl (ap (λ k. Held k.slot) same)
+            | inr apart ↦ ap (λ o. cond (is_lent stowed) None (Some (cond (is_some o && not stowed.removed) (Held stowed.node.slot) Waiting)))
+                (taken.kept stowed.node apart)
           ] where
-            of : (b : Bool) → is_held N0 stowed ≡ b → Held stowed.node.slot ≡ Held key.slot → Waiting ≡ cond (is_held N0 stowed) (Held stowed.node.slot) Waiting
-            of true e same = absurd (other (ap (λ b. cond b (Held stowed.node.slot) Waiting) e ∙ same))
-            of false e same = sym (ap (λ b. cond b (Held stowed.node.slot) Waiting) e)
+            of : (l : Bool) → is_lent stowed ≡ l → (b : Bool) → is_owned N0 stowed ≡ b → Held stowed.node.slot ≡ Held key.slot →
+                cond (is_lent stowed) None (Some Waiting) ≡ cond (is_lent stowed) None (Some (cond (is_owned N0 stowed) (Held stowed.node.slot) Waiting))
+            of true is b e same = (λ i. cond (is i) None (Some Waiting)) ∙ sym (λ i. cond (is i) None
+                (Some (cond (is_owned N0 stowed) (Held stowed.node.slot) Waiting)))
+            of false is true e same = absurd (other ((λ i. cond (is i) None (Some (cond (e i) (Held stowed.node.slot) Waiting))) ∙ ap (λ q. Some q) same))
+            of false is false e same = sym (ap (λ b. cond (is_lent stowed) None (Some (cond b (Held stowed.node.slot) Waiting))) e)
 
           abbrev h4 : Place → Option Place
           h4 = home_of N4 K0 W.tied.noted
 
           stored_waits : (r : ℕ) → h0 (Stored r) ≡ Some (Held key.slot) → h4 (Stored r) ≡ Some Waiting
           stored_waits r at = of (entry_at K0 r) at where
-            of : (o : Option (Entry (Stowed T))) → option_map (λ e. resource_ring N0 e.value) o ≡ Some (Held key.slot) →
-                option_map (λ e. resource_ring N4 e.value) o ≡ Some Waiting
+            of : (o : Option (Entry (Stowed T))) → option_and_then (λ e. resource_ring N0 e.value) o ≡ Some (Held key.slot) →
+                option_and_then (λ e. resource_ring N4 e.value) o ≡ Some Waiting
             of None at = absurd (true≢false (ap is_some (sym at)))
-            of (Some e) at = ap (λ p. Some p) (waits_now e.value (some_same (resource_ring N0 e.value) (Held key.slot) at))
+            of (Some e) at = waits_now e.value at
 
           stored_stays : (r : ℕ) → h0 (Stored r) ≢ Some (Held key.slot) → h4 (Stored r) ≡ h0 (Stored r)
           stored_stays r other = of (entry_at K0 r) other where
-            of : (o : Option (Entry (Stowed T))) → (option_map (λ e. resource_ring N0 e.value) o ≢ Some (Held key.slot)) →
-                option_map (λ e. resource_ring N4 e.value) o ≡ option_map (λ e. resource_ring N0 e.value) o
+            of : (o : Option (Entry (Stowed T))) → (option_and_then (λ e. resource_ring N0 e.value) o ≢ Some (Held key.slot)) →
+                option_and_then (λ e. resource_ring N4 e.value) o ≡ option_and_then (λ e. resource_ring N0 e.value) o
             of None other = refl
-            of (Some e) other = ap (λ p. Some p) (ring_kept e.value (λ same. other (ap (λ p. Some p) same)))
+            of (Some e) other = ring_kept e.value other
 
           elsewhere : {Z : Type 0} (f : Option (Entry Node) → Z) (j : ℕ) → key.slot ≢ j → f (entry_at N4 j) ≡ f (entry_at N0 j)
           elsewhere f j apart = ap f (taken.changes.others j (λ e. apart (sym e)))

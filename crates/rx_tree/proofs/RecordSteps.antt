@@ -18,7 +18,7 @@ use Rattle.rx_tree.specs.declared.node.Stowed.{Stowed}
 use Rattle.rx_tree.specs.declared.store.Linked.{Linked}
 use Rattle.rx_tree.specs.declared.store.Stored.{Stored as Kept}
 use Rattle.rx_tree.specs.declared.store.Store.{Store}
-use Rattle.rx_tree.specs.Resources.{is_held}
+use Rattle.rx_tree.specs.Resources.{is_owned, is_lent}
 use Rattle.rx_tree.specs.Store.{on_entry, key_on, alone, is_there, nodes_of, resources_of, next_of, previous_of, link_at, stands, Inserts, KeepsLinks}
 use Rattle.rx_tree.specs.Store.{Relinks, shown}
 use Rattle.rx_tree.specs.Ties.{home_of, sibling_ring, resource_ring, IsTiedAt, IsTied}
@@ -92,7 +92,8 @@ module _ {T : Type 0} where
 
   -- a resource comes to be held
   module _ (s m t : Store T) (key : Key) (number : ℕ) (stowed : Stowed T) (tied : IsTied s)
-      (came : Inserts (resources_of s) (resources_of m) key number stowed) (past : IsPast (resources_of s) number) (held : is_held (nodes_of s) stowed ≡ true)
+      (came : Inserts (resources_of s) (resources_of m) key number stowed) (past : IsPast (resources_of s) number)
+      (owned : is_owned (nodes_of s) stowed ≡ true) (free : is_lent stowed ≡ false)
       (links : KeepsLinks s m) (rest : nodes_of m ≡ nodes_of s)
       (joins : Joins places (next_of m) (previous_of m) (next_of t) (previous_of t) (Held stowed.node.slot) (Stored key.slot)) (relinks : Relinks m t) where
     abbrev pub before : IsTiedAt (next_of m) (previous_of m) (nodes_of s) (resources_of s)
@@ -100,7 +101,7 @@ module _ {T : Type 0} where
         (λ q. ap (λ l. l.previous) (links q)) tied
 
     abbrev now_held : IsTiedAt (next_of t) (previous_of t) (nodes_of s) (resources_of m)
-    now_held = tied_held (nodes_of s) (resources_of s) (resources_of m) key number stowed came past held (next_of m) (previous_of m) (next_of t)
+    now_held = tied_held (nodes_of s) (resources_of s) (resources_of m) key number stowed came past owned free (next_of m) (previous_of m) (next_of t)
         (previous_of t) before joins
 
     pub held_tied : IsTied t
@@ -229,7 +230,7 @@ module _ {T : Type 0} where
     empty_home (Held j) = refl
     empty_home (Sibling j) = ap (option_and_then (λ e. sibling_ring e.value)) (no_node j)
     empty_home (Noted j) = refl
-    empty_home (Stored j) = ap (option_map (λ e. resource_ring (nodes_of s) e.value)) (no_resource j)
+    empty_home (Stored j) = ap (option_and_then (λ e. resource_ring (nodes_of s) e.value)) (no_resource j)
 
     pub empty_tied : IsTied s
     empty_tied = record {

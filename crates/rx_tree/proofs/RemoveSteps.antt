@@ -1,27 +1,24 @@
--- What the removal of a resource leaves of a tree.
-use Rattle.std.proofs.Common.{◌≡◌, cond, map, Bool, true, false, Option, Some, None, option_map, is_some, refl, sym, ap, subst, ◌∙◌, inl, inr, true≢false}
-use Rattle.std.specs.Option.{option_map_or}
+-- What is left of a tree when a resource leaves its ring, is written anew, and joins the ring where it then belongs.
+use Rattle.std.proofs.Common.{◌≡◌, ◌∷◌, [], ◌++◌, cond, map, Bool, true, false, Option, Some, None, is_some, refl, sym, ap, subst, ◌∙◌, inl, inr, true≢false}
+use Rattle.std.specs.Option.{option_map_or, option_and_then}
 use Rattle.std.proofs.lemmas.Bool.{cases_eq, false≢true, false_from_ne_true}
 use Rattle.rx_slots.specs.declared.Key.{Key}
-use Rattle.rx_slots.specs.Slots.{Slots, entry_of, entry_at, find, Changes}
+use Rattle.rx_slots.specs.Slots.{entry_of, entry_at, find, Changes}
 use Rattle.rx_tree.specs.declared.links.Place.{Place}
 use Rattle.rx_tree.specs.declared.links.Place.TheVariants.{Roots, Due, Waiting, Children, Held, Sibling, Noted, Stored}
-use Rattle.rx_tree.specs.declared.node.Node.{Node}
 use Rattle.rx_tree.specs.declared.node.Stowed.{Stowed}
 use Rattle.rx_tree.specs.declared.store.Store.{Store}
-use Rattle.rx_tree.specs.Resources.{is_held, removed}
-use Rattle.rx_tree.specs.Rings.{is_among, Joins, Leaves}
+use Rattle.rx_tree.specs.Rings.{is_among, without, Joins, Leaves}
 use Rattle.rx_tree.specs.Places.{is_place, places}
 use Rattle.rx_tree.proofs.Places.{tells}
 use Rattle.rx_tree.proofs.Laws.Places.{without_none}
-use Rattle.rx_tree.proofs.Laws.Rings.{some_same}
 use Rattle.rx_tree.specs.Store.{key_on, nodes_of, resources_of, next_of, previous_of, stands, is_there, KeepsLinks, Relinks, shown}
 use Rattle.rx_tree.specs.Ties.{resource_ring, IsTiedAt, IsTied}
-use Rattle.rx_tree.specs.Tree.{Rewrites}
 use Rattle.rx_tree.proofs.Chain.{chain_is, retie}
 use Rattle.rx_tree.proofs.Laws.Written.{entry_found}
 use Rattle.rx_tree.proofs.There.{previous_stands, next_stands}
-use Rattle.rx_tree.proofs.TieResources.{tied_removed}
+use Rattle.rx_tree.proofs.TieResources.{ring_ends, tied_off, tied_on}
+use Rattle.rx_tree.proofs.TieSteps.{tied_links}
 
 module _ {T : Type 0} (s : Store T) (key : Key) (tied : IsTied s) (stowed : Stowed T) (found : find (resources_of s) key ≡ Some stowed) where
   pub stored_stands : stands (nodes_of s) (resources_of s) (Stored key.slot) ≡ true
@@ -33,14 +30,21 @@ module _ {T : Type 0} (s : Store T) (key : Key) (tied : IsTied s) (stowed : Stow
   pub stored_after : stands (nodes_of s) (resources_of s) (next_of s (Stored key.slot)) ≡ true
   stored_after = next_stands (nodes_of s) (resources_of s) (next_of s) (previous_of s) tied (Stored key.slot) stored_stands
 
-  module _ (l m : Store T) (leaves : Leaves places (next_of s) (previous_of s) (next_of l) (previous_of l) (Stored key.slot)) (relinks : Relinks s l)
-      (change : Changes (resources_of l) (resources_of m) key.slot (Some (entry_of key.number (removed stowed)))) (links : KeepsLinks l m)
-      (rest : nodes_of m ≡ nodes_of l) where
-    change_s : Changes (resources_of s) (resources_of m) key.slot (Some (entry_of key.number (removed stowed)))
-    change_s = subst (λ r. Changes r (resources_of m) key.slot (Some (entry_of key.number (removed stowed)))) relinks.resources change
+  -- it is not on the chain of what may be due
+  not_due : is_among places (Stored key.slot) (tied.rings Due) ≡ false
+  not_due = false_from_ne_true (is_among places (Stored key.slot) (tied.rings Due))
+      (λ i. true≢false (sym (tells.self Due) ∙ (ring_ends (nodes_of s) (resources_of s) (resources_of s) stowed Due
+      (sym (ap (option_and_then (λ e. resource_ring (nodes_of s) e.value)) (entry_found (resources_of s) key stowed found)) ∙
+      tied.ringed.members Due (Stored key.slot) i)).2))
 
-    pub stands_removed : (q : Place) → stands (nodes_of s) (resources_of s) q ≡ true → is_there m q ≡ true
-    stands_removed q at = ap (λ n. stands n (resources_of m) q) (rest ∙ relinks.nodes) ∙ by q at where
+  module _ (after : Stowed T) (l m : Store T) (leaves : Leaves places (next_of s) (previous_of s) (next_of l) (previous_of l) (Stored key.slot))
+      (relinks : Relinks s l) (change : Changes (resources_of l) (resources_of m) key.slot (Some (entry_of key.number after))) (links : KeepsLinks l m)
+      (rest : nodes_of m ≡ nodes_of l) where
+    change_s : Changes (resources_of s) (resources_of m) key.slot (Some (entry_of key.number after))
+    change_s = subst (λ r. Changes r (resources_of m) key.slot (Some (entry_of key.number after))) relinks.resources change
+
+    pub stands_still : (q : Place) → stands (nodes_of s) (resources_of s) q ≡ true → is_there m q ≡ true
+    stands_still q at = ap (λ n. stands n (resources_of m) q) (rest ∙ relinks.nodes) ∙ by q at where
       by : (q : Place) → stands (nodes_of s) (resources_of s) q ≡ true → stands (nodes_of s) (resources_of m) q ≡ true
       by Roots at = refl
       by Due at = refl
@@ -54,47 +58,57 @@ module _ {T : Type 0} (s : Store T) (key : Key) (tied : IsTied s) (stowed : Stow
         | inr apart ↦ ap is_some (change_s.others r (λ e. apart (sym e))) ∙ at
       ]
 
-    pub last_waiting : is_there m (previous_of m Waiting) ≡ true
-    last_waiting =
-        let back : previous_of m Waiting ≡ cond (is_place (next_of s (Stored key.slot)) Waiting) (previous_of s (Stored key.slot)) (previous_of s Waiting) =
-        ap (λ k. k.previous) (links Waiting) ∙ leaves.back Waiting in
-        ap (is_there m) back ∙ of (is_place (next_of s (Stored key.slot)) Waiting) where
-          of : (b : Bool) → is_there m (cond b (previous_of s (Stored key.slot)) (previous_of s Waiting)) ≡ true
-          of true = stands_removed (previous_of s (Stored key.slot)) stored_before
-          of false = stands_removed (previous_of s Waiting) (previous_stands (nodes_of s) (resources_of s) (next_of s) (previous_of s) tied Waiting refl)
+    -- what was last on a ring still stands somewhere
+    pub last_there : (e : Place) → stands (nodes_of s) (resources_of s) e ≡ true → is_there m (previous_of m e) ≡ true
+    last_there e at =
+        ap (is_there m) (ap (λ k. k.previous) (links e) ∙ leaves.back e) ∙ of (is_place (Stored key.slot) e) (is_place (next_of s (Stored key.slot)) e)
+      where
+        of : (a b : Bool) → is_there m (cond a (Stored key.slot) (cond b (previous_of s (Stored key.slot)) (previous_of s e))) ≡ true
+        of true b = stands_still (Stored key.slot) stored_stands
+        of false true = stands_still (previous_of s (Stored key.slot)) stored_before
+        of false false = stands_still (previous_of s e) (previous_stands (nodes_of s) (resources_of s) (next_of s) (previous_of s) tied e at)
 
-    module _ (t : Store T) (rewrites : Rewrites (resources_of l) (resources_of m) key removed)
-        (joins : Joins places (next_of m) (previous_of m) (next_of t) (previous_of t) Waiting (Stored key.slot)) (relinked : Relinks m t) where
-      joins_l : Joins places (next_of l) (previous_of l) (next_of t) (previous_of t) Waiting (Stored key.slot)
-      joins_l =
-          let n : next_of m ≡ next_of l = (λ i q. (links q i).next) in
-          let p : previous_of m ≡ previous_of l = (λ i q. (links q i).previous) in
-          subst (λ f. Joins places f (previous_of l) (next_of t) (previous_of t) Waiting (Stored key.slot)) n
-          (subst (λ f. Joins places (next_of m) f (next_of t) (previous_of t) Waiting (Stored key.slot)) p joins)
+    -- it belongs on no ring
+    module _ (none : resource_ring (nodes_of s) after ≡ None) where
+      abbrev now_off : IsTiedAt (next_of m) (previous_of m) (nodes_of s) (resources_of m)
+      now_off = tied_links (next_of l) (previous_of l) (next_of m) (previous_of m) (nodes_of s) (resources_of m) (λ q. ap (λ k. k.next) (links q))
+          (λ q. ap (λ k. k.previous) (links q)) (tied_off (nodes_of s) (resources_of s) (resources_of m) (next_of s) (previous_of s) (next_of l)
+          (previous_of l) tied key stowed after found change_s leaves none)
 
-      abbrev now_waiting : IsTiedAt (next_of t) (previous_of t) (nodes_of s) (resources_of m)
-      now_waiting = tied_removed (nodes_of s) (resources_of s) (resources_of m) (next_of s) (previous_of s) (next_of l) (previous_of l) (next_of t)
-          (previous_of t) tied key stowed found change_s (subst (λ r. Rewrites r (resources_of m) key removed) relinks.resources rewrites) leaves joins_l
+      pub off_tied : IsTied m
+      off_tied = retie m (nodes_of s) (resources_of m) (rest ∙ relinks.nodes) refl now_off
 
-      pub removed_tied : IsTied t
-      removed_tied = retie t (nodes_of s) (resources_of m) (relinked.nodes ∙ rest ∙ relinks.nodes) relinked.resources now_waiting
-
-      not_due : is_among places (Stored key.slot) (tied.rings Due) ≡ false
-      not_due = false_from_ne_true (is_among places (Stored key.slot) (tied.rings Due))
-          (λ i. never (is_held (nodes_of s) stowed)
-          (some_same (resource_ring (nodes_of s) stowed) Due
-          (sym (ap (option_map (λ e. resource_ring (nodes_of s) e.value)) (entry_found (resources_of s) key stowed found)) ∙
-          tied.ringed.members Due (Stored key.slot) i))) where
-            never : (b : Bool) → cond b (Held stowed.node.slot) Waiting ≡ Due → ⊥
-            never true e = true≢false (sym (tells.self (Held stowed.node.slot)) ∙ ap (is_place (Held stowed.node.slot)) e)
-            never false e = true≢false (sym (tells.self Waiting) ∙ ap (is_place Waiting) e)
-
-      pub removed_chain : (shown t).chain ≡ (shown s).chain
-      removed_chain = chain_is t (nodes_of s) (resources_of m) (relinked.nodes ∙ rest ∙ relinks.nodes) now_waiting ∙
+      pub off_chain : (shown m).chain ≡ (shown s).chain
+      off_chain = chain_is m (nodes_of s) (resources_of m) (rest ∙ relinks.nodes) now_off ∙
           ap (map (key_on (nodes_of s))) (without_none tells (Stored key.slot) (tied.rings Due) not_due) ∙
           sym (chain_is s (nodes_of s) (resources_of s) refl tied)
 
-pub held_found : {T : Type 0} (nodes : Slots Node) (o : Option (Stowed T)) → option_map_or (is_held nodes) o false ≡ true → (stowed : Stowed T) ×
-    (o ≡ Some stowed)
-held_found nodes None held = absurd (false≢true held)
-held_found nodes (Some stowed) held = (stowed, refl)
+    -- it belongs on this one, and joins it
+    module _ (e : Place) (ring : resource_ring (nodes_of s) after ≡ Some e) (t : Store T)
+        (joins : Joins places (next_of m) (previous_of m) (next_of t) (previous_of t) e (Stored key.slot)) (relinked : Relinks m t) where
+      joins_l : Joins places (next_of l) (previous_of l) (next_of t) (previous_of t) e (Stored key.slot)
+      joins_l =
+          let n : next_of m ≡ next_of l = (λ i q. (links q i).next) in
+          let p : previous_of m ≡ previous_of l = (λ i q. (links q i).previous) in
+          subst (λ f. Joins places f (previous_of l) (next_of t) (previous_of t) e (Stored key.slot)) n
+          (subst (λ f. Joins places (next_of m) f (next_of t) (previous_of t) e (Stored key.slot)) p joins)
+
+      abbrev now_on : IsTiedAt (next_of t) (previous_of t) (nodes_of s) (resources_of m)
+      now_on = tied_on (nodes_of s) (resources_of s) (resources_of m) (next_of s) (previous_of s) (next_of l) (previous_of l) tied key stowed after
+          found change_s leaves (next_of t) (previous_of t) e ring joins_l
+
+      pub on_tied : IsTied t
+      on_tied = retie t (nodes_of s) (resources_of m) (relinked.nodes ∙ rest ∙ relinks.nodes) relinked.resources now_on
+
+      pub on_chain : (shown t).chain ≡ (shown s).chain
+      on_chain = chain_is t (nodes_of s) (resources_of m) (relinked.nodes ∙ rest ∙ relinks.nodes) now_on ∙
+          ap (map (key_on (nodes_of s))) (ap (λ b. cond b (without places (Stored key.slot) (tied.rings e) ++ Stored key.slot ∷ [])
+          (without places (Stored key.slot) (tied.rings Due))) (ring_ends (nodes_of s) (resources_of s) (resources_of m) after e ring).2 ∙
+          without_none tells (Stored key.slot) (tied.rings Due) not_due) ∙
+          sym (chain_is s (nodes_of s) (resources_of s) refl tied)
+
+-- what passes a test is there
+pub found_where : {T : Type 0} (test : Stowed T → Bool) (o : Option (Stowed T)) → option_map_or test o false ≡ true →
+    (stowed : Stowed T) × (o ≡ Some stowed) × (test stowed ≡ true)
+found_where test None passes = absurd (false≢true passes)
+found_where test (Some stowed) passes = (stowed, refl, passes)

@@ -16,7 +16,7 @@ use Rattle.rx_tree.specs.declared.links.Place.TheVariants.{Roots, Due, Waiting, 
 use Rattle.rx_tree.specs.declared.store.Linked.{Linked}
 use Rattle.rx_tree.specs.declared.store.Stored.{Stored as Kept}
 use Rattle.rx_tree.specs.declared.store.Store.{Store}
-use Rattle.rx_tree.specs.Store.{on_entry, project, alone, link_at, set_link_at, Relinks, KeepsLinks, Inserts, Takes_out}
+use Rattle.rx_tree.specs.Store.{on_entry, project, alone, link_at, set_link_at, Relinks, KeepsLinks, Inserts, Takes_out, no_counts}
 use Rattle.rx_tree.specs.Tree.{Rewrites}
 use Rattle.rx_tree.proofs.Laws.Written.{find-written, KeepsOthers-written, entry_found, slot_within}
 
@@ -130,7 +130,7 @@ module _ {T : Type 0} (s : Store T) (slot : ℕ) (link : Link) where
     resources = refl;
     waiting_count = refl;
     owed = refl;
-    held_count = λ j. part-kept (λ x. x.held_count) 0 s.nodes slot l (record l { children = link }) j at refl;
+    held_count = λ j. part-kept (λ x. x.held_count) no_counts s.nodes slot l (record l { children = link }) j at refl;
   }
 
   pub linked-Held : (l : Linked) → value_at s.nodes slot ≡ Some l → (q : Place) →
@@ -152,7 +152,7 @@ module _ {T : Type 0} (s : Store T) (slot : ℕ) (link : Link) where
     resources = refl;
     waiting_count = refl;
     owed = refl;
-    held_count = λ j. part-kept (λ x. x.held_count) 0 s.nodes slot l (record l { held = link }) j at refl;
+    held_count = λ j. part-kept (λ x. x.held_count) no_counts s.nodes slot l (record l { held = link }) j at refl;
   }
 
   pub linked-Sibling : (l : Linked) → value_at s.nodes slot ≡ Some l → (q : Place) →
@@ -176,7 +176,7 @@ module _ {T : Type 0} (s : Store T) (slot : ℕ) (link : Link) where
     resources = refl;
     waiting_count = refl;
     owed = refl;
-    held_count = λ j. part-kept (λ x. x.held_count) 0 s.nodes slot l (record l { sibling = link }) j at refl;
+    held_count = λ j. part-kept (λ x. x.held_count) no_counts s.nodes slot l (record l { sibling = link }) j at refl;
   }
 
   pub linked-Noted : (l : Linked) → value_at s.nodes slot ≡ Some l → (q : Place) →
@@ -198,7 +198,7 @@ module _ {T : Type 0} (s : Store T) (slot : ℕ) (link : Link) where
     resources = refl;
     waiting_count = refl;
     owed = refl;
-    held_count = λ j. part-kept (λ x. x.held_count) 0 s.nodes slot l (record l { noted = link }) j at refl;
+    held_count = λ j. part-kept (λ x. x.held_count) no_counts s.nodes slot l (record l { noted = link }) j at refl;
   }
 
   pub linked-Stored : (r : Kept T) → value_at s.resources slot ≡ Some r → (q : Place) →

@@ -1,5 +1,5 @@
 -- Links lead to places where something stands.
-use Rattle.std.proofs.Common.{◌≡◌, ℕ, ◌&&◌, cond, Bool, true, false, Option, Some, None, option_map, is_some, IsSome, IfSome, refl, sym, ap, subst, inl, inr}
+use Rattle.std.proofs.Common.{◌≡◌, ℕ, ◌&&◌, cond, Bool, true, false, Option, Some, None, is_some, IsSome, IfSome, refl, sym, ap, subst, inl, inr}
 use Rattle.std.proofs.Common.{true≢false}
 use Rattle.std.specs.Option.{option_map_or, option_and_then}
 use Rattle.std.proofs.Math.Bool.{not}
@@ -11,6 +11,7 @@ use Rattle.rx_tree.specs.declared.links.Place.{Place}
 use Rattle.rx_tree.specs.declared.links.Place.TheVariants.{Roots, Due, Waiting, Children, Held, Sibling, Noted, Stored}
 use Rattle.rx_tree.specs.declared.node.Node.{Node}
 use Rattle.rx_tree.specs.declared.node.Stowed.{Stowed}
+use Rattle.rx_tree.specs.Resources.{is_owned, is_lent}
 use Rattle.rx_tree.specs.Rings.{is_among, Steps}
 use Rattle.rx_tree.specs.Places.{is_end, places}
 use Rattle.rx_tree.proofs.Places.{tells}
@@ -57,14 +58,31 @@ module _ {T : Type 0} (nodes : Slots Node) (resources : Slots (Stowed T)) where
     by k true false there s = subst (λ z. stands nodes resources z ≡ true) s refl
     by k false b there s = subst (λ z. stands nodes resources z ≡ true) s refl
 
-    of : (o : Option (Entry (Stowed T))) → option_map (λ x. resource_ring nodes x.value) o ≡ Some e → stands nodes resources e ≡ true
+    of : (o : Option (Entry (Stowed T))) → option_and_then (λ x. resource_ring nodes x.value) o ≡ Some e → stands nodes resources e ≡ true
     of None s = absurd (true≢false (ap is_some (sym s)))
-    of (Some x) s = by x.value.node (is_some (find nodes x.value.node)) (not x.value.removed) refl (some_same (resource_ring nodes x.value) e s)
+    of (Some x) s = lent (is_lent x.value) s where
+      lent : (l : Bool) → cond l None (Some (cond (is_owned nodes x.value) (Held x.value.node.slot) Waiting)) ≡ Some e → stands nodes resources e ≡ true
+      lent true s = absurd (true≢false (ap is_some (sym s)))
+      lent false s = by x.value.node (is_some (find nodes x.value.node)) (not x.value.removed) refl
+          (some_same (cond (is_owned nodes x.value) (Held x.value.node.slot) Waiting) e s)
   end_stands noted Roots e sound at = absurd (true≢false (ap is_some (sym at)))
   end_stands noted Due e sound at = absurd (true≢false (ap is_some (sym at)))
   end_stands noted Waiting e sound at = absurd (true≢false (ap is_some (sym at)))
   end_stands noted (Children j) e sound at = absurd (true≢false (ap is_some (sym at)))
   end_stands noted (Held j) e sound at = absurd (true≢false (ap is_some (sym at)))
+
+  -- and the end of the ring where a resource belongs
+  pub ring_stands : (stowed : Stowed T) (e : Place) → resource_ring nodes stowed ≡ Some e → stands nodes resources e ≡ true
+  ring_stands stowed e at = lent (is_lent stowed) at where
+    by : (a b : Bool) → is_some (find nodes stowed.node) ≡ a → cond (a && b) (Held stowed.node.slot) Waiting ≡ e → stands nodes resources e ≡ true
+    by true true there s = subst (λ z. stands nodes resources z ≡ true) s (slot_stands nodes stowed.node there)
+    by true false there s = subst (λ z. stands nodes resources z ≡ true) s refl
+    by false b there s = subst (λ z. stands nodes resources z ≡ true) s refl
+
+    lent : (l : Bool) → cond l None (Some (cond (is_owned nodes stowed) (Held stowed.node.slot) Waiting)) ≡ Some e → stands nodes resources e ≡ true
+    lent true s = absurd (true≢false (ap is_some (sym s)))
+    lent false s = by (is_some (find nodes stowed.node)) (not stowed.removed) refl (some_same (cond (is_owned nodes stowed) (Held stowed.node.slot) Waiting)
+        e s)
 
   module _ (n p : Steps Place) (tied : IsTiedAt n p nodes resources) where
     on_ring : (e q : Place) → is_among places q (tied.rings e) ≡ true → stands nodes resources q ≡ true

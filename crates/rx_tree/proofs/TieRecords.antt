@@ -13,7 +13,7 @@ use Rattle.rx_tree.specs.declared.links.Place.{Place}
 use Rattle.rx_tree.specs.declared.links.Place.TheVariants.{Roots, Due, Waiting, Children, Held, Sibling, Noted, Stored}
 use Rattle.rx_tree.specs.declared.node.Node.{Node}
 use Rattle.rx_tree.specs.declared.node.Stowed.{Stowed}
-use Rattle.rx_tree.specs.Resources.{is_held}
+use Rattle.rx_tree.specs.Resources.{is_owned, is_lent}
 use Rattle.rx_tree.specs.Rings.{Steps, Joins}
 use Rattle.rx_tree.specs.Places.{is_end, slot_of, places}
 use Rattle.rx_tree.proofs.Places.{tells}
@@ -63,7 +63,7 @@ module _ {T : Type 0} where
     of true false at = absurd (true≢false (ap is_some (sym at)))
     of false b at = absurd (true≢false (ap is_some (sym at)))
   home_stands nodes resources noted (Stored r) e at = of (entry_at resources r) at where
-    of : (o : Option (Entry (Stowed T))) → option_map (λ e. resource_ring nodes e.value) o ≡ Some e → is_some o ≡ true
+    of : (o : Option (Entry (Stowed T))) → option_and_then (λ e. resource_ring nodes e.value) o ≡ Some e → is_some o ≡ true
     of None at = absurd (true≢false (ap is_some (sym at)))
     of (Some x) at = refl
   home_stands nodes resources noted Roots e at = absurd (true≢false (ap is_some (sym at)))
@@ -83,14 +83,14 @@ module _ {T : Type 0} where
     of true at = absurd (false≢true (ap is_by_age (some_same Due e at) ∙ age))
     of false at = absurd (true≢false (ap is_some (sym at)))
   aged nodes resources noted (Stored r) e at age = of (entry_at resources r) at where
-    by : (b : Bool) (s : ℕ) → is_by_age (cond b (Held s) Waiting) ≡ false
-    by true s = refl
-    by false s = refl
+    by : (l b : Bool) (s : ℕ) → cond l None (Some (cond b (Held s) Waiting)) ≡ Some e → is_by_age e ≡ false
+    by true b s at = absurd (true≢false (ap is_some (sym at)))
+    by false true s at = ap is_by_age (sym (some_same (Held s) e at))
+    by false false s at = ap is_by_age (sym (some_same Waiting e at))
 
-    of : (o : Option (Entry (Stowed T))) → option_map (λ e. resource_ring nodes e.value) o ≡ Some e → IsNodeAt nodes (Stored r)
+    of : (o : Option (Entry (Stowed T))) → option_and_then (λ e. resource_ring nodes e.value) o ≡ Some e → IsNodeAt nodes (Stored r)
     of None at = absurd (true≢false (ap is_some (sym at)))
-    of (Some x) at = absurd (true≢false
-        (sym age ∙ ap is_by_age (sym (some_same (resource_ring nodes x.value) e at)) ∙ by (is_held nodes x.value) x.value.node.slot))
+    of (Some x) at = absurd (true≢false (sym age ∙ by (is_lent x.value) (is_owned nodes x.value) x.value.node.slot at))
   aged nodes resources noted Roots e at age = absurd (true≢false (ap is_some (sym at)))
   aged nodes resources noted Due e at age = absurd (true≢false (ap is_some (sym at)))
   aged nodes resources noted Waiting e at age = absurd (true≢false (ap is_some (sym at)))
@@ -112,12 +112,12 @@ module _ {T : Type 0} where
           | inr apart ↦ ap f (change.others j (λ s. apart (sym s)))
         ]
 
-    pub held_same : (stowed : Stowed T) → is_held nodes' stowed ≡ is_held nodes stowed
+    pub held_same : (stowed : Stowed T) → is_owned nodes' stowed ≡ is_owned nodes stowed
     held_same stowed = ap (λ b. b && not stowed.removed)
         (same_found nodes nodes' key before (with_marks marks before) found now_found kept refl refl stowed.node)
 
     pub ring_same : resource_ring {T = T} nodes ≡ resource_ring {T = T} nodes'
-    ring_same = λ i stowed. cond (sym (held_same stowed) i) (Held stowed.node.slot) Waiting
+    ring_same = λ i stowed. cond (is_lent stowed) None (Some (cond (sym (held_same stowed) i) (Held stowed.node.slot) Waiting))
 
     abbrev pub tied_marked : (n p : Steps Place) → IsTiedAt n p nodes resources → IsTiedAt n p nodes' resources
     tied_marked n p tied = record {
@@ -126,7 +126,7 @@ module _ {T : Type 0} where
       ringed = rings_same n p (home_of nodes resources tied.noted) (home_of nodes' resources tied.noted) tied.rings tied.ringed
           (λ q. home_by (λ _. Unit {0}) nodes nodes' resources resources tied.noted tied.noted
           (λ j c. by_entry (option_and_then (λ e. sibling_ring e.value)) refl j) (λ j c. by_entry (λ o. tied.noted j && is_some o) refl j)
-          (λ r c. ap (λ f. option_map (λ e. f e.value) (entry_at resources r)) (sym ring_same)) q tt);
+          (λ r c. ap (λ f. option_and_then (λ e. f e.value) (entry_at resources r)) (sym ring_same)) q tt);
       rises = λ e age. rises_same nodes nodes' (tied.rings e)
           (λ q i. by_entry (λ o. option_map_or (λ m. m) (option_map (λ e. e.number) o) 0) refl (slot_of q)) (tied.rises e age);
       sound = IsSound-at nodes nodes' key before (with_marks marks before) found now_found kept refl refl tied.sound;
@@ -150,10 +150,10 @@ module _ {T : Type 0} where
           none_of None no_way = refl
           none_of (Some x) no_way = absurd (no_way refl)
 
-    pub opened_ring : (r : ℕ) → option_map (λ e. resource_ring nodes' e.value) (entry_at resources r) ≡ option_map (λ e. resource_ring nodes e.value)
+    pub opened_ring : (r : ℕ) → option_and_then (λ e. resource_ring nodes' e.value) (entry_at resources r) ≡ option_and_then (λ e. resource_ring nodes e.value)
         (entry_at resources r)
     opened_ring r = of (entry_at resources r) refl where
-      of : (o : Option (Entry (Stowed T))) → entry_at resources r ≡ o → option_map (λ e. resource_ring nodes' e.value) o ≡ option_map
+      of : (o : Option (Entry (Stowed T))) → entry_at resources r ≡ o → option_and_then (λ e. resource_ring nodes' e.value) o ≡ option_and_then
           (λ e. resource_ring nodes e.value) o
       of None read = refl
       of (Some e) read =
@@ -161,7 +161,7 @@ module _ {T : Type 0} where
           let less = homes k e.value (found_entry resources k e.value read) in
           let other : e.value.node ≢ key =
           λ same. let n : e.value.node.number ≡ key.number = ap (λ z. z.number) same in let m = came.numbered in omega (arith, less, n, m) in
-          ap (λ o. Some (cond (is_some o && not e.value.removed) (Held e.value.node.slot) Waiting)) (came.kept e.value.node other)
+          ap (λ o. cond (is_lent e.value) None (Some (cond (is_some o && not e.value.removed) (Held e.value.node.slot) Waiting))) (came.kept e.value.node other)
 
     pub elsewhere : {Z : Type 0} (f : Option (Entry Node) → Z) (j : ℕ) → key.slot ≢ j → f (entry_at nodes' j) ≡ f (entry_at nodes j)
     elsewhere f j apart = ap f (came.changes.others j (λ s. apart (sym s)))
@@ -255,10 +255,11 @@ module _ {T : Type 0} where
 
   -- a resource came to a slot that was free
   module _ (nodes : Slots Node) (resources resources' : Slots (Stowed T)) (key : Key) (number : ℕ) (stowed : Stowed T)
-      (came : Inserts resources resources' key number stowed) (past : IsPast resources number) (held : is_held nodes stowed ≡ true) where
+      (came : Inserts resources resources' key number stowed) (past : IsPast resources number) (owned : is_owned nodes stowed ≡ true)
+      (free : is_lent stowed ≡ false) where
     pub held_others : (noted : ℕ → Bool) (q : Place) → Stored key.slot ≢ q → home_of nodes resources' noted q ≡ home_of nodes resources noted q
     held_others noted q apart = home_by (λ q. Stored key.slot ≢ q) nodes nodes resources resources' noted noted (λ j c. refl) (λ j c. refl)
-        (λ r c. ap (option_map (λ e. resource_ring nodes e.value)) (came.changes.others r (λ s. c (ap (λ k. Stored k) (sym s))))) q apart
+        (λ r c. ap (option_and_then (λ e. resource_ring nodes e.value)) (came.changes.others r (λ s. c (ap (λ k. Stored k) (sym s))))) q apart
 
     pub held_apart : AreApart resources → AreApart resources'
     held_apart apart a b found_a found_b numbers = of (cases_key a key) (cases_key b key) where
@@ -279,8 +280,9 @@ module _ {T : Type 0} where
       rings = put_ring places (Held stowed.node.slot) (tied.rings (Held stowed.node.slot) ++ Stored key.slot ∷ []) tied.rings;
       noted = tied.noted;
       ringed = rings_joined tells n p n' p' (home_of nodes resources tied.noted) (home_of nodes resources' tied.noted) tied.rings tied.ringed
-          (Held stowed.node.slot) (Stored key.slot) joins refl refl (ap (option_map (λ e. resource_ring nodes e.value)) came.was_free)
-          (ap (option_map (λ e. resource_ring nodes e.value)) came.changes.changed ∙ ap (λ b. Some (cond b (Held stowed.node.slot) Waiting)) held)
+          (Held stowed.node.slot) (Stored key.slot) joins refl refl (ap (option_and_then (λ e. resource_ring nodes e.value)) came.was_free)
+          (ap (option_and_then (λ e. resource_ring nodes e.value)) came.changes.changed ∙ (λ i. cond (free i) None
+          (Some (cond (owned i) (Held stowed.node.slot) Waiting))))
           (held_others tied.noted);
       rises = λ q. by_ring tells (λ q ps. is_by_age q ≡ true → Rises nodes ps) (Held stowed.node.slot)
           (tied.rings (Held stowed.node.slot) ++ Stored key.slot ∷ [])

@@ -1,23 +1,25 @@
 -- How a tree stays tied when a resource is removed from its node or taken out.
-use Rattle.std.proofs.Common.{◌≡◌, ◌≢◌, ℕ, ◌&&◌, cond, Bool, true, false, [], ◌∷◌, ◌++◌, Option, Some, None, option_map, is_some, IsSome, refl, sym, ap, ◌∙◌}
-use Rattle.std.proofs.Common.{inl, inr, true≢false}
-use Rattle.std.proofs.lemmas.Bool.{false≢true}
+use Rattle.std.proofs.Common.{◌≡◌, ◌≢◌, ℕ, cond, Bool, true, false, [], ◌∷◌, ◌++◌, Option, Some, None, is_some, IsSome, refl, sym, ap, ◌∙◌}
+use Rattle.std.proofs.Common.{inl, inr, true≢false, subst, ◌==◌}
+use Rattle.std.proofs.lemmas.Bool.{cases_eq, false≢true}
 use Rattle.rx_slots.specs.declared.Entry.{Entry}
 use Rattle.rx_slots.specs.declared.Key.{Key}
-use Rattle.rx_slots.specs.Slots.{Slots, entry_of, find, Changes}
+use Rattle.std.specs.Option.{option_and_then}
+use Rattle.rx_slots.specs.Slots.{Slots, entry_of, entry_at, find, with_number, Changes}
+use Rattle.rx_tree.proofs.Laws.Written.{entry_found}
 use Rattle.rx_tree.specs.declared.links.Place.{Place}
-use Rattle.rx_tree.specs.declared.links.Place.TheVariants.{Waiting, Held, Stored}
+use Rattle.rx_tree.specs.declared.links.Place.TheVariants.{Due, Waiting, Held, Stored}
 use Rattle.rx_tree.specs.declared.node.Node.{Node}
 use Rattle.rx_tree.specs.declared.node.Stowed.{Stowed}
-use Rattle.rx_tree.specs.Resources.{removed}
+use Rattle.rx_tree.specs.Resources.{is_owned, is_lent}
 use Rattle.rx_tree.specs.Rings.{without, Steps, AreRings, Joins, Leaves}
-use Rattle.rx_tree.specs.Places.{is_place, places}
+use Rattle.rx_tree.specs.Places.{is_place, is_end, places}
 use Rattle.rx_tree.proofs.Places.{tells}
 use Rattle.rx_tree.proofs.Laws.Places.{place_apart}
-use Rattle.rx_tree.proofs.Laws.Rings.{put_ring, by_ring, rings_joined, rings_left}
+use Rattle.rx_tree.proofs.Laws.Rings.{put_ring, by_ring, some_same, rings_joined, rings_left}
 use Rattle.rx_tree.specs.Store.{Takes_out}
 use Rattle.rx_tree.specs.Ties.{resource_ring, Rises, is_by_age, home_of, IsTiedAt}
-use Rattle.rx_tree.specs.Tree.{Rewrites}
+use Rattle.rx_tree.specs.Tree.{AreApart}
 use Rattle.rx_tree.proofs.Laws.Keys.{cases_key}
 use Rattle.rx_tree.proofs.TieRecords.{home_by}
 use Rattle.rx_tree.proofs.TieSteps.{rises_without}
@@ -37,62 +39,86 @@ module _ {T : Type 0} (nodes : Slots Node) (resources resources' : Slots (Stowed
       Stored slot ≢ q → home_of nodes resources' noted q ≡ home_of nodes resources noted q
   stored_others noted slot entry change q apart =
       home_by (λ q. Stored slot ≢ q) nodes nodes resources resources' noted noted (λ j c. refl) (λ j c. refl)
-      (λ r c. ap (option_map (λ e. resource_ring nodes e.value)) (change.others r (λ s. c (ap (λ k. Stored k) (sym s))))) q apart
+      (λ r c. ap (option_and_then (λ e. resource_ring nodes e.value)) (change.others r (λ s. c (ap (λ k. Stored k) (sym s))))) q apart
 
-  -- a resource is removed: it leaves its node's ring and waits
-  module _ (n p n1 p1 n2 p2 : Steps Place) (tied : IsTiedAt n p nodes resources) (key : Key) (stowed : Stowed T) (found : find resources key ≡ Some stowed)
-      (change : Changes resources resources' key.slot (Some (entry_of key.number (removed stowed)))) (rewrites : Rewrites resources resources' key removed)
-      (leaves : Leaves places n p n1 p1 (Stored key.slot)) (joins : Joins places n1 p1 n2 p2 Waiting (Stored key.slot)) where
-    between : Place → Option Place
+  -- a resource belongs at the end of a ring, which is none of those by age
+  pub ring_ends : (stowed : Stowed T) (e : Place) → resource_ring nodes stowed ≡ Some e → (is_end e ≡ true) × (is_by_age e ≡ false) × (is_place e Due ≡ false)
+  ring_ends stowed e at = of (is_lent stowed) (is_owned nodes stowed) at where
+    of : (l b : Bool) → cond l None (Some (cond b (Held stowed.node.slot) Waiting)) ≡ Some e → (is_end e ≡ true) × (is_by_age e ≡ false) ×
+        (is_place e Due ≡ false)
+    of true b at = absurd (true≢false (ap is_some (sym at)))
+    of false true at = subst (λ q. (is_end q ≡ true) × (is_by_age q ≡ false) × (is_place q Due ≡ false)) (some_same (Held stowed.node.slot) e at)
+        (refl, refl, refl)
+    of false false at = subst (λ q. (is_end q ≡ true) × (is_by_age q ≡ false) × (is_place q Due ≡ false)) (some_same Waiting e at) (refl, refl, refl)
+
+  -- a resource leaves its ring, another stands in its place, and that joins the ring where it belongs, if it belongs on one
+  module _ (n p n1 p1 : Steps Place) (tied : IsTiedAt n p nodes resources) (key : Key) (stowed after : Stowed T) (found : find resources key ≡ Some stowed)
+      (change : Changes resources resources' key.slot (Some (entry_of key.number after))) (leaves : Leaves places n p n1 p1 (Stored key.slot)) where
+    pub between : Place → Option Place
     between = without_home (home_of nodes resources tied.noted) (Stored key.slot)
 
-    waits_now : home_of nodes resources' tied.noted (Stored key.slot) ≡ Some Waiting
-    waits_now = ap (option_map (λ e. resource_ring nodes e.value)) change.changed ∙ of (is_some (find nodes stowed.node)) where
-      of : (b : Bool) → Some (cond (b && false) (Held stowed.node.slot) Waiting) ≡ Some Waiting
-      of true = refl
-      of false = refl
+    pub home_now : home_of nodes resources' tied.noted (Stored key.slot) ≡ resource_ring nodes after
+    home_now = ap (option_and_then (λ e. resource_ring nodes e.value)) change.changed
 
     pub some_still : (k : Key) → is_some (find resources' k) ≡ is_some (find resources k)
-    some_still k = elim (cases_key k key) [
-      | inl same ↦ ap (λ z. is_some (find resources' z)) same ∙ ap is_some (rewrites.changed ∙ ap (option_map removed) found) ∙ sym (ap is_some found) ∙
-          ap (λ z. is_some (find resources z)) (sym same)
-      | inr other ↦ ap is_some (rewrites.others k other)
-    ]
+    some_still k = elim (cases_eq k.slot key.slot) [
+      | inl same ↦
+          ap (λ o. is_some (with_number k.number o)) (ap (entry_at resources') same ∙ change.changed) ∙ either (key.number == k.number) ∙
+          sym (ap (λ o. is_some (with_number k.number o)) (ap (entry_at resources) same ∙ entry_found resources key stowed found))
+      | inr other ↦ ap (λ o. is_some (with_number k.number o)) (change.others k.slot other)
+    ] where
+      either : (b : Bool) → is_some (cond b (Some after) None) ≡ is_some (cond b (Some stowed) None)
+      either true = refl
+      either false = refl
 
-    pub removed_rings : AreRings places n2 p2 (home_of nodes resources' tied.noted)
-        (put_ring places Waiting (without places (Stored key.slot) (tied.rings Waiting) ++ Stored key.slot ∷ [])
-        (λ q. without places (Stored key.slot) (tied.rings q)))
-    unfolding between
-    removed_rings =
-        let left : AreRings places n1 p1 between (λ q. without places (Stored key.slot) (tied.rings q)) =
-        rings_left tells n p n1 p1 (home_of nodes resources tied.noted) between tied.rings tied.ringed (Stored key.slot) leaves refl
-        (homeless_here (home_of nodes resources tied.noted) (Stored key.slot))
-        (λ q apart. homeless_others (home_of nodes resources tied.noted) (Stored key.slot) q apart) in
-        rings_joined tells n1 p1 n2 p2 between (home_of nodes resources' tied.noted)
-        (λ q. without places (Stored key.slot) (tied.rings q)) left Waiting (Stored key.slot)
-        joins refl refl (homeless_here (home_of nodes resources tied.noted) (Stored key.slot)) waits_now
-        (λ q apart. stored_others tied.noted key.slot (Some (entry_of key.number (removed stowed))) change q apart ∙
-        sym (homeless_others (home_of nodes resources tied.noted) (Stored key.slot) q apart))
+    pub now_apart : AreApart resources'
+    now_apart = λ a b found_a found_b numbers. tied.resources_apart a b (sym (some_still a) ∙ found_a) (sym (some_still b) ∙ found_b) numbers
 
-    abbrev pub tied_removed : IsTiedAt n2 p2 nodes resources'
-    tied_removed = record {
-      rings = put_ring places Waiting (without places (Stored key.slot) (tied.rings Waiting) ++ Stored key.slot ∷ [])
-          (λ q. without places (Stored key.slot) (tied.rings q));
+    abbrev pub tied_off : resource_ring nodes after ≡ None → IsTiedAt n1 p1 nodes resources'
+    tied_off none = record {
+      rings = λ q. without places (Stored key.slot) (tied.rings q);
       noted = tied.noted;
-      ringed = removed_rings;
-      rises = λ e. by_ring tells (λ q ps. is_by_age q ≡ true → Rises nodes ps) Waiting
-          (without places (Stored key.slot) (tied.rings Waiting) ++ Stored key.slot ∷ [])
-          (λ q. without places (Stored key.slot) (tied.rings q)) (λ age. absurd (false≢true age))
-          (λ q apart age. rises_without nodes (Stored key.slot) (tied.rings q) (tied.rises q age)) e;
+      ringed = rings_left tells n p n1 p1 (home_of nodes resources tied.noted) (home_of nodes resources' tied.noted) tied.rings tied.ringed
+          (Stored key.slot) leaves refl (home_now ∙ none) (stored_others tied.noted key.slot (Some (entry_of key.number after)) change);
+      rises = λ e age. rises_without nodes (Stored key.slot) (tied.rings e) (tied.rises e age);
       sound = tied.sound;
-      resources_apart = λ a b found_a found_b numbers. tied.resources_apart a b (sym (some_still a) ∙ found_a) (sym (some_still b) ∙ found_b) numbers;
+      resources_apart = now_apart;
     }
+
+    module _ (n2 p2 : Steps Place) (e : Place) (ring : resource_ring nodes after ≡ Some e) (joins : Joins places n1 p1 n2 p2 e (Stored key.slot)) where
+      pub rings_on : AreRings places n2 p2 (home_of nodes resources' tied.noted)
+          (put_ring places e (without places (Stored key.slot) (tied.rings e) ++ Stored key.slot ∷ []) (λ q. without places (Stored key.slot) (tied.rings q)))
+      unfolding between
+      rings_on =
+          let left : AreRings places n1 p1 between (λ q. without places (Stored key.slot) (tied.rings q)) =
+          rings_left tells n p n1 p1 (home_of nodes resources tied.noted) between tied.rings tied.ringed (Stored key.slot) leaves refl
+          (homeless_here (home_of nodes resources tied.noted) (Stored key.slot))
+          (λ q apart. homeless_others (home_of nodes resources tied.noted) (Stored key.slot) q apart) in
+          rings_joined tells n1 p1 n2 p2 between (home_of nodes resources' tied.noted)
+          (λ q. without places (Stored key.slot) (tied.rings q)) left e (Stored key.slot)
+          joins (ring_ends after e ring).0 refl (homeless_here (home_of nodes resources tied.noted) (Stored key.slot)) (home_now ∙ ring)
+          (λ q apart. stored_others tied.noted key.slot (Some (entry_of key.number after)) change q apart ∙
+          sym (homeless_others (home_of nodes resources tied.noted) (Stored key.slot) q apart))
+
+      abbrev pub tied_on : IsTiedAt n2 p2 nodes resources'
+      tied_on = record {
+        rings = put_ring places e (without places (Stored key.slot) (tied.rings e) ++ Stored key.slot ∷ [])
+            (λ q. without places (Stored key.slot) (tied.rings q));
+        noted = tied.noted;
+        ringed = rings_on;
+        rises = λ q. by_ring tells (λ q ps. is_by_age q ≡ true → Rises nodes ps) e
+            (without places (Stored key.slot) (tied.rings e) ++ Stored key.slot ∷ [])
+            (λ q. without places (Stored key.slot) (tied.rings q)) (λ age. absurd (false≢true (sym (ring_ends after e ring).1 ∙ age)))
+            (λ q apart age. rises_without nodes (Stored key.slot) (tied.rings q) (tied.rises q age)) q;
+        sound = tied.sound;
+        resources_apart = now_apart;
+      }
 
   -- a resource is taken out
   module _ (n p n1 p1 : Steps Place) (tied : IsTiedAt n p nodes resources) (key : Key) (taken : Takes_out resources resources' key)
       (leaves : Leaves places n p n1 p1 (Stored key.slot)) where
     pub none_now : home_of nodes resources' tied.noted (Stored key.slot) ≡ None
-    none_now = ap (option_map (λ e. resource_ring nodes e.value)) taken.changes.changed
+    none_now = ap (option_and_then (λ e. resource_ring nodes e.value)) taken.changes.changed
 
     pub was_there : (k : Key) → IsSome (find resources' k) → IsSome (find resources k)
     was_there k there = elim (cases_key k key) [

@@ -2,6 +2,8 @@
 use Rattle.std.proofs.Common.{◌≡◌, ℕ, ◌+◌, Option, Some, option_map, is_some, IfSome, refl, sym, ap, subst, ◌∙◌, inl, inr}
 use Rattle.std.proofs.lemmas.Bool.{cases_eq}
 use Rattle.rx_resource.specs.declared.Resource.{Ghosts}
+use Rattle.std.specs.Option.{option_and_then}
+use Rattle.rx_tree.specs.declared.links.Place.{Place}
 use Rattle.rx_slots.specs.declared.Entry.{Entry}
 use Rattle.rx_slots.specs.declared.Key.{Key}
 use Rattle.rx_slots.specs.Slots.{entry_of, entry_at, find, with_value, Changes}
@@ -43,10 +45,10 @@ module _ {T : Type 0} (s : Store T) (tied : IsTied s) (res : ResKey) (kept : Kep
       (with_resource after) found refl
 
   -- a resource stands on the ring that it stood on
-  pub used_ring : (r : ℕ) → option_map (λ e. resource_ring (nodes_of s) e.value) (entry_at (resources_of with_used) r) ≡ option_map
+  pub used_ring : (r : ℕ) → option_and_then (λ e. resource_ring (nodes_of s) e.value) (entry_at (resources_of with_used) r) ≡ option_and_then
       (λ e. resource_ring (nodes_of s) e.value) (entry_at (resources_of s) r)
   used_ring r =
-      let ring : Option (Entry (Stowed T)) → Option _ = option_map (λ e. resource_ring (nodes_of s) e.value) in
+      let ring : Option (Entry (Stowed T)) → Option Place = option_and_then (λ e. resource_ring (nodes_of s) e.value) in
       elim (cases_eq res.slot r) [
         | inl here ↦ subst (λ k. ring (entry_at (resources_of with_used) k) ≡ ring (entry_at (resources_of s) k)) here (ap ring used_change.changed ∙
             sym (ap ring (entry_found (resources_of s) (store_key res) kept.stowed seen)))
@@ -76,7 +78,7 @@ module _ {T : Type 0} (s : Store T) (tied : IsTied s) (res : ResKey) (kept : Kep
   pub used_kept : IsCounted s → IsKept with_used
   used_kept c = record {
     tied = used_tied;
-    counted = counted_written s with_used c (store_key res) kept.stowed seen (with_resource after kept.stowed) refl refl used_change refl refl refl;
+    counted = counted_written s with_used c (store_key res) kept.stowed seen (with_resource after kept.stowed) refl refl refl used_change refl refl refl;
   }
 
   pub used_chain : (shown with_used).chain ≡ (shown s).chain

@@ -1,5 +1,6 @@
 -- What the ring of those that wait tells, and what a taking leaves of a tree.
 use Rattle.std.proofs.Common.{◌≡◌, ◌≢◌, ℕ, cond, map, Bool, true, false, List, [], ◌∷◌, Option, Some, None, option_map, is_some, IsTrue, ◌&&◌, refl, sym, ap}
+use Rattle.std.proofs.Math.Bool.{◌||◌}
 use Rattle.std.proofs.Common.{subst, ◌∙◌, true≢false}
 use Rattle.std.specs.Option.{option_map_or, option_and_then}
 use Rattle.std.proofs.lemmas.Bool.{false≢true, false_from_ne_true}
@@ -12,7 +13,7 @@ use Rattle.rx_tree.specs.declared.links.Place.TheVariants.{Roots, Due, Waiting, 
 use Rattle.rx_tree.specs.declared.node.Node.{Node}
 use Rattle.rx_tree.specs.declared.node.Stowed.{Stowed}
 use Rattle.rx_tree.specs.declared.store.Store.{Store}
-use Rattle.rx_tree.specs.Resources.{is_held, Takes}
+use Rattle.rx_tree.specs.Resources.{is_owned, is_lent, is_held, Takes}
 use Rattle.rx_tree.specs.Rings.{is_among, set_step, Leads, Leaves}
 use Rattle.rx_tree.specs.Places.{is_place, is_end, slot_of, places}
 use Rattle.rx_tree.proofs.Places.{tells}
@@ -64,8 +65,13 @@ pub record IsWaiting {T : Type 0} (s : Store T) (slot : ℕ) (key : Key) : Type 
 module _ {T : Type 0} (s : Store T) (tied : IsTied s) where
   wait_home : (key : Key) (stowed : Stowed T) → find (resources_of s) key ≡ Some stowed → is_held (nodes_of s) stowed ≡ false → home_of (nodes_of s)
       (resources_of s) tied.noted (Stored key.slot) ≡ Some Waiting
-  wait_home key stowed found off = ap (option_map (λ e. resource_ring (nodes_of s) e.value)) (entry_found (resources_of s) key stowed found) ∙ ap
-      (λ b. Some (cond b (Held stowed.node.slot) Waiting)) off
+  wait_home key stowed found off = ap (option_and_then (λ e. resource_ring (nodes_of s) e.value)) (entry_found (resources_of s) key stowed found) ∙
+      of (is_owned (nodes_of s) stowed) (is_lent stowed) off
+    where
+      of : (o l : Bool) → (o || l) ≡ false → cond l None (Some (cond o (Held stowed.node.slot) Waiting)) ≡ Some Waiting
+      of false false off = refl
+      of false true off = absurd (true≢false off)
+      of true l off = absurd (true≢false off)
 
   waiting_all : (q : Place) → is_among places q (tied.rings Waiting) ≡ true → q ≡ Stored (slot_of q)
   waiting_all q i = waits_is (nodes_of s) (resources_of s) tied.noted q (tied.ringed.members Waiting q i)
@@ -98,11 +104,12 @@ module _ {T : Type 0} (s : Store T) (tied : IsTied s) where
 
     pub first_waits : (key : Key) → key_at (resources_of s) slot ≡ Some key → IsWaiting s slot key
     first_waits key key_is = of (entry_at (resources_of s) slot) refl first_home key_is where
-      waits : (b : Bool) (j : ℕ) → Some (cond b (Held j) Waiting) ≡ Some Waiting → b ≡ false
-      waits true j e = absurd (true≢false (sym (tells.self (Held j)) ∙ ap (is_place (Held j)) (some_same (Held j) Waiting e)))
-      waits false j e = refl
+      waits : (l b : Bool) (j : ℕ) → cond l None (Some (cond b (Held j) Waiting)) ≡ Some Waiting → (b || l) ≡ false
+      waits true b j e = absurd (true≢false (ap is_some (sym e)))
+      waits false true j e = absurd (true≢false (sym (tells.self (Held j)) ∙ ap (is_place (Held j)) (some_same (Held j) Waiting e)))
+      waits false false j e = refl
 
-      of : (o : Option (Entry (Stowed T))) → entry_at (resources_of s) slot ≡ o → option_map (λ e. resource_ring
+      of : (o : Option (Entry (Stowed T))) → entry_at (resources_of s) slot ≡ o → option_and_then (λ e. resource_ring
           (nodes_of s) e.value) o ≡ Some Waiting → option_map (λ e. record { slot = slot; number = e.number }) o ≡ Some key → IsWaiting s slot key
       of None read home k = absurd (true≢false (ap is_some (sym home)))
       of (Some e) read home k =
@@ -112,7 +119,7 @@ module _ {T : Type 0} (s : Store T) (tied : IsTied s) where
             stowed = e.value;
             found = subst (λ z. find (resources_of s) z ≡ Some e.value) same (found_entry (resources_of s) here e.value read);
             slot_is = ap (λ z. z.slot) (sym same);
-            waits = waits (is_held (nodes_of s) e.value) e.value.node.slot home;
+            waits = waits (is_lent e.value) (is_owned (nodes_of s) e.value) e.value.node.slot home;
           }
 
   pub waits_of : (slot : ℕ) (key : Key) → IsWaiting s slot key → (stowed : Stowed T) → find (resources_of s) key ≡ Some stowed → is_held

@@ -1,5 +1,5 @@
 -- The records with their links, and what of them callers see. No public clause cites this module.
-use Rattle.std.specs.Prelude.{◌≡◌, ℕ, ◌+◌, Bool, true, cond, map, length, Some, None, option_map, is_some}
+use Rattle.std.specs.Prelude.{◌≡◌, ℕ, ◌+◌, ◌-◌, Bool, true, false, cond, map, length, Some, None, option_map, is_some}
 use Rattle.std.specs.Option.{option_map_or}
 use Rattle.rx_slots.specs.declared.Entry.{Entry}
 use Rattle.rx_slots.specs.declared.Key.{Key}
@@ -10,6 +10,7 @@ use Rattle.rx_tree.specs.declared.links.Place.TheVariants.{Roots, Due, Waiting, 
 use Rattle.rx_tree.specs.declared.node.Node.{Node}
 use Rattle.rx_tree.specs.declared.node.Stowed.{Stowed}
 use Rattle.rx_tree.specs.declared.store.Store.{Store}
+use Rattle.rx_tree.specs.declared.store.Counts.{Counts}
 use Rattle.rx_tree.specs.Rings.{walk, Steps}
 use Rattle.rx_tree.specs.Places.{is_place, slot_of, places}
 use Rattle.rx_tree.specs.Tree.{Tree}
@@ -43,6 +44,23 @@ module _ {X : Type 0} where
     pub kept : KeepsOthers old new key
     pub count : new.count + 1 ≡ old.count
     pub room : new.room ≡ old.room + 1
+
+-- counts of what has no lease out, and of what has one
+abbrev pub no_counts : Counts
+no_counts = record { free = 0; lent = 0 }
+
+abbrev pub count_if : Bool → Counts → ℕ
+count_if lent counts = cond lent counts.lent counts.free
+
+abbrev pub one_more : Bool → Counts → Counts
+one_more lent counts = cond lent (record counts { lent = counts.lent + 1 }) (record counts { free = counts.free + 1 })
+
+abbrev pub one_less : Bool → Counts → Counts
+one_less lent counts = cond lent (record counts { lent = counts.lent - 1 }) (record counts { free = counts.free - 1 })
+
+-- one of those with a lease out is one of the others
+abbrev pub freed : Counts → Counts
+freed counts = one_more false (one_less true counts)
 
 -- a place that leads to itself
 abbrev pub alone : Place → Link
@@ -93,9 +111,9 @@ module _ {T : Type 0} where
   abbrev pub is_there : Store T → Place → Bool
   is_there s p = stands (nodes_of s) (resources_of s) p
 
-  -- how many resources a slot's node counts as held at it
-  abbrev pub held_count_at : Store T → ℕ → ℕ
-  held_count_at s slot = option_map_or (λ l. l.held_count) (value_at s.nodes slot) 0
+  -- how many resources a slot's node counts as its own
+  abbrev pub held_count_at : Store T → ℕ → Counts
+  held_count_at s slot = option_map_or (λ l. l.held_count) (value_at s.nodes slot) no_counts
 
   -- no link changes
   abbrev pub KeepsLinks : Store T → Store T → Type 0

@@ -1,6 +1,7 @@
 -- How the links of a tree, and its counts, stand to its records. No public clause cites this module.
-use Rattle.std.specs.Prelude.{◌≡◌, ℕ, ◌<◌, ◌==◌, Bool, true, false, ◌&&◌, cond, List, [], ◌∷◌, Option, Some, None, option_map, is_some, count_by}
+use Rattle.std.specs.Prelude.{◌≡◌, ℕ, ◌<◌, ◌==◌, Bool, true, false, ◌&&◌, cond, List, [], ◌∷◌, Option, Some, None, is_some, count_by}
 use Rattle.std.specs.Option.{option_map_or, option_and_then}
+use Rattle.std.proofs.Math.Bool.{not}
 use Rattle.rx_event.specs.Events.{is_root}
 use Rattle.rx_slots.specs.declared.Entry.{Entry}
 use Rattle.rx_slots.specs.Slots.{Slots, entry_at}
@@ -12,7 +13,7 @@ use Rattle.rx_tree.specs.declared.store.Store.{Store}
 use Rattle.rx_tree.specs.Owed.{owed_in}
 use Rattle.rx_tree.specs.Rings.{is_among, Steps, AreRings}
 use Rattle.rx_tree.specs.Places.{places}
-use Rattle.rx_tree.specs.Resources.{is_held, waits_in}
+use Rattle.rx_tree.specs.Resources.{is_owned, is_lent}
 use Rattle.rx_tree.specs.Store.{key_on, next_of, previous_of, nodes_of, resources_of, held_count_at}
 use Rattle.rx_tree.specs.Tree.{IsSound, AreApart}
 
@@ -34,15 +35,15 @@ is_by_age (Children s) = true
 is_by_age _ = false
 
 module _ {T : Type 0} where
-  -- the ring that a resource stands on
-  abbrev pub resource_ring : Slots Node → Stowed T → Place
-  resource_ring nodes stowed = cond (is_held nodes stowed) (Held stowed.node.slot) Waiting
+  -- the ring that a resource stands on: one of which a lease is out on none
+  abbrev pub resource_ring : Slots Node → Stowed T → Option Place
+  resource_ring nodes stowed = cond (is_lent stowed) None (Some (cond (is_owned nodes stowed) (Held stowed.node.slot) Waiting))
 
   -- the ring that a place stands on
   abbrev pub home_of : Slots Node → Slots (Stowed T) → (ℕ → Bool) → Place → Option Place
   home_of nodes resources noted (Sibling i) = option_and_then (λ e. sibling_ring e.value) (entry_at nodes i)
   home_of nodes resources noted (Noted i) = cond (noted i && is_some (entry_at nodes i)) (Some Due) None
-  home_of nodes resources noted (Stored r) = option_map (λ e. resource_ring nodes e.value) (entry_at resources r)
+  home_of nodes resources noted (Stored r) = option_and_then (λ e. resource_ring nodes e.value) (entry_at resources r)
   home_of nodes resources noted _ = None
 
   -- the rings go over what they should: children and roots by age, those that may be due, the resources at each
@@ -58,14 +59,26 @@ module _ {T : Type 0} where
   abbrev pub IsTied : Store T → Type 0
   IsTied s = IsTiedAt (next_of s) (previous_of s) (nodes_of s) (resources_of s)
 
-  -- a resource stands at a slot and is held at the node of this one
-  abbrev pub held_in : Slots Node → ℕ → Option (Entry (Stowed T)) → Bool
-  held_in nodes home entry = option_map_or (λ e. is_held nodes e.value && (e.value.node.slot == home)) entry false
+  -- a resource that passes a test stands at a slot and no node owns it
+  abbrev pub unowned_in : (Stowed T → Bool) → Slots Node → Option (Entry (Stowed T)) → Bool
+  unowned_in test nodes entry = option_map_or (λ e. test e.value && not (is_owned nodes e.value)) entry false
 
-  -- the counts are those of the resources that wait, that are held at each node, and of what the nodes owe
+  -- or the node of this slot does
+  abbrev pub owned_at : (Stowed T → Bool) → Slots Node → ℕ → Option (Entry (Stowed T)) → Bool
+  owned_at test nodes home entry = option_map_or (λ e. test e.value && (is_owned nodes e.value && (e.value.node.slot == home))) entry false
+
+  -- of those that pass a test so many are owned by no node, and so many by each
+  pub record AreCounted (test : Stowed T → Bool) (nodes : Slots Node) (resources : Slots (Stowed T)) (unowned : ℕ) (owned : ℕ → ℕ) : Type 0 where
+    pub by_none : unowned ≡ count_by (unowned_in test nodes) resources.entries
+    pub by_each : (slot : ℕ) → owned slot ≡ count_by (owned_at test nodes slot) resources.entries
+
+  abbrev pub is_free : Stowed T → Bool
+  is_free stowed = not (is_lent stowed)
+
+  -- the counts are those of the resources without a lease out and with one, and of what the nodes owe
   pub record IsCounted (s : Store T) : Type 0 where
-    pub waiting : s.waiting_count ≡ count_by (waits_in (nodes_of s)) (resources_of s).entries
-    pub held : (slot : ℕ) → held_count_at s slot ≡ count_by (held_in (nodes_of s) slot) (resources_of s).entries
+    pub free : AreCounted is_free (nodes_of s) (resources_of s) s.waiting_count.free (λ slot. (held_count_at s slot).free)
+    pub lent : AreCounted is_lent (nodes_of s) (resources_of s) s.waiting_count.lent (λ slot. (held_count_at s slot).lent)
     pub owed : s.owed ≡ owed_in (nodes_of s)
 
   -- what holds of each store between calls

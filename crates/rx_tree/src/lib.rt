@@ -15,7 +15,8 @@
 //! `parent_number` and `IsChild` follow from the places of the events, and so does `is_below`
 //! (`specs/Below.antt`): the top itself, and what leads to it from parent to parent. `IsSubtree`
 //! (`specs/Closing.antt`) says what a closing moves out. `is_held` (`specs/Resources.antt`) says
-//! which resources are held: the others wait. `owed_in` (`specs/Owed.antt`) is the sum of what the
+//! which resources are held: those that their node owns, which `unhold` takes from it, and those of
+//! which a lease is out, which `lend` and `unlend` count; the others wait. `owed_in` (`specs/Owed.antt`) is the sum of what the
 //! marks of all nodes owe. `proofs/Laws` has lemmas on these for the proofs of
 //! callers.
 //!

@@ -30,6 +30,8 @@ pub struct Stowed<R: Drop> {
     pub node: Key,
     /// Whether it was removed from there.
     pub removed: bool,
+    /// How many leases of it are out.
+    pub leases: u64,
     /// The resource itself.
     pub resource: R,
 }

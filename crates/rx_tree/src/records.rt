@@ -1,24 +1,24 @@
 //! The records of a store as they come, change and go, and how many resources wait and are held.
 
-ghost use Rattle.std.specs.Prelude.{◌≡◌, ◌+◌, ◌<◌, ◌≤◌, IsTrue, ◌==◌, cond, IsOk, IfOk, IfSome, IfErr, OnOk};
+ghost use Rattle.std.specs.Prelude.{◌≡◌, ◌+◌, ◌<◌, ◌≤◌, ◌^◌, IsTrue, ◌==◌, ◌&&◌, cond, IsOk, IfOk, IfSome, IfErr, OnOk};
 ghost use Rattle.std.specs.Prelude.{OnErr, OnSome, Some, false};
 ghost use Rattle.rx_slots.specs.declared.Key.{Key};
 ghost use Rattle.rx_tree.specs.declared.node.Stowed.{Stowed};
 ghost use Rattle.rx_slots.specs.Slots.{find, key_at, Changes, entry_of};
 ghost use Rattle.rx_tree.specs.Tree.{Rewrites, with_marks};
 ghost use Rattle.rx_tree.specs.Owed.{owed_in};
-ghost use Rattle.rx_tree.specs.Resources.{is_held, removed};
+ghost use Rattle.rx_tree.specs.Resources.{is_owned, is_held, is_lent, removed, one_lease_more, one_lease_less};
 ghost use Rattle.rx_tree.specs.Places.{is_place};
 ghost use Rattle.rx_tree.specs.Store.{alone, link_at, set_link_at, next_of, nodes_of, resources_of};
-ghost use Rattle.rx_tree.specs.Store.{is_there, held_count_at, KeepsLinks, Inserts, Takes_out};
-ghost use Rattle.rx_tree.specs.Ties.{IsCounted};
+ghost use Rattle.rx_tree.specs.Store.{is_there, held_count_at, freed, KeepsLinks, Inserts, Takes_out};
+ghost use Rattle.rx_tree.specs.Ties.{IsCounted, resource_ring};
 ghost use Rattle.std.proofs.Math.Bool.{not};
-ghost use Rattle.std.specs.Option.{option_map_or};
+ghost use Rattle.std.specs.Option.{option_map_or, option_and_then};
 ghost use Rattle.rx_tree.specs.declared.links.Place.TheVariants.{Children, Held, Sibling, Noted, Stored as At};
 
 use crate::links::{Link, Place};
 use crate::node::{Node, Stowed};
-use crate::store::{Linked, Store, Stored};
+use crate::store::{Counts, Linked, Store, Stored};
 use rx_event::Marks;
 use rx_slots::Key;
 use std::alloc::AllocError;
@@ -98,7 +98,7 @@ impl<R: Drop> Store<R> {
     }
 
     // Takes out a record that its siblings pass by, which is on no chain and on whose rings nothing
-    // stands. What was held there waits from then on.
+    // stands. What it owned waits from then on, or leases alone hold it.
     pub(crate) fn take_node(&mut self, key: Key) -> Option<Node>
         requires counted { IsCounted self.old }
         requires noted { link_at self.old (Noted key.slot) ≡ alone (Noted key.slot) }
@@ -114,23 +114,24 @@ impl<R: Drop> Store<R> {
         // No more resources are held and wait than there are slots, so their count fits.
         let _slots = self.resources.slot_count();
         let linked = self.nodes.take(key)?;
-        self.waiting_count += linked.held_count;
+        self.waiting_count.free += linked.held_count.free;
+        self.waiting_count.lent += linked.held_count.lent;
         self.owed -= linked.node.marks.owed;
         Some(linked.node)
     }
 
-    // How many resources are held at a slot's node.
-    fn held_count(&self, slot: usize) -> u64
+    // How many resources a slot's node owns.
+    fn held_count(&self, slot: usize) -> Counts
         ensures { result ≡ held_count_at self.now slot }
     {
         match self.nodes.value_at(slot) {
             Some(linked) => linked.held_count,
-            None => 0,
+            None => Counts::zero(),
         }
     }
 
-    // Writes how many resources are held at a slot's node.
-    fn set_held_count(&mut self, slot: usize, count: u64)
+    // Writes how many resources a slot's node owns.
+    fn set_held_count(&mut self, slot: usize, count: Counts)
         requires there { IsTrue (is_there self.old (Held slot)) }
         ensures held { (q : _) → held_count_at self.new q ≡ cond (slot == q) count (held_count_at self.old q) }
         ensures waiting { self.new.waiting_count ≡ self.old.waiting_count }
@@ -144,10 +145,11 @@ impl<R: Drop> Store<R> {
         }
     }
 
-    // Adds a resource that is held at its node, and stands on no ring yet.
+    // Adds a resource that its node owns and that has no lease out, and that stands on no ring yet.
     pub(crate) fn add_resource(&mut self, number: u64, stowed: Stowed<R>) -> Result<Key, R>
         requires counted { IsCounted self.old }
-        requires held { IsTrue (is_held (nodes_of self.old) stowed) }
+        requires owned { IsTrue (is_owned (nodes_of self.old) stowed) }
+        requires free { is_lent stowed ≡ false }
         ensures ok { IfOk result (λ key. Inserts (resources_of self.old) (resources_of self.new) key number stowed) }
         ensures counted { OnOk result (IsCounted self.new) }
         ensures links { KeepsLinks self.old self.new }
@@ -166,18 +168,24 @@ impl<R: Drop> Store<R> {
                 // No more are held than there are slots, so their count fits.
                 let _slots = self.resources.slot_count();
                 let count = self.held_count(home);
-                self.set_held_count(home, count + 1);
+                self.set_held_count(
+                    home,
+                    Counts {
+                        free: count.free + 1,
+                        lent: count.lent,
+                    },
+                );
                 Ok(key)
             }
             Err(back) => Err(back.stowed.resource),
         }
     }
 
-    // Marks a held resource as removed from its node: it waits from then on.
+    // Marks an owned resource as removed from its node: it waits from then on, or leases alone hold it.
     pub(crate) fn mark_removed(&mut self, key: Key)
         requires counted { IsCounted self.old }
-        requires held { IfSome (find (resources_of self.old) key)
-            (λ stowed. IsTrue (is_held (nodes_of self.old) stowed)) }
+        requires owned { IfSome (find (resources_of self.old) key)
+            (λ stowed. IsTrue (is_owned (nodes_of self.old) stowed)) }
         ensures counted { IsCounted self.new }
         ensures rewrites { Rewrites (resources_of self.old) (resources_of self.new) key removed }
         ensures changes { (stowed : Stowed R) → find (resources_of self.old) key ≡ Some stowed →
@@ -188,12 +196,13 @@ impl<R: Drop> Store<R> {
     {
         if let Some(stored) = self.resources.get_mut(key) {
             let home = stored.stowed.node.slot;
+            let lent = stored.stowed.leases != 0;
             stored.stowed.removed = true;
             let count = self.held_count(home);
-            self.set_held_count(home, count - 1);
-            // No more wait than there are slots, so their count fits.
+            // No more wait, and no more are held by leases alone, than there are slots, so their counts fit.
             let _slots = self.resources.slot_count();
-            self.waiting_count += 1;
+            self.set_held_count(home, count.less(lent));
+            self.waiting_count = self.waiting_count.more(lent);
         }
     }
 
@@ -210,8 +219,116 @@ impl<R: Drop> Store<R> {
         ensures nodes { self.new.nodes ≡ self.old.nodes }
     {
         let stored = self.resources.take(key)?;
-        self.waiting_count -= 1;
+        self.waiting_count = self.waiting_count.less(false);
         Some(stored.stowed)
+    }
+
+    // One lease more of an owned resource is out.
+    pub(crate) fn lend(&mut self, key: Key)
+        requires counted { IsCounted self.old }
+        requires owned { IfSome (find (resources_of self.old) key)
+            (λ stowed. IsTrue (is_owned (nodes_of self.old) stowed)) }
+        requires countable { IfSome (find (resources_of self.old) key) (λ stowed. stowed.leases + 1 < 2 ^ 64) }
+        ensures counted { IsCounted self.new }
+        ensures rewrites { Rewrites (resources_of self.old) (resources_of self.new) key one_lease_more }
+        ensures changes { (stowed : Stowed R) → find (resources_of self.old) key ≡ Some stowed →
+            Changes (resources_of self.old) (resources_of self.new) key.slot
+            (Some (entry_of key.number (one_lease_more stowed))) }
+        ensures links { KeepsLinks self.old self.new }
+        ensures nodes { nodes_of self.new ≡ nodes_of self.old }
+    {
+        if let Some(stored) = self.resources.get_mut(key) {
+            let home = stored.stowed.node.slot;
+            let lent = stored.stowed.leases != 0;
+            stored.stowed.leases += 1;
+            if !lent {
+                let count = self.held_count(home);
+                // No more are lent than there are slots, so their count fits.
+                let _slots = self.resources.slot_count();
+                self.set_held_count(home, count.less(false).more(true));
+            }
+        }
+    }
+
+    // One lease of a resource is out no more.
+    pub(crate) fn unlend(&mut self, key: Key)
+        requires counted { IsCounted self.old }
+        requires lent { IfSome (find (resources_of self.old) key) (λ stowed. IsTrue (is_lent stowed)) }
+        ensures counted { IsCounted self.new }
+        ensures rewrites { Rewrites (resources_of self.old) (resources_of self.new) key one_lease_less }
+        ensures changes { (stowed : Stowed R) → find (resources_of self.old) key ≡ Some stowed →
+            Changes (resources_of self.old) (resources_of self.new) key.slot
+            (Some (entry_of key.number (one_lease_less stowed))) }
+        ensures links { KeepsLinks self.old self.new }
+        ensures nodes { nodes_of self.new ≡ nodes_of self.old }
+    {
+        let owned = self.owns(key);
+        if let Some(stored) = self.resources.get_mut(key) {
+            let home = stored.stowed.node.slot;
+            stored.stowed.leases -= 1;
+            let last = stored.stowed.leases == 0;
+            // No more wait than there are slots, so their count fits.
+            let _slots = self.resources.slot_count();
+            if last {
+                self.free_one(home, owned);
+            }
+        }
+    }
+
+    // Counts one of those with a lease out among the others.
+    fn free_one(&mut self, slot: usize, owned: bool)
+        requires there { IsTrue owned → IsTrue (is_there self.old (Held slot)) }
+        requires some { 0 < (cond owned (held_count_at self.old slot) self.old.waiting_count).lent }
+        requires fits { (cond owned (held_count_at self.old slot) self.old.waiting_count).free + 1 < 2 ^ 64 }
+        ensures held { (q : _) → held_count_at self.new q ≡
+            cond (owned && slot == q) (freed (held_count_at self.old slot)) (held_count_at self.old q) }
+        ensures waiting { self.new.waiting_count ≡ cond owned self.old.waiting_count (freed self.old.waiting_count) }
+        ensures owed { self.new.owed ≡ self.old.owed }
+        ensures links { KeepsLinks self.old self.new }
+        ensures nodes { nodes_of self.new ≡ nodes_of self.old }
+        ensures resources { self.new.resources ≡ self.old.resources }
+    {
+        if owned {
+            let count = self.held_count(slot);
+            self.set_held_count(slot, count.less(true).more(false));
+        } else {
+            self.waiting_count = self.waiting_count.less(true).more(false);
+        }
+    }
+
+    // Whether the node of a key's resource owns it.
+    pub(crate) fn owns(&self, key: Key) -> bool
+        ensures { result ≡ option_map_or (is_owned (nodes_of self.now)) (find (resources_of self.now) key) false }
+    {
+        match self.resources.get(key) {
+            Some(stored) => !stored.stowed.removed && self.node(stored.stowed.node).is_some(),
+            None => false,
+        }
+    }
+
+    // The ring on which the resource of a key belongs; None for one of which a lease is out.
+    pub(crate) fn ring_of(&self, key: Key) -> Option<Place>
+        ensures { result ≡ option_and_then (resource_ring (nodes_of self.now)) (find (resources_of self.now) key) }
+    {
+        let stored = self.resources.get(key)?;
+        if stored.stowed.leases != 0 {
+            return None;
+        }
+        if self.owns(key) {
+            Some(Place::Held(stored.stowed.node.slot))
+        } else {
+            Some(Place::Waiting)
+        }
+    }
+
+    // How many leases of a key's resource are out.
+    pub(crate) fn leases(&self, key: Key) -> u64
+        ensures { result ≡ option_map_or (λ stowed. stowed.leases) (find (resources_of self.now) key) 0 }
+    {
+        match self.resources.get(key) {
+            Some(stored) => stored.stowed.leases,
+            None => 0,
+        }
     }
 
     // Whether the resource of a key is held.
@@ -219,7 +336,10 @@ impl<R: Drop> Store<R> {
         ensures { result ≡ option_map_or (is_held (nodes_of self.now)) (find (resources_of self.now) key) false }
     {
         match self.resources.get(key) {
-            Some(stored) => !stored.stowed.removed && self.node(stored.stowed.node).is_some(),
+            Some(stored) => {
+                stored.stowed.leases != 0
+                    || (!stored.stowed.removed && self.node(stored.stowed.node).is_some())
+            }
             None => false,
         }
     }

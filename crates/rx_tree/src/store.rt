@@ -1,16 +1,60 @@
 //! The records of the nodes and the resources, each with its links, and the rings that the links make.
 
-ghost use Rattle.std.specs.Prelude.{◌≡◌, [], IsTrue};
+ghost use Rattle.std.specs.Prelude.{◌≡◌, ◌+◌, ◌<◌, ◌^◌, [], IsTrue};
 ghost use Rattle.rx_tree.specs.Rings.{set_step, Joins, PassesBy, Leaves, Merges};
 ghost use Rattle.rx_tree.specs.Places.{places};
 ghost use Rattle.rx_tree.specs.Store.{alone, link_at, set_link_at, next_of, previous_of};
-ghost use Rattle.rx_tree.specs.Store.{is_there, Relinks};
+ghost use Rattle.rx_tree.specs.Store.{is_there, no_counts, count_if, one_more, one_less, Relinks};
 ghost use Rattle.rx_tree.specs.declared.links.Place.TheVariants.{Roots, Due, Waiting, Children, Held, Sibling, Noted};
 
 use crate::links::{Link, Place};
 use crate::node::{Node, Stowed};
 use rx_slots::Slots;
 use std::alloc::Global;
+
+/// How many resources are so that have no lease out, and how many that have one.
+#[derive(Clone, Copy)]
+pub(crate) struct Counts {
+    pub(crate) free: u64,
+    pub(crate) lent: u64,
+}
+
+impl Counts {
+    pub(crate) fn zero() -> Self
+        ensures free { result.free ≡ 0 }
+        ensures lent { result.lent ≡ 0 }
+    {
+        Counts { free: 0, lent: 0 }
+    }
+
+    // One more, of those that have a lease out or of the others.
+    pub(crate) fn more(self, lent: bool) -> Self
+        requires { count_if lent self + 1 < 2 ^ 64 }
+        ensures { result ≡ one_more lent self }
+    {
+        let mut counts = self;
+        if lent {
+            counts.lent += 1;
+        } else {
+            counts.free += 1;
+        }
+        counts
+    }
+
+    // One less.
+    pub(crate) fn less(self, lent: bool) -> Self
+        requires { 0 < count_if lent self }
+        ensures { result ≡ one_less lent self }
+    {
+        let mut counts = self;
+        if lent {
+            counts.lent -= 1;
+        } else {
+            counts.free -= 1;
+        }
+        counts
+    }
+}
 
 /// The record of a node with its links.
 #[derive(Clone, Copy)]
@@ -22,10 +66,10 @@ pub(crate) struct Linked {
     pub(crate) noted: Link,
     /// To its first and last child.
     pub(crate) children: Link,
-    /// To the first and last resource that is held at it.
+    /// To the first and last resource that it owns and that has no lease out.
     pub(crate) held: Link,
-    /// How many resources are held at it.
-    pub(crate) held_count: u64,
+    /// How many resources it owns.
+    pub(crate) held_count: Counts,
 }
 
 impl Linked {
@@ -36,7 +80,7 @@ impl Linked {
         ensures noted { result.noted ≡ alone (Noted slot) }
         ensures children { result.children ≡ alone (Children slot) }
         ensures held { result.held ≡ alone (Held slot) }
-        ensures held_count { result.held_count ≡ 0 }
+        ensures held_count { result.held_count ≡ no_counts }
     {
         Linked {
             node,
@@ -44,7 +88,7 @@ impl Linked {
             noted: Link::alone(Place::Noted(slot)),
             children: Link::alone(Place::Children(slot)),
             held: Link::alone(Place::Held(slot)),
-            held_count: 0,
+            held_count: Counts::zero(),
         }
     }
 }
@@ -53,7 +97,7 @@ impl Linked {
 #[derive(Drop)]
 pub(crate) struct Stored<R: Drop> {
     pub(crate) stowed: Stowed<R>,
-    /// Among those that are held with it or wait.
+    /// Among those that its node owns with it, or that wait; of its own while a lease of it is out.
     pub(crate) link: Link,
 }
 
@@ -65,8 +109,8 @@ pub(crate) struct Store<R: Drop> {
     pub(crate) roots: Link,
     pub(crate) due: Link,
     pub(crate) waiting: Link,
-    /// How many resources wait.
-    pub(crate) waiting_count: u64,
+    /// How many resources no node owns: those that wait, and those that leases alone hold.
+    pub(crate) waiting_count: Counts,
     /// How many projected items the marks of the nodes owe together.
     pub(crate) owed: u64,
 }
@@ -83,7 +127,7 @@ impl<R: Drop> Store<R> {
         ensures roots { result.roots ≡ alone Roots }
         ensures due { result.due ≡ alone Due }
         ensures waiting { result.waiting ≡ alone Waiting }
-        ensures waiting_count { result.waiting_count ≡ 0 }
+        ensures waiting_count { result.waiting_count ≡ no_counts }
         ensures owed { result.owed ≡ 0 }
     {
         Store {
@@ -92,7 +136,7 @@ impl<R: Drop> Store<R> {
             roots: Link::alone(Place::Roots),
             due: Link::alone(Place::Due),
             waiting: Link::alone(Place::Waiting),
-            waiting_count: 0,
+            waiting_count: Counts::zero(),
             owed: 0,
         }
     }

@@ -70,7 +70,8 @@ impl<R: Resource> Tree<R> {
     ghost use Rattle.rx_tree.specs.Closing.{IsSubtree, outside};
     ghost use Rattle.rx_tree.specs.Owed.{owed_in};
     ghost use Rattle.rx_tree.specs.declared.node.Stowed.{Stowed};
-    ghost use Rattle.rx_tree.specs.Resources.{is_held, is_held_at, store_key, stowed_at, stowed_of, removed, waiting_count, Takes, Uses};
+    ghost use Rattle.rx_tree.specs.Resources.{is_held, is_held_at, is_owned_at, is_lent_at, store_key, stowed_at, stowed_of, removed, one_lease_more};
+    ghost use Rattle.rx_tree.specs.Resources.{one_lease_less, waiting_count, lent_alone_count, Takes, Uses};
 
     /// A tree with no node and no resource, which takes no memory until the first reservation.
     pub fn new(alloc: Global) -> Self
@@ -352,6 +353,7 @@ impl<R: Resource> Tree<R> {
         let stowed = Stowed {
             node: key,
             removed: false,
+            leases: 0,
             resource,
         };
         match self.store.add_resource(number, stowed) {
@@ -394,9 +396,56 @@ impl<R: Resource> Tree<R> {
         }
     }
 
-    /// Takes a held resource away from its node: it then waits. It takes no memory.
+    /// Whether a resource is owned under this key: its node is open, and it was not removed.
+    pub fn owns(&self, res: ResKey) -> bool
+        ensures { result ≡ is_owned_at self.now res }
+    {
+        self.store.owns(Key {
+            slot: res.slot,
+            number: res.number,
+        })
+    }
+
+    /// Lets one lease more of an owned resource be out. It takes no memory.
+    pub fn lend(&mut self, res: ResKey)
+        requires owned { IsTrue (is_owned_at self.old res) }
+        requires countable { IfSome (stowed_of self.old res) (λ stowed. stowed.leases + 1 < 2 ^ 64) }
+        ensures resources { Rewrites self.old.resources self.new.resources (store_key res) one_lease_more }
+        ensures nodes { self.new.nodes ≡ self.old.nodes }
+        ensures chain { self.new.chain ≡ self.old.chain }
+    {
+        let key = Key {
+            slot: res.slot,
+            number: res.number,
+        };
+        self.store.leave(Place::Stored(res.slot));
+        self.store.lend(key);
+    }
+
+    /// Lets one lease of a resource be out no more: after its last one it is held by its node again, or
+    /// waits. It takes no memory.
+    pub fn unlend(&mut self, res: ResKey)
+        requires lent { IsTrue (is_lent_at self.old res) }
+        ensures resources { Rewrites self.old.resources self.new.resources (store_key res) one_lease_less }
+        ensures nodes { self.new.nodes ≡ self.old.nodes }
+        ensures chain { self.new.chain ≡ self.old.chain }
+    {
+        let key = Key {
+            slot: res.slot,
+            number: res.number,
+        };
+        let place = Place::Stored(res.slot);
+        self.store.leave(place);
+        self.store.unlend(key);
+        if let Some(ring) = self.store.ring_of(key) {
+            self.store.join(ring, place);
+        }
+    }
+
+    /// Takes an owned resource away from its node: it then waits, or leases alone hold it. It takes no
+    /// memory.
     pub fn unhold(&mut self, res: ResKey)
-        requires held { IsTrue (is_held_at self.old res) }
+        requires owned { IsTrue (is_owned_at self.old res) }
         ensures resources { Rewrites self.old.resources self.new.resources (store_key res) removed }
         ensures nodes { self.new.nodes ≡ self.old.nodes }
         ensures chain { self.new.chain ≡ self.old.chain }
@@ -408,14 +457,23 @@ impl<R: Resource> Tree<R> {
         let place = Place::Stored(res.slot);
         self.store.leave(place);
         self.store.mark_removed(key);
-        self.store.join(Place::Waiting, place);
+        if let Some(ring) = self.store.ring_of(key) {
+            self.store.join(ring, place);
+        }
     }
 
     /// How many resources wait.
     pub fn waiting(&self) -> u64
         ensures { result ≡ waiting_count self.now }
     {
-        self.store.waiting_count
+        self.store.waiting_count.free
+    }
+
+    /// How many resources leases alone hold.
+    pub fn lent_alone(&self) -> u64
+        ensures { result ≡ lent_alone_count self.now }
+    {
+        self.store.waiting_count.lent
     }
 
     /// Takes out a resource that waits, with its number; None where none waits. It takes no memory.

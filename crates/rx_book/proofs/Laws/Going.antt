@@ -38,10 +38,11 @@ accepted_continues old new asked accepted = record {
   longer = let longer = step_longer old.base old.history new.history asked.call accepted.step in omega arith;
   keys = accepted.keys;
   res_keys = accepted.res_keys;
+  lease_keys = accepted.lease_keys;
 }
 
 pub continues_none : (s : State) → Continues s s
-continues_none s = record { base = refl; limit = refl; given = refl; longer = omega arith; keys = λ k listed old. listed; res_keys = λ k listed old. listed }
+continues_none s = record { base = refl; limit = refl; given = refl; longer = omega arith; keys = λ k listed old. listed; res_keys = λ k listed old. listed; lease_keys = λ k listed old. listed }
 
 pub continues_more : (a b c : State) → Continues a b → Continues b c → Continues a c
 continues_more a b c p q = record {
@@ -51,4 +52,5 @@ continues_more a b c p q = record {
   longer = let first = p.longer in let second = q.longer in omega arith;
   keys = λ k listed old. let first = p.longer in p.keys k (q.keys k listed (omega arith)) old;
   res_keys = λ k listed old. let first = p.longer in p.res_keys k (q.res_keys k listed (omega arith)) old;
+  lease_keys = λ k listed old. let first = p.longer in p.lease_keys k (q.lease_keys k listed (omega arith)) old;
 }

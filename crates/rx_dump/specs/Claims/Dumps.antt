@@ -14,7 +14,7 @@ use Rattle.rx_event.specs.declared.event.Kind.TheVariants.{Leaf, Pass, Flat, Swi
 use Rattle.rx_event.specs.declared.event.Mode.{Mode}
 use Rattle.rx_event.specs.declared.event.Mode.TheVariants.{Auto, Manual}
 use Rattle.rx_event.specs.declared.event.Event.{Event}
-use Rattle.rx_event.specs.declared.event.Event.TheVariants.{Open, Hub, Connect, Accept, Use, Remove, Item, Decline, End, Close, Take}
+use Rattle.rx_event.specs.declared.event.Event.TheVariants.{Open, Hub, Connect, Accept, Use, Remove, Lease, Return, Item, Decline, End, Close, Take}
 use Rattle.rx_dump.specs.History.{history_of}
 use Rattle.rx_dump.specs.Dump.{dump}
 
@@ -52,6 +52,8 @@ parts_of (Connect hub) = string (codes "connect") ∷ numeral hub ∷ []
 parts_of (Accept node tag) = string (codes "accept") ∷ numeral node ∷ numeral tag ∷ []
 parts_of (Use res) = string (codes "use") ∷ numeral res ∷ []
 parts_of (Remove res) = string (codes "remove") ∷ numeral res ∷ []
+parts_of (Lease res) = string (codes "lease") ∷ numeral res ∷ []
+parts_of (Return lease) = string (codes "return") ∷ numeral lease ∷ []
 parts_of (Item leaf value) = string (codes "item") ∷ numeral leaf ∷ number (of_integer value) ∷ []
 parts_of (Decline node) = string (codes "decline") ∷ numeral node ∷ []
 parts_of (End node terminal) = string (codes "end") ∷ numeral node ∷ terminal_parts terminal

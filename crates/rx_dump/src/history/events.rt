@@ -165,6 +165,8 @@ fn event_by(word: &str, event: &Value) -> Option<Event>
         "accept" => accept_of(event),
         "use" => only_number(event).map(Event::Use),
         "remove" => only_number(event).map(Event::Remove),
+        "lease" => only_number(event).map(Event::Lease),
+        "return" => only_number(event).map(Event::Return),
         "item" => item_of(event),
         "decline" => only_number(event).map(Event::Decline),
         "end" => end_of(event),

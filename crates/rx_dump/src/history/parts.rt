@@ -25,7 +25,7 @@ pub fn word_at(event: &Value, place: usize) -> Option<&str>
     event.get(place).and_then(Value::as_str)
 }
 
-/// The number of a node, a hub or a resource, or the tag, at a place.
+/// The number of a node, a hub, a resource or a lease, or the tag, at a place.
 #[tactic(auto, unfolding(crate::specs::History::number_at))]
 pub fn number_at(event: &Value, place: usize) -> Option<u64>
     ensures { result ≡ number_at place (view event.now) }

@@ -6,8 +6,9 @@ use Rattle.rx_event.specs.declared.event.Kind.TheVariants.{Leaf, Pass, Flat}
 use Rattle.rx_event.specs.declared.event.Mode.TheVariants.{Auto}
 use Rattle.rx_event.specs.declared.event.Event.{Event}
 use Rattle.rx_event.specs.declared.event.Event.TheVariants.{Open, Hub, Accept, Use, Remove, Item, End, Close, Take}
+use Rattle.rx_event.specs.declared.base.BaseState.TheVariants.{Owned, Waiting}
 use Rattle.rx_event.specs.Tree.{parent, ancestors, is_shut, is_open}
-use Rattle.rx_event.specs.Resources.{is_held, is_taken, is_waiting, uses}
+use Rattle.rx_event.specs.Resources.{is_owned, is_out, leases_of, is_held, is_taken, is_waiting, uses}
 use Rattle.rx_event.specs.Climb.{most_visits, climb, stops}
 use Rattle.rx_event.specs.Moments.{moments, projections, owed}
 use Rattle.rx_event.specs.Marks.{source_completed}
@@ -29,10 +30,12 @@ projected_base =
       hubs = [];
       nodes = (record { number = 0; made = Open Root Flat; source_opened = true; notifier_opened = false; source_completed = true; owed = 1 }) ∷ [];
       resources = [];
+      leases = [];
     }
 
 projected_kept : base_of nothing_kept projected ≡ projected_base
-unfolding base_of shown owed projections moments stops climb most_visits is_open is_shut ancestors parent source_completed is_held is_waiting is_taken
+unfolding base_of shown owed projections moments stops climb most_visits is_open is_shut ancestors parent source_completed is_held is_owned is_out leases_of
+    is_waiting is_taken
 projected_kept = refl
 
 projected_shown : shown projected_base ≡ Open Root Flat ∷ Close 1 ∷ Close 2 ∷ Close 3 ∷ []
@@ -61,10 +64,12 @@ paid_base =
           (record { number = 0; made = Open Root Flat; source_opened = true; notifier_opened = false; source_completed = true; owed = 0 })
           ∷ (record { number = 4; made = Open (Inner 0) Leaf; source_opened = false; notifier_opened = false; source_completed = false; owed = 0 }) ∷ [];
       resources = [];
+      leases = [];
     }
 
 paid_kept : base_of projected_base (stored projected_base (Open (Inner 0) Leaf ∷ [])) ≡ paid_base
-unfolding base_of shown owed projections moments stops climb most_visits is_open is_shut ancestors parent source_completed is_held is_waiting is_taken
+unfolding base_of shown owed projections moments stops climb most_visits is_open is_shut ancestors parent source_completed is_held is_owned is_out leases_of
+    is_waiting is_taken
 paid_kept = refl
 
 -- resources: one held and used once, one removed at an open node, which waits, and one taken, which is forgotten
@@ -80,11 +85,14 @@ resourceful_base =
       taken = 1;
       hubs = (record { number = 0; mode = Auto }) ∷ [];
       nodes = (record { number = 1; made = Open Root Pass; source_opened = false; notifier_opened = false; source_completed = false; owed = 0 }) ∷ [];
-      resources = (record { number = 2; node = 1; tag = 7; uses = 1; owned = true }) ∷ (record { number = 4; node = 1; tag = 8; uses = 0; owned = false }) ∷ [];
+      resources = (record { number = 2; node = 1; tag = 7; uses = 1; state = Owned }) ∷ (record
+          { number = 4; node = 1; tag = 8; uses = 0; state = Waiting }) ∷ [];
+      leases = [];
     }
 
 resourceful_kept : base_of nothing_kept resourceful ≡ resourceful_base
-unfolding base_of shown owed projections moments stops climb most_visits is_open is_shut ancestors parent source_completed is_held is_waiting is_taken uses
+unfolding base_of shown owed projections moments stops climb most_visits is_open is_shut ancestors parent source_completed is_held is_owned is_out leases_of
+    is_waiting is_taken uses
 resourceful_kept = refl
 
 -- after it the first can be used, and the second waits
@@ -93,9 +101,9 @@ unfolding shown uses
 used_on = refl
 
 held_on : is_held (stored resourceful_base []) 2 ≡ true
-unfolding shown is_held is_open is_shut ancestors parent
+unfolding shown is_held is_owned is_out leases_of is_open is_shut ancestors parent
 held_on = refl
 
 waits_on : is_waiting (stored resourceful_base []) 4 ≡ true
-unfolding shown is_waiting is_held is_taken is_open is_shut ancestors parent
+unfolding shown is_waiting is_held is_owned is_out leases_of is_taken is_open is_shut ancestors parent
 waits_on = refl

@@ -9,7 +9,7 @@ use Rattle.rx_event.specs.declared.event.Event.{Event}
 use Rattle.rx_event.specs.declared.event.Event.TheVariants.{Open, Hub, Connect, Accept, Item, Decline, End}
 use Rattle.rx_event.specs.Kept.{nothing_kept, shown}
 use Rattle.rx_event.specs.Tree.{parent, ancestors, is_shut, is_open, open_nodes}
-use Rattle.rx_event.specs.Resources.{is_held, is_taken, is_waiting, waiting_resources}
+use Rattle.rx_event.specs.Resources.{is_owned, is_out, leases_of, is_held, is_taken, is_waiting, waiting_resources}
 use Rattle.rx_event.specs.Climb.{most_visits, climb, stops, Delivery, Projection}
 use Rattle.rx_event.specs.Moments.{moments, projections, owed}
 use Rattle.rx_event.specs.Notes.{notes}
@@ -51,7 +51,7 @@ unfolding is_open is_shut ancestors parent shown
 failure_due = failed refl refl (record { child = 7; below = refl; ended = record { place = 11; found = refl } })
 
 failure_waiting : waiting_resources (failed_inner ++ End 0 (Error 9) ∷ []) ≡ 6 ∷ 8 ∷ 10 ∷ []
-unfolding is_waiting is_taken is_held is_open is_shut ancestors parent shown
+unfolding is_waiting is_taken is_held is_owned is_out leases_of is_open is_shut ancestors parent shown
 failure_waiting = refl
 
 failure_notes : notes (failed_inner ++ End 0 (Error 9) ∷ []) ≡

@@ -8,7 +8,7 @@ use Rattle.rx_event.specs.declared.event.Event.{Event}
 use Rattle.rx_event.specs.declared.event.Event.TheVariants.{Open, Hub, Connect, End, Close}
 use Rattle.rx_event.specs.Kept.{nothing_kept, shown}
 use Rattle.rx_event.specs.Tree.{parent, ancestors, is_shut, is_open, open_nodes}
-use Rattle.rx_event.specs.Resources.{is_held, is_taken, is_waiting}
+use Rattle.rx_event.specs.Resources.{is_owned, is_out, leases_of, is_held, is_taken, is_waiting}
 use Rattle.rx_event.specs.Climb.{Delivery, most_visits, climb, stops}
 use Rattle.rx_event.specs.Moments.{projections, owed, moments}
 use Rattle.rx_event.specs.Totals.{debt}
@@ -73,11 +73,11 @@ abbrev connected_by_opening : List Event
 connected_by_opening = Hub Auto ∷ Open Root (Sub 0) ∷ Connect 0 ∷ []
 
 opening_debt : debt nothing_kept connected_by_opening ≡ 2
-unfolding debt owed projections moments stops climb most_visits is_held is_taken is_waiting is_open is_shut ancestors parent shown
+unfolding debt owed projections moments stops climb most_visits is_held is_owned is_out leases_of is_taken is_waiting is_open is_shut ancestors parent shown
 opening_debt = refl
 
 disposal_debt : debt nothing_kept (connected_by_opening ++ Close 1 ∷ Close 2 ∷ []) ≡ 0
-unfolding debt owed projections moments stops climb most_visits is_held is_taken is_waiting is_open is_shut ancestors parent shown
+unfolding debt owed projections moments stops climb most_visits is_held is_owned is_out leases_of is_taken is_waiting is_open is_shut ancestors parent shown
 disposal_debt = refl
 
 connection_left : IsDue nothing_kept (connected_by_opening ++ Close 1 ∷ []) (Close 2)

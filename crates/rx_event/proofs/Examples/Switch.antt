@@ -7,7 +7,7 @@ use Rattle.rx_event.specs.declared.event.Event.{Event}
 use Rattle.rx_event.specs.declared.event.Event.TheVariants.{Open, Hub, Connect, Accept, Item, Close}
 use Rattle.rx_event.specs.Kept.{nothing_kept, shown}
 use Rattle.rx_event.specs.Tree.{parent, ancestors, is_shut, is_open, open_nodes, open_connections, open_subscribers}
-use Rattle.rx_event.specs.Resources.{is_held, is_taken, is_waiting, held_resources, waiting_resources}
+use Rattle.rx_event.specs.Resources.{is_owned, is_out, leases_of, is_held, is_taken, is_waiting, held_resources, waiting_resources}
 use Rattle.rx_event.specs.Lawful.{opened_with, MayFollow}
 
 -- the opening of the second inner closes the first, whose resource waits
@@ -20,11 +20,11 @@ unfolding is_open is_shut ancestors parent shown
 exchanged_open = refl
 
 exchanged_waiting : waiting_resources exchanged ≡ 4 ∷ []
-unfolding is_waiting is_taken is_held is_open is_shut ancestors parent shown
+unfolding is_waiting is_taken is_held is_owned is_out leases_of is_open is_shut ancestors parent shown
 exchanged_waiting = refl
 
 exchanged_held : held_resources exchanged ≡ 7 ∷ []
-unfolding is_held is_open is_shut ancestors parent shown
+unfolding is_held is_owned is_out leases_of is_open is_shut ancestors parent shown
 exchanged_held = refl
 
 -- both inners subscribe to one hub: the exchange leaves its connection up
@@ -58,5 +58,5 @@ unfolding is_open is_shut ancestors parent shown
 left_alone_open = refl
 
 left_alone_held : held_resources (left_alone ++ Accept 7 0 ∷ Close 5 ∷ []) ≡ 8 ∷ []
-unfolding is_held is_open is_shut ancestors parent shown
+unfolding is_held is_owned is_out leases_of is_open is_shut ancestors parent shown
 left_alone_held = refl

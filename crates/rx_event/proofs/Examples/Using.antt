@@ -8,7 +8,7 @@ use Rattle.rx_event.specs.declared.event.Event.{Event}
 use Rattle.rx_event.specs.declared.event.Event.TheVariants.{Open, Accept, Item, End, Close, Take}
 use Rattle.rx_event.specs.Kept.{nothing_kept, shown}
 use Rattle.rx_event.specs.Tree.{parent, ancestors, is_shut, is_open}
-use Rattle.rx_event.specs.Resources.{is_held, is_taken, is_waiting, held_resources, waiting_resources}
+use Rattle.rx_event.specs.Resources.{is_owned, is_out, leases_of, is_held, is_taken, is_waiting, held_resources, waiting_resources}
 use Rattle.rx_event.specs.Climb.{most_visits, climb, stops}
 use Rattle.rx_event.specs.Moments.{moments, projections, owed}
 use Rattle.rx_event.specs.Notes.{notes}
@@ -20,23 +20,23 @@ abbrev using : List Event
 using = Open Root Pass ∷ Accept 0 7 ∷ []
 
 using_held : held_resources using ≡ 1 ∷ []
-unfolding is_held is_open is_shut ancestors parent shown
+unfolding is_held is_owned is_out leases_of is_open is_shut ancestors parent shown
 using_held = refl
 
 using_debt : debt nothing_kept using ≡ 3
-unfolding debt owed projections moments stops climb most_visits is_held is_taken is_waiting is_open is_shut ancestors parent shown
+unfolding debt owed projections moments stops climb most_visits is_held is_owned is_out leases_of is_taken is_waiting is_open is_shut ancestors parent shown
 using_debt = refl
 
 disposed_waiting : waiting_resources (using ++ Close 0 ∷ []) ≡ 1 ∷ []
-unfolding is_waiting is_taken is_held is_open is_shut ancestors parent shown
+unfolding is_waiting is_taken is_held is_owned is_out leases_of is_open is_shut ancestors parent shown
 disposed_waiting = refl
 
 disposed_held : held_resources (using ++ Close 0 ∷ []) ≡ []
-unfolding is_held is_open is_shut ancestors parent shown
+unfolding is_held is_owned is_out leases_of is_open is_shut ancestors parent shown
 disposed_held = refl
 
 taken_waiting : waiting_resources (using ++ Close 0 ∷ Take 1 ∷ []) ≡ []
-unfolding is_waiting is_taken is_held is_open is_shut ancestors parent shown
+unfolding is_waiting is_taken is_held is_owned is_out leases_of is_open is_shut ancestors parent shown
 taken_waiting = refl
 
 -- the completion of a source goes through the mirroring node above it, whose resource then waits
@@ -52,5 +52,5 @@ unfolding notes moments stops climb most_visits is_open is_shut ancestors parent
 completion_notes = refl
 
 completion_waiting : waiting_resources (completed ++ End 0 Completed ∷ []) ≡ 2 ∷ []
-unfolding is_waiting is_taken is_held is_open is_shut ancestors parent shown
+unfolding is_waiting is_taken is_held is_owned is_out leases_of is_open is_shut ancestors parent shown
 completion_waiting = refl

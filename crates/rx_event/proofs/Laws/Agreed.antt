@@ -13,7 +13,8 @@ use Rattle.rx_event.specs.declared.event.Event.TheVariants.{Open, Hub}
 use Rattle.rx_event.specs.Events.{makes_hub, is_merging, is_leaf, is_root, is_until, has_source, is_auto_hub, is_manual_hub, is_subscriber_of}
 use Rattle.rx_event.specs.Tree.{at, hubs, parent, ancestors, is_open, is_within, open_nodes}
 use Rattle.rx_event.specs.Forced.{IsConnectDue, IsConnected, mirrored, fired, failed, completed, cut, left, connecting, due, IsDue, IsForced, IsSettled}
-use Rattle.rx_event.specs.Allowed.{most_nodes, IsHubbed, IsInOrderAt, may_abort, opened, published, connected, accepted, used, removed, emitted, declined, leaf_ended, aborted, projection_failed, root_closed, disconnected, taken, IsFree, IsAllowed}
+use Rattle.rx_event.specs.Allowed.{most_nodes, IsHubbed, IsInOrderAt, may_abort, opened, published, connected, accepted, used, removed, leased, returned}
+use Rattle.rx_event.specs.Allowed.{emitted, declined, leaf_ended, aborted, projection_failed, root_closed, disconnected, taken, IsFree, IsAllowed}
 use Rattle.rx_event.specs.Kept.{Kept}
 use Rattle.rx_event.specs.Moments.{owed}
 use Rattle.rx_event.specs.Bases.{is_untaken, Alike, Completes, Leaves, Gives, Agree}
@@ -31,10 +32,13 @@ agree_back b h c k a =
       notifiers = λ n o. sym (a.notifiers n (a.alike.same_open n ∙ o));
       completions = λ n o. sym (a.completions n (a.alike.same_open n ∙ o));
       debts = λ n o. sym (a.debts n (a.alike.same_open n ∙ o));
+      owned = λ r. sym (a.owned r);
       held = λ r. sym (a.held r);
       waiting = λ r. sym (a.waiting r);
       accepts = λ r i. sym (a.accepts r (there r i));
       used = λ r i. sym (a.used r (there r i));
+      out = λ l. sym (a.out l);
+      leased = λ l o. sym (a.leased l (a.out l ∙ o));
       item_total = sym a.item_total;
       accepted_total = sym a.accepted_total;
       taken_total = sym a.taken_total;
@@ -53,10 +57,13 @@ agree_on b h c k d m x y =
       notifiers = λ n o. x.notifiers n o ∙ y.notifiers n (sym (x.alike.same_open n) ∙ o);
       completions = λ n o. x.completions n o ∙ y.completions n (sym (x.alike.same_open n) ∙ o);
       debts = λ n o. x.debts n o ∙ y.debts n (sym (x.alike.same_open n) ∙ o);
+      owned = λ r. x.owned r ∙ y.owned r;
       held = λ r. x.held r ∙ y.held r;
       waiting = λ r. x.waiting r ∙ y.waiting r;
       accepts = λ r i. x.accepts r i ∙ y.accepts r (there r i);
       used = λ r i. x.used r i ∙ y.used r (there r i);
+      out = λ l. x.out l ∙ y.out l;
+      leased = λ l o. x.leased l o ∙ y.leased l (sym (x.out l) ∙ o);
       item_total = x.item_total ∙ y.item_total;
       accepted_total = x.accepted_total ∙ y.accepted_total;
       taken_total = x.taken_total ∙ y.taken_total;
@@ -219,7 +226,9 @@ module _ (b : Kept) (h : List Event) (c : Kept) (k : List Event) (a : Agree b h 
   allowed_too (connected {g = g} manual none less) = connected (at_hub_alike h k a.alike is_manual_hub manual_is g manual) (sym (connections_alike h k a.alike g) ∙ none) (let e = ap length (open_nodes_alike h k a.alike) in omega arith)
   allowed_too (accepted o) = accepted (there _ o)
   allowed_too (used held) = used (sym (a.held _) ∙ held)
-  allowed_too (removed held) = removed (sym (a.held _) ∙ held)
+  allowed_too (removed owned) = removed (sym (a.owned _) ∙ owned)
+  allowed_too (leased owned) = leased (sym (a.owned _) ∙ owned)
+  allowed_too (returned out) = returned (sym (a.out _) ∙ out)
   allowed_too (emitted {l = l} o leaf less) = emitted (there _ o) (test_there is_leaf _ o leaf) (let e = visits_alike h k a.alike (named_below b h law) l o in omega arith)
   allowed_too (declined o m some) = declined (there _ o) (test_there is_merging _ o m) (owes_there _ o some)
   allowed_too (leaf_ended o leaf) = leaf_ended (there _ o) (test_there is_leaf _ o leaf)

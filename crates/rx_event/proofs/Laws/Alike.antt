@@ -1,6 +1,7 @@
 -- Two courses of what is forced after one history come to the same, but for the places of ends and closings.
-use Rattle.std.proofs.Common.{◌≡◌, ℕ, ◌<◌, ◌≤◌, Bool, true, false, List, [], ◌∷◌, ◌++◌, length, Option, Some, None, cond, slice_get, refl, sym, ap, subst, ◌∙◌, inl, inr, ◌⊎◌, ◌==◌, arith, filter, append-nil, length-append, ◌+◌, ◌-◌}
-use Rattle.std.proofs.Math.Bool.{not, ◌&&◌}
+use Rattle.std.proofs.Common.{◌≡◌, ℕ, ◌<◌, ◌≤◌, Bool, true, false, List, [], ◌∷◌, ◌++◌, length, Option, Some, None, cond, slice_get, refl, sym, ap, subst}
+use Rattle.std.proofs.Common.{◌∙◌, inl, inr, ◌⊎◌, ◌==◌, nat_lt, arith, filter, append-nil, length-append, ◌+◌, ◌-◌}
+use Rattle.std.proofs.Math.Bool.{not, ◌&&◌, ◌||◌}
 use Rattle.std.specs.List.{list_any, count_by}
 use Rattle.std.specs.Option.{option_and_then, option_map_or}
 use Rattle.std.proofs.lemmas.Bool.{both_ways, false≢true, eqb-true, false_from_ne_true}
@@ -13,9 +14,10 @@ use Rattle.rx_event.specs.Kept.{Kept, shown, resource_kept}
 use Rattle.rx_event.specs.declared.event.Place.TheVariants.{Root}
 use Rattle.rx_event.specs.declared.event.Event.{Event}
 use Rattle.rx_event.specs.declared.event.Event.TheVariants.{Open, Connect, End, Close}
-use Rattle.rx_event.specs.Events.{makes_node, makes_resource, node_of_accept, is_root, is_remove_of, is_take_of, is_use_of, is_connect_of, is_subscriber_of, is_item, is_take}
+use Rattle.rx_event.specs.Events.{makes_node, makes_resource, makes_lease, node_of_accept, is_root, is_remove_of, is_lease_of, is_return_of, is_take_of}
+use Rattle.rx_event.specs.Events.{is_use_of, is_connect_of, is_subscriber_of, is_item, is_take}
 use Rattle.rx_event.specs.Tree.{at, places, parent, ancestors, is_open, is_within, open_nodes}
-use Rattle.rx_event.specs.Resources.{is_held, is_taken, is_waiting, held_resources, waiting_resources, uses}
+use Rattle.rx_event.specs.Resources.{is_owned, is_out, is_out_of, leases_of, leases_out, is_held, is_taken, is_waiting, held_resources, waiting_resources, uses}
 use Rattle.rx_event.specs.Notes.{notes_to, mail_of}
 use Rattle.rx_event.specs.Forced.{IsDue, IsConnected, IsSettled}
 use Rattle.rx_event.specs.Lawful.{stays, more, IsLawful, IsForcedOn, IsStep}
@@ -24,7 +26,8 @@ use Rattle.rx_event.proofs.Laws.Lists.{same_filter}
 use Rattle.rx_event.proofs.Laws.Places.{slice_get_last}
 use Rattle.rx_event.proofs.Laws.Parents.{ancestors_step}
 use Rattle.rx_event.proofs.Laws.Openness.{stays_closed, is_open_past, is_open_outside-end, is_open_outside-close}
-use Rattle.rx_event.proofs.Laws.Resources.{node_of, is_held_past, is_waiting_past}
+use Rattle.rx_event.proofs.Laws.Leases.{is_out_past}
+use Rattle.rx_event.proofs.Laws.Resources.{node_of, is_owned_past, is_held_past, is_waiting_past}
 use Rattle.rx_event.proofs.Laws.Notes.{notes_in, notes_to-push, noted_to}
 use Rattle.rx_event.proofs.Laws.Dues.{and_false, IsDueOn, none_more, one_more, IsClosing, by_end, by_close, closing_of, Fails, SeesNone, seen_on, connect_on, at_on, any_on, count_on, owed_on, stays_closed_on, EndsSo, ends_one, EndStands, stood_before, came_after, end_stands, begun_on}
 use Rattle.rx_event.proofs.Laws.Spared.{same_open, spared}
@@ -166,9 +169,30 @@ module _ (base : Kept) (b k j : List Event) (law : IsLawful base b) (whole : IsC
     sees : SeesNone plain
     sees = record { no_end = λ c t. refl; no_close = λ c. refl }
 
+  owned_both : (r : ℕ) → is_owned k r ≡ is_owned j r
+  unfolding is_owned
+  owned_both r = λ i. option_map_or (λ n. opens n i) (node_both r i) false && not (any_both (is_remove_of r)
+      (record { at_end = λ c t. refl; at_close = λ c. refl }) i)
+
+  -- leases are neither ended nor closed
+  out_both : (l : ℕ) → is_out k l ≡ is_out j l
+  unfolding is_out
+  out_both l = λ i. at_both makes_lease (record { at_end = λ c t. refl; at_close = λ c. refl }) l i && not
+      (any_both (is_return_of l) (record { at_end = λ c t. refl; at_close = λ c. refl }) i)
+
+  leases_both : (r : ℕ) → leases_of k r ≡ leases_of j r
+  unfolding leases_of
+  leases_both r =
+      sym (length-filter (is_out_of k r) (places k)) ∙
+      ap length (same_filter (is_out_of k r) (is_out_of j r) (length k) (length j) (λ l i. at_both (is_lease_of r)
+      (record { at_end = λ c t. refl; at_close = λ c. refl }) l i && out_both l i)
+      (λ l past. ap (λ b. at (is_lease_of r) k l && b) (is_out_past k l past) ∙ and_false (at (is_lease_of r) k l))
+      (λ l past. ap (λ b. at (is_lease_of r) j l && b) (is_out_past j l past) ∙ and_false (at (is_lease_of r) j l))) ∙
+      length-filter (is_out_of j r) (places j)
+
   held_both : (r : ℕ) → is_held k r ≡ is_held j r
   unfolding is_held
-  held_both r = λ i. option_map_or (λ n. opens n i) (node_both r i) false && not (any_both (is_remove_of r) (record { at_end = λ c t. refl; at_close = λ c. refl }) i)
+  held_both r = λ i. owned_both r i || (at_both makes_resource (record { at_end = λ c t. refl; at_close = λ c. refl }) r i && nat_lt 0 (leases_both r i))
 
   taken_both : (r : ℕ) → is_taken k r ≡ is_taken j r
   unfolding is_taken
@@ -194,6 +218,12 @@ module _ (base : Kept) (b k j : List Event) (law : IsLawful base b) (whole : IsC
   all_held : held_resources k ≡ held_resources j
   all_held = same_filter (is_held k) (is_held j) (length k) (length j) held_both (is_held_past k) (is_held_past j)
 
+  all_owned : filter (is_owned k) (places k) ≡ filter (is_owned j) (places j)
+  all_owned = same_filter (is_owned k) (is_owned j) (length k) (length j) owned_both (is_owned_past k) (is_owned_past j)
+
+  all_out : leases_out k ≡ leases_out j
+  all_out = same_filter (is_out k) (is_out j) (length k) (length j) out_both (is_out_past k) (is_out_past j)
+
   all_waiting : waiting_resources k ≡ waiting_resources j
   all_waiting = same_filter (is_waiting k) (is_waiting j) (length k) (length j) waiting_both (is_waiting_past k) (is_waiting_past j)
 
@@ -204,16 +234,22 @@ module _ (base : Kept) (b k j : List Event) (law : IsLawful base b) (whole : IsC
     same_nodes = nodes_both;
     connections = λ g. sorted_both (is_connect_of g) (record { at_end = λ c t. refl; at_close = λ c. refl });
     subscribers = λ g. sorted_both (is_subscriber_of g) (record { at_end = λ c t. refl; at_close = λ c. refl });
+    same_owned = owned_both;
     same_held = held_both;
     same_waiting = waiting_both;
     same_taken = taken_both;
     held = all_held;
     waiting = all_waiting;
     used = uses_both;
+    same_out = out_both;
+    same_leases = leases_both;
+    out = all_out;
     same_owed = λ f. owed_on base on_k f ∙ sym (owed_on base on_j f);
     marks = marks_both base b k j law whole on_k settled_k on_j settled_j;
     told = λ n. same_notes base law n (opens n) (tells_on base on_k law whole n) (tells_on base on_j law whole n);
     open_total = sym (length-filter (is_open k) (places k)) ∙ ap length nodes_both ∙ length-filter (is_open j) (places j);
+    owned_total = sym (length-filter (is_owned k) (places k)) ∙ ap length all_owned ∙ length-filter (is_owned j) (places j);
+    lease_total = sym (length-filter (is_out k) (places k)) ∙ ap length all_out ∙ length-filter (is_out j) (places j);
     held_total = sym (length-filter (is_held k) (places k)) ∙ ap length all_held ∙ length-filter (is_held j) (places j);
     waiting_total = sym (length-filter (is_waiting k) (places k)) ∙ ap length all_waiting ∙ length-filter (is_waiting j) (places j);
     nodes_total = count_both makes_node (record { at_end = λ c t. refl; at_close = λ c. refl });

@@ -1,10 +1,11 @@
 -- The base of a settled stored history is sound, and agrees with it.
-use Rattle.std.proofs.Common.{◌≡◌, ℕ, suc, ◌+◌, ◌-◌, ◌<◌, ◌≤◌, Bool, true, false, List, [], ◌∷◌, ◌++◌, length, cond, Option, Some, None, refl, sym, ap, ◌∙◌, arith, inl, inr, ◌⊎◌, slice_get, count_by, sum_by}
+use Rattle.std.proofs.Common.{◌≡◌, ℕ, suc, ◌+◌, ◌-◌, ◌<◌, ◌≤◌, Bool, true, false, List, [], ◌∷◌, ◌++◌, length, cond, Option, Some, None, refl, sym, ap}
+use Rattle.std.proofs.Common.{◌∙◌, arith, inl, inr, ◌⊎◌, slice_get, nat_lt, count_by, sum_by}
 use Rattle.std.proofs.Math.Bool.{not, ◌&&◌, ◌||◌}
 use Rattle.std.specs.List.{list_any}
 use Rattle.std.specs.Option.{option_and_then, option_map_or}
 use Rattle.std.proofs.lemmas.Bool.{cases_Bool, cases_lt, both_ways, false≢true, and_parts, eqb-true}
-use Rattle.std.proofs.lemmas.Option.{slice_get_past, none-some}
+use Rattle.std.proofs.lemmas.Option.{slice_get_past, slice_get_within, none-some, same_Some}
 use Rattle.std.proofs.lemmas.List.Sums.{sum_by-cons}
 use Rattle.rx_note.specs.declared.note.Terminal.{Terminal}
 use Rattle.rx_note.specs.declared.note.Terminal.TheVariants.{Completed, Error}
@@ -14,30 +15,36 @@ use Rattle.rx_event.specs.Allowed.{IsInOrderAt, IsInOrder}
 use Rattle.rx_event.proofs.Laws.Agreed.{hub_is, in_order_too}
 use Rattle.rx_event.specs.declared.event.Place.TheVariants.{Root, Source, Inner, Notifier}
 use Rattle.rx_event.specs.declared.event.Event.{Event}
-use Rattle.rx_event.specs.declared.event.Event.TheVariants.{Open, Hub, Connect, Accept, Use, Item, End, Close, Take}
-use Rattle.rx_event.specs.Events.{has_source, is_merging, is_until, makes_node, makes_hub, makes_resource, parent_named, node_of_accept, is_source_of, is_notifier_of, is_inner_of, is_switch, is_remove_of, is_take_of, is_use_of, pays, is_item, is_take, is_making}
+use Rattle.rx_event.specs.declared.event.Event.TheVariants.{Open, Hub, Connect, Accept, Use, Lease, Item, End, Close, Take}
+use Rattle.rx_event.specs.Events.{has_source, is_merging, is_until, makes_node, makes_hub, makes_resource, makes_lease, parent_named, node_of_accept}
+use Rattle.rx_event.specs.Events.{is_source_of, is_notifier_of, is_inner_of, is_switch, is_remove_of, is_return_of, is_take_of, is_use_of, pays, is_item}
+use Rattle.rx_event.specs.Events.{is_take, is_making}
 use Rattle.rx_event.specs.Tree.{at, is_open}
-use Rattle.rx_event.specs.Resources.{is_held, is_taken, is_waiting, uses, accepted_by}
+use Rattle.rx_event.specs.Resources.{is_owned, is_out, leases_of, is_held, is_taken, is_waiting, uses, accepted_by}
 use Rattle.rx_event.specs.Climb.{Stop}
 use Rattle.rx_event.specs.Moments.{Moment, moments, moments_after, is_projection_to, stops_of, projections, is_fired, projected_by, owed}
 use Rattle.rx_event.specs.Totals.{item_count, accepted_count, taken_count}
 use Rattle.rx_event.specs.Marks.{completes_source, source_completed}
 use Rattle.rx_event.specs.Forced.{IsConnected, mirrored, fired, failed, cut, connecting, due, IsSettled}
 use Rattle.rx_event.specs.declared.base.BaseResource.{BaseResource}
-use Rattle.rx_event.specs.Kept.{Kept, node_kept, hub_kept, resource_kept, resource_shown, shown}
+use Rattle.rx_event.specs.declared.base.BaseLease.{BaseLease}
+use Rattle.rx_event.specs.declared.base.BaseState.TheVariants.{Owned, Leased, Waiting}
+use Rattle.rx_event.specs.Kept.{Kept, node_kept, hub_kept, resource_kept, lease_kept, node_shown, resource_shown, lease_shown, shown}
 use Rattle.rx_event.specs.Opened.{source_opened, notifier_opened}
-use Rattle.rx_event.specs.Bases.{keep_node, keep_hub, keep_resource, accept_node, accept_tag, is_untaken, base_of, Alike, Agree}
+use Rattle.rx_event.specs.Bases.{keep_node, keep_hub, keep_resource, keep_lease, lease_resource, accept_node, accept_tag, is_untaken, base_of, Alike, Agree}
 use Rattle.rx_event.proofs.Laws.SoundForm.{StandsWell, SubscribesWell, TwoOpenInners, Sound}
 use Rattle.rx_event.proofs.Laws.Searches.{list_any_found, list_any_holds}
+use Rattle.rx_event.proofs.Laws.Places.{at_within}
 use Rattle.rx_event.proofs.Laws.Openness.{parent_open}
 use Rattle.rx_event.proofs.Laws.Stands.{open_node}
-use Rattle.rx_event.proofs.Laws.Resources.{node_of, is_held_within, is_waiting_within, held_resource, waiting_parts}
+use Rattle.rx_event.proofs.Laws.Resources.{node_of, held_is, owned_held, is_held_within, is_waiting_within, held_resource, waiting_parts}
+use Rattle.rx_event.proofs.Laws.Leases.{is_out_within, out_lease, leases_of_same}
 use Rattle.rx_event.proofs.Laws.Sums.{sum_by_no_rise, count_by-places}
 use Rattle.rx_event.proofs.Laws.MarksNew.{never}
 use Rattle.rx_event.proofs.Laws.SameTree.{at_hub_alike, at_alike, alike_back, named_parent}
 use Rattle.rx_event.proofs.Laws.Bases.{found, node_of_base, hub_of_base, shown_get, length_base, base_length, is_inert, KeptAt, kept_at, kept_open, base_alike}
 use Rattle.rx_event.proofs.Laws.Sound.{count_none}
-use Rattle.rx_event.proofs.Laws.Making.{made_unremoved, made_untaken, made_unfired}
+use Rattle.rx_event.proofs.Laws.Making.{made_unremoved, made_unreturned, made_untaken, made_unfired}
 
 pub resource_of_base : (b : Kept) (h : List Event) (r : ℕ) → resource_kept (base_of b h) r ≡ cond (is_untaken h r) (Some (keep_resource b h r)) None
 unfolding base_of
@@ -49,6 +56,10 @@ resource_of_base b h = found (λ (k : BaseResource). k.number) (keep_resource b 
 
   within : (r : ℕ) → is_untaken h r ≡ true → r < length h
   within r untaken = by_tests r (is_held h r) (is_waiting h r) refl refl untaken
+
+lease_of_base : (b : Kept) (h : List Event) (l : ℕ) → lease_kept (base_of b h) l ≡ cond (is_out h l) (Some (keep_lease h l)) None
+unfolding base_of
+lease_of_base b h = found (λ (k : BaseLease). k.number) (keep_lease h) (λ l. refl) (is_out h) (length h) (is_out_within h)
 
 waiting_is : (h : List Event) (r : ℕ) → is_waiting h r ≡ ((at makes_resource h r && not (is_held h r)) && not (is_taken h r))
 unfolding is_waiting
@@ -107,6 +118,7 @@ itemless_projections xs none f = itemless_sum (count_by (is_projection_to f)) re
 inert_making : (m : ℕ) (x : Event) → is_inert m x ≡ true → is_making x ≡ true
 inert_making m (Hub mode) i = refl
 inert_making m (Accept n tag) i = refl
+inert_making m (Lease r) i = refl
 inert_making m (Close c) i = refl
 inert_making m (Open place kind) i = absurd (false≢true i)
 inert_making m _ i = absurd (false≢true i)
@@ -142,12 +154,26 @@ module _ (b : Kept) (h : List Event) where
 
   -- the place of a resource: what accepted it where it is held, an acceptance at no node where it waits, and else none
   s_resource : (r : ℕ) → r < length h → is_open h r ≡ false → at makes_hub h r ≡ false →
-      slice_get (shown (base_of b h)) r ≡ Some (option_map_or (resource_shown r) (cond (is_untaken h r) (Some (keep_resource b h r)) None) (Close r))
+      slice_get (shown (base_of b h)) r ≡ Some (option_map_or (resource_shown r) (cond (is_untaken h r) (Some (keep_resource b h r)) None)
+      (lease_shown (base_of b h) r))
   s_resource r l closed no_hub =
       shown_get (base_of b h) r (rw (base_length b h) l) ∙
-      ap (λ k. Some (option_map_or (λ x. x.made) k (option_map_or (λ x. Hub x.mode) (hub_kept (base_of b h) r) (option_map_or (resource_shown r) (resource_kept (base_of b h) r) (Close r))))) (node_of_base b h r ∙ ap (λ c. cond c (Some (keep_node b h r)) None) closed) ∙
-      ap (λ k. Some (option_map_or (λ x. Hub x.mode) k (option_map_or (resource_shown r) (resource_kept (base_of b h) r) (Close r)))) (hub_of_base b h r ∙ ap (λ c. cond c (Some (keep_hub h r)) None) no_hub) ∙
-      ap (λ k. Some (option_map_or (resource_shown r) k (Close r))) (resource_of_base b h r)
+      ap (λ k. Some (option_map_or (λ x. x.made) k (option_map_or (λ x. Hub x.mode) (hub_kept (base_of b h) r)
+      (option_map_or (resource_shown r) (resource_kept (base_of b h) r) (lease_shown (base_of b h) r)))))
+      (node_of_base b h r ∙ ap (λ c. cond c (Some (keep_node b h r)) None) closed) ∙
+      ap (λ k. Some (option_map_or (λ x. Hub x.mode) k (option_map_or (resource_shown r) (resource_kept (base_of b h) r) (lease_shown (base_of b h) r))))
+      (hub_of_base b h r ∙ ap (λ c. cond c (Some (keep_hub h r)) None) no_hub) ∙
+      ap (λ k. Some (option_map_or (resource_shown r) k (lease_shown (base_of b h) r))) (resource_of_base b h r)
+
+  -- the place of a hub
+  s_hub : (g : ℕ) → g < length h → is_open h g ≡ false → at makes_hub h g ≡ true → slice_get (shown (base_of b h)) g ≡ Some (Hub (keep_hub h g).mode)
+  s_hub g l closed hub =
+      shown_get (base_of b h) g (rw (base_length b h) l) ∙
+      ap (λ k. Some (option_map_or (λ x. x.made) k (option_map_or (λ x. Hub x.mode) (hub_kept (base_of b h) g)
+      (option_map_or (resource_shown g) (resource_kept (base_of b h) g) (lease_shown (base_of b h) g)))))
+      (node_of_base b h g ∙ ap (λ c. cond c (Some (keep_node b h g)) None) closed) ∙
+      ap (λ k. Some (option_map_or (λ x. Hub x.mode) k (option_map_or (resource_shown g) (resource_kept (base_of b h) g) (lease_shown (base_of b h) g))))
+      (hub_of_base b h g ∙ ap (λ c. cond c (Some (keep_hub h g)) None) hub)
 
   resource_closed : (r : ℕ) → at makes_resource h r ≡ true → (is_open h r ≡ false) × (at makes_hub h r ≡ false)
   resource_closed r makes = (never (is_open h r) (λ o. clash (slice_get h r) makes (open_node h r o)), no_hub (slice_get h r) makes) where
@@ -186,24 +212,38 @@ module _ (b : Kept) (h : List Event) where
     by_record None = in_place (slice_get h r) makes
     by_record (Some k) = refl
 
-  -- a held one
-  pub s_held : Sound b h → (r : ℕ) → is_held h r ≡ true → slice_get (shown (base_of b h)) r ≡ slice_get h r
-  s_held sound r held =
+  -- an owned one
+  pub s_owned : Sound b h → (r : ℕ) → is_owned h r ≡ true → slice_get (shown (base_of b h)) r ≡ slice_get h r
+  s_owned sound r owned =
+      let held = owned_held h r owned in
       let makes = held_resource h r held in
       let no = resource_closed r makes in
       s_resource r (is_held_within h r held) no.0 no.1 ∙
-      ap (λ c. Some (option_map_or (resource_shown r) (cond (c || is_waiting h r) (Some (keep_resource b h r)) None) (Close r))) held ∙
-      ap (λ c. Some (cond c (Accept (keep_resource b h r).node (keep_resource b h r).tag) (Accept r (keep_resource b h r).tag))) held ∙
-      sym (accepted_some r makes) ∙ sound.accepted r held
+      ap (λ c. Some (option_map_or (resource_shown r) (cond (c || is_waiting h r) (Some (keep_resource b h r)) None) (lease_shown (base_of b h) r))) held ∙
+      ap (λ c. Some (Accept (node_shown r (keep_resource b h r).node (cond c Owned (cond (is_held h r) Leased Waiting))) (keep_resource b h r).tag)) owned ∙
+      sym (accepted_some r makes) ∙ sound.accepted r owned
 
-  -- one that waits
-  pub s_waiting : (r : ℕ) → is_waiting h r ≡ true → slice_get (shown (base_of b h)) r ≡ Some (Accept r (keep_resource b h r).tag)
-  s_waiting r waits =
-      let parts = waiting_parts h r waits in
-      let no = resource_closed r parts.0 in
-      s_resource r (is_waiting_within h r waits) no.0 no.1 ∙
-      (λ i. Some (option_map_or (resource_shown r) (cond (parts.1 i || waits i) (Some (keep_resource b h r)) None) (Close r))) ∙
-      ap (λ c. Some (cond c (Accept (keep_resource b h r).node (keep_resource b h r).tag) (Accept r (keep_resource b h r).tag))) parts.1
+  untaken_made : (r : ℕ) → is_untaken h r ≡ true → at makes_resource h r ≡ true
+  untaken_made r untaken = by_state (is_held h r) refl untaken where
+    by_state : (x : Bool) → is_held h r ≡ x → (x || is_waiting h r) ≡ true → at makes_resource h r ≡ true
+    by_state true held some = held_resource h r held
+    by_state false held waits = (waiting_parts h r waits).0
+
+  untaken_within : (r : ℕ) → is_untaken h r ≡ true → r < length h
+  untaken_within r untaken = at_within makes_resource h r (untaken_made r untaken)
+
+  -- one that leases alone hold, or that waits
+  pub s_unowned : (r : ℕ) → is_untaken h r ≡ true → is_owned h r ≡ false → slice_get (shown (base_of b h)) r ≡ Some (Accept r (keep_resource b h r).tag)
+  s_unowned r untaken free =
+      let no = resource_closed r (untaken_made r untaken) in
+      s_resource r (untaken_within r untaken) no.0 no.1 ∙
+      ap (λ c. Some (option_map_or (resource_shown r) (cond c (Some (keep_resource b h r)) None) (lease_shown (base_of b h) r))) untaken ∙
+      ap (λ m. Some (Accept m (keep_resource b h r).tag)) (ap (λ c. node_shown r (keep_resource b h r).node
+      (cond c Owned (cond (is_held h r) Leased Waiting))) free ∙ itself (is_held h r))
+    where
+      itself : (c : Bool) → node_shown r (keep_resource b h r).node (cond c Leased Waiting) ≡ r
+      itself true = refl
+      itself false = refl
 
   -- else none
   pub s_no_resource : (r : ℕ) → is_untaken h r ≡ false → at makes_resource (shown (base_of b h)) r ≡ false
@@ -218,22 +258,103 @@ module _ (b : Kept) (h : List Event) where
     by_event None is = refl
     by_event (Some x) is = not_made x is
 
+    no_lease : (o : Option BaseLease) → makes_resource (option_map_or (λ k. Lease k.resource) o (Close r)) ≡ false
+    no_lease None = refl
+    no_lease (Some k) = refl
+
     is_hub_there : at makes_hub h r ≡ true → is_open h r ≡ false → r < length h → at makes_resource (shown (base_of b h)) r ≡ false
-    is_hub_there hub closed l =
-        ap (λ o. option_map_or makes_resource o false)
-        (shown_get (base_of b h) r (rw (base_length b h) l) ∙
-        ap (λ k. Some (option_map_or (λ x. x.made) k (option_map_or (λ x. Hub x.mode) (hub_kept (base_of b h) r) (option_map_or (resource_shown r) (resource_kept (base_of b h) r) (Close r))))) (node_of_base b h r ∙ ap (λ c. cond c (Some (keep_node b h r)) None) closed) ∙
-        ap (λ k. Some (option_map_or (λ x. Hub x.mode) k (option_map_or (resource_shown r) (resource_kept (base_of b h) r) (Close r)))) (hub_of_base b h r ∙ ap (λ c. cond c (Some (keep_hub h r)) None) hub))
+    is_hub_there hub closed l = ap (λ o. option_map_or makes_resource o false) (s_hub r l closed hub)
 
     by_tests : r < length h → (is_open h r ≡ true) ⊎ (is_open h r ≡ false) → (at makes_hub h r ≡ true) ⊎ (at makes_hub h r ≡ false) → at makes_resource (shown (base_of b h)) r ≡ false
     by_tests l (inl o) hub = ap (λ x. option_map_or makes_resource x false) (kept_open b h r o) ∙ by_event (slice_get h r) (open_node h r o)
     by_tests l (inr closed) (inl hub) = is_hub_there hub closed l
     by_tests l (inr closed) (inr plain) =
-        ap (λ o. option_map_or makes_resource o false) (s_resource r l closed plain ∙ ap (λ c. Some (option_map_or (resource_shown r) (cond c (Some (keep_resource b h r)) None) (Close r))) none)
+        ap (λ o. option_map_or makes_resource o false) (s_resource r l closed plain ∙ ap (λ c. Some
+        (option_map_or (resource_shown r) (cond c (Some (keep_resource b h r)) None) (lease_shown (base_of b h) r))) none) ∙ no_lease
+        (lease_kept (base_of b h) r)
 
     by_place : (r < length h) ⊎ (length h ≤ r) → at makes_resource (shown (base_of b h)) r ≡ false
     by_place (inl l) = by_tests l (cases_Bool (is_open h r)) (cases_Bool (at makes_hub h r))
     by_place (inr past) = ap (λ o. option_map_or makes_resource o false) (slice_get_past (shown (base_of b h)) r (rw (length_base b h) past))
+
+  -- the place of a lease that is out: itself
+  lease_apart : (l : ℕ) → at makes_lease h l ≡ true → (at makes_node h l ≡ false) × (at makes_hub h l ≡ false) × (at makes_resource h l ≡ false)
+  lease_apart l = by_event (slice_get h l) where
+    by_event : (o : Option Event) → option_map_or makes_lease o false ≡ true → (option_map_or makes_node o false ≡ false) ×
+        (option_map_or makes_hub o false ≡ false) × (option_map_or makes_resource o false ≡ false)
+    by_event None is = absurd (false≢true is)
+    by_event (Some (Lease r)) is = (refl, refl, refl)
+    by_event (Some (Open place kind)) is = absurd (false≢true is)
+    by_event (Some _) is = absurd (false≢true is)
+
+  lease_is : (o : Option Event) (l : ℕ) → option_map_or makes_lease o false ≡ true → o ≡ Some (Lease (lease_resource (option_map_or (λ e. e) o (Close l))))
+  lease_is None l is = absurd (false≢true is)
+  lease_is (Some (Lease r)) l is = refl
+  lease_is (Some (Open place kind)) l is = absurd (false≢true is)
+  lease_is (Some _) l is = absurd (false≢true is)
+
+  -- a place that is neither a node nor a hub nor a resource
+  s_other : (l : ℕ) → l < length h → is_open h l ≡ false → at makes_hub h l ≡ false → is_untaken h l ≡ false → slice_get (shown (base_of b h)) l ≡ Some
+      (lease_shown (base_of b h) l)
+  s_other l less closed no_hub none =
+      s_resource l less closed no_hub ∙ ap (λ c. Some (option_map_or (resource_shown l) (cond c (Some (keep_resource b h l)) None)
+      (lease_shown (base_of b h) l))) none
+
+  pub s_lease : (l : ℕ) → is_out h l ≡ true → slice_get (shown (base_of b h)) l ≡ slice_get h l
+  s_lease l out =
+      let made = out_lease h l out in
+      let no = lease_apart l made in
+      s_other l (is_out_within h l out) (never (is_open h l) (λ o. both_ways _ no.0 (open_node h l o))) no.1
+      (never (is_untaken h l) (λ u. both_ways _ no.2 (untaken_made l u))) ∙
+      ap (λ k. Some (option_map_or (λ x. Lease x.resource) k (Close l))) (lease_of_base b h l ∙ ap (λ c. cond c (Some (keep_lease h l)) None) out) ∙
+      sym (lease_is (slice_get h l) l made)
+
+  pub s_no_lease : (l : ℕ) → is_out h l ≡ false → at makes_lease (shown (base_of b h)) l ≡ false
+  s_no_lease l back = never (at makes_lease (shown (base_of b h)) l) (λ some. by_event (slice_get (shown (base_of b h)) l) refl some) where
+    not_node : (x : Event) → makes_node x ≡ true → makes_lease x ≡ true → ⊥
+    not_node (Lease r) node is = false≢true node
+    not_node (Open place kind) node is = false≢true is
+    not_node _ node is = false≢true is
+
+    at_lease : (x : Event) → slice_get (shown (base_of b h)) l ≡ Some x → makes_lease x ≡ true → l < length h
+    at_lease x at_l is = rw (← length_base b h) (slice_get_within (shown (base_of b h)) l x at_l)
+
+    by_tests : (x : Event) → slice_get (shown (base_of b h)) l ≡ Some x → makes_lease x ≡ true → (is_open h l ≡ true) ⊎ (is_open h l ≡ false) →
+        (at makes_hub h l ≡ true) ⊎ (at makes_hub h l ≡ false) →
+        (is_untaken h l ≡ true) ⊎ (is_untaken h l ≡ false) → ⊥
+    by_tests x at_l is (inl o) hub u = not_node x (sym (ap (λ k. option_map_or makes_node k false) (sym (kept_open b h l o) ∙ at_l)) ∙ open_node h l o) is
+    by_tests x at_l is (inr closed) (inl hub) u =
+        both_ways (makes_lease (Hub (keep_hub h l).mode)) refl (ap makes_lease (same_Some _ x (sym (s_hub l (at_lease x at_l is) closed hub) ∙ at_l)) ∙ is)
+    by_tests x at_l is (inr closed) (inr plain) (inl u) =
+        both_ways (makes_lease (resource_shown l (keep_resource b h l))) refl (ap makes_lease
+        (same_Some _ x (sym (s_resource l (at_lease x at_l is) closed plain ∙ ap (λ c. Some
+        (option_map_or (resource_shown l) (cond c (Some (keep_resource b h l)) None) (lease_shown (base_of b h) l))) u) ∙ at_l)) ∙ is)
+    by_tests x at_l is (inr closed) (inr plain) (inr none) =
+        both_ways (makes_lease (Close l)) refl (ap makes_lease (same_Some _ x (sym (s_other l (at_lease x at_l is) closed plain none ∙
+        ap (λ k. Some (option_map_or (λ y. Lease y.resource) k (Close l))) (lease_of_base b h l ∙ ap (λ c. cond c (Some (keep_lease h l)) None) back)) ∙
+        at_l)) ∙ is)
+
+    by_event : (o : Option Event) → slice_get (shown (base_of b h)) l ≡ o → option_map_or makes_lease o false ≡ true → ⊥
+    by_event None at_l is = false≢true is
+    by_event (Some x) at_l is = by_tests x at_l is (cases_Bool (is_open h l)) (cases_Bool (at makes_hub h l)) (cases_Bool (is_untaken h l))
+
+  s_unreturned : (l : ℕ) → list_any (is_return_of l) (shown (base_of b h)) ≡ false
+  s_unreturned l = made_unreturned (shown (base_of b h)) s_making l
+
+  pub s_is_out : (l : ℕ) → is_out h l ≡ is_out (shown (base_of b h)) l
+  unfolding is_out
+  s_is_out l = by_test (is_out h l) refl ∙ sym (ap (λ c. at makes_lease (shown (base_of b h)) l && not c) (s_unreturned l) ∙ and_yes
+      (at makes_lease (shown (base_of b h)) l)) where
+        and_yes : (c : Bool) → (c && true) ≡ c
+        and_yes true = refl
+        and_yes false = refl
+
+        by_test : (x : Bool) → is_out h l ≡ x → x ≡ at makes_lease (shown (base_of b h)) l
+        by_test true out = sym (ap (λ o. option_map_or makes_lease o false) (s_lease l out) ∙ out_lease h l out)
+        by_test false back = sym (s_no_lease l back)
+
+  pub s_leases_of : (r : ℕ) → leases_of h r ≡ leases_of (shown (base_of b h)) r
+  s_leases_of r = leases_of_same h (shown (base_of b h)) (sym (length_base b h)) s_is_out (λ l out. sym (s_lease l out)) r
 
   pub s_fired : (u : ℕ) → is_fired (shown (base_of b h)) u ≡ false
   s_fired u = made_unfired (shown (base_of b h)) s_making u
@@ -289,9 +410,9 @@ module _ (b : Kept) (h : List Event) where
     pub base_is_alike : Alike h (shown (base_of b h))
     base_is_alike = base_alike b h sound.one_inner
 
-    pub held_node : (r : ℕ) → is_held h r ≡ true → option_map_or (is_open h) (node_of h r) false ≡ true
-    unfolding is_held
-    held_node r held = (and_parts (option_map_or (is_open h) (node_of h r) false) _ held).0
+    pub owned_node : (r : ℕ) → is_owned h r ≡ true → option_map_or (is_open h) (node_of h r) false ≡ true
+    unfolding is_owned
+    owned_node r owned = (and_parts (option_map_or (is_open h) (node_of h r) false) _ owned).0
 
     and_true : (c : Bool) → (c && true) ≡ c
     and_true true = refl
@@ -303,46 +424,62 @@ module _ (b : Kept) (h : List Event) where
     node_open_there (Some (Open place kind)) = refl
     node_open_there (Some _) = refl
 
-    pub s_is_held : (r : ℕ) → is_held h r ≡ is_held (shown (base_of b h)) r
-    unfolding is_held
-    s_is_held r = by_state (is_held h r) refl (is_waiting h r) refl ∙ sym (ap (λ c. option_map_or (is_open (shown (base_of b h))) (node_of (shown (base_of b h)) r) false && not c) (s_unremoved r) ∙ and_true (option_map_or (is_open (shown (base_of b h))) (node_of (shown (base_of b h)) r) false)) where
-      no_accept : (o : Option Event) → option_map_or makes_resource o false ≡ false → option_and_then node_of_accept o ≡ None
-      no_accept None none = refl
-      no_accept (Some (Accept n tag)) none = absurd (false≢true (sym none))
-      no_accept (Some (Open place kind)) none = refl
-      no_accept (Some _) none = refl
+    pub s_is_owned : (r : ℕ) → is_owned h r ≡ is_owned (shown (base_of b h)) r
+    unfolding is_owned
+    s_is_owned r = by_state (is_owned h r) refl (is_untaken h r) refl ∙ sym (ap (λ c. option_map_or (is_open (shown (base_of b h)))
+        (node_of (shown (base_of b h)) r) false && not c) (s_unremoved r) ∙ and_true (option_map_or (is_open (shown (base_of b h)))
+        (node_of (shown (base_of b h)) r) false)) where
+          no_accept : (o : Option Event) → option_map_or makes_resource o false ≡ false → option_and_then node_of_accept o ≡ None
+          no_accept None none = refl
+          no_accept (Some (Accept n tag)) none = absurd (false≢true (sym none))
+          no_accept (Some (Open place kind)) none = refl
+          no_accept (Some _) none = refl
 
-      by_state : (x : Bool) → is_held h r ≡ x → (y : Bool) → is_waiting h r ≡ y → x ≡ option_map_or (is_open (shown (base_of b h))) (node_of (shown (base_of b h)) r) false
-      by_state true held y waits = sym (ap (λ o. option_map_or (is_open (shown (base_of b h))) (option_and_then node_of_accept o) false) (s_held sound r held) ∙ sym (node_open_there (slice_get h r)) ∙ held_node r held)
-      by_state false held true waits =
-          sym (ap (λ o. option_map_or (is_open (shown (base_of b h))) (option_and_then node_of_accept o) false) (s_waiting r waits) ∙ sym (base_is_alike.same_open r) ∙ (resource_closed r (waiting_parts h r waits).0).0)
-      by_state false held false waits = sym (ap (λ o. option_map_or (is_open (shown (base_of b h))) o false) (no_accept (slice_get (shown (base_of b h)) r) (s_no_resource r (λ i. held i || waits i))))
+          by_state : (x : Bool) → is_owned h r ≡ x → (y : Bool) → is_untaken h r ≡ y → x ≡ option_map_or (is_open (shown (base_of b h)))
+              (node_of (shown (base_of b h)) r) false
+          by_state true owned y untaken = sym (ap (λ o. option_map_or (is_open (shown (base_of b h))) (option_and_then node_of_accept o) false)
+              (s_owned sound r owned) ∙ sym (node_open_there (slice_get h r)) ∙ owned_node r owned)
+          by_state false owned true untaken =
+              sym (ap (λ o. option_map_or (is_open (shown (base_of b h))) (option_and_then node_of_accept o) false) (s_unowned r untaken owned) ∙ sym
+              (base_is_alike.same_open r) ∙ (resource_closed r (untaken_made r untaken)).0)
+          by_state false owned false none = sym (ap (λ o. option_map_or (is_open (shown (base_of b h))) o false)
+              (no_accept (slice_get (shown (base_of b h)) r) (s_no_resource r none)))
+
+    -- just what was not taken is a resource there
+    pub s_resource_at : (r : ℕ) → at makes_resource (shown (base_of b h)) r ≡ is_untaken h r
+    s_resource_at r = by_state (is_untaken h r) refl (is_owned h r) refl where
+      by_state : (u : Bool) → is_untaken h r ≡ u → (o : Bool) → is_owned h r ≡ o → at makes_resource (shown (base_of b h)) r ≡ u
+      by_state true untaken true owned = ap (λ x. option_map_or makes_resource x false) (s_owned sound r owned) ∙ untaken_made r untaken
+      by_state true untaken false owned = ap (λ x. option_map_or makes_resource x false) (s_unowned r untaken owned)
+      by_state false none o owned = s_no_resource r none
+
+    pub s_is_held : (r : ℕ) → is_held h r ≡ is_held (shown (base_of b h)) r
+    s_is_held r =
+        held_is h r ∙ shape (is_owned h r) (at makes_resource h r) (is_untaken h r) (nat_lt 0 (leases_of h r)) up (untaken_made r) ∙
+        (λ i. s_is_owned r i || (sym (s_resource_at r) i && nat_lt 0 (s_leases_of r i))) ∙ sym (held_is (shown (base_of b h)) r)
+      where
+        up : (is_owned h r || (at makes_resource h r && nat_lt 0 (leases_of h r))) ≡ true → is_untaken h r ≡ true
+        up held = ap (λ c. c || is_waiting h r) (held_is h r ∙ held)
+
+        shape : (o a u n : Bool) → ((o || (a && n)) ≡ true → u ≡ true) → (u ≡ true → a ≡ true) → (o || (a && n)) ≡ (o || (u && n))
+        shape true a u n up down = refl
+        shape false true true n up down = refl
+        shape false true false true up down = absurd (false≢true (up refl))
+        shape false true false false up down = refl
+        shape false false true n up down = absurd (false≢true (down refl))
+        shape false false false n up down = refl
 
     s_is_waiting : (r : ℕ) → is_waiting h r ≡ is_waiting (shown (base_of b h)) r
-    s_is_waiting r = by_state (is_held h r) refl (is_waiting h r) refl ∙ sym (there ∙ and_true (at makes_resource (shown (base_of b h)) r && not (is_held h r))) where
-      there : is_waiting (shown (base_of b h)) r ≡ ((at makes_resource (shown (base_of b h)) r && not (is_held h r)) && true)
-      there = is_waiting_is ∙ (λ i. (at makes_resource (shown (base_of b h)) r && not (sym (s_is_held r) i)) && not (s_taken r i)) where
-        is_waiting_is : is_waiting (shown (base_of b h)) r ≡ ((at makes_resource (shown (base_of b h)) r && not (is_held (shown (base_of b h)) r)) && not (is_taken (shown (base_of b h)) r))
-        is_waiting_is = waiting_is (shown (base_of b h)) r
-
-      and_false : (c : Bool) → (c && false) ≡ false
-      and_false true = refl
-      and_false false = refl
-
-      by_state : (x : Bool) → is_held h r ≡ x → (y : Bool) → is_waiting h r ≡ y → y ≡ (at makes_resource (shown (base_of b h)) r && not (is_held h r))
-      by_state true held true waits = absurd (both_ways _ (waiting_parts h r waits).1 held)
-      by_state true held false waits = sym (ap (λ c. at makes_resource (shown (base_of b h)) r && not c) held ∙ and_false (at makes_resource (shown (base_of b h)) r))
-      by_state false held true waits = sym (λ i. option_map_or makes_resource (s_waiting r waits i) false && not (held i))
-      by_state false held false waits = sym (λ i. s_no_resource r (λ j. held j || waits j) i && not (held i))
+    s_is_waiting r = sym (waiting_is (shown (base_of b h)) r ∙ (λ i. (s_resource_at r i && not (sym (s_is_held r) i)) && not (s_taken r i)) ∙ shape
+        (is_held h r) (is_waiting h r) (λ w. (waiting_parts h r w).1)) where
+          shape : (x y : Bool) → (y ≡ true → x ≡ false) → (((x || y) && not x) && true) ≡ y
+          shape true true apart = absurd (both_ways _ (apart refl) refl)
+          shape true false apart = refl
+          shape false true apart = refl
+          shape false false apart = refl
 
     s_kept : (r : ℕ) → is_untaken h r ≡ true → resource_kept (base_of b h) r ≡ Some (keep_resource b h r)
     s_kept r untaken = resource_of_base b h r ∙ ap (λ c. cond c (Some (keep_resource b h r)) None) untaken
-
-    untaken_made : (r : ℕ) → is_untaken h r ≡ true → at makes_resource h r ≡ true
-    untaken_made r untaken = by_state (is_held h r) refl untaken where
-      by_state : (x : Bool) → is_held h r ≡ x → (x || is_waiting h r) ≡ true → at makes_resource h r ≡ true
-      by_state true held some = held_resource h r held
-      by_state false held waits = (waiting_parts h r waits).0
 
     s_accepts : (r : ℕ) → is_untaken h r ≡ true → accepted_by b h r ≡ accepted_by (base_of b h) (shown (base_of b h)) r
     s_accepts r untaken =
@@ -459,7 +596,7 @@ module _ (b : Kept) (h : List Event) where
           stands = λ n x at_n. stands_there n x at_n (kept_at b h n x at_n);
           subscribes = λ n x at_n. subscribes_there n x (kept_at b h n x at_n);
           one_inner = s_one_inner;
-          accepted = λ r held. accepted_there r (s_is_held r ∙ held);
+          accepted = λ r owned. accepted_there r (s_is_owned r ∙ owned);
         }
       where
         -- the parent of an open node is open
@@ -475,6 +612,7 @@ module _ (b : Kept) (h : List Event) where
         inert_stands : (n : ℕ) (x : Event) → is_inert n x ≡ true → StandsWell (shown (base_of b h)) x
         inert_stands n (Hub mode) i = tt
         inert_stands n (Accept m tag) i = tt
+        inert_stands n (Lease r) i = tt
         inert_stands n (Close c) i = tt
         inert_stands n (Open place kind) i = absurd (false≢true i)
         inert_stands n _ i = absurd (false≢true i)
@@ -513,6 +651,7 @@ module _ (b : Kept) (h : List Event) where
         inert_subscribes : (n : ℕ) (x : Event) → is_inert n x ≡ true → SubscribesWell (shown (base_of b h)) x
         inert_subscribes n (Hub mode) i = tt
         inert_subscribes n (Accept m tag) i = tt
+        inert_subscribes n (Lease r) i = tt
         inert_subscribes n (Close c) i = tt
         inert_subscribes n (Open place kind) i = absurd (false≢true i)
         inert_subscribes n _ i = absurd (false≢true i)
@@ -521,8 +660,8 @@ module _ (b : Kept) (h : List Event) where
         subscribes_there n x (inl there) = open_subscribes n x there.0 there.1 (sound.subscribes n x there.1)
         subscribes_there n x (inr inert) = inert_subscribes n x inert
 
-        accepted_there : (r : ℕ) → is_held h r ≡ true → accepted_by (base_of b h) (shown (base_of b h)) r ≡ slice_get (shown (base_of b h)) r
-        accepted_there r held = sym (s_accepts r (λ i. held i || is_waiting h r)) ∙ sound.accepted r held ∙ sym (s_held sound r held)
+        accepted_there : (r : ℕ) → is_owned h r ≡ true → accepted_by (base_of b h) (shown (base_of b h)) r ≡ slice_get (shown (base_of b h)) r
+        accepted_there r owned = sym (s_accepts r (λ i. owned_held h r owned i || is_waiting h r)) ∙ sound.accepted r owned ∙ sym (s_owned sound r owned)
 
     -- and agrees ---------------------------------------------------------------------------------------
 
@@ -555,10 +694,13 @@ module _ (b : Kept) (h : List Event) where
           notifiers = s_notifiers;
           completions = s_completions;
           debts = s_debts;
+          owned = s_is_owned;
           held = s_is_held;
           waiting = s_is_waiting;
           accepts = s_accepts;
           used = s_uses;
+          out = s_is_out;
+          leased = λ l out. sym (s_lease l out);
           item_total = let none = s_items in let sum = base_items b h in omega arith;
           accepted_total = let less = s_accepted_less in let sum = base_accepted b h in omega arith;
           taken_total = let none = s_takes in let sum = base_taken b h in omega arith;

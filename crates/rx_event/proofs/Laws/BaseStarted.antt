@@ -11,21 +11,24 @@ use Rattle.rx_event.specs.declared.event.Place.TheVariants.{Root, Source, Inner,
 use Rattle.rx_event.specs.declared.event.Kind.{Kind}
 use Rattle.rx_event.specs.declared.event.Kind.TheVariants.{Leaf, Pass, Flat, Switch, Until, Sub}
 use Rattle.rx_event.specs.declared.event.Event.{Event}
-use Rattle.rx_event.specs.declared.event.Event.TheVariants.{Open, Hub, Connect, Accept, Decline}
+use Rattle.rx_event.specs.declared.event.Event.TheVariants.{Open, Hub, Connect, Accept, Lease, Decline}
 use Rattle.rx_event.specs.Kept.{Kept, node_kept, resource_kept, shown}
-use Rattle.rx_event.specs.Events.{makes_node, makes_hub, has_source, is_merging, is_until, is_use_of, is_source_of, is_making, parent_named, node_of_accept, pays}
+use Rattle.rx_event.specs.Events.{makes_node, makes_hub, makes_resource, makes_lease, has_source, is_merging, is_until, is_use_of, is_source_of}
+use Rattle.rx_event.specs.Events.{is_making, parent_named, node_of_accept, pays}
 use Rattle.rx_event.specs.Tree.{at, is_open, is_within}
-use Rattle.rx_event.specs.Resources.{is_held, is_waiting, uses}
+use Rattle.rx_event.specs.Resources.{is_owned, is_out, is_waiting, uses}
 use Rattle.rx_event.specs.Moments.{projected_by, owed}
 use Rattle.rx_event.specs.Forced.{IsSettled}
 use Rattle.rx_event.specs.Allowed.{IsHubbed, IsInOrderAt, IsInOrder}
 use Rattle.rx_event.specs.Lawful.{HasPlace, Started, IsLawful}
-use Rattle.rx_event.specs.Bases.{keep_node, keep_resource, base_of, Alike, Agree}
+use Rattle.rx_event.specs.Bases.{keep_node, keep_resource, is_untaken, base_of, Alike, Agree}
 use Rattle.rx_event.proofs.Laws.Places.{slice_get-append, at-take, at_within}
 use Rattle.rx_event.proofs.Laws.Parents.{ancestors-append}
 use Rattle.rx_event.proofs.Laws.Openness.{is_open_past, stays_closed_after, parent_open}
 use Rattle.rx_event.proofs.Laws.Hubs.{one_connection}
-use Rattle.rx_event.proofs.Laws.Resources.{node_of-lt, is_held_past, is_waiting_past}
+use Rattle.rx_event.proofs.Laws.Resources.{node_of-lt, leased_held, is_held_past, is_waiting_past}
+use Rattle.rx_event.proofs.Laws.Leases.{lease_older}
+use Rattle.rx_event.proofs.Laws.Released.{out_leased}
 use Rattle.rx_event.proofs.Laws.Plain.{owed_plain}
 use Rattle.rx_event.proofs.Laws.Sources.{one_source}
 use Rattle.rx_event.proofs.Laws.Totals.{accepted_count-parts}
@@ -35,7 +38,8 @@ use Rattle.rx_event.proofs.Laws.MarksNew.{never}
 use Rattle.rx_event.proofs.Laws.SameTree.{named_parent}
 use Rattle.rx_event.proofs.Laws.Bases.{is_inert, KeptAt, kept_at, node_of_base, length_base}
 use Rattle.rx_event.proofs.Laws.Agreed.{settled_too}
-use Rattle.rx_event.proofs.Laws.BaseAgrees.{resource_of_base, s_making, s_unused, s_held, s_waiting, s_no_resource, base_is_alike, held_node, s_one_inner, s_paid, base_sound, base_agrees}
+use Rattle.rx_event.proofs.Laws.BaseAgrees.{resource_of_base, s_making, s_unused, s_owned, s_unowned, s_no_resource, s_resource_at, s_lease, s_no_lease}
+use Rattle.rx_event.proofs.Laws.BaseAgrees.{base_is_alike, owned_node, s_one_inner, s_paid, base_sound, base_agrees}
 use Rattle.rx_event.proofs.Laws.ShownBase.{base_one_connection, base_undue, agree_accepted}
 
 -- what an event names stands before it ----------------------------------------------------------------------
@@ -142,34 +146,45 @@ module _ (b : Kept) (h : List Event) (law : IsLawful b h) (settled : IsSettled b
 
   -- an acceptance names an open node before it, or itself
   data AcceptsAt (r n : ℕ) : Type 0 where
-    held_at : n ≤ r → is_open s n ≡ true → AcceptsAt r n
+    owned_at : n ≤ r → is_open s n ≡ true → AcceptsAt r n
     at_itself : n ≡ r → AcceptsAt r n
 
   accept_at : (r n tag : ℕ) → slice_get s r ≡ Some (Accept n tag) → AcceptsAt r n
-  accept_at r n tag at_r = by_state (is_held h r) refl (is_waiting h r) refl where
+  accept_at r n tag at_r = by_state (is_owned h r) refl (is_untaken h r) refl where
     node_is : (x y : ℕ) → Some (Accept x y) ≡ Some (Accept n tag) → x ≡ n
     node_is x y same = same_Some x n (ap (Rattle.std.specs.Option.option_and_then node_of_accept) same)
 
-    by_state : (x : Bool) → is_held h r ≡ x → (y : Bool) → is_waiting h r ≡ y → AcceptsAt r n
-    by_state true held y waits =
-        let there : slice_get h r ≡ Some (Accept n tag) = sym (s_held b h sound r held) ∙ at_r in
-        held_at (node_of-lt b h law r n (ap (Rattle.std.specs.Option.option_and_then node_of_accept) there))
-        (sym (alike.same_open n) ∙ sym (ap (λ o. option_map_or (is_open h) (Rattle.std.specs.Option.option_and_then node_of_accept o) false) there) ∙ held_node b h sound r held)
-    by_state false held true waits = at_itself (sym (node_is r (keep_resource b h r).tag (sym (s_waiting b h r waits) ∙ at_r)))
-    by_state false held false waits =
-        absurd (both_ways _ (s_no_resource b h r (λ j. held j || waits j)) (ap (λ o. option_map_or Rattle.rx_event.specs.Events.makes_resource o false) at_r))
+    by_state : (x : Bool) → is_owned h r ≡ x → (y : Bool) → is_untaken h r ≡ y → AcceptsAt r n
+    by_state true owned y untaken =
+        let there : slice_get h r ≡ Some (Accept n tag) = sym (s_owned b h sound r owned) ∙ at_r in
+        owned_at (node_of-lt b h law r n (ap (Rattle.std.specs.Option.option_and_then node_of_accept) there))
+        (sym (alike.same_open n) ∙ sym (ap (λ o. option_map_or (is_open h) (Rattle.std.specs.Option.option_and_then node_of_accept o) false) there) ∙
+        owned_node b h sound r owned)
+    by_state false owned true untaken = at_itself (sym (node_is r (keep_resource b h r).tag (sym (s_unowned b h r untaken owned) ∙ at_r)))
+    by_state false owned false none =
+        absurd (both_ways _ (s_no_resource b h r none) (ap (λ o. option_map_or makes_resource o false) at_r))
 
   accepts : (r n tag : ℕ) → slice_get s r ≡ Some (Accept n tag) → n ≤ r
   accepts r n tag at_r = by_case (accept_at r n tag at_r) where
     by_case : AcceptsAt r n → n ≤ r
-    by_case (held_at l o) = l
+    by_case (owned_at l o) = l
     by_case (at_itself same) = omega arith
 
   holds : (r n tag : ℕ) → slice_get s r ≡ Some (Accept n tag) → n < r → is_open s n ≡ true
   holds r n tag at_r less = by_case (accept_at r n tag at_r) where
     by_case : AcceptsAt r n → is_open s n ≡ true
-    by_case (held_at l o) = o
+    by_case (owned_at l o) = o
     by_case (at_itself same) = absurd (omega arith)
+
+  -- a lease names a resource before it
+  leases : (l r : ℕ) → slice_get s l ≡ Some (Lease r) → at makes_resource (take l s) r ≡ true
+  leases l r at_l = by_state (is_out h l) refl where
+    by_state : (x : Bool) → is_out h l ≡ x → at makes_resource (take l s) r ≡ true
+    by_state true out =
+        let there : slice_get h l ≡ Some (Lease r) = sym (s_lease b h l out) ∙ at_l in
+        at_front makes_resource l r (lease_older b h law l r there) (old l _ at_l)
+        (s_resource_at b h sound r ∙ ap (λ c. c || is_waiting h r) (leased_held h r (out_leased b h law l r there out)))
+    by_state false back = absurd (both_ways _ (s_no_lease b h l back) (ap (λ o. option_map_or makes_lease o false) at_l))
 
   past : (n : ℕ) → length s ≤ n → length h ≤ n
   past n l = rw (← length_base b h) l
@@ -228,6 +243,7 @@ module _ (b : Kept) (h : List Event) (law : IsLawful b h) (settled : IsSettled b
         accepts = accepts;
         holds = holds;
         one_source = λ f x y one other. one_source b h law f x y (at_there (is_source_of f) (makes_source f) x one) (at_there (is_source_of f) (makes_source f) y other);
+        leases = leases;
         one_inner = λ f x y switch one one_open other other_open. s_one_inner b h sound f x y (record { switch = switch; one = one; one_open = one_open; other = other; other_open = other_open });
         one_connection = λ g x y one one_open other other_open. base_one_connection b h sound (one_connection b h law) g x y (record { one = one; one_open = one_open; other = other; other_open = other_open });
         unused = unused;
@@ -239,6 +255,6 @@ module _ (b : Kept) (h : List Event) (law : IsLawful b h) (settled : IsSettled b
         alive = alive;
         making = s_making b h;
         unnumbered = unnumbered;
-        reads_held = sound_s.accepted;
+        reads_owned = sound_s.accepted;
         undue = base_undue b h sound settled;
       }

@@ -10,14 +10,15 @@ use Rattle.rx_event.specs.declared.event.Kind.{Kind}
 use Rattle.rx_event.specs.declared.event.Mode.{Mode}
 use Rattle.rx_event.specs.declared.event.Place.TheVariants.{Root, Source, Inner, Notifier}
 use Rattle.rx_event.specs.declared.event.Event.{Event}
-use Rattle.rx_event.specs.declared.event.Event.TheVariants.{Open, Hub, Connect, Accept, End, Close}
+use Rattle.rx_event.specs.declared.event.Event.TheVariants.{Open, Hub, Connect, Accept, Lease, End, Close}
 use Rattle.rx_event.specs.Events.{makes_node, makes_hub, parent_named, is_switch, is_inner_of}
 use Rattle.rx_event.specs.Tree.{at, parent, if_less, shuts, is_shut, is_open, is_switched_inner}
 use Rattle.rx_event.proofs.Laws.SoundForm.{TwoOpenInners}
 use Rattle.rx_event.specs.declared.base.BaseResource.{BaseResource}
+use Rattle.rx_event.specs.declared.base.BaseLease.{BaseLease}
 use Rattle.rx_event.specs.declared.base.BaseNode.{BaseNode}
 use Rattle.rx_event.specs.declared.base.BaseHub.{BaseHub}
-use Rattle.rx_event.specs.Kept.{Kept, find_by, node_kept, hub_kept, resource_kept, resource_shown, shown_at, shown}
+use Rattle.rx_event.specs.Kept.{Kept, find_by, node_kept, hub_kept, resource_kept, lease_kept, resource_shown, lease_shown, shown_at, shown}
 use Rattle.rx_event.specs.Bases.{event_or, keep_node, keep_hub, mode_of, base_of, Alike}
 use Rattle.rx_event.proofs.Laws.Places.{at_within}
 use Rattle.rx_event.proofs.Laws.Parents.{parent-lt}
@@ -113,6 +114,7 @@ shown_get b n l =
 abbrev pub is_inert : ℕ → Event → Bool
 is_inert m (Hub mode) = true
 is_inert m (Accept node tag) = true
+is_inert m (Lease r) = true
 is_inert m (Close c) = c == m
 is_inert m _ = false
 
@@ -124,14 +126,16 @@ kept_place b h m l = by_node (is_open h m) refl (node_of_base b h m) where
   self : (m == m) ≡ true
   self = eq-eqb m m refl
 
-  by_resource : (o : Option BaseResource) → is_inert m (option_map_or (resource_shown m) o (Close m)) ≡ true
-  by_resource None = self
-  by_resource (Some k) = by_owned k.owned where
-    by_owned : (c : Bool) → is_inert m (cond c (Accept k.node k.tag) (Accept m k.tag)) ≡ true
-    by_owned true = refl
-    by_owned false = refl
+  by_lease : (o : Option BaseLease) → is_inert m (option_map_or (λ k. Lease k.resource) o (Close m)) ≡ true
+  by_lease None = self
+  by_lease (Some k) = refl
 
-  by_hub : (o : Option BaseHub) → is_inert m (option_map_or (λ k. Hub k.mode) o (option_map_or (resource_shown m) (resource_kept (base_of b h) m) (Close m))) ≡ true
+  by_resource : (o : Option BaseResource) → is_inert m (option_map_or (resource_shown m) o (lease_shown (base_of b h) m)) ≡ true
+  by_resource None = by_lease (lease_kept (base_of b h) m)
+  by_resource (Some k) = refl
+
+  by_hub : (o : Option BaseHub) → is_inert m (option_map_or (λ k. Hub k.mode) o (option_map_or (resource_shown m) (resource_kept (base_of b h) m)
+      (lease_shown (base_of b h) m))) ≡ true
   by_hub None = by_resource (resource_kept (base_of b h) m)
   by_hub (Some k) = refl
 
@@ -140,9 +144,15 @@ kept_place b h m l = by_node (is_open h m) refl (node_of_base b h m) where
 
   by_node : (o : Bool) → is_open h m ≡ o → node_kept (base_of b h) m ≡ cond o (Some (keep_node b h m)) None → KeptAt h m (shown_at (base_of b h) m)
   by_node true o kept =
-      inl (o, there.1 ∙ ap Some (sym (ap (λ k. option_map_or (λ r. r.made) k (option_map_or (λ r. Hub r.mode) (hub_kept (base_of b h) m) (option_map_or (resource_shown m) (resource_kept (base_of b h) m) (Close m)))) kept ∙ ap (λ x. option_map_or (λ e. e) x (Close m)) there.1)))
+      inl (
+        o,
+        there.1 ∙ ap Some (sym (ap (λ k. option_map_or (λ r. r.made) k (option_map_or (λ r. Hub r.mode) (hub_kept (base_of b h) m)
+            (option_map_or (resource_shown m) (resource_kept (base_of b h) m) (lease_shown (base_of b h) m)))) kept ∙ ap
+            (λ x. option_map_or (λ e. e) x (Close m)) there.1)),
+      )
   by_node false o kept =
-      inr (ap (λ k. is_inert m (option_map_or (λ r. r.made) k (option_map_or (λ r. Hub r.mode) (hub_kept (base_of b h) m) (option_map_or (resource_shown m) (resource_kept (base_of b h) m) (Close m))))) kept ∙ by_hub (hub_kept (base_of b h) m))
+      inr (ap (λ k. is_inert m (option_map_or (λ r. r.made) k (option_map_or (λ r. Hub r.mode) (hub_kept (base_of b h) m)
+      (option_map_or (resource_shown m) (resource_kept (base_of b h) m) (lease_shown (base_of b h) m))))) kept ∙ by_hub (hub_kept (base_of b h) m))
 
 pub base_length : (b : Kept) (h : List Event) → (base_of b h).at_length ≡ length h
 unfolding base_of
@@ -164,7 +174,9 @@ kept_open b h n o =
     let l : n < length h = is_open_within h n o in
     let there = event_at h n l in
     shown_get (base_of b h) n (rw (base_length b h) l) ∙
-    ap (λ k. Some (option_map_or (λ r. r.made) k (option_map_or (λ r. Hub r.mode) (hub_kept (base_of b h) n) (option_map_or (resource_shown n) (resource_kept (base_of b h) n) (Close n))))) (node_of_base b h n ∙ ap (λ c. cond c (Some (keep_node b h n)) None) o) ∙
+    ap (λ k. Some (option_map_or (λ r. r.made) k (option_map_or (λ r. Hub r.mode) (hub_kept (base_of b h) n)
+    (option_map_or (resource_shown n) (resource_kept (base_of b h) n) (lease_shown (base_of b h) n)))))
+    (node_of_base b h n ∙ ap (λ c. cond c (Some (keep_node b h n)) None) o) ∙
     ap (λ x. Some (option_map_or (λ e. e) x (Close n))) there.1 ∙ sym there.1
 
 pub closed_here : (b : Kept) (h : List Event) (n : ℕ) → is_open h n ≡ false → at makes_node (shown (base_of b h)) n ≡ false
@@ -289,8 +301,11 @@ base_alike b h law =
 
         shown_hub : (n : ℕ) (mode : Mode) → slice_get h n ≡ Some (Hub mode) → is_open h n ≡ false → shown_at (base_of b h) n ≡ Hub mode
         shown_hub n mode at_n closed =
-            ap (λ k. option_map_or (λ r. r.made) k (option_map_or (λ r. Hub r.mode) (hub_kept (base_of b h) n) (option_map_or (resource_shown n) (resource_kept (base_of b h) n) (Close n)))) (node_of_base b h n ∙ ap (λ c. cond c (Some (keep_node b h n)) None) closed) ∙
-            ap (λ k. option_map_or (λ r. Hub r.mode) k (option_map_or (resource_shown n) (resource_kept (base_of b h) n) (Close n))) (hub_of_base b h n ∙ ap (λ e. cond (option_map_or makes_hub e false) (Some (keep_hub h n)) None) at_n) ∙
+            ap (λ k. option_map_or (λ r. r.made) k (option_map_or (λ r. Hub r.mode) (hub_kept (base_of b h) n)
+            (option_map_or (resource_shown n) (resource_kept (base_of b h) n) (lease_shown (base_of b h) n))))
+            (node_of_base b h n ∙ ap (λ c. cond c (Some (keep_node b h n)) None) closed) ∙
+            ap (λ k. option_map_or (λ r. Hub r.mode) k (option_map_or (resource_shown n) (resource_kept (base_of b h) n) (lease_shown (base_of b h) n)))
+            (hub_of_base b h n ∙ ap (λ e. cond (option_map_or makes_hub e false) (Some (keep_hub h n)) None) at_n) ∙
             ap (λ e. Hub (mode_of (option_map_or (λ x. x) e (Close n)))) at_n
 
     hub_there : (n : ℕ) (mode : Mode) → KeptAt h n (Hub mode) → slice_get (shown (base_of b h)) n ≡ Some (Hub mode) → slice_get h n ≡ Some (Hub mode)
@@ -311,21 +326,29 @@ base_alike b h law =
       in_event None is = absurd (false≢true is)
       in_event (Some e) is = ap Some (hub_event e is)
 
-      -- a resource's record shows no hub
-      no_hub : (k : Option BaseResource) → option_map_or (resource_shown n) k (Close n) ≡ Hub mode → ⊥
-      no_hub None same = both_ways (makes_hub (Close n)) refl (ap makes_hub same)
-      no_hub (Some k) same = by_owned k.owned same where
-        by_owned : (c : Bool) → cond c (Accept k.node k.tag) (Accept n k.tag) ≡ Hub mode → ⊥
-        by_owned true same = both_ways (makes_hub (Accept k.node k.tag)) refl (ap makes_hub same)
-        by_owned false same = both_ways (makes_hub (Accept n k.tag)) refl (ap makes_hub same)
+      -- neither a resource's record nor a lease's shows a hub
+      no_lease : (k : Option BaseLease) → option_map_or (λ r. Lease r.resource) k (Close n) ≡ Hub mode → ⊥
+      no_lease None same = both_ways (makes_hub (Close n)) refl (ap makes_hub same)
+      no_lease (Some k) same = both_ways (makes_hub (Lease k.resource)) refl (ap makes_hub same)
 
-      past_node : is_open h n ≡ false → shown_at (base_of b h) n ≡ option_map_or (λ r. Hub r.mode) (hub_kept (base_of b h) n) (option_map_or (resource_shown n) (resource_kept (base_of b h) n) (Close n))
-      past_node closed = ap (λ k. option_map_or (λ r. r.made) k (option_map_or (λ r. Hub r.mode) (hub_kept (base_of b h) n) (option_map_or (resource_shown n) (resource_kept (base_of b h) n) (Close n)))) (node_of_base b h n ∙ ap (λ c. cond c (Some (keep_node b h n)) None) closed)
+      no_hub : (k : Option BaseResource) → option_map_or (resource_shown n) k (lease_shown (base_of b h) n) ≡ Hub mode → ⊥
+      no_hub None same = no_lease (lease_kept (base_of b h) n) same
+      no_hub (Some k) same = both_ways (makes_hub (resource_shown n k)) refl (ap makes_hub same)
+
+      past_node : is_open h n ≡ false → shown_at (base_of b h) n ≡ option_map_or (λ r. Hub r.mode) (hub_kept (base_of b h) n)
+          (option_map_or (resource_shown n) (resource_kept (base_of b h) n) (lease_shown (base_of b h) n))
+      past_node closed = ap (λ k. option_map_or (λ r. r.made) k (option_map_or (λ r. Hub r.mode) (hub_kept (base_of b h) n)
+          (option_map_or (resource_shown n) (resource_kept (base_of b h) n) (lease_shown (base_of b h) n))))
+          (node_of_base b h n ∙ ap (λ c. cond c (Some (keep_node b h n)) None) closed)
 
       by_tests : (is_open h n ≡ true) ⊎ (is_open h n ≡ false) → (at makes_hub h n ≡ true) ⊎ (at makes_hub h n ≡ false) → slice_get h n ≡ Some (Hub mode)
       by_tests (inl o) hub = sym (kept_open b h n o) ∙ at_n
       by_tests (inr closed) (inl hub) =
-          let shows : shown_at (base_of b h) n ≡ Hub (mode_of (event_or h n)) = past_node closed ∙ ap (λ k. option_map_or (λ r. Hub r.mode) k (option_map_or (resource_shown n) (resource_kept (base_of b h) n) (Close n))) (hub_of_base b h n ∙ ap (λ c. cond c (Some (keep_hub h n)) None) hub) in
+          let shows : shown_at (base_of b h) n ≡ Hub (mode_of (event_or h n)) = past_node closed ∙ ap
+          (λ k. option_map_or (λ r. Hub r.mode) k (option_map_or (resource_shown n) (resource_kept (base_of b h) n) (lease_shown (base_of b h) n)))
+          (hub_of_base b h n ∙ ap (λ c. cond c (Some (keep_hub h n)) None) hub) in
           in_event (slice_get h n) hub ∙ ap Some (sym shows ∙ made)
       by_tests (inr closed) (inr other) =
-          absurd (no_hub (resource_kept (base_of b h) n) (sym (past_node closed ∙ ap (λ k. option_map_or (λ r. Hub r.mode) k (option_map_or (resource_shown n) (resource_kept (base_of b h) n) (Close n))) (hub_of_base b h n ∙ ap (λ c. cond c (Some (keep_hub h n)) None) other)) ∙ made))
+          absurd (no_hub (resource_kept (base_of b h) n) (sym (past_node closed ∙ ap (λ k. option_map_or (λ r. Hub r.mode) k
+          (option_map_or (resource_shown n) (resource_kept (base_of b h) n) (lease_shown (base_of b h) n)))
+          (hub_of_base b h n ∙ ap (λ c. cond c (Some (keep_hub h n)) None) other)) ∙ made))

@@ -42,6 +42,7 @@ started_empty =
       accepts = λ r n tag at_r. absurd (none-some _ at_r);
       holds = λ r n tag at_r l. absurd (none-some _ at_r);
       one_source = λ f x y one other. absurd (false≢true one);
+      leases = λ l r at_l. absurd (none-some _ at_l);
       one_inner = λ f x y s a o b p. absurd (closed x o);
       one_connection = λ g x y a o b p. absurd (closed x o);
       unused = λ r l. refl;
@@ -53,7 +54,7 @@ started_empty =
       alive = λ n e at_n makes. absurd (none-some e at_n);
       making = λ i e at_i. absurd (none-some e at_i);
       unnumbered = λ r l. refl;
-      reads_held = λ r held. refl;
+      reads_owned = λ r owned. refl;
       undue = λ n t d. due_none d;
     }
 

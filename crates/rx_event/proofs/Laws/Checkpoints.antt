@@ -7,14 +7,15 @@ use Rattle.std.proofs.lemmas.Bool.{false≢true}
 use Rattle.rx_event.specs.declared.event.Event.{Event}
 use Rattle.rx_event.specs.declared.event.Event.TheVariants.{Open, Hub, Item, End, Close}
 use Rattle.rx_event.specs.Events.{is_merging, makes_hub, is_root}
-use Rattle.rx_event.specs.Resources.{is_held, is_waiting}
+use Rattle.rx_event.specs.Resources.{is_owned, is_out, is_held, is_waiting}
 use Rattle.rx_event.specs.Tree.{at, hubs, places, open_nodes, is_open}
 use Rattle.rx_event.specs.Moments.{Moment, moments_after, owed}
 use Rattle.rx_event.specs.Notes.{told, mail_of}
 use Rattle.rx_event.specs.Forced.{IsSettled}
 use Rattle.rx_event.specs.Lawful.{MayFollow, IsLawful}
+use Rattle.rx_event.specs.declared.base.BaseState.TheVariants.{Owned, Leased, Waiting}
 use Rattle.rx_event.specs.Kept.{Kept, shown}
-use Rattle.rx_event.specs.Bases.{keep_node, keep_hub, keep_resource, mode_of, accept_node, accept_tag, is_untaken, base_of, Agree}
+use Rattle.rx_event.specs.Bases.{keep_node, keep_hub, keep_resource, keep_lease, lease_resource, mode_of, accept_node, accept_tag, is_untaken, base_of, Agree}
 use Rattle.rx_event.specs.Totals.{debt_of, debt}
 use Rattle.rx_event.specs.Claims.Checkpoints.{EachRule, AgreeingGoOn, CheckpointsAgree}
 use Rattle.rx_event.proofs.Laws.Lawful.{IsLawful-push, IsLawful_empty, may_end}
@@ -37,10 +38,13 @@ agree_self b h =
       notifiers = λ n o. refl;
       completions = λ n o. refl;
       debts = λ n o. refl;
+      owned = λ r. refl;
       held = λ r. refl;
       waiting = λ r. refl;
       accepts = λ r i. refl;
       used = λ r i. refl;
+      out = λ l. refl;
+      leased = λ l o. refl;
       item_total = refl;
       accepted_total = refl;
       taken_total = refl;
@@ -119,12 +123,38 @@ module _ (b : Kept) (h : List Event) (c : Kept) (k : List Event) (a : Agree b h 
       (λ i. map (keep_resource c k) (filter (λ r. a.held r i || a.waiting r i) (range_with_len 0 (a.alike.same_length i))))
     where
       same : (r : ℕ) → is_untaken h r ≡ true → keep_resource b h r ≡ keep_resource c k r
-      same r u = (λ i. record { number = r; node = option_map_or accept_node (a.accepts r u i) 0; tag = option_map_or accept_tag (a.accepts r u i) 0; uses = a.used r u i; owned = a.held r i })
+      same r u = (λ i. record {
+        number = r;
+        node = option_map_or accept_node (a.accepts r u i) 0;
+        tag = option_map_or accept_tag (a.accepts r u i) 0;
+        uses =
+            a.used r u i;
+        state = cond (a.owned r i) Owned (cond (a.held r i) Leased Waiting);
+      })
+
+  same_leases : map (keep_lease h) (filter (is_out h) (places h)) ≡ map (keep_lease k) (filter (is_out k) (places k))
+  same_leases =
+      map_filter_same (keep_lease h) (keep_lease k) (is_out h) (λ l out. ap (λ o. record {
+        number = l;
+        resource = lease_resource
+            (option_map_or (λ e. e) o (Close l));
+      }) (a.leased l out)) (places h) ∙
+      (λ i. map (keep_lease k) (filter (λ l. a.out l i) (range_with_len 0 (a.alike.same_length i))))
 
   -- are the same
   pub same_base : base_of b h ≡ base_of c k
   unfolding base_of
-  same_base = (λ i. record { at_length = a.alike.same_length i; items = a.item_total i; accepted = a.accepted_total i; taken = a.taken_total i; hubs = same_hubs i; nodes = same_nodes i; resources = same_resources i })
+  same_base = (λ i. record {
+    at_length = a.alike.same_length i;
+    items = a.item_total i;
+    accepted = a.accepted_total i;
+    taken = a.taken_total i;
+    hubs =
+        same_hubs i;
+    nodes = same_nodes i;
+    resources = same_resources i;
+    leases = same_leases i;
+  })
 
 same_debt : (b : Kept) (h : List Event) (c : Kept) (k : List Event) → Agree b h c k → debt b h ≡ debt c k
 unfolding debt
@@ -134,12 +164,14 @@ same_debt b h c k a =
   where
     each : (n : ℕ) (o : Bool) → is_open h n ≡ o → debt_of b h n ≡ debt_of c k n
     each n true o =
-        (λ i. cond (a.alike.same_open n i) 1 0 + cond (a.held n i) 2 0 + cond (a.waiting n i) 1 0 +
+        (λ i. cond (a.alike.same_open n i) 1 0 + cond (a.owned n i) 2 (cond (a.held n i) 1 (cond (a.waiting n i) 1 0)) + cond (a.out n i) 1 0 +
         cond (a.alike.same_open n i && at_alike h k a.alike is_merging n o i) (a.debts n o i) 0)
     each n false o =
         let closed : is_open k n ≡ false = sym (a.alike.same_open n) ∙ o in
-        (λ i. cond (o i) 1 0 + cond (a.held n i) 2 0 + cond (a.waiting n i) 1 0 + cond (o i && at is_merging h n) (owed b h n) 0) ∙
-        sym (λ i. cond (closed i) 1 0 + cond (is_held k n) 2 0 + cond (is_waiting k n) 1 0 + cond (closed i && at is_merging k n) (owed c k n) 0)
+        (λ i. cond (o i) 1 0 + cond (a.owned n i) 2 (cond (a.held n i) 1 (cond (a.waiting n i) 1 0)) + cond (a.out n i) 1 0 + cond
+        (o i && at is_merging h n) (owed b h n) 0) ∙
+        sym (λ i. cond (closed i) 1 0 + cond (is_owned k n) 2 (cond (is_held k n) 1 (cond (is_waiting k n) 1 0)) + cond (is_out k n) 1 0 + cond
+        (closed i && at is_merging k n) (owed c k n) 0)
 
 lawful_on : (b : Kept) (h es : List Event) → IsLawful b h → Continues b h es → IsLawful b (h ++ es)
 lawful_on b h [] law each = rw (append-nil h) law

@@ -1,52 +1,59 @@
 -- What one more event does to the debt.
 use Rattle.std.proofs.Common.{◌≡◌, ℕ, ℤ, ◌+◌, ◌*◌, ◌<◌, ◌≤◌, Bool, true, false, List, [], ◌∷◌, ◌++◌, length, Option, Some, None, cond, refl, ap, ◌∙◌, arith, ◌==◌}
 use Rattle.std.proofs.Math.Bool.{not, ◌&&◌, ◌||◌}
-use Rattle.std.specs.List.{sum_by, count_by, range_with_len}
+use Rattle.std.specs.List.{sum_by, count_by}
 use Rattle.std.specs.Option.{option_map_or}
-use Rattle.std.proofs.lemmas.Bool.{eq-eqb, eqb-true}
+use Rattle.std.proofs.lemmas.Bool.{eq-eqb, eqb-true, false≢true, both_ways}
 use Rattle.rx_note.specs.declared.note.Terminal.{Terminal}
 use Rattle.rx_event.specs.Kept.{Kept}
 use Rattle.rx_event.specs.declared.event.Place.TheVariants.{Root, Source, Inner, Notifier}
 use Rattle.rx_event.specs.declared.event.Kind.{Kind}
 use Rattle.rx_event.specs.declared.event.Mode.{Mode}
 use Rattle.rx_event.specs.declared.event.Event.{Event}
-use Rattle.rx_event.specs.declared.event.Event.TheVariants.{Open, Hub, Connect, Accept, Use, Remove, Item, Decline, End, Close, Take}
-use Rattle.rx_event.specs.Events.{makes_node, makes_resource, is_merging, is_switch, is_take, is_remove_of, pays}
+use Rattle.rx_event.specs.declared.event.Event.TheVariants.{Open, Hub, Connect, Accept, Use, Remove, Lease, Return, Item, Decline, End, Close, Take}
+use Rattle.rx_event.specs.Events.{makes_node, makes_resource, makes_lease, is_merging, is_switch, is_take, is_return, is_remove_of, pays}
 use Rattle.rx_event.specs.Tree.{at, places, is_open}
-use Rattle.rx_event.specs.Resources.{is_held, is_waiting}
+use Rattle.rx_event.specs.Resources.{is_owned, is_out, is_held, is_waiting}
 use Rattle.rx_event.specs.Climb.{stops}
 use Rattle.rx_event.specs.Moments.{owed, is_projection, is_projection_to, stops_of}
-use Rattle.rx_event.specs.Totals.{open_count, held_count, waiting_count, owed_open, owed_count, debt}
+use Rattle.rx_event.specs.Totals.{open_count, owned_count, held_count, lease_count, waiting_count, owed_open, owed_count, kept_debt, debt}
 use Rattle.rx_event.specs.Lawful.{MayFollow, IsLawful}
 use Rattle.rx_event.proofs.Laws.Lawful.{may_end}
 use Rattle.rx_event.proofs.Laws.Places.{at-append}
 use Rattle.rx_event.proofs.Laws.Openness.{is_cut, is_cut_none, is_cut_inner, is_cut_inner_flat, is_open_cut, is_open_within, shuts_none}
 use Rattle.rx_event.proofs.Laws.Steps.{may_open, may_remove, may_close, may_emit, may_decline}
 use Rattle.rx_event.proofs.Laws.Sums.{sum_by-places-push, sums_balance, sum_by-same, sum_by-plus, sum_by_no_rise, sum_by_falls, sum_by_none, count_by_one}
-use Rattle.rx_event.proofs.Laws.Resources.{node_of}
-use Rattle.rx_event.proofs.Laws.Totals.{lost_count, cut_count, held_count-push, waiting_count-push, open_count-push, is_open_new, accepts_open, within_some, lost_one, lost_none, one_if}
+use Rattle.rx_event.proofs.Laws.Leases.{lease_count-push}
+use Rattle.rx_event.proofs.Laws.Resources.{node_of, owned_held, waiting_parts}
+use Rattle.rx_event.proofs.Laws.Totals.{unowned_count, cut_count, owned_count-push, held_waiting_count-push, open_count-push, is_open_new, accepts_open}
+use Rattle.rx_event.proofs.Laws.Totals.{within_some, unowned_one, unowned_none, one_if}
 use Rattle.rx_event.proofs.Laws.Projections.{owed-push, owed_new, projected_open, projected_count, stops_open}
 
 -- the debt as a sum of totals -----------------------------------------------------------------------
 
-count_twice : (p : ℕ → Bool) (n : ℕ) → sum_by (λ k. cond (p k) 2 0) (range_with_len 0 n) ≡ 2 * count_by p (range_with_len 0 n)
-count_twice p n =
-    let twice = sum_by-plus (λ k. cond (p k) 1 0) (λ k. cond (p k) 1 0) n in
-    let each = sum_by-same (λ k. cond (p k) 1 0 + cond (p k) 1 0) (λ k. cond (p k) 2 0) n (λ k l. shape (p k)) in
-    omega arith
-  where
-    shape : (b : Bool) → cond {A = ℕ} b 2 0 ≡ cond b 1 0 + cond b 1 0
-    shape true = refl
-    shape false = refl
+-- two for an owned resource, one for a held or a waiting one: one for what is owned, one for what is held, one for what waits
+kept_parts : (h : List Event) (r : ℕ) → kept_debt h r ≡ cond (is_owned h r) 1 0 + cond (is_held h r) 1 0 + cond (is_waiting h r) 1 0
+kept_parts h r = shape (is_owned h r) (is_held h r) (is_waiting h r) (owned_held h r) (λ w. (waiting_parts h r w).1) where
+  shape : (o b w : Bool) → (o ≡ true → b ≡ true) → (w ≡ true → b ≡ false) → cond {A = ℕ} o 2 (cond b 1 (cond w 1 0)) ≡ cond o 1 0 + cond b 1 0 + cond w 1 0
+  shape true true true up apart = absurd (both_ways _ (apart refl) refl)
+  shape true true false up apart = refl
+  shape true false w up apart = absurd (false≢true (up refl))
+  shape false true true up apart = absurd (both_ways _ (apart refl) refl)
+  shape false true false up apart = refl
+  shape false false true up apart = refl
+  shape false false false up apart = refl
 
--- one for each open node, two for each held resource, one for each that waits, and what is owed
-pub debt-counts : (base : Kept) → (h : List Event) → debt base h ≡ open_count h + 2 * held_count h + waiting_count h + owed_count base h
+-- one for each open node, one for each owned resource, for each held and for each that waits, one for each lease out, and what is owed
+pub debt-counts : (base : Kept) → (h : List Event) → debt base h ≡ open_count h + owned_count h + held_count h + waiting_count h + lease_count h +
+    owed_count base h
 unfolding debt
 debt-counts base h =
-    let a = sum_by-plus (λ n. cond (is_open h n) 1 0) (λ n. cond (is_held h n) 2 0) (length h) in
-    let b = sum_by-plus (λ n. cond (is_open h n) 1 0 + cond (is_held h n) 2 0) (λ n. cond (is_waiting h n) 1 0) (length h) in
-    let c = sum_by-plus (λ n. cond (is_open h n) 1 0 + cond (is_held h n) 2 0 + cond (is_waiting h n) 1 0) (owed_open base h) (length h) in
-    let d = count_twice (is_held h) (length h) in
+    let a = sum_by-plus (λ n. cond (is_open h n) 1 0) (kept_debt h) (length h) in
+    let b = sum_by-plus (λ n. cond (is_open h n) 1 0 + kept_debt h n) (λ n. cond (is_out h n) 1 0) (length h) in
+    let c = sum_by-plus (λ n. cond (is_open h n) 1 0 + kept_debt h n + cond (is_out h n) 1 0) (owed_open base h) (length h) in
+    let k = sum_by-same (λ r. cond (is_owned h r) 1 0 + cond (is_held h r) 1 0 + cond (is_waiting h r) 1 0) (kept_debt h) (length h) (λ r l. kept_parts h r) in
+    let d = sum_by-plus (λ r. cond (is_owned h r) 1 0 + cond (is_held h r) 1 0) (λ r. cond (is_waiting h r) 1 0) (length h) in
+    let e = sum_by-plus (λ r. cond (is_owned h r) 1 0) (λ r. cond (is_held h r) 1 0) (length h) in
     omega arith
 
 -- owed --------------------------------------------------------------------------------------------
@@ -146,15 +153,17 @@ projects_nothing h = sum_by_none (projected_open h []) (length h) (λ n l. zero_
 
 -- the debt with all that the event takes away, against the debt with all that it adds
 pub debt-push : (base : Kept) → (h : List Event) (e : Event) → IsLawful base h → MayFollow base h e →
-    debt base (h ++ e ∷ []) + cut_count h e + lost_count h e + cond (is_take e) 1 0 + owed_count base h ≡ debt base h + cond (makes_node e) 1 0 + 2 * cond (makes_resource e) 1 0 + owed_count base (h ++ e ∷ [])
+    debt base (h ++ e ∷ []) + cut_count h e + unowned_count h e + cond (is_take e) 1 0 + cond (is_return e) 1 0 + owed_count base h ≡ debt base h + cond
+    (makes_node e) 1 0 + 2 * cond (makes_resource e) 1 0 + cond (makes_lease e) 1 0 + owed_count base (h ++ e ∷ [])
 debt-push base h e law next =
     let before = debt-counts base h in
     let after = debt-counts base (h ++ e ∷ []) in
     let o = open_count-push h e in
     let n = one_if (is_open_new base h e next) in
-    let k = held_count-push base h e law in
+    let k = owned_count-push base h e law in
     let a = one_if (accepts_open base h e next) in
-    let w = waiting_count-push base h e law next in
+    let w = held_waiting_count-push base h e law next in
+    let l = lease_count-push base h e law next in
     omega arith
 
 no_cut_count : (h : List Event) (e : Event) → ((n : ℕ) → is_cut h e n ≡ false) → cut_count h e ≡ 0
@@ -163,21 +172,23 @@ no_cut_count h e whole = sum_by_none _ (length h) (λ n l. rw (whole n) (shape (
   shape true = refl
   shape false = refl
 
-no_loss : (h : List Event) (e : Event) → ((n : ℕ) → is_cut h e n ≡ false) → ((r : ℕ) → is_remove_of r e ≡ false) → lost_count h e ≡ 0
-no_loss h e whole keeps = lost_none h e (λ r. by_node (node_of h r) (keeps r)) where
+no_loss : (h : List Event) (e : Event) → ((n : ℕ) → is_cut h e n ≡ false) → ((r : ℕ) → is_remove_of r e ≡ false) → unowned_count h e ≡ 0
+no_loss h e whole keeps = unowned_none h e (λ r. by_node (node_of h r) (keeps r)) where
   by_node : {b : Bool} (o : Option ℕ) → b ≡ false → (option_map_or (is_cut h e) o false || b) ≡ false
   by_node None none = none
   by_node (Some n) none = rw (whole n) none
 
--- an event that only makes a node, or nothing
+-- an event that only makes a node or a lease, or nothing
 debt_made : (base : Kept) → (h : List Event) (e : Event) → IsLawful base h → MayFollow base h e → shuts_none e ≡ true → makes_resource e ≡ false → is_take e ≡ false →
-    ((r : ℕ) → is_remove_of r e ≡ false) → ((n : ℕ) → pays n e ≡ false) → stops_of h e ≡ [] → debt base (h ++ e ∷ []) ≡ debt base h + cond (makes_node e) 1 0
-debt_made base h e law next s no_accept no_take no_remove no_pay no_stops =
+    is_return e ≡ false → ((r : ℕ) → is_remove_of r e ≡ false) → ((n : ℕ) → pays n e ≡ false) → stops_of h e ≡ [] →
+    debt base (h ++ e ∷ []) ≡ debt base h + cond (makes_node e) 1 0 + cond (makes_lease e) 1 0
+debt_made base h e law next s no_accept no_take no_return no_remove no_pay no_stops =
     let whole : (n : ℕ) → is_cut h e n ≡ false = λ n. is_cut_none h e n s in
     let b = debt-push base h e law next in
     let c = no_cut_count h e whole in
     let d = no_loss h e whole no_remove in
     let t = one_if no_take in
+    let l = one_if no_return in
     let a = one_if no_accept in
     let w = owed_count-push base h e law next whole in
     let p = paid_none h e no_pay in
@@ -186,24 +197,29 @@ debt_made base h e law next s no_accept no_take no_remove no_pay no_stops =
 
 -- one more open node
 pub debt-root : (base : Kept) → (h : List Event) (kind : Kind) → IsLawful base h → MayFollow base h (Open Root kind) → debt base (h ++ Open Root kind ∷ []) ≡ debt base h + 1
-debt-root base h kind law next = debt_made base h (Open Root kind) law next refl refl refl (λ r. refl) (λ n. refl) refl
+debt-root base h kind law next = let b = debt_made base h (Open Root kind) law next refl refl refl refl (λ r. refl) (λ n. refl) refl in omega arith
 
 pub debt-source : (base : Kept) → (h : List Event) (p : ℕ) (kind : Kind) → IsLawful base h → MayFollow base h (Open (Source p) kind) → debt base (h ++ Open (Source p) kind ∷ []) ≡ debt base h + 1
-debt-source base h p kind law next = debt_made base h (Open (Source p) kind) law next refl refl refl (λ r. refl) (λ n. refl) refl
+debt-source base h p kind law next = let b = debt_made base h (Open (Source p) kind) law next refl refl refl refl (λ r. refl) (λ n. refl) refl in omega arith
 
 pub debt-notifier : (base : Kept) → (h : List Event) (p : ℕ) (kind : Kind) → IsLawful base h → MayFollow base h (Open (Notifier p) kind) →
     debt base (h ++ Open (Notifier p) kind ∷ []) ≡ debt base h + 1
-debt-notifier base h p kind law next = debt_made base h (Open (Notifier p) kind) law next refl refl refl (λ r. refl) (λ n. refl) refl
+debt-notifier base h p kind law next = let b = debt_made base h (Open (Notifier p) kind) law next refl refl refl refl (λ r. refl) (λ n. refl) refl in omega
+    arith
 
 pub debt-connect : (base : Kept) → (h : List Event) (g : ℕ) → IsLawful base h → MayFollow base h (Connect g) → debt base (h ++ Connect g ∷ []) ≡ debt base h + 1
-debt-connect base h g law next = debt_made base h (Connect g) law next refl refl refl (λ r. refl) (λ n. refl) refl
+debt-connect base h g law next = let b = debt_made base h (Connect g) law next refl refl refl refl (λ r. refl) (λ n. refl) refl in omega arith
 
 -- a hub and a use cost nothing
 pub debt-hub : (base : Kept) → (h : List Event) (mode : Mode) → IsLawful base h → MayFollow base h (Hub mode) → debt base (h ++ Hub mode ∷ []) ≡ debt base h
-debt-hub base h mode law next = let b = debt_made base h (Hub mode) law next refl refl refl (λ r. refl) (λ n. refl) refl in omega arith
+debt-hub base h mode law next = let b = debt_made base h (Hub mode) law next refl refl refl refl (λ r. refl) (λ n. refl) refl in omega arith
 
 pub debt-use : (base : Kept) → (h : List Event) (r : ℕ) → IsLawful base h → MayFollow base h (Use r) → debt base (h ++ Use r ∷ []) ≡ debt base h
-debt-use base h r law next = let b = debt_made base h (Use r) law next refl refl refl (λ r. refl) (λ n. refl) refl in omega arith
+debt-use base h r law next = let b = debt_made base h (Use r) law next refl refl refl refl (λ r. refl) (λ n. refl) refl in omega arith
+
+-- a lease costs one: its return
+pub debt-lease : (base : Kept) → (h : List Event) (r : ℕ) → IsLawful base h → MayFollow base h (Lease r) → debt base (h ++ Lease r ∷ []) ≡ debt base h + 1
+debt-lease base h r law next = let b = debt_made base h (Lease r) law next refl refl refl refl (λ q. refl) (λ n. refl) refl in omega arith
 
 -- a resource costs two: its removal and its taking
 pub debt-accept : (base : Kept) → (h : List Event) (n tag : ℕ) → IsLawful base h → MayFollow base h (Accept n tag) → debt base (h ++ Accept n tag ∷ []) ≡ debt base h + 2
@@ -223,7 +239,7 @@ debt-remove base h q law next =
     let whole : (m : ℕ) → is_cut h (Remove q) m ≡ false = λ m. is_cut_none h (Remove q) m refl in
     let b = debt-push base h (Remove q) law next in
     let c = no_cut_count h (Remove q) whole in
-    let d = lost_one h q (may_remove base next) in
+    let d = unowned_one h q (may_remove base next) in
     let w = owed_count-push base h (Remove q) law next whole in
     let p = paid_none h (Remove q) (λ m. refl) in
     let z = projects_nothing h in
@@ -238,6 +254,18 @@ debt-take base h q law next =
     let d = no_loss h (Take q) whole (λ r. refl) in
     let w = owed_count-push base h (Take q) law next whole in
     let p = paid_none h (Take q) (λ m. refl) in
+    let z = projects_nothing h in
+    omega arith
+
+-- and a return
+pub debt-return : (base : Kept) → (h : List Event) (l : ℕ) → IsLawful base h → MayFollow base h (Return l) → debt base (h ++ Return l ∷ []) + 1 ≡ debt base h
+debt-return base h l law next =
+    let whole : (m : ℕ) → is_cut h (Return l) m ≡ false = λ m. is_cut_none h (Return l) m refl in
+    let b = debt-push base h (Return l) law next in
+    let c = no_cut_count h (Return l) whole in
+    let d = no_loss h (Return l) whole (λ r. refl) in
+    let w = owed_count-push base h (Return l) law next whole in
+    let p = paid_none h (Return l) (λ m. refl) in
     let z = projects_nothing h in
     omega arith
 

@@ -1,5 +1,6 @@
 -- Two stored histories that agree, followed by one event that may follow, agree again.
-use Rattle.std.proofs.Common.{◌≡◌, ℕ, ◌+◌, ◌<◌, ◌≤◌, Bool, true, false, List, [], ◌∷◌, ◌++◌, length, cond, Option, Some, None, refl, sym, ap, ◌∙◌, arith, inl, inr, ◌⊎◌, slice_get, count_by, length-append, subst, ℤ}
+use Rattle.std.proofs.Common.{◌≡◌, ℕ, ◌+◌, ◌<◌, ◌≤◌, Bool, true, false, List, [], ◌∷◌, ◌++◌, length, cond, Option, Some, None, refl, sym, ap, ◌∙◌, arith}
+use Rattle.std.proofs.Common.{inl, inr, ◌⊎◌, slice_get, nat_lt, count_by, length-append, subst, ℤ}
 use Rattle.std.proofs.Math.Bool.{not, ◌&&◌, ◌||◌}
 use Rattle.std.specs.List.{list_any}
 use Rattle.std.specs.Option.{option_and_then, option_map_or}
@@ -9,9 +10,9 @@ use Rattle.rx_note.specs.declared.note.Terminal.TheVariants.{Completed, Error}
 use Rattle.rx_event.specs.declared.event.Place.TheVariants.{Root, Source, Inner, Notifier}
 use Rattle.rx_event.specs.declared.event.Event.{Event}
 use Rattle.rx_event.specs.declared.event.Event.TheVariants.{Open, End, Item}
-use Rattle.rx_event.specs.Events.{parent_named, node_of_accept, is_source_of, is_notifier_of, is_remove_of, is_take_of, is_use_of}
+use Rattle.rx_event.specs.Events.{parent_named, node_of_accept, is_source_of, is_notifier_of, is_remove_of, is_return_of, is_take_of, is_use_of}
 use Rattle.rx_event.specs.Tree.{is_open}
-use Rattle.rx_event.specs.Resources.{is_held, is_waiting, uses, accepted_by}
+use Rattle.rx_event.specs.Resources.{is_owned, is_out, leases_of, is_held, is_waiting, uses, accepted_by}
 use Rattle.rx_event.specs.Moments.{is_projection_to, stops_of, owed}
 use Rattle.rx_event.specs.Marks.{completes_source, source_completed}
 use Rattle.rx_event.specs.Kept.{Kept, resource_kept, node_kept}
@@ -21,15 +22,17 @@ use Rattle.rx_event.proofs.Laws.Places.{slice_get-append, slice_get_last}
 use Rattle.rx_event.proofs.Laws.Searches.{list_any_found}
 use Rattle.rx_event.proofs.Laws.Openness.{is_open_past}
 use Rattle.rx_event.proofs.Laws.Projections.{owed_new, owed-push}
-use Rattle.rx_event.proofs.Laws.Resources.{node_of, is_held_past, is_waiting_past, is_held_new, is_waiting_new, is_waiting-unheld}
+use Rattle.rx_event.proofs.Laws.Resources.{node_of, held_is, owned_held, is_owned_past, is_owned_new, held_old, is_held_past, is_waiting_past}
+use Rattle.rx_event.proofs.Laws.Resources.{is_waiting_new, is_waiting-unheld}
+use Rattle.rx_event.proofs.Laws.Leases.{is_out-push, is_out_last, is_out_past, is_leased-counted, leases_of_same}
 use Rattle.rx_event.proofs.Laws.Totals.{item_count-push, accepted_count-push, taken_count-push, uses-push, uses_past}
 use Rattle.rx_event.proofs.Laws.MarksNew.{never}
 use Rattle.rx_event.proofs.Laws.OneEnd.{open_old}
 use Rattle.rx_event.proofs.Laws.SameTree.{at_alike, alike_push, alike_back}
 use Rattle.rx_event.proofs.Laws.Gives.{gives-push, stops_of_alike}
-use Rattle.rx_event.proofs.Laws.Sound.{sound_of, held-push, node_open}
+use Rattle.rx_event.proofs.Laws.Sound.{sound_of, owned-push, node_open}
 use Rattle.rx_event.specs.Lawful.{MayFollow, IsLawful}
-use Rattle.rx_event.proofs.Laws.Lawful.{shown_within, may_end}
+use Rattle.rx_event.proofs.Laws.Lawful.{IsLawful-push, shown_within, may_end}
 use Rattle.rx_event.proofs.Laws.Steps.{named_below, may_emit}
 use Rattle.rx_event.proofs.Laws.MarksAfter.{source_opened-push, notifier_opened-push, source_completed-push}
 use Rattle.rx_note.specs.declared.note.Terminal.{Terminal}
@@ -151,9 +154,10 @@ module _ (b : Kept) (h : List Event) (c : Kept) (k : List Event) (e : Event) (la
     by_place (inr (inl l)) = older (open_old h e n l o)
     by_place (inr (inr l)) = absurd (beyond n l o)
 
-  -- a held resource reads the same in both
-  held_made : (r : ℕ) → is_held h r ≡ true → slice_get h r ≡ slice_get k r
-  held_made r held = sym ((sound_of b h law).accepted r held) ∙ a.accepts r (λ i. held i || is_waiting h r) ∙ (sound_of c k law_k).accepted r (sym (a.held r) ∙ held)
+  -- an owned resource reads the same in both
+  owned_made : (r : ℕ) → is_owned h r ≡ true → slice_get h r ≡ slice_get k r
+  owned_made r owned = sym ((sound_of b h law).accepted r owned) ∙ a.accepts r (λ i. owned_held h r owned i || is_waiting h r) ∙
+      (sound_of c k law_k).accepted r (sym (a.owned r) ∙ owned)
 
   in_k : (r : ℕ) → r < length h → r < length k
   in_k r l = let q = a.alike.same_length in omega arith
@@ -162,30 +166,61 @@ module _ (b : Kept) (h : List Event) (c : Kept) (k : List Event) (e : Event) (la
   node_on None = refl
   node_on (Some n) = pushed.same_open n
 
+  owned_on : (r : ℕ) → is_owned (h ++ e ∷ []) r ≡ is_owned (k ++ e ∷ []) r
+  owned_on r = by_place (cases_order r (length h)) where
+    by_owned : (x : Bool) → is_owned h r ≡ x → (x && (node_open (h ++ e ∷ []) h r && not (is_remove_of r e))) ≡
+        (x && (node_open (k ++ e ∷ []) k r && not (is_remove_of r e)))
+    by_owned false owned = refl
+    by_owned true owned = ap (λ x. x && not (is_remove_of r e)) (node_on (node_of h r) ∙ ap
+        (λ o. option_map_or (is_open (k ++ e ∷ [])) (option_and_then node_of_accept o) false) (owned_made r owned))
+
+    by_place : (r ≡ length h) ⊎ ((r < length h) ⊎ (length h < r)) → is_owned (h ++ e ∷ []) r ≡ is_owned (k ++ e ∷ []) r
+    by_place (inl last) = ap (is_owned (h ++ e ∷ [])) last ∙ is_owned_new b h e law next ∙ sym
+        (ap (is_owned (k ++ e ∷ [])) (long_k r last) ∙ is_owned_new c k e law_k next_k)
+    by_place (inr (inl l)) = owned-push b h e law r l ∙ by_owned (is_owned h r) refl ∙ ap (λ x. x &&
+        (node_open (k ++ e ∷ []) k r && not (is_remove_of r e))) (a.owned r) ∙ sym (owned-push c k e law_k r (in_k r l))
+    by_place (inr (inr l)) = is_owned_past (h ++ e ∷ []) r (omega (arith, length-append h (e ∷ []))) ∙ sym
+        (is_owned_past (k ++ e ∷ []) r (let q = a.alike.same_length in omega (arith, length-append k (e ∷ []))))
+
+  out_on : (l : ℕ) → is_out (h ++ e ∷ []) l ≡ is_out (k ++ e ∷ []) l
+  out_on l = by_place (cases_order l (length h)) where
+    by_place : (l ≡ length h) ⊎ ((l < length h) ⊎ (length h < l)) → is_out (h ++ e ∷ []) l ≡ is_out (k ++ e ∷ []) l
+    by_place (inl last) = ap (is_out (h ++ e ∷ [])) last ∙ is_out_last b h e law ∙ sym (ap (is_out (k ++ e ∷ [])) (long_k l last) ∙ is_out_last c k e law_k)
+    by_place (inr (inl less)) = is_out-push h e l less ∙ ap (λ x. x && not (is_return_of l e)) (a.out l) ∙ sym (is_out-push k e l (in_k l less))
+    by_place (inr (inr past)) = is_out_past (h ++ e ∷ []) l (omega (arith, length-append h (e ∷ []))) ∙ sym
+        (is_out_past (k ++ e ∷ []) l (let q = a.alike.same_length in omega (arith, length-append k (e ∷ []))))
+
+  leased_on : (l : ℕ) → is_out (h ++ e ∷ []) l ≡ true → slice_get (h ++ e ∷ []) l ≡ slice_get (k ++ e ∷ []) l
+  leased_on l out = by_place (cases_order l (length h)) where
+    by_place : (l ≡ length h) ⊎ ((l < length h) ⊎ (length h < l)) → slice_get (h ++ e ∷ []) l ≡ slice_get (k ++ e ∷ []) l
+    by_place (inl last) = ap (slice_get (h ++ e ∷ [])) last ∙ slice_get_last h e ∙ sym (ap (slice_get (k ++ e ∷ [])) (long_k l last) ∙ slice_get_last k e)
+    by_place (inr (inl less)) =
+        slice_get-append h (e ∷ []) l less ∙ a.leased l (and_parts (is_out h l) _ (sym (is_out-push h e l less) ∙ out)).0 ∙ sym
+        (slice_get-append k (e ∷ []) l (in_k l less))
+    by_place (inr (inr past)) = absurd (both_ways _ (is_out_past (h ++ e ∷ []) l (omega (arith, length-append h (e ∷ [])))) out)
+
+  leases_on : (r : ℕ) → leases_of (h ++ e ∷ []) r ≡ leases_of (k ++ e ∷ []) r
+  leases_on r = leases_of_same (h ++ e ∷ []) (k ++ e ∷ []) pushed.same_length out_on leased_on r
+
   held_on : (r : ℕ) → is_held (h ++ e ∷ []) r ≡ is_held (k ++ e ∷ []) r
-  held_on r = by_place (cases_order r (length h)) where
-    by_held : (x : Bool) → is_held h r ≡ x → (x && (node_open (h ++ e ∷ []) h r && not (is_remove_of r e))) ≡ (x && (node_open (k ++ e ∷ []) k r && not (is_remove_of r e)))
-    by_held false held = refl
-    by_held true held = ap (λ x. x && not (is_remove_of r e)) (node_on (node_of h r) ∙ ap (λ o. option_map_or (is_open (k ++ e ∷ [])) (option_and_then node_of_accept o) false) (held_made r held))
-
-    by_place : (r ≡ length h) ⊎ ((r < length h) ⊎ (length h < r)) → is_held (h ++ e ∷ []) r ≡ is_held (k ++ e ∷ []) r
-    by_place (inl last) = ap (is_held (h ++ e ∷ [])) last ∙ is_held_new b h e law next ∙ sym (ap (is_held (k ++ e ∷ [])) (long_k r last) ∙ is_held_new c k e law_k next_k)
-    by_place (inr (inl l)) = held-push b h e law r l ∙ by_held (is_held h r) refl ∙ ap (λ x. x && (node_open (k ++ e ∷ []) k r && not (is_remove_of r e))) (a.held r) ∙ sym (held-push c k e law_k r (in_k r l))
-    by_place (inr (inr l)) = is_held_past (h ++ e ∷ []) r (omega (arith, length-append h (e ∷ []))) ∙ sym (is_held_past (k ++ e ∷ []) r (let q = a.alike.same_length in omega (arith, length-append k (e ∷ []))))
-
-  held_old : (r : ℕ) → r < length h → is_held (h ++ e ∷ []) r ≡ true → is_held h r ≡ true
-  held_old r l held = (and_parts (is_held h r) _ (sym (held-push b h e law r l) ∙ held)).0
+  held_on r =
+      held_is (h ++ e ∷ []) r ∙
+      (λ i. owned_on r i || (is_leased-counted b (h ++ e ∷ []) (IsLawful-push b h e law next) r ∙ ap (nat_lt 0) (leases_on r) ∙ sym
+      (is_leased-counted c (k ++ e ∷ []) (IsLawful-push c k e law_k next_k) r)) i) ∙
+      sym (held_is (k ++ e ∷ []) r)
 
   waiting_on : (r : ℕ) → is_waiting (h ++ e ∷ []) r ≡ is_waiting (k ++ e ∷ []) r
   waiting_on r = by_place (cases_order r (length h)) where
     by_place : (r ≡ length h) ⊎ ((r < length h) ⊎ (length h < r)) → is_waiting (h ++ e ∷ []) r ≡ is_waiting (k ++ e ∷ []) r
     by_place (inl last) = ap (is_waiting (h ++ e ∷ [])) last ∙ is_waiting_new b h e law next ∙ sym (ap (is_waiting (k ++ e ∷ [])) (long_k r last) ∙ is_waiting_new c k e law_k next_k)
-    by_place (inr (inl l)) = is_waiting-unheld b h e law r l ∙ (λ i. (a.waiting r i || (a.held r i && not (held_on r i))) && not (is_take_of r e)) ∙ sym (is_waiting-unheld c k e law_k r (in_k r l))
+    by_place (inr (inl l)) = is_waiting-unheld b h e law next r l ∙ (λ i. (a.waiting r i || (a.held r i && not (held_on r i))) && not (is_take_of r e)) ∙
+        sym (is_waiting-unheld c k e law_k next_k r (in_k r l))
     by_place (inr (inr l)) = is_waiting_past (h ++ e ∷ []) r (omega (arith, length-append h (e ∷ []))) ∙ sym (is_waiting_past (k ++ e ∷ []) r (let q = a.alike.same_length in omega (arith, length-append k (e ∷ []))))
 
   untaken_old : (r : ℕ) → r < length h → is_untaken (h ++ e ∷ []) r ≡ true → is_untaken h r ≡ true
   untaken_old r l untaken =
-      shape (is_held (h ++ e ∷ []) r) (is_waiting h r) (is_held h r) (is_take_of r e) (held_old r l) (ap (λ x. is_held (h ++ e ∷ []) r || x) (sym (is_waiting-unheld b h e law r l)) ∙ untaken)
+      shape (is_held (h ++ e ∷ []) r) (is_waiting h r) (is_held h r) (is_take_of r e) (held_old b h e law next r l)
+      (ap (λ x. is_held (h ++ e ∷ []) r || x) (sym (is_waiting-unheld b h e law next r l)) ∙ untaken)
     where
       shape : (after waits held takes : Bool) → (after ≡ true → held ≡ true) → (after || ((waits || (held && not after)) && not takes)) ≡ true → (held || waits) ≡ true
       shape after waits true takes up some = refl
@@ -227,10 +262,13 @@ module _ (b : Kept) (h : List Event) (c : Kept) (k : List Event) (e : Event) (la
         notifiers = notifiers_on;
         completions = completions_on;
         debts = debts_on;
+        owned = owned_on;
         held = held_on;
         waiting = waiting_on;
         accepts = accepts_on;
         used = uses_on;
+        out = out_on;
+        leased = leased_on;
         item_total = let one = (item_count-push b) h e in let two = (item_count-push c) k e in let same = a.item_total in omega arith;
         accepted_total = let one = (accepted_count-push b) h e in let two = (accepted_count-push c) k e in let same = a.accepted_total in omega arith;
         taken_total = let one = (taken_count-push b) h e in let two = (taken_count-push c) k e in let same = a.taken_total in omega arith;

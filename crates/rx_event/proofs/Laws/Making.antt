@@ -1,11 +1,11 @@
--- Where nothing but making happens nothing is removed, taken, fired or told.
+-- Where nothing but making happens nothing is removed, returned, taken, fired or told.
 use Rattle.std.proofs.Common.{◌≡◌, ℕ, suc, Bool, true, false, List, [], ◌∷◌, ◌++◌, Some, refl, ap, ◌∙◌, slice_get}
 use Rattle.std.proofs.Math.Bool.{◌||◌}
 use Rattle.std.specs.List.{list_any, flat_map}
 use Rattle.std.proofs.lemmas.Bool.{false≢true}
 use Rattle.rx_event.specs.declared.event.Event.{Event}
-use Rattle.rx_event.specs.declared.event.Event.TheVariants.{Open, Remove, Item, End, Take}
-use Rattle.rx_event.specs.Events.{is_making, is_remove_of, is_take_of}
+use Rattle.rx_event.specs.declared.event.Event.TheVariants.{Open, Remove, Return, Item, End, Take}
+use Rattle.rx_event.specs.Events.{is_making, is_remove_of, is_return_of, is_take_of}
 use Rattle.rx_event.specs.Climb.{Stop}
 use Rattle.rx_event.specs.Moments.{Moment, moments, moments_after, is_firing_of, stops_of, is_fired}
 use Rattle.rx_event.specs.Notes.{mail_of, notes}
@@ -26,6 +26,14 @@ takes_none : (r : ℕ) (x : Event) → is_making x ≡ true → is_take_of r x �
 takes_none r (Take q) making = absurd (false≢true making)
 takes_none r (Open place kind) making = refl
 takes_none r _ making = refl
+
+returns_none : (l : ℕ) (x : Event) → is_making x ≡ true → is_return_of l x ≡ false
+returns_none l (Return m) making = absurd (false≢true making)
+returns_none l (Open place kind) making = refl
+returns_none l _ making = refl
+
+pub made_unreturned : (xs : List Event) → AllMaking xs → (l : ℕ) → list_any (is_return_of l) xs ≡ false
+made_unreturned xs making l = made_none xs making (is_return_of l) (returns_none l)
 
 pub made_unremoved : (xs : List Event) → AllMaking xs → (r : ℕ) → list_any (is_remove_of r) xs ≡ false
 made_unremoved xs making r = made_none xs making (is_remove_of r) (removes_none r)

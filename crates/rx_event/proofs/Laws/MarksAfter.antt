@@ -12,7 +12,7 @@ use Rattle.rx_event.specs.Opened.{source_opened, notifier_opened}
 use Rattle.rx_event.specs.declared.event.Place.TheVariants.{Root, Source, Inner, Notifier}
 use Rattle.rx_event.specs.declared.event.Kind.{Kind}
 use Rattle.rx_event.specs.declared.event.Event.{Event}
-use Rattle.rx_event.specs.declared.event.Event.TheVariants.{Open, Hub, Connect, Accept, Use, Remove, Item, Decline, End, Take}
+use Rattle.rx_event.specs.declared.event.Event.TheVariants.{Open, Hub, Connect, Accept, Use, Remove, Lease, Return, Item, Decline, End, Take}
 use Rattle.rx_event.specs.declared.marks.Marks.{Marks}
 use Rattle.rx_event.specs.Events.{is_merging, is_source_of, is_notifier_of, makes_node, parent_named, pays}
 use Rattle.rx_event.specs.Tree.{places, parent, is_open, is_open_child_of}
@@ -177,6 +177,8 @@ is_still (Open Root kind) = true
 is_still (Accept n tag) = true
 is_still (Use r) = true
 is_still (Remove r) = true
+is_still (Lease r) = true
+is_still (Return l) = true
 is_still (Take r) = true
 is_still _ = false
 
@@ -199,6 +201,8 @@ marks_kept base h (Open Root kind) law next still n l = marks_still base h (Open
 marks_kept base h (Accept m tag) law next still n l = marks_still base h (Accept m tag) law next n l refl refl refl refl refl refl refl refl
 marks_kept base h (Use r) law next still n l = marks_still base h (Use r) law next n l refl refl refl refl refl refl refl refl
 marks_kept base h (Remove r) law next still n l = marks_still base h (Remove r) law next n l refl refl refl refl refl refl refl refl
+marks_kept base h (Lease r) law next still n l = marks_still base h (Lease r) law next n l refl refl refl refl refl refl refl refl
+marks_kept base h (Return m) law next still n l = marks_still base h (Return m) law next n l refl refl refl refl refl refl refl refl
 marks_kept base h (Take r) law next still n l = marks_still base h (Take r) law next n l refl refl refl refl refl refl refl refl
 marks_kept base h (Open (Source p) kind) law next still n l = absurd (false≢true still)
 marks_kept base h (Open (Inner p) kind) law next still n l = absurd (false≢true still)

@@ -14,7 +14,7 @@ use Rattle.rx_event.specs.declared.event.Place.TheVariants.{Root, Source, Inner,
 use Rattle.rx_event.specs.declared.event.Kind.{Kind}
 use Rattle.rx_event.specs.declared.event.Kind.TheVariants.{Leaf, Pass, Flat, Switch, Until, Sub}
 use Rattle.rx_event.specs.declared.event.Event.{Event}
-use Rattle.rx_event.specs.declared.event.Event.TheVariants.{Open, Hub, Connect, Accept, Use, Remove, Item, Decline, End, Close, Take}
+use Rattle.rx_event.specs.declared.event.Event.TheVariants.{Open, Hub, Connect, Accept, Use, Remove, Lease, Return, Item, Decline, End, Close, Take}
 use Rattle.rx_event.specs.declared.marks.Marks.{Marks}
 use Rattle.rx_event.specs.Events.{is_merging, is_source_of, is_inner_of, is_switch, makes_node}
 use Rattle.rx_event.specs.Tree.{at, parent, is_open}
@@ -77,6 +77,8 @@ marks_untouched base h (Connect g) law next n l o apart = marks_kept base h (Con
 marks_untouched base h (Accept m tag) law next n l o apart = marks_kept base h (Accept m tag) law next refl n l
 marks_untouched base h (Use r) law next n l o apart = marks_kept base h (Use r) law next refl n l
 marks_untouched base h (Remove r) law next n l o apart = marks_kept base h (Remove r) law next refl n l
+marks_untouched base h (Lease r) law next n l o apart = marks_kept base h (Lease r) law next refl n l
+marks_untouched base h (Return m) law next n l o apart = marks_kept base h (Return m) law next refl n l
 marks_untouched base h (Take r) law next n l o apart = marks_kept base h (Take r) law next refl n l
 
 -- of the parent of what ended, by the events of both

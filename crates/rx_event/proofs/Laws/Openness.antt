@@ -11,7 +11,7 @@ use Rattle.rx_note.specs.declared.note.Terminal.{Terminal}
 use Rattle.rx_event.specs.declared.event.Kind.{Kind}
 use Rattle.rx_event.specs.declared.event.Place.TheVariants.{Root, Source, Inner, Notifier}
 use Rattle.rx_event.specs.declared.event.Event.{Event}
-use Rattle.rx_event.specs.declared.event.Event.TheVariants.{Open, Hub, Connect, Accept, Use, Remove, Item, Decline, End, Close, Take}
+use Rattle.rx_event.specs.declared.event.Event.TheVariants.{Open, Hub, Connect, Accept, Use, Remove, Lease, Return, Item, Decline, End, Close, Take}
 use Rattle.rx_event.specs.Events.{makes_node, parent_named, is_switch, is_inner_of}
 use Rattle.rx_event.specs.Tree.{at, parent, if_less, ancestors, shuts, is_shut, is_open, is_standing, is_switched_inner, is_within}
 use Rattle.rx_event.proofs.Laws.Places.{slice_get_last, at-append}
@@ -40,6 +40,8 @@ shuts-append h t n l (Connect g) = refl
 shuts-append h t n l (Accept m tag) = refl
 shuts-append h t n l (Use r) = refl
 shuts-append h t n l (Remove r) = refl
+shuts-append h t n l (Lease r) = refl
+shuts-append h t n l (Return m) = refl
 shuts-append h t n l (Item m v) = refl
 shuts-append h t n l (Decline f) = refl
 shuts-append h t n l (Take r) = refl
@@ -119,6 +121,8 @@ not_shut h n (Connect g) s = refl
 not_shut h n (Accept m tag) s = refl
 not_shut h n (Use r) s = refl
 not_shut h n (Remove r) s = refl
+not_shut h n (Lease r) s = refl
+not_shut h n (Return m) s = refl
 not_shut h n (Item m v) s = refl
 not_shut h n (Decline f) s = refl
 not_shut h n (Take r) s = refl

@@ -18,10 +18,11 @@ use Rattle.rx_event.specs.declared.event.Event.TheVariants.{Open, Hub, Connect, 
 use Rattle.rx_event.specs.declared.marks.Marks.{Marks}
 use Rattle.rx_event.specs.Events.{makes_hub, makes_resource, has_source, is_leaf, is_merging, is_until, is_root, is_auto_hub, is_manual_hub, is_subscriber_of}
 use Rattle.rx_event.specs.Tree.{at, hubs, parent, is_open, is_within, open_nodes, open_connections}
-use Rattle.rx_event.specs.Resources.{is_held, is_waiting}
+use Rattle.rx_event.specs.Resources.{is_owned, is_held, is_waiting}
 use Rattle.rx_event.specs.Moments.{owed}
 use Rattle.rx_event.specs.Forced.{SourceEnded, IsConnectDue, IsConnected, IsSettled}
-use Rattle.rx_event.specs.Allowed.{IsFree, IsInOrderAt, IsInOrder, IsHubbed, may_abort, opened, published, connected, accepted, used, removed, emitted, declined, leaf_ended, aborted, projection_failed, root_closed, disconnected, taken, IsAllowed}
+use Rattle.rx_event.specs.Allowed.{IsFree, IsInOrderAt, IsInOrder, IsHubbed, may_abort, opened, published, connected, accepted, used, removed, leased}
+use Rattle.rx_event.specs.Allowed.{returned, emitted, declined, leaf_ended, aborted, projection_failed, root_closed, disconnected, taken, IsAllowed}
 use Rattle.rx_event.specs.Lawful.{allowed, MayFollow}
 use Rattle.rx_event.specs.Renumbered.{place_by, kind_by, event_by, is_named, AreSameBy}
 use Rattle.rx_event.proofs.Laws.Places.{slice_get-append, slice_get_last, at-append, at_within, cases_push}
@@ -30,6 +31,7 @@ use Rattle.rx_event.proofs.Laws.Totals.{is_open_new}
 use Rattle.rx_event.proofs.Laws.Hubs.{may_subscribe}
 use Rattle.rx_event.proofs.Laws.Waits.{at_before, spares, cut_alone, kept_subscribed, kept_unsubscribed, settled_connected}
 use Rattle.rx_event.proofs.Laws.OneEnd.{ends_as, source_ended_before, open_old}
+use Rattle.rx_event.proofs.Laws.Leases.{owned_resource, out_lease}
 use Rattle.rx_event.proofs.Laws.Resources.{held_resource, waiting_parts}
 use Rattle.rx_event.proofs.Laws.Spared.{open_above}
 use Rattle.rx_event.proofs.Laws.Reading.{parent_read, within_read, unconnected_read, auto_hub}
@@ -277,6 +279,9 @@ module _ (base : Kept) (r s : ℕ → ℕ) (h c : List Event) (a : AreSameBy bas
   held_there : (q : ℕ) → is_held h q ≡ true → is_held c (r q) ≡ true
   held_there q held = a.shown.held q (held_resource h q held) ∙ held
 
+  owned_there : (q : ℕ) → is_owned h q ≡ true → is_owned c (r q) ≡ true
+  owned_there q owned = a.shown.owned q (owned_resource h q owned) ∙ owned
+
   childless : (n : ℕ) → is_open h n ≡ true → ((d : ℕ) → parent h d ≡ Some n → is_open h d ≡ false) → (d : ℕ) → parent c d ≡ Some (r n) → is_open c d ≡ false
   childless n o none d below = false_from_ne_true (is_open c d) (λ alive.
       let back : parent h (s d) ≡ Some (s (r n)) = parent_read base s r c h a.numbers.other_law a.numbers.law a.numbers.back a.numbers.there d (r n) alive below in
@@ -295,7 +300,9 @@ module _ (base : Kept) (r s : ℕ → ℕ) (h c : List Event) (a : AreSameBy bas
       (let same = open_count_read base r s h c a in let l = few in omega arith)
   allowed_read settled settled_there (accepted {n = n} o) = accepted (alive_there n o)
   allowed_read settled settled_there (used {r = q} held) = used (held_there q held)
-  allowed_read settled settled_there (removed {r = q} held) = removed (held_there q held)
+  allowed_read settled settled_there (removed {r = q} owned) = removed (owned_there q owned)
+  allowed_read settled settled_there (leased {r = q} owned) = leased (owned_there q owned)
+  allowed_read settled settled_there (returned {l = l} out) = returned (a.shown.out l (out_lease h l out) ∙ out)
   allowed_read settled settled_there (emitted {l = l} o leaf few) =
       emitted (alive_there l o) (at_read base a.numbers.there is_leaf is_leaf (leaf_by r) l o leaf) (let same = visits_read base r s h c a.numbers l o in let k = few in omega arith)
   allowed_read settled settled_there (declined {f = f} o m some) = declined (alive_there f o) (merges base r s h c a f o m) (owes base r s h c a f o some)

@@ -5,7 +5,7 @@ use Rattle.std.proofs.lemmas.Option.{none-some}
 use Rattle.rx_note.specs.declared.note.Terminal.{Terminal}
 use Rattle.rx_event.specs.Kept.{Kept}
 use Rattle.rx_event.specs.declared.event.Event.{Event}
-use Rattle.rx_event.specs.declared.event.Event.TheVariants.{Use, Remove, Item, Decline, Take}
+use Rattle.rx_event.specs.declared.event.Event.TheVariants.{Use, Remove, Return, Item, Decline, Take}
 use Rattle.rx_event.specs.Events.{makes_node, makes_hub}
 use Rattle.rx_event.specs.Tree.{is_open}
 use Rattle.rx_event.specs.Climb.{stops}
@@ -71,6 +71,9 @@ use_calm q = record { node = refl; hub = refl; shuts = refl; ends = λ t same. n
 remove_calm : (q : ℕ) → IsCalm (Remove q)
 remove_calm q = record { node = refl; hub = refl; shuts = refl; ends = λ t same. none-some t same }
 
+return_calm : (l : ℕ) → IsCalm (Return l)
+return_calm l = record { node = refl; hub = refl; shuts = refl; ends = λ t same. none-some t same }
+
 take_calm : (q : ℕ) → IsCalm (Take q)
 take_calm q = record { node = refl; hub = refl; shuts = refl; ends = λ t same. none-some t same }
 
@@ -87,6 +90,11 @@ renumbered_use base a q p next other = renumbered_still base a (Use q) (Use p) (
 pub renumbered_remove : (base : Kept) → {r s : ℕ → ℕ} {h c : List Event} → AreRenumbered base r s h c → (q p : ℕ) → MayFollow base h (Remove q) → MayFollow base c (Remove p) →
     AreRenumbered base r s (h ++ Remove q ∷ []) (c ++ Remove p ∷ [])
 renumbered_remove base a q p next other = renumbered_still base a (Remove q) (Remove p) (remove_calm q) (remove_calm p) refl refl next other
+
+pub renumbered_return : (base : Kept) → {r s : ℕ → ℕ} {h c : List Event} → AreRenumbered base r s h c → (l m : ℕ) → MayFollow base h (Return l) → MayFollow
+    base c (Return m) →
+    AreRenumbered base r s (h ++ Return l ∷ []) (c ++ Return m ∷ [])
+renumbered_return base a l m next other = renumbered_still base a (Return l) (Return m) (return_calm l) (return_calm m) refl refl next other
 
 pub renumbered_take : (base : Kept) → {r s : ℕ → ℕ} {h c : List Event} → AreRenumbered base r s h c → (q p : ℕ) → MayFollow base h (Take q) → MayFollow base c (Take p) →
     AreRenumbered base r s (h ++ Take q ∷ []) (c ++ Take p ∷ [])

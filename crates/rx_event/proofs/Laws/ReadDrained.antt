@@ -11,10 +11,10 @@ use Rattle.rx_note.specs.declared.note.Terminal.{Terminal}
 use Rattle.rx_event.specs.Kept.{Kept, shown}
 use Rattle.rx_event.specs.declared.event.Mode.{Mode}
 use Rattle.rx_event.specs.declared.event.Event.{Event}
-use Rattle.rx_event.specs.declared.event.Event.TheVariants.{Hub, Accept, Take}
-use Rattle.rx_event.specs.Events.{makes_node, makes_resource}
+use Rattle.rx_event.specs.declared.event.Event.TheVariants.{Hub, Accept, Lease, Take}
+use Rattle.rx_event.specs.Events.{makes_node, makes_resource, makes_lease}
 use Rattle.rx_event.specs.Tree.{at, places, is_open}
-use Rattle.rx_event.specs.Resources.{is_held, is_taken, is_waiting, uses, held_resources, waiting_resources}
+use Rattle.rx_event.specs.Resources.{is_owned, is_out, leases_of, is_held, is_taken, is_waiting, uses, held_resources, waiting_resources}
 use Rattle.rx_event.specs.Totals.{accepted_count, taken_count, held_count, waiting_count}
 use Rattle.rx_event.specs.Notes.{notes_to}
 use Rattle.rx_event.specs.Forced.{SourceEnded}
@@ -24,13 +24,14 @@ use Rattle.rx_event.proofs.Laws.Lists.{filter_nonempty}
 use Rattle.rx_event.proofs.Laws.Places.{slice_get-append, at_within, cases_push}
 use Rattle.rx_event.proofs.Laws.Openness.{is_open_within, is_open_unchanged}
 use Rattle.rx_event.proofs.Laws.Lawful.{IsLawful-push}
-use Rattle.rx_event.proofs.Laws.Resources.{is_held_kept, held_not_taken, held_resource, is_held_within, is_waiting_within}
+use Rattle.rx_event.proofs.Laws.Resources.{is_owned_kept, is_held_kept, held_not_taken, held_resource, is_held_within, is_waiting_within}
+use Rattle.rx_event.proofs.Laws.Leases.{is_out-push, leases_of_still}
 use Rattle.rx_event.proofs.Laws.Totals.{uses-push, accepted_count-parts}
 use Rattle.rx_event.proofs.Laws.Notes.{notes_to-push}
 use Rattle.rx_event.proofs.Laws.Waits.{at_before, source_ended-push}
 use Rattle.rx_event.proofs.Laws.MarksAfter.{marks_kept}
 use Rattle.rx_event.proofs.Laws.OneEnd.{ends_as, source_ended_before}
-use Rattle.rx_event.proofs.Laws.ReadShown.{made_at, resource_named, resource_made}
+use Rattle.rx_event.proofs.Laws.ReadShown.{made_at, resource_named, resource_made, lease_made}
 use Rattle.rx_event.proofs.Laws.ReadAllowed.{same_list}
 
 -- from h on resources were taken, and nothing else happened
@@ -44,7 +45,10 @@ record IsShownBut (base : Kept) (r s : ℕ → ℕ) (h c : List Event) : Type 0 
   pub apart : (n : ℕ) → at is_named h n ≡ true → s (r n) ≡ n
   pub in_order : (m n : ℕ) → at is_named h m ≡ true → at is_named h n ≡ true → m < n → r m < r n
   pub told : (n : ℕ) → at makes_node h n ≡ true → notes_to c (r n) ≡ notes_to h n
+  pub owned : (q : ℕ) → at makes_resource h q ≡ true → is_owned c (r q) ≡ is_owned h q
+  pub leases : (q : ℕ) → at makes_resource h q ≡ true → leases_of c (r q) ≡ leases_of h q
   pub held : (q : ℕ) → at makes_resource h q ≡ true → is_held c (r q) ≡ is_held h q
+  pub out : (l : ℕ) → at makes_lease h l ≡ true → is_out c (r l) ≡ is_out h l
   pub used : (q : ℕ) → at makes_resource h q ≡ true → uses base c (r q) ≡ uses base h q
   pub node_total : count_by makes_node c ≡ count_by makes_node h
   pub accepted_total : accepted_count base c ≡ accepted_count base h
@@ -56,6 +60,12 @@ notes_take h q n = notes_to-push h (Take q) n ∙ append-nil (notes_to h n)
 
 uses_take : (base : Kept) → (h : List Event) (q n : ℕ) → uses base (h ++ Take q ∷ []) n ≡ uses base h n
 uses_take base h q n = let push = uses-push base h (Take q) n in omega arith
+
+out_take : (h : List Event) (q l : ℕ) → l < length h → is_out (h ++ Take q ∷ []) l ≡ is_out h l
+out_take h q l less = is_out-push h (Take q) l less ∙ and_yes (is_out h l) where
+  and_yes : (b : Bool) → (b && true) ≡ b
+  and_yes true = refl
+  and_yes false = refl
 
 counts_take : (p : Event → Bool) (h : List Event) (q : ℕ) → p (Take q) ≡ false → count_by p (h ++ Take q ∷ []) ≡ count_by p h
 counts_take p h q fails =
@@ -123,7 +133,14 @@ module _ (base : Kept) (r s : ℕ → ℕ) (h c : List Event) (shown : IsShownBu
     told = λ n node. shown.told n (at_before makes_node h (Take q) n refl node) ∙ sym (notes_take h q n);
     held = λ p made.
         let was : at makes_resource h p ≡ true = at_before makes_resource h (Take q) p refl made in
-        shown.held p was ∙ sym (is_held_kept base h (Take q) law p (at_within makes_resource h p was) refl refl);
+        shown.held p was ∙ sym (is_held_kept base h (Take q) law p (at_within makes_resource h p was) refl refl refl refl);
+    owned = λ p made.
+        let was : at makes_resource h p ≡ true = at_before makes_resource h (Take q) p refl made in
+        shown.owned p was ∙ sym (is_owned_kept base h (Take q) law p (at_within makes_resource h p was) refl refl);
+    leases = λ p made. shown.leases p (at_before makes_resource h (Take q) p refl made) ∙ sym (leases_of_still base h (Take q) law refl p refl);
+    out = λ l made.
+        let was : at makes_lease h l ≡ true = at_before makes_lease h (Take q) l refl made in
+        shown.out l was ∙ sym (out_take h q l (at_within makes_lease h l was));
     used = λ p made. shown.used p (at_before makes_resource h (Take q) p refl made) ∙ sym (uses_take base h q p);
     node_total = shown.node_total ∙ sym (counts_take makes_node h q refl);
     accepted_total = shown.accepted_total ∙ sym (accepted_take base h q);
@@ -137,7 +154,14 @@ module _ (base : Kept) (r s : ℕ → ℕ) (h c : List Event) (shown : IsShownBu
     told = λ n node. notes_take c q (r n) ∙ shown.told n node;
     held = λ p made.
         let w = resource_made h p made in
-        is_held_kept base c (Take q) law (r p) (slice_get_within c (r p) _ (shown.kept p (Accept w.0 w.1) refl w.2)) refl refl ∙ shown.held p made;
+        is_held_kept base c (Take q) law (r p) (slice_get_within c (r p) _ (shown.kept p (Accept w.0 w.1) refl w.2)) refl refl refl refl ∙ shown.held p made;
+    owned = λ p made.
+        let w = resource_made h p made in
+        is_owned_kept base c (Take q) law (r p) (slice_get_within c (r p) _ (shown.kept p (Accept w.0 w.1) refl w.2)) refl refl ∙ shown.owned p made;
+    leases = λ p made. leases_of_still base c (Take q) law refl (r p) refl ∙ shown.leases p made;
+    out = λ l made.
+        let w = lease_made h l made in
+        out_take c q (r l) (slice_get_within c (r l) _ (shown.kept l (Lease w.0) refl w.1)) ∙ shown.out l made;
     used = λ p made. uses_take base c q (r p) ∙ shown.used p made;
     node_total = counts_take makes_node c q refl ∙ shown.node_total;
     accepted_total = accepted_take base c q ∙ shown.accepted_total;
@@ -223,7 +247,10 @@ shown_again base r s k j b none none_there = record {
   apart = b.shown.apart;
   in_order = b.shown.in_order;
   told = b.shown.told;
+  owned = b.shown.owned;
+  leases = b.shown.leases;
   held = b.shown.held;
+  out = b.shown.out;
   taken = taken_same base r s k j b none none_there;
   used = b.shown.used;
   node_total = b.shown.node_total;
@@ -237,7 +264,10 @@ but base shown = record {
   apart = shown.apart;
   in_order = shown.in_order;
   told = shown.told;
+  owned = shown.owned;
+  leases = shown.leases;
   held = shown.held;
+  out = shown.out;
   used = shown.used;
   node_total = shown.node_total;
   accepted_total = shown.accepted_total;

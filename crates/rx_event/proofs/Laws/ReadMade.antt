@@ -12,7 +12,7 @@ use Rattle.rx_event.specs.declared.event.Kind.{Kind}
 use Rattle.rx_event.specs.declared.event.Kind.TheVariants.{Leaf, Pass, Flat, Switch, Until, Sub}
 use Rattle.rx_event.specs.declared.event.Mode.{Mode}
 use Rattle.rx_event.specs.declared.event.Event.{Event}
-use Rattle.rx_event.specs.declared.event.Event.TheVariants.{Open, Hub, Connect, Accept}
+use Rattle.rx_event.specs.declared.event.Event.TheVariants.{Open, Hub, Connect, Accept, Lease}
 use Rattle.rx_event.specs.Events.{makes_node, makes_hub}
 use Rattle.rx_event.specs.Tree.{at, is_open}
 use Rattle.rx_event.specs.Forced.{SourceEnded}
@@ -109,12 +109,13 @@ makes_by r (Open place kind) = refl
 makes_by r (Connect g) = refl
 makes_by r _ = refl
 
--- the events that make a node, a hub or a resource
+-- the events that make a node, a hub, a resource or a lease
 abbrev pub makes : Event → Bool
 makes (Open place kind) = true
 makes (Hub mode) = true
 makes (Connect g) = true
 makes (Accept n tag) = true
+makes (Lease q) = true
 makes _ = false
 
 ends_none : (e : Event) (t : Terminal) → makes e ≡ true → ends_as e ≡ Some t → ⊥
@@ -122,6 +123,7 @@ ends_none (Open place kind) t m same = none-some t same
 ends_none (Hub mode) t m same = none-some t same
 ends_none (Connect g) t m same = none-some t same
 ends_none (Accept n tag) t m same = none-some t same
+ends_none (Lease q) t m same = none-some t same
 ends_none _ t m same = false≢true m
 
 module _ (base : Kept) (r s : ℕ → ℕ) (h c : List Event) (a : AreRenumbered base r s h c) (e : Event) (made : makes e ≡ true) (next : MayFollow base h e) (other : MayFollow base c (event_by r e))

@@ -12,8 +12,8 @@ use Rattle.rx_event.specs.declared.event.Kind.{Kind}
 use Rattle.rx_event.specs.declared.event.Kind.TheVariants.{Leaf, Pass, Flat, Switch, Until, Sub}
 use Rattle.rx_event.specs.declared.event.Mode.{Mode}
 use Rattle.rx_event.specs.declared.event.Event.{Event}
-use Rattle.rx_event.specs.declared.event.Event.TheVariants.{Open, Hub, Connect, Accept}
-use Rattle.rx_event.specs.Events.{makes_hub, is_merging, is_switch, is_inner_of}
+use Rattle.rx_event.specs.declared.event.Event.TheVariants.{Open, Hub, Connect, Accept, Lease}
+use Rattle.rx_event.specs.Events.{makes_hub, makes_lease, is_merging, is_switch, is_inner_of}
 use Rattle.rx_event.specs.Tree.{at, places, parent, ancestors, is_open, shuts, is_switched_inner}
 use Rattle.rx_event.specs.Marks.{marks_of, after_source, after_notifier, after_inner}
 use Rattle.rx_event.specs.Lawful.{MayFollow}
@@ -39,8 +39,9 @@ hub_made h g = by_event (slice_get h g) where
   by_event (Some (Hub mode)) hub = (mode, refl)
   by_event (Some _) hub = absurd (false≢true hub)
 
-pub event_undone : (base : Kept) → {r s : ℕ → ℕ} {h c : List Event} → IsRead base r s h c → (e : Event) → makes e ≡ true → MayFollow base h e → event_by s (event_by r e) ≡ e
-event_undone base {r = r} {s = s} {h = h} there (Open place kind) made next = λ i. Open (place_undone place next i) (kind_undone kind next i) where
+pub event_undone : (base : Kept) → {r s : ℕ → ℕ} {h c : List Event} → IsRead base r s h c → (e : Event) → makes e ≡ true → makes_lease e ≡ false → MayFollow
+    base h e → event_by s (event_by r e) ≡ e
+event_undone base {r = r} {s = s} {h = h} there (Open place kind) made other next = λ i. Open (place_undone place next i) (kind_undone kind next i) where
   place_undone : (p : Place) → MayFollow base h (Open p kind) → place_by s (place_by r p) ≡ p
   place_undone Root next = refl
   place_undone (Source p) next = ap Source (there.undone p (may_name base next refl))
@@ -54,10 +55,11 @@ event_undone base {r = r} {s = s} {h = h} there (Open place kind) made next = λ
   kind_undone Switch next = refl
   kind_undone Until next = refl
   kind_undone (Sub g) next = let hub = hub_made h g (may_subscribe base next).0 in ap Sub (there.hub_undone g hub.0 hub.1)
-event_undone base {h = h} there (Hub mode) made next = refl
-event_undone base {h = h} there (Connect g) made next = let hub = hub_made h g (may_connect_hub base next) in ap Connect (there.hub_undone g hub.0 hub.1)
-event_undone base there (Accept n tag) made next = ap (λ m. Accept m tag) (there.undone n (may_accept base next))
-event_undone base there _ made next = absurd (false≢true made)
+event_undone base {h = h} there (Hub mode) made other next = refl
+event_undone base {h = h} there (Connect g) made other next = let hub = hub_made h g (may_connect_hub base next) in ap Connect (there.hub_undone g hub.0 hub.1)
+event_undone base there (Accept n tag) made other next = ap (λ m. Accept m tag) (there.undone n (may_accept base next))
+event_undone base there (Lease q) made other next = absurd (false≢true (sym other))
+event_undone base there _ made other next = absurd (false≢true made)
 
 -- what an event that makes something leaves of the older nodes -----------------------------------------------------------
 
@@ -68,17 +70,15 @@ pub record CarriesOn (base : Kept) (r : ℕ → ℕ) (h c : List Event) (e : Eve
 
 -- so both have the new numbers
 renumbered_made : (base : Kept) → {r s : ℕ → ℕ} {h c : List Event} → AreRenumbered base r s h c → (e : Event) → makes e ≡ true → makes (event_by r e) ≡ true → MayFollow base h e →
-    MayFollow base c (event_by r e) → CarriesOn base r h c e → CarriesOn base s c h (event_by r e) →
+    MayFollow base c (event_by r e) → event_by s (event_by r e) ≡ e → CarriesOn base r h c e → CarriesOn base s c h (event_by r e) →
     AreRenumbered base (with_number (length h) (length c) r) (with_number (length c) (length h) s) (h ++ e ∷ []) (c ++ event_by r e ∷ [])
-renumbered_made base {r = r} {s = s} {h = h} {c = c} a e made too next other one also = record {
+renumbered_made base {r = r} {s = s} {h = h} {c = c} a e made too next other same one also = record {
   law = IsLawful-push base h e a.law next;
   other_law = IsLawful-push base c (event_by r e) a.other_law other;
   there = is_read_made base r s h c a e made next other one.still one.remembers;
   back = subst (λ (x : Event). IsRead base (with_number (length c) (length h) s) (with_number (length h) (length c) r) (c ++ event_by r e ∷ []) (h ++ x ∷ [])) same
       (is_read_made base s r c h (renumbered_back base a) (event_by r e) too other (subst (λ (x : Event). MayFollow base h x) (sym same) next) also.still also.remembers);
-} where
-  same : event_by s (event_by r e) ≡ e
-  same = event_undone base a.there e made next
+}
 
 -- a connection, a hub and a root ------------------------------------------------------------------------------------------
 
@@ -92,8 +92,9 @@ carries_connect base {r = r} {h = h} {c = c} a g next other = record {
 pub renumbered_connect : (base : Kept) → {r s : ℕ → ℕ} {h c : List Event} → AreRenumbered base r s h c → (g : ℕ) → MayFollow base h (Connect g) → MayFollow base c (Connect (r g)) →
     AreRenumbered base (with_number (length h) (length c) r) (with_number (length c) (length h) s) (h ++ Connect g ∷ []) (c ++ Connect (r g) ∷ [])
 renumbered_connect base {r = r} {s = s} {h = h} {c = c} a g next other =
-    renumbered_made base a (Connect g) refl refl next other (carries_connect base a g next other)
-    (carries_connect base (renumbered_back base a) (r g) other (subst (λ (x : Event). MayFollow base h x) (sym (event_undone base a.there (Connect g) refl next)) next))
+    renumbered_made base a (Connect g) refl refl next other (event_undone base a.there (Connect g) refl refl next) (carries_connect base a g next other)
+    (carries_connect base (renumbered_back base a) (r g) other (subst (λ (x : Event). MayFollow base h x)
+    (sym (event_undone base a.there (Connect g) refl refl next)) next))
 
 carries_hub : (base : Kept) → {r s : ℕ → ℕ} {h c : List Event} → AreRenumbered base r s h c → (mode : Mode) → MayFollow base h (Hub mode) → MayFollow base c (Hub mode) → CarriesOn base r h c (Hub mode)
 carries_hub base {r = r} {h = h} {c = c} a mode next other = record {
@@ -104,7 +105,8 @@ carries_hub base {r = r} {h = h} {c = c} a mode next other = record {
 
 pub renumbered_hub : (base : Kept) → {r s : ℕ → ℕ} {h c : List Event} → AreRenumbered base r s h c → (mode : Mode) → MayFollow base h (Hub mode) → MayFollow base c (Hub mode) →
     AreRenumbered base (with_number (length h) (length c) r) (with_number (length c) (length h) s) (h ++ Hub mode ∷ []) (c ++ Hub mode ∷ [])
-renumbered_hub base a mode next other = renumbered_made base a (Hub mode) refl refl next other (carries_hub base a mode next other) (carries_hub base (renumbered_back base a) mode other next)
+renumbered_hub base a mode next other = renumbered_made base a (Hub mode) refl refl next other refl (carries_hub base a mode next other)
+    (carries_hub base (renumbered_back base a) mode other next)
 
 carries_accept : (base : Kept) → {r s : ℕ → ℕ} {h c : List Event} → AreRenumbered base r s h c → (n tag : ℕ) → MayFollow base h (Accept n tag) → MayFollow base c (Accept (r n) tag) →
     CarriesOn base r h c (Accept n tag)
@@ -118,8 +120,26 @@ carries_accept base {r = r} {h = h} {c = c} a n tag next other = record {
 pub renumbered_accept : (base : Kept) → {r s : ℕ → ℕ} {h c : List Event} → AreRenumbered base r s h c → (n tag : ℕ) → MayFollow base h (Accept n tag) → MayFollow base c (Accept (r n) tag) →
     AreRenumbered base (with_number (length h) (length c) r) (with_number (length c) (length h) s) (h ++ Accept n tag ∷ []) (c ++ Accept (r n) tag ∷ [])
 renumbered_accept base {r = r} {s = s} {h = h} {c = c} a n tag next other =
-    renumbered_made base a (Accept n tag) refl refl next other (carries_accept base a n tag next other)
-    (carries_accept base (renumbered_back base a) (r n) tag other (subst (λ (x : Event). MayFollow base h x) (sym (event_undone base a.there (Accept n tag) refl next)) next))
+    renumbered_made base a (Accept n tag) refl refl next other (event_undone base a.there (Accept n tag) refl refl next)
+    (carries_accept base a n tag next other)
+    (carries_accept base (renumbered_back base a) (r n) tag other (subst (λ (x : Event). MayFollow base h x)
+    (sym (event_undone base a.there (Accept n tag) refl refl next)) next))
+
+carries_lease : (base : Kept) → {r s : ℕ → ℕ} {h c : List Event} → AreRenumbered base r s h c → (q : ℕ) → MayFollow base h (Lease q) → MayFollow base c
+    (Lease (r q)) → CarriesOn base r h c (Lease q)
+carries_lease base {r = r} {h = h} {c = c} a q next other = record {
+  still = λ m was o. is_open_kept c (Lease (r q)) (r m) (is_open_within c (r m) (a.there.alive m was)) refl ∙ a.there.alive m was;
+  remembers = λ m was o. marks_kept base c (Lease (r q)) a.other_law other refl (r m) (is_open_within c (r m) (a.there.alive m was)) ∙ a.there.marks m was ∙
+      sym (marks_kept base h (Lease q) a.law next refl m (is_open_within h m was));
+}
+
+-- and so has a lease, where the number of its resource leads back
+pub renumbered_lease : (base : Kept) → {r s : ℕ → ℕ} {h c : List Event} → AreRenumbered base r s h c → (q : ℕ) → MayFollow base h (Lease q) → MayFollow base
+    c (Lease (r q)) → s (r q) ≡ q →
+    AreRenumbered base (with_number (length h) (length c) r) (with_number (length c) (length h) s) (h ++ Lease q ∷ []) (c ++ Lease (r q) ∷ [])
+renumbered_lease base {r = r} {s = s} {h = h} {c = c} a q next other back =
+    renumbered_made base a (Lease q) refl refl next other (ap Lease back) (carries_lease base a q next other)
+    (carries_lease base (renumbered_back base a) (r q) other (subst (λ (x : Event). MayFollow base h x) (sym (ap Lease back)) next))
 
 -- nodes ---------------------------------------------------------------------------------------------------------------------
 
@@ -323,9 +343,10 @@ pub renumbered_open : (base : Kept) → {r s : ℕ → ℕ} {h c : List Event} �
     MayFollow base c (Open (place_by r place) (kind_by r kind)) →
     AreRenumbered base (with_number (length h) (length c) r) (with_number (length c) (length h) s) (h ++ Open place kind ∷ []) (c ++ Open (place_by r place) (kind_by r kind) ∷ [])
 renumbered_open base {r = r} {s = s} {h = h} {c = c} a place kind next other =
-    renumbered_made base a (Open place kind) refl refl next other (carries_at base place kind r s h c a next other)
+    renumbered_made base a (Open place kind) refl refl next other (event_undone base a.there (Open place kind) refl refl next)
+    (carries_at base place kind r s h c a next other)
     (carries_at base (place_by r place) (kind_by r kind) s r c h (renumbered_back base a) other
-    (subst (λ (x : Event). MayFollow base h x) (sym (event_undone base a.there (Open place kind) refl next)) next))
+    (subst (λ (x : Event). MayFollow base h x) (sym (event_undone base a.there (Open place kind) refl refl next)) next))
 
 -- a FlatMap or Switch in one is one in the other
 merging_by : (r : ℕ → ℕ) (e : Event) → is_merging e ≡ true → is_merging (event_by r e) ≡ true

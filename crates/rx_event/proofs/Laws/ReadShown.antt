@@ -1,5 +1,6 @@
 -- What a report shows stays the same, when two histories that are the same but for their numbers go on by one event each.
-use Rattle.std.proofs.Common.{◌≡◌, ℕ, ℤ, ◌+◌, ◌<◌, ◌≤◌, Bool, true, false, List, [], ◌∷◌, ◌++◌, length, take, Option, Some, None, cond, map, slice_get, refl, sym, ap, ◌∙◌, inl, inr, ◌⊎◌, ◌==◌, arith, length-append, ◌-◌}
+use Rattle.std.proofs.Common.{◌≡◌, ℕ, ℤ, ◌+◌, ◌<◌, ◌≤◌, Bool, true, false, List, [], ◌∷◌, ◌++◌, length, take, Option, Some, None, cond, map, slice_get}
+use Rattle.std.proofs.Common.{refl, sym, ap, ◌∙◌, inl, inr, ◌⊎◌, ◌==◌, nat_lt, arith, length-append, ◌-◌, subst}
 use Rattle.std.proofs.Math.Bool.{not, ◌&&◌, ◌||◌}
 use Rattle.std.specs.List.{AllByRecursion, filter_map, count_by}
 use Rattle.std.proofs.lemmas.List.Sums.{sum_by_push}
@@ -11,10 +12,11 @@ use Rattle.rx_note.specs.declared.note.Note.TheVariants.{Next, Project, End as E
 use Rattle.rx_event.specs.Kept.{Kept, shown}
 use Rattle.rx_event.specs.declared.event.Place.TheVariants.{Root, Source, Inner, Notifier}
 use Rattle.rx_event.specs.declared.event.Event.{Event}
-use Rattle.rx_event.specs.declared.event.Event.TheVariants.{Open, Hub, Connect, Accept, Use, Remove, Item, Decline, End, Close, Take}
-use Rattle.rx_event.specs.Events.{makes_node, makes_resource, node_of_accept, is_root, is_remove_of, is_take_of, is_use_of, is_take}
+use Rattle.rx_event.specs.declared.event.Event.TheVariants.{Open, Hub, Connect, Accept, Use, Remove, Lease, Return, Item, Decline, End, Close, Take}
+use Rattle.rx_event.specs.Events.{makes_node, makes_resource, makes_lease, node_of_accept, is_root, is_remove_of, is_lease_of, is_return, is_return_of}
+use Rattle.rx_event.specs.Events.{is_take_of, is_use_of, is_take}
 use Rattle.rx_event.specs.Tree.{at, is_open}
-use Rattle.rx_event.specs.Resources.{is_held, is_taken, uses}
+use Rattle.rx_event.specs.Resources.{is_owned, is_out, leases_of, is_held, is_taken, uses}
 use Rattle.rx_event.specs.Climb.{Stop, Delivery, Projection, Firing, stops}
 use Rattle.rx_event.specs.Notes.{notes_to, told, mail_of}
 use Rattle.rx_event.specs.Lawful.{MayFollow, IsLawful}
@@ -23,10 +25,12 @@ use Rattle.rx_event.specs.Renumbered.{event_by, is_named, IsShown, AreRenumbered
 use Rattle.rx_event.proofs.Laws.Places.{slice_get-append, slice_get_last, at-append, at_within}
 use Rattle.rx_event.proofs.Laws.Openness.{is_open_within, is_open_past}
 use Rattle.rx_event.proofs.Laws.Lawful.{in_base, since_base, FoundAt, found_at, may_end}
-use Rattle.rx_event.proofs.Laws.Steps.{by_events, may_accept, may_emit, may_use, may_remove, may_take}
+use Rattle.rx_event.proofs.Laws.Steps.{by_events, may_accept, may_emit, may_use, may_remove, may_lease, may_return, may_take}
 use Rattle.rx_event.proofs.Laws.Stands.{at_older, open_node}
 use Rattle.rx_event.proofs.Laws.Notes.{notes_in, notes_to-push, noted, noted_to, mail_silent}
-use Rattle.rx_event.proofs.Laws.Resources.{node_of-lt, held_resource, waiting_parts, is_held-open, is_held_new, is_taken-push, is_taken_last}
+use Rattle.rx_event.proofs.Laws.Resources.{node_of-lt, held_is, held_resource, waiting_parts, is_owned-open, is_owned_new, is_taken-push, is_taken_last}
+use Rattle.rx_event.proofs.Laws.Leases.{owned_resource, out_lease, is_out-push, is_out_last, lease_older, lease_resource, leases_of_kept, leases_of-return}
+use Rattle.rx_event.proofs.Laws.Leases.{leases_of_new}
 use Rattle.rx_event.proofs.Laws.Totals.{uses-push, uses_past}
 use Rattle.rx_event.proofs.Laws.Projections.{stops_open}
 use Rattle.rx_event.proofs.Laws.ReadMade.{event_by_below, names_below, makes_by}
@@ -67,6 +71,11 @@ pub resource_named : (e : Event) → makes_resource e ≡ true → is_named e �
 resource_named (Accept n tag) made = refl
 resource_named _ made = absurd (false≢true made)
 
+pub lease_named : (e : Event) → makes_lease e ≡ true → is_named e ≡ true
+lease_named (Lease q) made = refl
+lease_named (Open place kind) made = absurd (false≢true made)
+lease_named _ made = absurd (false≢true made)
+
 pub made_at : (q p : Event → Bool) → ((e : Event) → q e ≡ true → p e ≡ true) → (h : List Event) (n : ℕ) → at q h n ≡ true → at p h n ≡ true
 made_at q p by h n = by_event (slice_get h n) where
   by_event : (o : Option Event) → option_map_or q o false ≡ true → option_map_or p o false ≡ true
@@ -104,6 +113,7 @@ named_by_below base r q h (Open place kind) same next named = event_by_below bas
 named_by_below base r q h (Connect g) same next named = event_by_below base r q h (Connect g) same next refl
 named_by_below base r q h (Hub mode) same next named = refl
 named_by_below base r q h (Accept n tag) same next named = ap (λ m. Accept m tag) (same n (is_open_within h n (may_accept base next)))
+named_by_below base r q h (Lease m) same next named = ap Lease (same m (at_within makes_resource h m (owned_resource h m (may_lease base next))))
 named_by_below base r q h _ same next named = absurd (false≢true named)
 
 -- and so does an event that stands in a lawful history
@@ -114,6 +124,8 @@ stands_below base r q h n (Connect g) law same at_n named = names_below base r q
 stands_below base r q h n (Hub mode) law same at_n named = refl
 stands_below base r q h n (Accept m tag) law same at_n named =
     ap (λ k. Accept k tag) (same m (let w = node_of-lt base h law n m (ap (option_and_then node_of_accept) at_n) in let l = slice_get_within h n _ at_n in omega arith))
+stands_below base r q h n (Lease m) law same at_n named =
+    ap Lease (same m (let w = lease_older base h law n m at_n in let l = slice_get_within h n _ at_n in omega arith))
 stands_below base r q h n _ law same at_n named = absurd (false≢true named)
 
 module _ (base : Kept) (r s : ℕ → ℕ) (h c : List Event) (a : AreRenumbered base r s h c) (sh : IsShown base r s h c) where
@@ -160,6 +172,8 @@ module _ (base : Kept) (r s : ℕ → ℕ) (h c : List Event) (a : AreRenumbered
   mail_same (Accept m tag) next n named = refl
   mail_same (Use q) next n named = refl
   mail_same (Remove q) next n named = refl
+  mail_same (Lease q) next n named = refl
+  mail_same (Return l) next n named = refl
   mail_same (Decline f) next n named = refl
   mail_same (Close m) next n named = refl
   mail_same (Take q) next n named = refl
@@ -167,6 +181,30 @@ module _ (base : Kept) (r s : ℕ → ℕ) (h c : List Event) (a : AreRenumbered
 makes_resource_by : (r : ℕ → ℕ) (e : Event) → makes_resource (event_by r e) ≡ makes_resource e
 makes_resource_by r (Accept n tag) = refl
 makes_resource_by r _ = refl
+
+makes_lease_by : (r : ℕ → ℕ) (e : Event) → makes_lease (event_by r e) ≡ makes_lease e
+makes_lease_by r (Lease q) = refl
+makes_lease_by r (Open place kind) = refl
+makes_lease_by r _ = refl
+
+return_by : (r : ℕ → ℕ) (e : Event) → is_return (event_by r e) ≡ is_return e
+return_by r (Return l) = refl
+return_by r (Open place kind) = refl
+return_by r _ = refl
+
+-- what is returned by a return
+returned_by : (e : Event) → is_return e ≡ true → (l : ℕ) × (e ≡ Return l)
+returned_by (Return l) is = (l, refl)
+returned_by (Open place kind) is = absurd (false≢true is)
+returned_by _ is = absurd (false≢true is)
+
+pub lease_made : (h : List Event) (l : ℕ) → at makes_lease h l ≡ true → (q : ℕ) × (slice_get h l ≡ Some (Lease q))
+lease_made h l = by_event (slice_get h l) where
+  by_event : (o : Option Event) → option_map_or makes_lease o false ≡ true → (q : ℕ) × (o ≡ Some (Lease q))
+  by_event None made = absurd (false≢true made)
+  by_event (Some (Lease q)) made = (q, refl)
+  by_event (Some (Open place kind)) made = absurd (false≢true made)
+  by_event (Some _) made = absurd (false≢true made)
 
 take_by : (r : ℕ → ℕ) (e : Event) → is_take (event_by r e) ≡ is_take e
 take_by r (Take q) = refl
@@ -256,12 +294,14 @@ module _ (base : Kept) (r s q t : ℕ → ℕ) (h c : List Event) (e : Event) (a
   removes_same : (p : ℕ) → at makes_resource h p ≡ true → is_remove_of (r p) (event_by r e) ≡ is_remove_of p e
   removes_same p made = by_event e next where
     by_event : (x : Event) → MayFollow base h x → is_remove_of (r p) (event_by r x) ≡ is_remove_of p x
-    by_event (Remove k) next = apart_named base r s h c a sh k p (resource_at k (held_resource h k (may_remove base next))) (resource_at p made)
+    by_event (Remove k) next = apart_named base r s h c a sh k p (resource_at k (owned_resource h k (may_remove base next))) (resource_at p made)
     by_event (Open place kind) next = refl
     by_event (Hub mode) next = refl
     by_event (Connect g) next = refl
     by_event (Accept n tag) next = refl
     by_event (Use k) next = refl
+    by_event (Lease k) next = refl
+    by_event (Return l) next = refl
     by_event (Item l v) next = refl
     by_event (Decline f) next = refl
     by_event (End n u) next = refl
@@ -278,10 +318,29 @@ module _ (base : Kept) (r s q t : ℕ → ℕ) (h c : List Event) (e : Event) (a
     by_event (Accept n tag) next = refl
     by_event (Use k) next = refl
     by_event (Remove k) next = refl
+    by_event (Lease k) next = refl
+    by_event (Return l) next = refl
     by_event (Item l v) next = refl
     by_event (Decline f) next = refl
     by_event (End n u) next = refl
     by_event (Close n) next = refl
+
+  leases_same : (p : ℕ) → at makes_resource h p ≡ true → is_lease_of (r p) (event_by r e) ≡ is_lease_of p e
+  leases_same p made = by_event e next where
+    by_event : (x : Event) → MayFollow base h x → is_lease_of (r p) (event_by r x) ≡ is_lease_of p x
+    by_event (Lease k) next = apart_named base r s h c a sh k p (resource_at k (owned_resource h k (may_lease base next))) (resource_at p made)
+    by_event (Open place kind) next = refl
+    by_event _ next = refl
+
+  lease_there : (l : ℕ) → at makes_lease h l ≡ true → at is_named h l ≡ true
+  lease_there l made = made_at makes_lease is_named lease_named h l made
+
+  returns_same : (l : ℕ) → at makes_lease h l ≡ true → is_return_of (r l) (event_by r e) ≡ is_return_of l e
+  returns_same l made = by_event e next where
+    by_event : (x : Event) → MayFollow base h x → is_return_of (r l) (event_by r x) ≡ is_return_of l x
+    by_event (Return k) next = apart_named base r s h c a sh k l (lease_there k (out_lease h k (may_return base next))) (lease_there l made)
+    by_event (Open place kind) next = refl
+    by_event _ next = refl
 
   uses_same : (p : ℕ) → at makes_resource h p ≡ true → is_use_of (r p) (event_by r e) ≡ is_use_of p e
   uses_same p made = by_event e next where
@@ -292,6 +351,8 @@ module _ (base : Kept) (r s q t : ℕ → ℕ) (h c : List Event) (e : Event) (a
     by_event (Connect g) next = refl
     by_event (Accept n tag) next = refl
     by_event (Remove k) next = refl
+    by_event (Lease k) next = refl
+    by_event (Return l) next = refl
     by_event (Item l v) next = refl
     by_event (Decline f) next = refl
     by_event (End n u) next = refl
@@ -308,20 +369,69 @@ module _ (base : Kept) (r s q t : ℕ → ℕ) (h c : List Event) (e : Event) (a
       let here : slice_get H p ≡ Some (Accept n tag) = slice_get-append h (e ∷ []) p l ∙ at_p in
       ap (λ k. is_open C (q k)) same ∙ not_open C (q p) (q n) tag (kept_old p (Accept n tag) refl at_p) ∙ sym (not_open H p n tag here) ∙ ap (is_open H) (sym same)
 
-  held_on : (p : ℕ) → at makes_resource H p ≡ true → is_held C (q p) ≡ is_held H p
-  held_on p made = by_where (where_stands makes_resource p made) where
-    by_where : WhereStands makes_resource p → is_held C (q p) ≡ is_held H p
+  owned_on : (p : ℕ) → at makes_resource H p ≡ true → is_owned C (q p) ≡ is_owned H p
+  owned_on p made = by_where (where_stands makes_resource p made) where
+    by_where : WhereStands makes_resource p → is_owned C (q p) ≡ is_owned H p
     by_where (stands_last same is) =
-        ap (λ k. is_held C (q k)) same ∙ ap (is_held C) (newest (resource_named e is)).0 ∙ is_held_new base c (event_by r e) a.other_law other ∙ makes_resource_by r e ∙
-        sym (is_held_new base h e a.law next) ∙ ap (is_held H) (sym same)
+        ap (λ k. is_owned C (q k)) same ∙ ap (is_owned C) (newest (resource_named e is)).0 ∙ is_owned_new base c (event_by r e) a.other_law other ∙
+        makes_resource_by r e ∙
+        sym (is_owned_new base h e a.law next) ∙ ap (is_owned H) (sym same)
     by_where (stood l was) =
         let w : (n : ℕ) × (tag : ℕ) × (slice_get h p ≡ Some (Accept n tag)) = resource_made h p was in
         let there : slice_get c (r p) ≡ Some (Accept (r w.0) w.1) = sh.kept p (Accept w.0 w.1) refl w.2 in
         let below : w.0 ≤ p = node_of-lt base h a.law p w.0 (ap (option_and_then node_of_accept) w.2) in
         let number : q w.0 ≡ r w.0 = older w.0 (omega arith) in
         let open_on : is_open C (r w.0) ≡ is_open H w.0 = sym (ap (is_open C) number) ∙ open_there p w.0 w.1 l w.2 (accepted_node base h a.law p w.0 w.1 w.2) in
-        ap (is_held C) (older p l) ∙ is_held-open base c (event_by r e) a.other_law (r p) (r w.0) (ap (option_and_then node_of_accept) there) ∙
-        (λ i. sh.held p was i && open_on i && not (removes_same p was i)) ∙ sym (is_held-open base h e a.law p w.0 (ap (option_and_then node_of_accept) w.2))
+        ap (is_owned C) (older p l) ∙ is_owned-open base c (event_by r e) a.other_law (r p) (r w.0) (ap (option_and_then node_of_accept) there) ∙
+        (λ i. sh.owned p was i && open_on i && not (removes_same p was i)) ∙ sym (is_owned-open base h e a.law p w.0 (ap (option_and_then node_of_accept) w.2))
+
+  -- as many leases of a resource are out
+  leases_on : (p : ℕ) → at makes_resource H p ≡ true → leases_of C (q p) ≡ leases_of H p
+  leases_on p made = by_where (where_stands makes_resource p made) where
+    by_return : (b : Bool) → is_return e ≡ b → at makes_resource h p ≡ true → leases_of C (r p) ≡ leases_of H p
+    by_return false other_kind was =
+        leases_of_kept base c (event_by r e) a.other_law (return_by r e ∙ other_kind) (r p) ∙ (λ i. sh.leases p was i + cond (leases_same p was i) 1 0) ∙
+        sym (leases_of_kept base h e a.law other_kind p)
+    by_return true back was =
+        let is = returned_by e back in
+        let out : MayFollow base h (Return is.0) = subst (λ x. MayFollow base h x) is.1 next in
+        let out_there : MayFollow base c (Return (r is.0)) = subst (λ x. MayFollow base c (event_by r x)) is.1 other in
+        let of = lease_made h is.0 (out_lease h is.0 (may_return base out)) in
+        let same : cond {A = ℕ} (r of.0 == r p) 1 0 ≡ cond (of.0 == p) 1 0 =
+        ap (λ b. cond {A = ℕ} b 1 0) (apart_named base r s h c a sh of.0 p (resource_at of.0 (lease_resource base h a.law is.0 of.0 of.1))
+        (resource_at p was)) in
+        let here = leases_of-return base h is.0 of.0 a.law out of.1 p in
+        let there = leases_of-return base c (r is.0) (r of.0) a.other_law out_there (sh.kept is.0 (Lease of.0) refl of.1) (r p) in
+        let before = sh.leases p was in
+        let counts : leases_of (c ++ Return (r is.0) ∷ []) (r p) ≡ leases_of (h ++ Return is.0 ∷ []) p = omega arith in
+        ap (λ x. leases_of (c ++ event_by r x ∷ []) (r p)) is.1 ∙ counts ∙ sym (ap (λ x. leases_of (h ++ x ∷ []) p) is.1)
+
+    by_where : WhereStands makes_resource p → leases_of C (q p) ≡ leases_of H p
+    by_where (stands_last same is) =
+        ap (λ k. leases_of C (q k)) same ∙ ap (leases_of C) (newest (resource_named e is)).0 ∙ leases_of_new base c (event_by r e) a.other_law
+        (makes_resource_by r e ∙ is) ∙
+        sym (leases_of_new base h e a.law is) ∙ ap (leases_of H) (sym same)
+    by_where (stood l was) = ap (leases_of C) (older p l) ∙ by_return (is_return e) refl was
+
+  -- the same leases are out
+  out_on : (l : ℕ) → at makes_lease H l ≡ true → is_out C (q l) ≡ is_out H l
+  out_on l made = by_where (where_stands makes_lease l made) where
+    by_where : WhereStands makes_lease l → is_out C (q l) ≡ is_out H l
+    by_where (stands_last same is) =
+        ap (λ k. is_out C (q k)) same ∙ ap (is_out C) (newest (lease_named e is)).0 ∙ is_out_last base c (event_by r e) a.other_law ∙ makes_lease_by r e ∙
+        sym (is_out_last base h e a.law) ∙ ap (is_out H) (sym same)
+    by_where (stood less was) =
+        let of = lease_made h l was in
+        let there : slice_get c (r l) ≡ Some (Lease (r of.0)) = sh.kept l (Lease of.0) refl of.1 in
+        ap (is_out C) (older l less) ∙ is_out-push c (event_by r e) (r l) (slice_get_within c (r l) _ there) ∙
+        (λ i. sh.out l was i && not (returns_same l was i)) ∙ sym (is_out-push h e l less)
+
+  held_on : (p : ℕ) → at makes_resource H p ≡ true → is_held C (q p) ≡ is_held H p
+  held_on p made =
+      let w : (n : ℕ) × (tag : ℕ) × (slice_get H p ≡ Some (Accept n tag)) = resource_made H p made in
+      let there : at makes_resource C (q p) ≡ at makes_resource H p = ap (λ (x : Option Event). option_map_or makes_resource x false)
+      (kept_on p (Accept w.0 w.1) refl w.2) ∙ sym made in
+      held_is C (q p) ∙ (λ i. owned_on p made i || (there i && nat_lt 0 (leases_on p made i))) ∙ sym (held_is H p)
 
   taken_on : (p : ℕ) → at makes_resource H p ≡ true → is_taken C (q p) ≡ is_taken H p
   taken_on p made = by_where (where_stands makes_resource p made) where
@@ -363,4 +473,21 @@ module _ (base : Kept) (r s q t : ℕ → ℕ) (h c : List Event) (e : Event) (a
   totals_on n p same before = let less : count_by p c ≡ count_by p h = omega arith in ap (λ x. n + x) (counts_on p same less)
 
   pub is_shown_on : IsShown base q t H C
-  is_shown_on = record { kept = kept_on; apart = apart_on; in_order = in_order_on; told = told_on; held = held_on; taken = taken_on; used = used_on; node_total = counts_on makes_node (makes_by r e) sh.node_total; accepted_total = totals_on (base.accepted - count_by makes_resource (shown base)) makes_resource (makes_resource_by r e) sh.accepted_total; taken_total = totals_on base.taken is_take (take_by r e) sh.taken_total }
+  is_shown_on = record {
+    kept = kept_on;
+    apart = apart_on;
+    in_order = in_order_on;
+    told = told_on;
+    owned = owned_on;
+    leases = leases_on;
+    held = held_on;
+    out
+        = out_on;
+    taken = taken_on;
+    used = used_on;
+    node_total = counts_on makes_node (makes_by r e) sh.node_total;
+    accepted_total = totals_on
+        (base.accepted - count_by makes_resource (shown base)) makes_resource (makes_resource_by r e) sh.accepted_total;
+    taken_total = totals_on base.taken
+        is_take (take_by r e) sh.taken_total;
+  }

@@ -8,11 +8,12 @@ use Rattle.rx_event.specs.Kept.{Kept, shown}
 use Rattle.rx_event.specs.declared.event.Place.{Place}
 use Rattle.rx_event.specs.declared.event.Kind.TheVariants.{Pass}
 use Rattle.rx_event.specs.declared.event.Event.{Event}
-use Rattle.rx_event.specs.declared.event.Event.TheVariants.{Open, Hub, Connect, Accept, Use, Remove, Item, Decline, End, Close, Take}
+use Rattle.rx_event.specs.declared.event.Event.TheVariants.{Open, Hub, Connect, Accept, Use, Remove, Lease, Return, Item, Decline, End, Close, Take}
 use Rattle.rx_event.specs.Events.{makes_hub, is_connect_of}
 use Rattle.rx_event.specs.Tree.{at, is_open, open_connections}
 use Rattle.rx_event.specs.Lawful.{MayFollow, IsLawful, IsForcedOn, IsStep}
-use Rattle.rx_event.specs.Calls.{Opening, OpeningUsing, Holding, Applying, Removing, Emitting, Ending, Aborting, Declining, Failing, Disposing, Publishing, Connecting, Disconnecting, Taking, Call, IsStepOf}
+use Rattle.rx_event.specs.Calls.{Opening, OpeningUsing, Holding, Applying, Removing, Leasing, GivingBack, Emitting, Ending, Aborting, Declining, Failing}
+use Rattle.rx_event.specs.Calls.{Disposing, Publishing, Connecting, Disconnecting, Taking, Call, IsStepOf}
 use Rattle.rx_event.specs.Renumbered.{place_by, event_by, call_by, is_named, IsKnown, AreSameBy, AreSameSince}
 use Rattle.rx_event.proofs.Laws.Places.{slice_get_last}
 use Rattle.rx_event.proofs.Laws.Openness.{is_open_within}
@@ -116,6 +117,8 @@ steps_same base r s h c k j (OpeningUsing place tag) a known one other = using b
 steps_same base r s h c k j (Holding n tag) a known one other = single base a (Accept n tag) k j one other
 steps_same base r s h c k j (Applying q) a known one other = single base a (Use q) k j one other
 steps_same base r s h c k j (Removing q) a known one other = single base a (Remove q) k j one other
+steps_same base r s h c k j (Leasing q) a known one other = single base a (Lease q) k j one other
+steps_same base r s h c k j (GivingBack l) a known one other = single base a (Return l) k j one other
 steps_same base r s h c k j (Emitting l v) a known one other = single base a (Item l v) k j one other
 steps_same base r s h c k j (Ending l t) a known one other = single base a (End l t) k j one other
 steps_same base r s h c k j (Aborting n code) a known one other = single base a (End n (Error code)) k j one other

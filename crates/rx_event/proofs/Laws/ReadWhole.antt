@@ -6,8 +6,8 @@ use Rattle.std.proofs.lemmas.Bool.{false≢true, cases_lt}
 use Rattle.rx_note.specs.declared.note.Terminal.{Terminal}
 use Rattle.rx_event.specs.Kept.{Kept, shown}
 use Rattle.rx_event.specs.declared.event.Event.{Event}
-use Rattle.rx_event.specs.declared.event.Event.TheVariants.{Open, Hub, Connect, Accept, Use, Remove, Item, Decline, End, Close, Take}
-use Rattle.rx_event.specs.Events.{makes_node, makes_resource}
+use Rattle.rx_event.specs.declared.event.Event.TheVariants.{Open, Hub, Connect, Accept, Use, Remove, Lease, Return, Item, Decline, End, Close, Take}
+use Rattle.rx_event.specs.Events.{makes_node, makes_resource, makes_lease}
 use Rattle.rx_event.specs.Tree.{at, is_open}
 use Rattle.rx_event.specs.Forced.{cut, due, SourceEnded, IsForced, IsSettled}
 use Rattle.rx_event.specs.Lawful.{forced, stays, more, MayFollow, IsLawful, IsForcedOn, Started}
@@ -15,17 +15,18 @@ use Rattle.rx_event.specs.Renumbered.{event_by, is_named, IsRead, AreRenumbered,
 use Rattle.rx_event.specs.Claims.Determined.{is_closing, AreAlike}
 use Rattle.rx_event.proofs.Laws.Places.{slice_get_last, at-append, at_within}
 use Rattle.rx_event.proofs.Laws.Lawful.{may_end, IsLawful_empty}
-use Rattle.rx_event.proofs.Laws.Steps.{may_close, may_emit, may_decline, may_use, may_remove, may_take}
+use Rattle.rx_event.proofs.Laws.Steps.{may_close, may_emit, may_decline, may_use, may_remove, may_take, may_lease, may_return}
 use Rattle.rx_event.proofs.Laws.Stands.{open_node}
 use Rattle.rx_event.proofs.Laws.Resources.{held_resource, waiting_parts}
+use Rattle.rx_event.proofs.Laws.Leases.{owned_resource, out_lease}
 use Rattle.rx_event.proofs.Laws.Waits.{settled_connected}
 use Rattle.rx_event.proofs.Laws.Alike.{courses_alike}
 use Rattle.rx_event.proofs.Laws.Reading.{renumbered_back, forced_read, settled_read}
 use Rattle.rx_event.proofs.Laws.ReadOn.{renumbered_end, renumbered_close}
 use Rattle.rx_event.proofs.Laws.ReadMade.{with_number, number_new, number_old}
-use Rattle.rx_event.proofs.Laws.ReadOpened.{event_undone, renumbered_open, renumbered_hub, renumbered_connect, renumbered_accept}
-use Rattle.rx_event.proofs.Laws.ReadCalm.{renumbered_use, renumbered_remove, renumbered_take, renumbered_item, renumbered_decline}
-use Rattle.rx_event.proofs.Laws.ReadShown.{is_shown_on, made_at, node_named, resource_named}
+use Rattle.rx_event.proofs.Laws.ReadOpened.{event_undone, renumbered_open, renumbered_hub, renumbered_connect, renumbered_accept, renumbered_lease}
+use Rattle.rx_event.proofs.Laws.ReadCalm.{renumbered_use, renumbered_remove, renumbered_return, renumbered_take, renumbered_item, renumbered_decline}
+use Rattle.rx_event.proofs.Laws.ReadShown.{is_shown_on, made_at, node_named, resource_named, lease_named}
 use Rattle.rx_event.specs.declared.event.Place.{Place}
 use Rattle.rx_event.specs.declared.event.Kind.{Kind}
 use Rattle.rx_event.specs.declared.event.Place.TheVariants.{Root, Source, Inner, Notifier}
@@ -34,12 +35,16 @@ use Rattle.rx_event.specs.declared.event.Kind.TheVariants.{Leaf, Pass, Flat, Swi
 -- one event -----------------------------------------------------------------------------------------------------------------------
 
 undone : (base : Kept) → {r s : ℕ → ℕ} {h c : List Event} → AreSameBy base r s h c → (e : Event) → MayFollow base h e → event_by s (event_by r e) ≡ e
-undone base a (Open place kind) next = event_undone base a.numbers.there (Open place kind) refl next
+undone base a (Open place kind) next = event_undone base a.numbers.there (Open place kind) refl refl next
 undone base a (Hub mode) next = refl
-undone base a (Connect g) next = event_undone base a.numbers.there (Connect g) refl next
-undone base a (Accept n tag) next = event_undone base a.numbers.there (Accept n tag) refl next
+undone base a (Connect g) next = event_undone base a.numbers.there (Connect g) refl refl next
+undone base a (Accept n tag) next = event_undone base a.numbers.there (Accept n tag) refl refl next
 undone base {h = h} a (Use q) next = ap Use (a.shown.apart q (made_at makes_resource is_named resource_named h q (held_resource h q (may_use base next))))
-undone base {h = h} a (Remove q) next = ap Remove (a.shown.apart q (made_at makes_resource is_named resource_named h q (held_resource h q (may_remove base next))))
+undone base {h = h} a (Remove q) next = ap Remove (a.shown.apart q (made_at makes_resource is_named resource_named h q
+    (owned_resource h q (may_remove base next))))
+undone base {h = h} a (Lease q) next = ap Lease (a.shown.apart q (made_at makes_resource is_named resource_named h q
+    (owned_resource h q (may_lease base next))))
+undone base {h = h} a (Return l) next = ap Return (a.shown.apart l (made_at makes_lease is_named lease_named h l (out_lease h l (may_return base next))))
 undone base {h = h} a (Take q) next = ap Take (a.shown.apart q (made_at makes_resource is_named resource_named h q (waiting_parts h q (may_take base next)).0))
 undone base a (Item l v) next = ap (λ k. Item k v) (a.numbers.there.undone l (may_emit base next))
 undone base a (Decline f) next = ap Decline (a.numbers.there.undone f (may_decline base next).0)
@@ -106,6 +111,10 @@ same_event_on base a (Open place kind) next other = same_made base a (Open place
 same_event_on base a (Hub mode) next other = same_made base a (Hub mode) next other (renumbered_hub base a.numbers mode next other)
 same_event_on base a (Connect g) next other = same_made base a (Connect g) next other (renumbered_connect base a.numbers g next other)
 same_event_on base a (Accept n tag) next other = same_made base a (Accept n tag) next other (renumbered_accept base a.numbers n tag next other)
+same_event_on base {h = h} a (Lease q) next other =
+    same_made base a (Lease q) next other (renumbered_lease base a.numbers q next other (a.shown.apart q
+    (made_at makes_resource is_named resource_named h q (owned_resource h q (may_lease base next)))))
+same_event_on base {r = r} a (Return l) next other = same_kept base a (Return l) refl refl next other (renumbered_return base a.numbers l (r l) next other)
 same_event_on base {r = r} a (Use q) next other = same_kept base a (Use q) refl refl next other (renumbered_use base a.numbers q (r q) next other)
 same_event_on base {r = r} a (Remove q) next other = same_kept base a (Remove q) refl refl next other (renumbered_remove base a.numbers q (r q) next other)
 same_event_on base {r = r} a (Take q) next other = same_kept base a (Take q) refl refl next other (renumbered_take base a.numbers q (r q) next other)
@@ -239,7 +248,10 @@ alike_shown base {r = r} shown alike = record {
   apart = shown.apart;
   in_order = shown.in_order;
   told = λ n node. sym (alike.told (r n)) ∙ shown.told n node;
+  owned = λ q made. sym (alike.same_owned (r q)) ∙ shown.owned q made;
+  leases = λ q made. sym (alike.same_leases (r q)) ∙ shown.leases q made;
   held = λ q made. sym (alike.same_held (r q)) ∙ shown.held q made;
+  out = λ l made. sym (alike.same_out (r l)) ∙ shown.out l made;
   taken = λ q made. sym (alike.same_taken (r q)) ∙ shown.taken q made;
   used = λ q made. sym (alike.used (r q)) ∙ shown.used q made;
   node_total = sym alike.nodes_total ∙ shown.node_total;
@@ -260,13 +272,19 @@ node_plain e made = named_closing e (node_named e made)
 resource_plain : (e : Event) → makes_resource e ≡ true → is_closing e ≡ false
 resource_plain e made = named_closing e (resource_named e made)
 
+lease_plain : (e : Event) → makes_lease e ≡ true → is_closing e ≡ false
+lease_plain e made = named_closing e (lease_named e made)
+
 shown_alike : (base : Kept) → {r s : ℕ → ℕ} {h k j : List Event} → IsShown base s r k h → AreAlike base j k → IsShown base s r j h
 shown_alike base {r = r} {s = s} shown alike = record {
   kept = λ n e named at_n. shown.kept n e named (alike.stands n e (named_closing e named) at_n);
   apart = λ n named. shown.apart n (at_alike base alike is_named named_closing n named);
   in_order = λ m n named also l. shown.in_order m n (at_alike base alike is_named named_closing m named) (at_alike base alike is_named named_closing n also) l;
   told = λ n node. shown.told n (at_alike base alike makes_node node_plain n node) ∙ sym (alike.told n);
+  owned = λ q made. shown.owned q (at_alike base alike makes_resource resource_plain q made) ∙ sym (alike.same_owned q);
+  leases = λ q made. shown.leases q (at_alike base alike makes_resource resource_plain q made) ∙ sym (alike.same_leases q);
   held = λ q made. shown.held q (at_alike base alike makes_resource resource_plain q made) ∙ sym (alike.same_held q);
+  out = λ l made. shown.out l (at_alike base alike makes_lease lease_plain l made) ∙ sym (alike.same_out l);
   taken = λ q made. shown.taken q (at_alike base alike makes_resource resource_plain q made) ∙ sym (alike.same_taken q);
   used = λ q made. shown.used q (at_alike base alike makes_resource resource_plain q made) ∙ sym (alike.used q);
   node_total = shown.node_total ∙ sym alike.nodes_total;
@@ -336,6 +354,8 @@ event_by_itself (Connect g) = refl
 event_by_itself (Accept n tag) = refl
 event_by_itself (Use q) = refl
 event_by_itself (Remove q) = refl
+event_by_itself (Lease q) = refl
+event_by_itself (Return l) = refl
 event_by_itself (Item l v) = refl
 event_by_itself (Decline f) = refl
 event_by_itself (End n t) = refl
@@ -360,7 +380,10 @@ start_shown base = record {
   apart = λ n named. refl;
   in_order = λ m n named also l. l;
   told = λ n node. refl;
+  owned = λ q made. refl;
+  leases = λ q made. refl;
   held = λ q made. refl;
+  out = λ l made. refl;
   taken = λ q made. refl;
   used = λ q made. refl;
   node_total = refl;

@@ -1,25 +1,31 @@
 -- Where each resource is after one more event.
-use Rattle.std.proofs.Common.{◌≡◌, ℕ, ◌+◌, ◌<◌, ◌≤◌, Bool, true, false, List, [], ◌∷◌, ◌++◌, length, take, Option, Some, None, cond, refl, sym, ap, ◌∙◌, arith, inl, inr, ◌⊎◌, ◌==◌, slice_get, length-append}
+use Rattle.std.proofs.Common.{◌≡◌, ℕ, ◌+◌, ◌<◌, ◌≤◌, Bool, true, false, List, [], ◌∷◌, ◌++◌, length, take, Option, Some, None, cond, refl, sym, ap, ◌∙◌}
+use Rattle.std.proofs.Common.{arith, inl, inr, ◌⊎◌, ◌==◌, nat_lt, slice_get, length-append}
 use Rattle.std.proofs.Math.Bool.{not, ◌&&◌, ◌||◌}
 use Rattle.std.specs.List.{list_any}
 use Rattle.std.specs.Option.{option_and_then, option_map_or}
+use Rattle.std.specs.Cmp.{both_ways as same_test}
 use Rattle.std.proofs.lemmas.Grind.{common_steps}
-use Rattle.std.proofs.lemmas.Bool.{cases_order, cases_Bool, both_ways, false≢true, and_parts, or_from, and_right, ne_eqb, eqb-true, not-true}
+use Rattle.std.proofs.lemmas.Bool.{cases_order, cases_Bool, both_ways, false≢true, and_parts, or_cases, or_right, or_from, and_right, ne_eqb, eqb-true}
+use Rattle.std.proofs.lemmas.Bool.{not-true, lt-ltb}
 use Rattle.std.proofs.lemmas.Option.{option_and_then_some, slice_get_past, slice_get_within, none-some, same_Some}
 use Rattle.std.proofs.lemmas.List.Folds.{list_any-append}
 use Rattle.rx_note.specs.declared.note.Terminal.{Terminal}
 use Rattle.rx_event.specs.Kept.{Kept, shown, resource_kept}
 use Rattle.rx_event.specs.declared.event.Place.TheVariants.{Root, Source, Inner, Notifier}
 use Rattle.rx_event.specs.declared.event.Event.{Event}
-use Rattle.rx_event.specs.declared.event.Event.TheVariants.{Open, Hub, Connect, Accept, Use, Remove, Item, Decline, End, Close, Take}
-use Rattle.rx_event.specs.Events.{makes_resource, node_of_accept, is_remove_of, is_take_of}
+use Rattle.rx_event.specs.declared.event.Event.TheVariants.{Open, Hub, Connect, Accept, Use, Remove, Lease, Return, Item, Decline, End, Close, Take}
+use Rattle.rx_event.specs.Events.{makes_resource, node_of_accept, is_remove_of, is_lease_of, is_return, is_take_of}
 use Rattle.rx_event.specs.Tree.{at, is_open, is_within}
-use Rattle.rx_event.specs.Resources.{is_held, is_taken, is_waiting, accepted_by}
+use Rattle.rx_event.specs.Resources.{is_owned, leases_of, is_leased, is_held, is_taken, is_waiting, accepted_by}
 use Rattle.rx_event.specs.Lawful.{MayFollow, IsLawful}
 use Rattle.rx_event.proofs.Laws.Places.{slice_get-append, slice_get_last, at-append}
 use Rattle.rx_event.proofs.Laws.Openness.{is_cut, is_cut_none, is_open_cut, is_open_within, is_open_unchanged, shuts_none}
 use Rattle.rx_event.proofs.Laws.Lawful.{in_base, since_base, FoundAt, found_at, shown_within}
 use Rattle.rx_event.proofs.Laws.Steps.{by_events, may_accept, may_remove, may_take}
+use Rattle.rx_event.proofs.Laws.Places.{at_within}
+use Rattle.rx_event.proofs.Laws.Leases.{is_owned_within, owned_resource, lease_resource, leases_of_kept, leases_of-return, leased_resource, leased_some}
+use Rattle.rx_event.proofs.Laws.Leases.{leased_where, is_leased_past, is_leased_kept, is_leased_last, leased_old, lease_owned}
 use Rattle.rx_event.proofs.Laws.Making.{made_unremoved, made_untaken}
 
 -- the node of a resource ---------------------------------------------------------------------------
@@ -43,16 +49,17 @@ accepted_before base h law r n _ at_r named = absurd (none-some n named)
 pub node_of-lt : (base : Kept) → (h : List Event) → IsLawful base h → (r n : ℕ) → node_of h r ≡ Some n → n ≤ r
 node_of-lt base h law r n named = option_and_then_some node_of_accept (slice_get h r) n named (λ e at_r n_of. accepted_before base h law r n e at_r n_of)
 
--- held --------------------------------------------------------------------------------------------
+-- owned -------------------------------------------------------------------------------------------
 
 -- the event takes r from its node: it removes it, or cuts its node
 abbrev pub loses : List Event → Event → ℕ → Bool
 loses h e r = option_map_or (is_cut h e) (node_of h r) false || is_remove_of r e
 
--- an older resource is held if it was, and its node does not lose it
-pub is_held-push : (base : Kept) → (h : List Event) (e : Event) → IsLawful base h → (r : ℕ) → r < length h → is_held (h ++ e ∷ []) r ≡ (is_held h r && not (loses h e r))
-unfolding is_held
-is_held-push base h e law r l =
+-- an older resource is owned if it was, and its node does not lose it
+pub is_owned-push : (base : Kept) → (h : List Event) (e : Event) → IsLawful base h → (r : ℕ) → r < length h → is_owned (h ++ e ∷ []) r ≡
+    (is_owned h r && not (loses h e r))
+unfolding is_owned
+is_owned-push base h e law r l =
     rw (slice_get-append h (e ∷ []) r l, list_any-append (is_remove_of r) h (e ∷ [])) (by_node (node_of h r) refl)
   where
     shape : (o s a b : Bool) → ((o && not s) && not (a || (b || false))) ≡ ((o && not a) && not (s || b))
@@ -70,21 +77,13 @@ is_held-push base h e law r l =
         let s : n ≤ r = node_of-lt base h law r n at_r in
         rw (is_open_cut h e n (omega arith)) (shape (is_open h n) (is_cut h e n) (list_any (is_remove_of r) h) (is_remove_of r e))
 
--- beyond the end nothing is held
-pub is_held_past : (h : List Event) (r : ℕ) → length h ≤ r → is_held h r ≡ false
-unfolding is_held
-is_held_past h r l = rw (slice_get_past h r l) refl
-
--- what is held is in the history
-pub is_held_within : (h : List Event) (r : ℕ) → is_held h r ≡ true → r < length h
-is_held_within h r held = within (cases_order r (length h)) where
-  within : (r ≡ length h) ⊎ ((r < length h) ⊎ (length h < r)) → r < length h
-  within (inr (inl l)) = l
-  within (inl same) = absurd (both_ways _ (is_held_past h r (omega arith)) held)
-  within (inr (inr g)) = absurd (both_ways _ (is_held_past h r (omega arith)) held)
+-- beyond the end nothing is owned
+pub is_owned_past : (h : List Event) (r : ℕ) → length h ≤ r → is_owned h r ≡ false
+unfolding is_owned
+is_owned_past h r l = rw (slice_get_past h r l) refl
 
 removes_none : (base : Kept) → (h : List Event) (e : Event) → MayFollow base h e → (r : ℕ) → length h ≤ r → is_remove_of r e ≡ false
-removes_none base h (Remove q) next r l = let b = is_held_within h q (may_remove base next) in ne_eqb q r (omega arith)
+removes_none base h (Remove q) next r l = let b = is_owned_within h q (may_remove base next) in ne_eqb q r (omega arith)
 removes_none base h _ next r l = refl
 
 -- only older resources are removed
@@ -93,10 +92,11 @@ no_remove base = by_events base (λ h. (r : ℕ) → length h ≤ r → list_any
     let b : length h ≤ r = omega (arith, length-append h (e ∷ [])) in
     list_any-append (is_remove_of r) h (e ∷ []) ∙ or_from _ _ (before r b) (or_from _ _ (removes_none base h e next r b) refl))
 
--- a new resource is held where its node is open
-pub is_held_last : (base : Kept) → (h : List Event) (e : Event) → IsLawful base h → is_held (h ++ e ∷ []) (length h) ≡ option_map_or (is_open h) (node_of_accept e) false
-unfolding is_held
-is_held_last base h e law = rw (slice_get_last h e) (by_event e) where
+-- a new resource is owned where its node is open
+pub is_owned_last : (base : Kept) → (h : List Event) (e : Event) → IsLawful base h → is_owned (h ++ e ∷ []) (length h) ≡ option_map_or (is_open h)
+    (node_of_accept e) false
+unfolding is_owned
+is_owned_last base h e law = rw (slice_get_last h e) (by_event e) where
   and_yes : (b c : Bool) → c ≡ false → (b && not c) ≡ b
   and_yes true c gone = ap not gone
   and_yes false c gone = refl
@@ -117,9 +117,9 @@ and_true true = refl
 and_true false = refl
 
 -- an event that shuts no node leaves what it does not remove
-pub is_held_kept : (base : Kept) → (h : List Event) (e : Event) → IsLawful base h → (r : ℕ) → r < length h → shuts_none e ≡ true → is_remove_of r e ≡ false →
-    is_held (h ++ e ∷ []) r ≡ is_held h r
-is_held_kept base h e law r l s keeps = rw (is_held-push base h e law r l, keeps_none h e r s keeps) (and_true (is_held h r))
+pub is_owned_kept : (base : Kept) → (h : List Event) (e : Event) → IsLawful base h → (r : ℕ) → r < length h → shuts_none e ≡ true → is_remove_of r e ≡ false →
+    is_owned (h ++ e ∷ []) r ≡ is_owned h r
+is_owned_kept base h e law r l s keeps = rw (is_owned-push base h e law r l, keeps_none h e r s keeps) (and_true (is_owned h r))
 
 -- a resource is in the history
 pub node_of_within : (h : List Event) (r n : ℕ) → node_of h r ≡ Some n → r < length h
@@ -129,49 +129,155 @@ or_false : (b : Bool) → (b || false) ≡ b
 or_false true = refl
 or_false false = refl
 
--- after the end or the closing of c, what was held within c no longer is
-pub is_held-end : (base : Kept) → (h : List Event) (c : ℕ) (t : Terminal) → IsLawful base h → (r n : ℕ) → node_of h r ≡ Some n →
-    is_held (h ++ End c t ∷ []) r ≡ (is_held h r && not (is_within h c n))
-is_held-end base h c t law r n at_r = rw (is_held-push base h (End c t) law r (node_of_within h r n at_r), at_r) (ap (λ b. is_held h r && not b) (or_false (is_within h c n)))
+-- after the end or the closing of c, what was owned within c no longer is
+pub is_owned-end : (base : Kept) → (h : List Event) (c : ℕ) (t : Terminal) → IsLawful base h → (r n : ℕ) → node_of h r ≡ Some n →
+    is_owned (h ++ End c t ∷ []) r ≡ (is_owned h r && not (is_within h c n))
+is_owned-end base h c t law r n at_r = rw (is_owned-push base h (End c t) law r (node_of_within h r n at_r), at_r)
+    (ap (λ b. is_owned h r && not b) (or_false (is_within h c n)))
 
-pub is_held-close : (base : Kept) → (h : List Event) (c : ℕ) → IsLawful base h → (r n : ℕ) → node_of h r ≡ Some n →
-    is_held (h ++ Close c ∷ []) r ≡ (is_held h r && not (is_within h c n))
-is_held-close base h c law r n at_r = rw (is_held-push base h (Close c) law r (node_of_within h r n at_r), at_r) (ap (λ b. is_held h r && not b) (or_false (is_within h c n)))
+pub is_owned-close : (base : Kept) → (h : List Event) (c : ℕ) → IsLawful base h → (r n : ℕ) → node_of h r ≡ Some n →
+    is_owned (h ++ Close c ∷ []) r ≡ (is_owned h r && not (is_within h c n))
+is_owned-close base h c law r n at_r = rw (is_owned-push base h (Close c) law r (node_of_within h r n at_r), at_r)
+    (ap (λ b. is_owned h r && not b) (or_false (is_within h c n)))
 
--- after a removal all that was held still is, but that
-pub is_held-remove : (base : Kept) → (h : List Event) (q : ℕ) → IsLawful base h → (r : ℕ) → r < length h → is_held (h ++ Remove q ∷ []) r ≡ (is_held h r && not (q == r))
-is_held-remove base h q law r l = rw (is_held-push base h (Remove q) law r l) (ap (λ b. is_held h r && not (b || q == r)) (cut_none (node_of h r))) where
+-- after a removal all that was owned still is, but that
+pub is_owned-remove : (base : Kept) → (h : List Event) (q : ℕ) → IsLawful base h → (r : ℕ) → r < length h → is_owned (h ++ Remove q ∷ []) r ≡
+    (is_owned h r && not (q == r))
+is_owned-remove base h q law r l = rw (is_owned-push base h (Remove q) law r l) (ap (λ b. is_owned h r && not (b || q == r)) (cut_none (node_of h r))) where
   cut_none : (o : Option ℕ) → option_map_or (is_cut h (Remove q)) o false ≡ false
   cut_none None = refl
   cut_none (Some n) = is_cut_none h (Remove q) n refl
 
--- what is held is a resource
-pub held_resource : (h : List Event) (r : ℕ) → is_held h r ≡ true → at makes_resource h r ≡ true
-unfolding is_held
-held_resource h r held = by_event (slice_get h r) (and_parts _ _ held).0 where
-  by_event : (o : Option Event) → option_map_or (is_open h) (option_and_then node_of_accept o) false ≡ true → option_map_or makes_resource o false ≡ true
-  by_event None o = o
-  by_event (Some (Accept n tag)) o = refl
-  by_event (Some _) o = o
+-- what is owned is owned by an open node
+pub owned_open : (h : List Event) (r n : ℕ) → node_of h r ≡ Some n → is_owned h r ≡ true → is_open h n ≡ true
+unfolding is_owned
+owned_open h r n at_r owned = sym (ap (λ o. option_map_or (is_open h) o false) at_r) ∙ (and_parts _ _ owned).0
 
--- what is held is held at an open node
-pub held_open : (h : List Event) (r n : ℕ) → node_of h r ≡ Some n → is_held h r ≡ true → is_open h n ≡ true
-unfolding is_held
-held_open h r n at_r held = sym (ap (λ o. option_map_or (is_open h) o false) at_r) ∙ (and_parts _ _ held).0
-
--- a resource stays held as long as its node is open and it is not removed
-pub is_held-open : (base : Kept) → (h : List Event) (e : Event) → IsLawful base h → (r n : ℕ) → node_of h r ≡ Some n →
-    is_held (h ++ e ∷ []) r ≡ (is_held h r && is_open (h ++ e ∷ []) n && not (is_remove_of r e))
-is_held-open base h e law r n at_r =
+-- a resource stays owned as long as its node is open and it is not removed
+pub is_owned-open : (base : Kept) → (h : List Event) (e : Event) → IsLawful base h → (r n : ℕ) → node_of h r ≡ Some n →
+    is_owned (h ++ e ∷ []) r ≡ (is_owned h r && is_open (h ++ e ∷ []) n && not (is_remove_of r e))
+is_owned-open base h e law r n at_r =
     let s : n ≤ r = node_of-lt base h law r n at_r in
     let l : r < length h = node_of_within h r n at_r in
-    rw (is_held-push base h e law r l, at_r, is_open_cut h e n (omega arith)) (shape (is_held h r) (is_open h n) (is_cut h e n) (is_remove_of r e) (held_open h r n at_r))
+    rw (is_owned-push base h e law r l, at_r, is_open_cut h e n (omega arith)) (shape (is_owned h r) (is_open h n) (is_cut h e n) (is_remove_of r e)
+    (owned_open h r n at_r))
   where
-    shape : (held o c k : Bool) → (held ≡ true → o ≡ true) → (held && not (c || k)) ≡ ((held && (o && not c)) && not k)
+    shape : (owned o c k : Bool) → (owned ≡ true → o ≡ true) → (owned && not (c || k)) ≡ ((owned && (o && not c)) && not k)
     shape false o c k open_where = refl
     shape true false c k open_where = absurd (false≢true (open_where refl))
     shape true true true k open_where = refl
     shape true true false k open_where = refl
+
+-- held --------------------------------------------------------------------------------------------
+
+pub held_is : (h : List Event) (r : ℕ) → is_held h r ≡ (is_owned h r || is_leased h r)
+unfolding is_held
+held_is h r = refl
+
+pub owned_held : (h : List Event) (r : ℕ) → is_owned h r ≡ true → is_held h r ≡ true
+owned_held h r owned = held_is h r ∙ ap (λ b. b || is_leased h r) owned
+
+pub leased_held : (h : List Event) (r : ℕ) → is_leased h r ≡ true → is_held h r ≡ true
+leased_held h r leased = held_is h r ∙ or_right (is_owned h r) (is_leased h r) leased
+
+pub held_parts : (h : List Event) (r : ℕ) → is_held h r ≡ true → (is_owned h r ≡ true) ⊎ (is_leased h r ≡ true)
+held_parts h r held = or_cases (is_owned h r) (is_leased h r) (sym (held_is h r) ∙ held)
+
+-- what is held is a resource
+pub held_resource : (h : List Event) (r : ℕ) → is_held h r ≡ true → at makes_resource h r ≡ true
+held_resource h r held = by_part (held_parts h r held) where
+  by_part : (is_owned h r ≡ true) ⊎ (is_leased h r ≡ true) → at makes_resource h r ≡ true
+  by_part (inl owned) = owned_resource h r owned
+  by_part (inr leased) = leased_resource h r leased
+
+-- and in the history
+pub is_held_within : (h : List Event) (r : ℕ) → is_held h r ≡ true → r < length h
+is_held_within h r held = at_within makes_resource h r (held_resource h r held)
+
+-- beyond the end nothing is held
+pub is_held_past : (h : List Event) (r : ℕ) → length h ≤ r → is_held h r ≡ false
+is_held_past h r l = held_is h r ∙ (λ i. is_owned_past h r l i || is_leased_past h r l i)
+
+-- a new resource is held where its node is open
+pub is_held_last : (base : Kept) → (h : List Event) (e : Event) → IsLawful base h → is_held (h ++ e ∷ []) (length h) ≡ option_map_or (is_open h)
+    (node_of_accept e) false
+is_held_last base h e law = held_is (h ++ e ∷ []) (length h) ∙ (λ i. is_owned_last base h e law i || is_leased_last base h e law i) ∙ or_false _
+
+-- an event that shuts no node leaves what it neither removes, leases nor returns
+pub is_held_kept : (base : Kept) → (h : List Event) (e : Event) → IsLawful base h → (r : ℕ) → r < length h → shuts_none e ≡ true → is_remove_of r e ≡ false →
+    is_return e ≡ false → is_lease_of r e ≡ false → is_held (h ++ e ∷ []) r ≡ is_held h r
+is_held_kept base h e law r l s keeps none unleased =
+    held_is (h ++ e ∷ []) r ∙ (λ i. is_owned_kept base h e law r l s keeps i || is_leased_kept base h e law r l none unleased i) ∙ sym (held_is h r)
+
+-- an older resource that is held was held, if a lease of it is one of what was owned
+pub held_before : (base : Kept) → (h : List Event) (e : Event) → IsLawful base h → (r : ℕ) → r < length h → (is_lease_of r e ≡ true → is_owned h r ≡ true) →
+    is_held (h ++ e ∷ []) r ≡ true → is_held h r ≡ true
+held_before base h e law r l may held = by_part (held_parts (h ++ e ∷ []) r held) where
+  by_cause : (is_leased h r ≡ true) ⊎ (is_owned h r ≡ true) → is_held h r ≡ true
+  by_cause (inl leased) = leased_held h r leased
+  by_cause (inr owned) = owned_held h r owned
+
+  by_part : (is_owned (h ++ e ∷ []) r ≡ true) ⊎ (is_leased (h ++ e ∷ []) r ≡ true) → is_held h r ≡ true
+  by_part (inl owned) = owned_held h r (and_parts _ _ (sym (is_owned-push base h e law r l) ∙ owned)).0
+  by_part (inr leased) = by_cause (leased_old base h e law r l may leased)
+
+pub held_old : (base : Kept) → (h : List Event) (e : Event) → IsLawful base h → MayFollow base h e → (r : ℕ) → r < length h →
+    is_held (h ++ e ∷ []) r ≡ true → is_held h r ≡ true
+held_old base h e law next r l held = held_before base h e law r l (lease_owned base h e next r) held
+
+-- what is leased stays so but for a return
+leased_stays : (base : Kept) → (h : List Event) (e : Event) → IsLawful base h → (r : ℕ) → is_return e ≡ false → is_leased h r ≡ true → is_leased
+    (h ++ e ∷ []) r ≡ true
+leased_stays base h e law r none leased =
+    let made = leased_resource h r leased in
+    let less : r < length h = at_within makes_resource h r made in
+    leased_where (h ++ e ∷ []) r (at-append makes_resource h (e ∷ []) r less ∙ made) (let some = leased_some h r leased in let kept = leases_of_kept base h
+    e law none r in omega arith)
+
+-- a lease leaves held what is held, and nothing more
+pub is_held-lease : (base : Kept) → (h : List Event) (q : ℕ) → IsLawful base h → MayFollow base h (Lease q) → (r : ℕ) → is_held (h ++ Lease q ∷ []) r ≡
+    is_held h r
+is_held-lease base h q law next r = by_place (cases_order r (length h)) where
+  stays : r < length h → is_held h r ≡ true → is_held (h ++ Lease q ∷ []) r ≡ true
+  stays l held = by_part (held_parts h r held) where
+    by_part : (is_owned h r ≡ true) ⊎ (is_leased h r ≡ true) → is_held (h ++ Lease q ∷ []) r ≡ true
+    by_part (inl owned) = owned_held (h ++ Lease q ∷ []) r (is_owned_kept base h (Lease q) law r l refl refl ∙ owned)
+    by_part (inr leased) = leased_held (h ++ Lease q ∷ []) r (leased_stays base h (Lease q) law r refl leased)
+
+  by_place : (r ≡ length h) ⊎ ((r < length h) ⊎ (length h < r)) → is_held (h ++ Lease q ∷ []) r ≡ is_held h r
+  by_place (inr (inl l)) = same_test (is_held (h ++ Lease q ∷ []) r) (is_held h r) (held_old base h (Lease q) law next r l) (stays l)
+  by_place (inl same) = ap (is_held (h ++ Lease q ∷ [])) same ∙ is_held_last base h (Lease q) law ∙ sym (is_held_past h r (omega arith))
+  by_place (inr (inr g)) = is_held_past (h ++ Lease q ∷ []) r (omega (arith, length-append {A = Event})) ∙ sym (is_held_past h r (omega arith))
+
+-- after a return just that resource is leased no more of which it was the last lease
+pub is_leased-return : (base : Kept) → (h : List Event) (l q : ℕ) → IsLawful base h → MayFollow base h (Return l) → slice_get h l ≡ Some (Lease q) → (r : ℕ)
+    → r < length h →
+    is_leased (h ++ Return l ∷ []) r ≡ (is_leased h r && not (q == r && leases_of h r == 1))
+is_leased-return base h l q law next at_l r less =
+    ap (λ a. a && nat_lt 0 (leases_of (h ++ Return l ∷ []) r)) (at-append makes_resource h (Return l ∷ []) r less) ∙
+    ap (λ b. at makes_resource h r && b) (by_number (q == r) (leases_of-return base h l q law next at_l r)) ∙
+    and_again (at makes_resource h r) (nat_lt 0 (leases_of h r)) (not (q == r && leases_of h r == 1))
+  where
+    and_again : (a b c : Bool) → (a && (b && c)) ≡ ((a && b) && c)
+    and_again true b c = refl
+    and_again false b c = refl
+
+    both : (x : ℕ) → nat_lt 0 x ≡ (nat_lt 0 (x + 1) && not (x + 1 == 1))
+    both x = by_size (cases_order x 0) where
+      by_size : (x ≡ 0) ⊎ ((x < 0) ⊎ (0 < x)) → nat_lt 0 x ≡ (nat_lt 0 (x + 1) && not (x + 1 == 1))
+      by_size (inl none) = rw none refl
+      by_size (inr (inl l)) = absurd (omega arith)
+      by_size (inr (inr some)) = lt-ltb 0 x some ∙ sym (λ i. lt-ltb 0 (x + 1) (omega arith) i && not (ne_eqb (x + 1) 1 (omega arith) i))
+
+    by_number : (b : Bool) → leases_of (h ++ Return l ∷ []) r + cond b 1 0 ≡ leases_of h r →
+        nat_lt 0 (leases_of (h ++ Return l ∷ []) r) ≡ (nat_lt 0 (leases_of h r) && not (b && leases_of h r == 1))
+    by_number true same = both (leases_of (h ++ Return l ∷ []) r) ∙ ap (λ n. nat_lt 0 n && not (n == 1)) same
+    by_number false same =
+        let kept : leases_of (h ++ Return l ∷ []) r ≡ leases_of h r = omega arith in ap (nat_lt 0) kept ∙ sym (and_true (nat_lt 0 (leases_of h r)))
+
+-- and as much is owned
+pub owned_return : (base : Kept) → (h : List Event) (l : ℕ) → IsLawful base h → (r : ℕ) → r < length h → is_owned (h ++ Return l ∷ []) r ≡ is_owned h r
+owned_return base h l law r less = is_owned_kept base h (Return l) law r less refl refl
 
 -- taken -------------------------------------------------------------------------------------------
 
@@ -184,6 +290,14 @@ is_taken-push h e r l = rw (at-append makes_resource h (e ∷ []) r l, list_any-
   shape true true c = refl
   shape true false true = refl
   shape true false false = refl
+
+pub is_taken_kept : (h : List Event) (e : Event) (r : ℕ) → r < length h → is_take_of r e ≡ false → is_taken (h ++ e ∷ []) r ≡ is_taken h r
+is_taken_kept h e r l leaves = is_taken-push h e r l ∙ ap (λ t. is_taken h r || (at makes_resource h r && t)) leaves ∙ shape (is_taken h r)
+    (at makes_resource h r) where
+      shape : (t a : Bool) → (t || (a && false)) ≡ t
+      shape true a = refl
+      shape false true = refl
+      shape false false = refl
 
 -- what is taken is a resource
 pub taken_resource : (h : List Event) (r : ℕ) → is_taken h r ≡ true → at makes_resource h r ≡ true
@@ -262,49 +376,76 @@ held_not_taken base = by_events base (λ h. (r : ℕ) → is_held h r ≡ true �
   after h e law next before r held = by_place (cases_order r (length h)) where
     by_place : (r ≡ length h) ⊎ ((r < length h) ⊎ (length h < r)) → is_taken (h ++ e ∷ []) r ≡ false
     by_place (inr (inl l)) =
-        let was : is_held h r ≡ true = (and_parts _ _ (sym (is_held-push base h e law r l) ∙ held)).0 in
+        let was : is_held h r ≡ true = held_old base h e law next r l held in
         is_taken-push h e r l ∙ or_from _ _ (before r was) (and_right _ _ (held_untaken base h e next r was))
     by_place (inl same) = ap (is_taken (h ++ e ∷ [])) same ∙ is_taken_last base h e law
     by_place (inr (inr g)) = is_taken_past (h ++ e ∷ []) r (omega (arith, length-append {A = Event}))
 
--- an older resource waits if it did, or was held and its node loses it, and the event does not take it
-pub is_waiting-push : (base : Kept) → (h : List Event) (e : Event) → IsLawful base h → (r : ℕ) → r < length h →
-    is_waiting (h ++ e ∷ []) r ≡ ((is_waiting h r || (is_held h r && loses h e r)) && not (is_take_of r e))
+-- an older resource waits if it did, or is held no more, and the event does not take it
+waiting-held : (base : Kept) → (h : List Event) (e : Event) → IsLawful base h → (r : ℕ) → r < length h → (is_lease_of r e ≡ true → is_owned h r ≡ true) →
+    is_waiting (h ++ e ∷ []) r ≡ ((is_waiting h r || (is_held h r && not (is_held (h ++ e ∷ []) r))) && not (is_take_of r e))
 unfolding is_waiting
-is_waiting-push base h e law r l = rw (at-append makes_resource h (e ∷ []) r l, is_held-push base h e law r l, is_taken-push h e r l) (shape (at makes_resource h r) (is_held h r) (is_taken h r) (loses h e r) (is_take_of r e) (held_resource h r) (held_not_taken base h law r)) where
-  shape : (a held taken k t : Bool) → (held ≡ true → a ≡ true) → (held ≡ true → taken ≡ false) →
-      ((a && not (held && not k)) && not (taken || (a && t))) ≡ ((((a && not held) && not taken) || (held && k)) && not t)
-  shape true true true k t made untaken = absurd (both_ways _ (untaken refl) refl)
-  shape true true false true t made untaken = refl
-  shape true true false false t made untaken = refl
-  shape true false true k t made untaken = refl
-  shape true false false k t made untaken = refl
-  shape false true taken k t made untaken = absurd (false≢true (made refl))
-  shape false false taken k t made untaken = refl
+waiting-held base h e law r l may =
+    (λ i. at-append makes_resource h (e ∷ []) r l i && not (is_held (h ++ e ∷ []) r) && not (is_taken-push h e r l i)) ∙
+    shape (at makes_resource h r) (is_held h r) (is_held (h ++ e ∷ []) r) (is_taken h r) (is_take_of r e) (held_resource h r) (held_not_taken base h law r)
+    (held_before base h e law r l may)
+  where
+    shape : (a held after taken t : Bool) → (held ≡ true → a ≡ true) → (held ≡ true → taken ≡ false) → (after ≡ true → held ≡ true) →
+        ((a && not after) && not (taken || (a && t))) ≡ ((((a && not held) && not taken) || (held && not after)) && not t)
+    shape true true after true t made untaken old = absurd (both_ways _ (untaken refl) refl)
+    shape true true true false t made untaken old = refl
+    shape true true false false t made untaken old = refl
+    shape true false true taken t made untaken old = absurd (false≢true (old refl))
+    shape true false false true t made untaken old = refl
+    shape true false false false t made untaken old = refl
+    shape false true after taken t made untaken old = absurd (false≢true (made refl))
+    shape false false true taken t made untaken old = absurd (false≢true (old refl))
+    shape false false false taken t made untaken old = refl
 
--- an event that shuts no node leaves what it neither removes nor takes
+pub is_waiting-unheld : (base : Kept) → (h : List Event) (e : Event) → IsLawful base h → MayFollow base h e → (r : ℕ) → r < length h →
+    is_waiting (h ++ e ∷ []) r ≡ ((is_waiting h r || (is_held h r && not (is_held (h ++ e ∷ []) r))) && not (is_take_of r e))
+is_waiting-unheld base h e law next r l = waiting-held base h e law r l (lease_owned base h e next r)
+
+-- so where nothing is leased or returned: what was owned and has no lease out, where its node loses it
+is_waiting-loses : (base : Kept) → (h : List Event) (e : Event) → IsLawful base h → (r : ℕ) → r < length h → is_return e ≡ false → is_lease_of r e ≡ false →
+    is_take_of r e ≡ false → is_waiting (h ++ e ∷ []) r ≡ (is_waiting h r || (is_owned h r && loses h e r && not (is_leased h r)))
+is_waiting-loses base h e law r l none unleased leaves =
+    waiting-held base h e law r l (λ leases. absurd (both_ways _ unleased leases)) ∙
+    (λ i. (is_waiting h r || (held_is h r i && not (after i))) && not (leaves i)) ∙ shape (is_waiting h r) (is_owned h r) (loses h e r) (is_leased h r)
+  where
+    after : is_held (h ++ e ∷ []) r ≡ ((is_owned h r && not (loses h e r)) || is_leased h r)
+    after = held_is (h ++ e ∷ []) r ∙ (λ i. is_owned-push base h e law r l i || is_leased_kept base h e law r l none unleased i)
+
+    shape : (w o k s : Bool) → ((w || ((o || s) && not ((o && not k) || s))) && true) ≡ (w || ((o && k) && not s))
+    shape true o k s = refl
+    shape false true true true = refl
+    shape false true true false = refl
+    shape false true false true = refl
+    shape false true false false = refl
+    shape false false k true = refl
+    shape false false k false = refl
+
+-- an event that shuts no node leaves what it neither removes, leases, returns nor takes
 pub is_waiting_kept : (base : Kept) → (h : List Event) (e : Event) → IsLawful base h → (r : ℕ) → r < length h → shuts_none e ≡ true → is_remove_of r e ≡ false →
-    is_take_of r e ≡ false → is_waiting (h ++ e ∷ []) r ≡ is_waiting h r
-is_waiting_kept base h e law r l s keeps leaves = rw (is_waiting-push base h e law r l, keeps_none h e r s keeps, leaves) (shape (is_waiting h r) (is_held h r)) where
-  shape : (w b : Bool) → ((w || (b && false)) && true) ≡ w
-  shape true b = refl
-  shape false true = refl
-  shape false false = refl
+    is_return e ≡ false → is_lease_of r e ≡ false → is_take_of r e ≡ false → is_waiting (h ++ e ∷ []) r ≡ is_waiting h r
+unfolding is_waiting
+is_waiting_kept base h e law r l s keeps none unleased leaves =
+    (λ i. at-append makes_resource h (e ∷ []) r l i && not (is_held_kept base h e law r l s keeps none unleased i) && not (is_taken_kept h e r l leaves i))
 
-waiting_shape : (w b k : Bool) → ((w || (b && (k || false))) && true) ≡ (w || (b && k))
-waiting_shape true b k = refl
-waiting_shape false false k = refl
-waiting_shape false true true = refl
-waiting_shape false true false = refl
-
--- after the end or the closing of c, what was held within c waits
+-- after the end or the closing of c, what was owned within c waits, but what is leased
 pub is_waiting-end : (base : Kept) → (h : List Event) (c : ℕ) (t : Terminal) → IsLawful base h → (r n : ℕ) → node_of h r ≡ Some n →
-    is_waiting (h ++ End c t ∷ []) r ≡ (is_waiting h r || (is_held h r && is_within h c n))
-is_waiting-end base h c t law r n at_r = rw (is_waiting-push base h (End c t) law r (node_of_within h r n at_r), at_r) (waiting_shape (is_waiting h r) (is_held h r) (is_within h c n))
+    is_waiting (h ++ End c t ∷ []) r ≡ (is_waiting h r || (is_owned h r && is_within h c n && not (is_leased h r)))
+is_waiting-end base h c t law r n at_r =
+    is_waiting-loses base h (End c t) law r (node_of_within h r n at_r) refl refl refl ∙
+    ap (λ k. is_waiting h r || (is_owned h r && k && not (is_leased h r))) (ap (λ o. option_map_or (is_cut h (End c t)) o false || false) at_r ∙ or_false
+    (is_within h c n))
 
 pub is_waiting-close : (base : Kept) → (h : List Event) (c : ℕ) → IsLawful base h → (r n : ℕ) → node_of h r ≡ Some n →
-    is_waiting (h ++ Close c ∷ []) r ≡ (is_waiting h r || (is_held h r && is_within h c n))
-is_waiting-close base h c law r n at_r = rw (is_waiting-push base h (Close c) law r (node_of_within h r n at_r), at_r) (waiting_shape (is_waiting h r) (is_held h r) (is_within h c n))
+    is_waiting (h ++ Close c ∷ []) r ≡ (is_waiting h r || (is_owned h r && is_within h c n && not (is_leased h r)))
+is_waiting-close base h c law r n at_r =
+    is_waiting-loses base h (Close c) law r (node_of_within h r n at_r) refl refl refl ∙
+    ap (λ k. is_waiting h r || (is_owned h r && k && not (is_leased h r))) (ap (λ o. option_map_or (is_cut h (Close c)) o false || false) at_r ∙ or_false
+    (is_within h c n))
 
 -- a new resource does not wait where its node is open
 pub is_waiting_last : (base : Kept) → (h : List Event) (e : Event) → IsLawful base h →
@@ -321,33 +462,83 @@ is_waiting_new base h e law next = is_waiting_last base h e law ∙ by_event e n
 
 -- after a taking all that waited still does, but that
 pub is_waiting-take : (base : Kept) → (h : List Event) (q : ℕ) → IsLawful base h → (r : ℕ) → is_waiting (h ++ Take q ∷ []) r ≡ (is_waiting h r && not (q == r))
+unfolding is_waiting
 is_waiting-take base h q law r = by_place (cases_order r (length h)) where
-  kept : loses h (Take q) r ≡ false
-  kept = keeps_none h (Take q) r refl refl
-
-  shape : (w b t : Bool) → ((w || (b && false)) && not t) ≡ (w && not t)
-  shape true b t = refl
-  shape false true t = refl
-  shape false false t = refl
+  shape : (a b t k : Bool) → ((a && not b) && not (t || (a && k))) ≡ (((a && not b) && not t) && not k)
+  shape false b t k = refl
+  shape true true t k = refl
+  shape true false true k = refl
+  shape true false false k = refl
 
   gone : length h ≤ r → (is_waiting h r && not (q == r)) ≡ false
-  gone l = rw (is_waiting_past h r l) refl
+  gone l = ap (λ w. w && not (q == r)) (is_waiting_past h r l)
 
   by_place : (r ≡ length h) ⊎ ((r < length h) ⊎ (length h < r)) → is_waiting (h ++ Take q ∷ []) r ≡ (is_waiting h r && not (q == r))
-  by_place (inr (inl l)) = rw (is_waiting-push base h (Take q) law r l, kept) (shape (is_waiting h r) (is_held h r) (q == r))
+  by_place (inr (inl l)) =
+      (λ i. at-append makes_resource h (Take q ∷ []) r l i && not (is_held_kept base h (Take q) law r l refl refl refl refl i) && not
+      (is_taken-push h (Take q) r l i)) ∙
+      shape (at makes_resource h r) (is_held h r) (is_taken h r) (q == r)
   by_place (inl same) = ap (is_waiting (h ++ Take q ∷ [])) same ∙ is_waiting_last base h (Take q) law ∙ sym (gone (omega arith))
   by_place (inr (inr g)) = is_waiting_past (h ++ Take q ∷ []) r (omega (arith, length-append {A = Event})) ∙ sym (gone (omega arith))
 
--- after a removal what was removed waits too
+-- after a removal what was removed waits too, if it has no lease out
 pub is_waiting-remove : (base : Kept) → (h : List Event) (q : ℕ) → IsLawful base h → (r : ℕ) → r < length h →
-    is_waiting (h ++ Remove q ∷ []) r ≡ (is_waiting h r || (is_held h r && q == r))
-is_waiting-remove base h q law r l = rw (is_waiting-push base h (Remove q) law r l) (shape (is_waiting h r) (is_held h r) _ (q == r) (cut_none (node_of h r))) where
-  cut_none : (o : Option ℕ) → option_map_or (is_cut h (Remove q)) o false ≡ false
-  cut_none None = refl
-  cut_none (Some n) = is_cut_none h (Remove q) n refl
+    is_waiting (h ++ Remove q ∷ []) r ≡ (is_waiting h r || (is_owned h r && q == r && not (is_leased h r)))
+is_waiting-remove base h q law r l =
+    is_waiting-loses base h (Remove q) law r l refl refl refl ∙
+    ap (λ k. is_waiting h r || (is_owned h r && k && not (is_leased h r))) (ap (λ c. c || q == r) (cut_none (node_of h r)))
+  where
+    cut_none : (o : Option ℕ) → option_map_or (is_cut h (Remove q)) o false ≡ false
+    cut_none None = refl
+    cut_none (Some n) = is_cut_none h (Remove q) n refl
 
-  shape : (w b k s : Bool) → k ≡ false → ((w || (b && (k || s))) && true) ≡ (w || (b && s))
-  shape w b k s none = rw none (and_true (w || (b && s)))
+-- after a lease as much waits
+pub is_waiting-lease : (base : Kept) → (h : List Event) (q : ℕ) → IsLawful base h → MayFollow base h (Lease q) → (r : ℕ) → is_waiting (h ++ Lease q ∷ []) r
+    ≡ is_waiting h r
+unfolding is_waiting
+is_waiting-lease base h q law next r = by_place (cases_order r (length h)) where
+  by_place : (r ≡ length h) ⊎ ((r < length h) ⊎ (length h < r)) → is_waiting (h ++ Lease q ∷ []) r ≡ is_waiting h r
+  by_place (inr (inl l)) =
+      (λ i. at-append makes_resource h (Lease q ∷ []) r l i && not (is_held-lease base h q law next r i) && not (is_taken_kept h (Lease q) r l refl i))
+  by_place (inl same) = ap (is_waiting (h ++ Lease q ∷ [])) same ∙ is_waiting_last base h (Lease q) law ∙ sym (is_waiting_past h r (omega arith))
+  by_place (inr (inr g)) = is_waiting_past (h ++ Lease q ∷ []) r (omega (arith, length-append {A = Event})) ∙ sym (is_waiting_past h r (omega arith))
+
+-- after a return that waits too of which it was the last lease, if it is not owned
+pub is_waiting-return : (base : Kept) → (h : List Event) (l q : ℕ) → IsLawful base h → MayFollow base h (Return l) → slice_get h l ≡ Some (Lease q) → (r : ℕ) →
+    is_waiting (h ++ Return l ∷ []) r ≡ (is_waiting h r || (q == r && not (is_owned h r) && leases_of h r == 1))
+is_waiting-return base h l q law next at_l r = by_place (cases_order r (length h)) where
+  shape : (w o s same one : Bool) → (same ≡ true → s ≡ true) →
+      ((w || ((o || s) && not (o || (s && not (same && one))))) && true) ≡ (w || ((same && not o) && one))
+  shape true o s same one leased = refl
+  shape false true s true one leased = refl
+  shape false true s false one leased = refl
+  shape false false true true true leased = refl
+  shape false false true true false leased = refl
+  shape false false true false one leased = refl
+  shape false false false true one leased = absurd (false≢true (leased refl))
+  shape false false false false one leased = refl
+
+  leased : (q == r) ≡ true → is_leased h r ≡ true
+  leased same =
+      let back = leases_of-return base h l q law next at_l r in
+      let one : cond {A = ℕ} (q == r) 1 0 ≡ 1 = ap (λ b. cond {A = ℕ} b 1 0) same in
+      leased_where h r (ap (at makes_resource h) (sym (eqb-true q r same)) ∙ lease_resource base h law l q at_l) (omega arith)
+
+  other : length h ≤ r → (q == r) ≡ false
+  other past = let w : q < length h = at_within makes_resource h q (lease_resource base h law l q at_l) in ne_eqb q r (omega arith)
+
+  beyond : length h ≤ r → (is_waiting h r || (q == r && not (is_owned h r) && leases_of h r == 1)) ≡ false
+  beyond past = (λ i. is_waiting_past h r past i || (other past i && not (is_owned h r) && leases_of h r == 1))
+
+  by_place : (r ≡ length h) ⊎ ((r < length h) ⊎ (length h < r)) → is_waiting (h ++ Return l ∷ []) r ≡
+      (is_waiting h r || (q == r && not (is_owned h r) && leases_of h r == 1))
+  by_place (inr (inl less)) =
+      is_waiting-unheld base h (Return l) law next r less ∙
+      (λ i. (is_waiting h r || (held_is h r i && not ((held_is (h ++ Return l ∷ []) r ∙ (λ j. owned_return base h l law r less j || is_leased-return base h
+      l q law next at_l r less j)) i))) && true) ∙
+      shape (is_waiting h r) (is_owned h r) (is_leased h r) (q == r) (leases_of h r == 1) leased
+  by_place (inl same) = ap (is_waiting (h ++ Return l ∷ [])) same ∙ is_waiting_last base h (Return l) law ∙ sym (beyond (omega arith))
+  by_place (inr (inr g)) = is_waiting_past (h ++ Return l ∷ []) r (omega (arith, length-append {A = Event})) ∙ sym (beyond (omega arith))
 
 -- each resource is in exactly one place: held, waiting or taken
 pub in_one_place : (base : Kept) → (h : List Event) → IsLawful base h → (r : ℕ) →
@@ -366,7 +557,7 @@ in_one_place base h law r = shape (at makes_resource h r) (is_held h r) (is_take
 
 -- what neither shuts a node nor moves a resource --------------------------------------------------
 
--- the event shuts no node, and accepts, removes and takes no resource
+-- the event shuts no node, and accepts, removes, leases, returns and takes no resource
 abbrev pub moves_none : Event → Bool
 moves_none (Open (Inner f) kind) = false
 moves_none (Open place kind) = true
@@ -382,20 +573,51 @@ pub record MovesNone (e : Event) : Type 0 where
   pub accepts : makes_resource e ≡ false
   pub named : node_of_accept e ≡ None
   pub removes : (r : ℕ) → is_remove_of r e ≡ false
+  pub leases : (r : ℕ) → is_lease_of r e ≡ false
+  pub returns : is_return e ≡ false
   pub takes : (r : ℕ) → is_take_of r e ≡ false
 
 moves_parts : (e : Event) → moves_none e ≡ true → MovesNone e
 moves_parts (Open (Inner f) kind) m = absurd (false≢true m)
-moves_parts (Open Root kind) m = record { shuts = refl; accepts = refl; named = refl; removes = λ r. refl; takes = λ r. refl }
-moves_parts (Open (Source f) kind) m = record { shuts = refl; accepts = refl; named = refl; removes = λ r. refl; takes = λ r. refl }
-moves_parts (Open (Notifier f) kind) m = record { shuts = refl; accepts = refl; named = refl; removes = λ r. refl; takes = λ r. refl }
-moves_parts (Hub mode) m = record { shuts = refl; accepts = refl; named = refl; removes = λ r. refl; takes = λ r. refl }
-moves_parts (Connect g) m = record { shuts = refl; accepts = refl; named = refl; removes = λ r. refl; takes = λ r. refl }
-moves_parts (Use q) m = record { shuts = refl; accepts = refl; named = refl; removes = λ r. refl; takes = λ r. refl }
-moves_parts (Item l v) m = record { shuts = refl; accepts = refl; named = refl; removes = λ r. refl; takes = λ r. refl }
-moves_parts (Decline f) m = record { shuts = refl; accepts = refl; named = refl; removes = λ r. refl; takes = λ r. refl }
+moves_parts (Open Root kind) m = record {
+  shuts = refl;
+  accepts = refl;
+  named = refl;
+  removes = λ r. refl;
+  leases = λ r. refl;
+  returns = refl;
+  takes = λ r.
+      refl;
+}
+moves_parts (Open (Source f) kind) m = record {
+  shuts = refl;
+  accepts = refl;
+  named = refl;
+  removes = λ r. refl;
+  leases = λ r. refl;
+  returns = refl;
+  takes =
+      λ r. refl;
+}
+moves_parts (Open (Notifier f) kind) m = record {
+  shuts = refl;
+  accepts = refl;
+  named = refl;
+  removes = λ r. refl;
+  leases = λ r. refl;
+  returns = refl;
+  takes
+      = λ r. refl;
+}
+moves_parts (Hub mode) m = record { shuts = refl; accepts = refl; named = refl; removes = λ r. refl; leases = λ r. refl; returns = refl; takes = λ r. refl }
+moves_parts (Connect g) m = record { shuts = refl; accepts = refl; named = refl; removes = λ r. refl; leases = λ r. refl; returns = refl; takes = λ r. refl }
+moves_parts (Use q) m = record { shuts = refl; accepts = refl; named = refl; removes = λ r. refl; leases = λ r. refl; returns = refl; takes = λ r. refl }
+moves_parts (Item l v) m = record { shuts = refl; accepts = refl; named = refl; removes = λ r. refl; leases = λ r. refl; returns = refl; takes = λ r. refl }
+moves_parts (Decline f) m = record { shuts = refl; accepts = refl; named = refl; removes = λ r. refl; leases = λ r. refl; returns = refl; takes = λ r. refl }
 moves_parts (Accept n tag) m = absurd (false≢true m)
 moves_parts (Remove q) m = absurd (false≢true m)
+moves_parts (Lease q) m = absurd (false≢true m)
+moves_parts (Return l) m = absurd (false≢true m)
 moves_parts (Take q) m = absurd (false≢true m)
 moves_parts (End n t) m = absurd (false≢true m)
 moves_parts (Close n) m = absurd (false≢true m)
@@ -407,7 +629,7 @@ is_held_unchanged base h e law m r = by_place (cases_order r (length h)) where
   parts = moves_parts e m
 
   by_place : (r ≡ length h) ⊎ ((r < length h) ⊎ (length h < r)) → is_held (h ++ e ∷ []) r ≡ is_held h r
-  by_place (inr (inl l)) = is_held_kept base h e law r l parts.shuts (parts.removes r)
+  by_place (inr (inl l)) = is_held_kept base h e law r l parts.shuts (parts.removes r) parts.returns (parts.leases r)
   by_place (inl same) = ap (is_held (h ++ e ∷ [])) same ∙ is_held_last base h e law ∙ ap (λ o. option_map_or (is_open h) o false) parts.named ∙ sym (is_held_past h r (omega arith))
   by_place (inr (inr g)) = is_held_past (h ++ e ∷ []) r (omega (arith, length-append {A = Event})) ∙ sym (is_held_past h r (omega arith))
 
@@ -418,19 +640,9 @@ is_waiting_unchanged base h e law m r = by_place (cases_order r (length h)) wher
   parts = moves_parts e m
 
   by_place : (r ≡ length h) ⊎ ((r < length h) ⊎ (length h < r)) → is_waiting (h ++ e ∷ []) r ≡ is_waiting h r
-  by_place (inr (inl l)) = is_waiting_kept base h e law r l parts.shuts (parts.removes r) (parts.takes r)
+  by_place (inr (inl l)) = is_waiting_kept base h e law r l parts.shuts (parts.removes r) parts.returns (parts.leases r) (parts.takes r)
   by_place (inl same) = ap (is_waiting (h ++ e ∷ [])) same ∙ is_waiting_last base h e law ∙ ap (λ b. b && not (option_map_or (is_open h) (node_of_accept e) false)) parts.accepts ∙ sym (is_waiting_past h r (omega arith))
   by_place (inr (inr g)) = is_waiting_past (h ++ e ∷ []) r (omega (arith, length-append {A = Event})) ∙ sym (is_waiting_past h r (omega arith))
-
--- an older resource waits if it did, or is held no more, and the event does not take it
-pub is_waiting-unheld : (base : Kept) → (h : List Event) (e : Event) → IsLawful base h → (r : ℕ) → r < length h →
-    is_waiting (h ++ e ∷ []) r ≡ ((is_waiting h r || (is_held h r && not (is_held (h ++ e ∷ []) r))) && not (is_take_of r e))
-is_waiting-unheld base h e law r l = rw (is_waiting-push base h e law r l, is_held-push base h e law r l) (shape (is_waiting h r) (is_held h r) (loses h e r) (is_take_of r e)) where
-  shape : (w held k t : Bool) → ((w || (held && k)) && not t) ≡ ((w || (held && not (held && not k))) && not t)
-  shape true held k t = refl
-  shape false false k t = refl
-  shape false true true t = refl
-  shape false true false t = refl
 
 -- a new resource is held
 pub is_held_new : (base : Kept) → (h : List Event) (e : Event) → IsLawful base h → MayFollow base h e → is_held (h ++ e ∷ []) (length h) ≡ makes_resource e
@@ -438,6 +650,10 @@ is_held_new base h e law next = is_held_last base h e law ∙ by_event e next wh
   by_event : (e : Event) → MayFollow base h e → option_map_or (is_open h) (node_of_accept e) false ≡ makes_resource e
   by_event (Accept n tag) next = may_accept base next
   by_event _ next = refl
+
+-- by its node
+pub is_owned_new : (base : Kept) → (h : List Event) (e : Event) → IsLawful base h → MayFollow base h e → is_owned (h ++ e ∷ []) (length h) ≡ makes_resource e
+is_owned_new base h e law next = is_owned_last base h e law ∙ sym (is_held_last base h e law) ∙ is_held_new base h e law next
 
 -- what accepted it ---------------------------------------------------------------------------------
 

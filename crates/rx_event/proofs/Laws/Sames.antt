@@ -13,7 +13,7 @@ use Rattle.rx_event.specs.declared.event.Kind.TheVariants.{Leaf, Pass, Flat, Swi
 use Rattle.rx_event.specs.declared.event.Mode.{Mode}
 use Rattle.rx_event.specs.declared.event.Mode.TheVariants.{Auto, Manual}
 use Rattle.rx_event.specs.declared.event.Event.{Event}
-use Rattle.rx_event.specs.declared.event.Event.TheVariants.{Open, Hub, Connect, Accept, Use, Remove, Item, Decline, End, Close, Take}
+use Rattle.rx_event.specs.declared.event.Event.TheVariants.{Open, Hub, Connect, Accept, Use, Remove, Lease, Return, Item, Decline, End, Close, Take}
 use Rattle.rx_event.specs.Sames.{same_terminal, same_place, same_kind, same_mode, same_event}
 
 terminals_equal : (t u : Terminal) → same_terminal t u ≡ true → t ≡ u
@@ -53,6 +53,8 @@ events_equal (Accept n t) (Accept m u) same =
     ap (λ x. Accept x t) (eqb-true n m both.0) ∙ ap (λ x. Accept m x) (eqb-true t u both.1)
 events_equal (Use r) (Use q) same = ap (λ x. Use x) (eqb-true r q same)
 events_equal (Remove r) (Remove q) same = ap (λ x. Remove x) (eqb-true r q same)
+events_equal (Lease r) (Lease q) same = ap (λ x. Lease x) (eqb-true r q same)
+events_equal (Return l) (Return m) same = ap (λ x. Return x) (eqb-true l m same)
 events_equal (Item l v) (Item m w) same =
     let both = and_parts (l == m) (int_eq v w) same in
     ap (λ x. Item x v) (eqb-true l m both.0) ∙ ap (λ x. Item m x) ((Decides-int_eq v w).0 both.1)
@@ -96,6 +98,8 @@ event_itself (Connect g) = number_itself g
 event_itself (Accept n t) = and_from (n == n) (t == t) (number_itself n) (number_itself t)
 event_itself (Use r) = number_itself r
 event_itself (Remove r) = number_itself r
+event_itself (Lease r) = number_itself r
+event_itself (Return l) = number_itself l
 event_itself (Item l v) = and_from (l == l) (int_eq v v) (number_itself l) ((Decides-int_eq v v).1 refl)
 event_itself (Decline f) = number_itself f
 event_itself (End n t) = and_from (n == n) (same_terminal t t) (number_itself n) (terminal_itself t)

@@ -16,11 +16,11 @@ use Rattle.rx_event.specs.Tree.{is_within, at, is_open}
 use Rattle.rx_event.specs.Allowed.{IsInOrderAt, IsInOrder, IsHubbed}
 use Rattle.rx_event.proofs.Laws.Parents.{ancestors-append, is_within-le}
 use Rattle.rx_event.proofs.Laws.Places.{slice_get-append}
-use Rattle.rx_event.specs.Resources.{is_held, accepted_by}
+use Rattle.rx_event.specs.Resources.{is_owned, accepted_by}
 use Rattle.rx_event.specs.Kept.{Kept, resource_kept}
 use Rattle.rx_event.proofs.Laws.SoundForm.{StandsWell, SubscribesWell, Sound}
 use Rattle.rx_event.proofs.Laws.Searches.{list_any_push}
-use Rattle.rx_event.proofs.Laws.Resources.{node_of, is_held_past, node_of-lt}
+use Rattle.rx_event.proofs.Laws.Resources.{node_of, is_owned_past, node_of-lt}
 use Rattle.rx_event.proofs.Laws.OneEnd.{open_old}
 use Rattle.std.proofs.lemmas.List.{take-append-drop, length-take-le}
 use Rattle.rx_event.specs.Lawful.{IsLawful}
@@ -68,10 +68,10 @@ hubbed_before b h law n place kind at_n = by_case (found_at b h law n (Open plac
 abbrev pub node_open : List Event → List Event → ℕ → Bool
 node_open k h r = option_map_or (is_open k) (node_of h r) false
 
-pub held-push : (b : Kept) (h : List Event) (e : Event) → IsLawful b h → (r : ℕ) → r < length h →
-    is_held (h ++ e ∷ []) r ≡ (is_held h r && (node_open (h ++ e ∷ []) h r && not (is_remove_of r e)))
-unfolding is_held
-held-push b h e law r l =
+pub owned-push : (b : Kept) (h : List Event) (e : Event) → IsLawful b h → (r : ℕ) → r < length h →
+    is_owned (h ++ e ∷ []) r ≡ (is_owned h r && (node_open (h ++ e ∷ []) h r && not (is_remove_of r e)))
+unfolding is_owned
+owned-push b h e law r l =
     (λ i. option_map_or (is_open (h ++ e ∷ [])) (option_and_then node_of_accept (slice_get-append h (e ∷ []) r l i)) false && not (list_any_push (is_remove_of r) h e i)) ∙ by_node (node_of h r) refl
   where
     shape : (o n s c : Bool) → (n ≡ true → o ≡ true) → (n && not (s || c)) ≡ ((o && not s) && (n && not c))
@@ -87,16 +87,21 @@ held-push b h e law r l =
     by_node None at_r = refl
     by_node (Some n) at_r = shape (is_open h n) (is_open (h ++ e ∷ []) n) (list_any (is_remove_of r) h) (is_remove_of r e) (open_old h e n (let s = node_of-lt b h law r n at_r in omega arith))
 
--- a held resource reads as what accepted it
-pub reads_held : (b : Kept) (h : List Event) → IsLawful b h → (r : ℕ) → is_held h r ≡ true → accepted_by b h r ≡ slice_get h r
-reads_held b = by_events b (λ h. (r : ℕ) → is_held h r ≡ true → accepted_by b h r ≡ slice_get h r) (λ started. started.reads_held) (λ h e law next before r held. after h e law before r held (cases_order r (length h))) where
-  after : (h : List Event) (e : Event) → IsLawful b h → ((r : ℕ) → is_held h r ≡ true → accepted_by b h r ≡ slice_get h r) → (r : ℕ) → is_held (h ++ e ∷ []) r ≡ true →
-      (r ≡ length h) ⊎ ((r < length h) ⊎ (length h < r)) → accepted_by b (h ++ e ∷ []) r ≡ slice_get (h ++ e ∷ []) r
-  after h e law before r held (inl last) = ap (λ k. option_map_or (λ x. Some (Accept x.node x.tag)) k (slice_get (h ++ e ∷ []) r)) (law.started.unnumbered r (let w = shown_within b h law in omega arith))
-  after h e law before r held (inr (inl l)) =
-      let old : is_held h r ≡ true = (and_parts (is_held h r) _ (sym (held-push b h e law r l) ∙ held)).0 in
-      ap (λ o. option_map_or (λ x. Some (Accept x.node x.tag)) (resource_kept b r) o) (slice_get-append h (e ∷ []) r l) ∙ before r old ∙ sym (slice_get-append h (e ∷ []) r l)
-  after h e law before r held (inr (inr l)) = absurd (both_ways _ (is_held_past (h ++ e ∷ []) r (omega (arith, length-append h (e ∷ [])))) held)
+-- an owned resource reads as what accepted it
+pub reads_owned : (b : Kept) (h : List Event) → IsLawful b h → (r : ℕ) → is_owned h r ≡ true → accepted_by b h r ≡ slice_get h r
+reads_owned b = by_events b (λ h. (r : ℕ) → is_owned h r ≡ true → accepted_by b h r ≡ slice_get h r) (λ started. started.reads_owned)
+    (λ h e law next before r held. after h e law before r held (cases_order r (length h))) where
+      after : (h : List Event) (e : Event) → IsLawful b h → ((r : ℕ) → is_owned h r ≡ true → accepted_by b h r ≡ slice_get h r) → (r : ℕ) → is_owned
+          (h ++ e ∷ []) r ≡ true →
+          (r ≡ length h) ⊎ ((r < length h) ⊎ (length h < r)) → accepted_by b (h ++ e ∷ []) r ≡ slice_get (h ++ e ∷ []) r
+      after h e law before r held (inl last) =
+          ap (λ k. option_map_or (λ x. Some (Accept x.node x.tag)) k (slice_get (h ++ e ∷ []) r))
+          (law.started.unnumbered r (let w = shown_within b h law in omega arith))
+      after h e law before r held (inr (inl l)) =
+          let old : is_owned h r ≡ true = (and_parts (is_owned h r) _ (sym (owned-push b h e law r l) ∙ held)).0 in
+          ap (λ o. option_map_or (λ x. Some (Accept x.node x.tag)) (resource_kept b r) o) (slice_get-append h (e ∷ []) r l) ∙
+          before r old ∙ sym (slice_get-append h (e ∷ []) r l)
+      after h e law before r held (inr (inr l)) = absurd (both_ways _ (is_owned_past (h ++ e ∷ []) r (omega (arith, length-append h (e ∷ [])))) held)
 
 -- all of it -------------------------------------------------------------------------------------------
 
@@ -134,5 +139,5 @@ sound_of b h law =
       stands = stands_of b h law;
       subscribes = subscribes_of b h law;
       one_inner = λ f x y two. one_inner b h law f x y (record { switch = two.switch; one = two.one; one_open = two.one_open; other = two.other; other_open = two.other_open });
-      accepted = reads_held b h law;
+      accepted = reads_owned b h law;
     }

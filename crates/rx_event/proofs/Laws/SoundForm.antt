@@ -5,7 +5,7 @@ use Rattle.rx_event.specs.declared.event.Event.{Event}
 use Rattle.rx_event.specs.declared.event.Event.TheVariants.{Open, Connect}
 use Rattle.rx_event.specs.Events.{makes_hub, has_source, is_merging, is_until, is_switch, is_inner_of, parent_named}
 use Rattle.rx_event.specs.Tree.{at, is_open}
-use Rattle.rx_event.specs.Resources.{is_held, accepted_by}
+use Rattle.rx_event.specs.Resources.{is_owned, accepted_by}
 use Rattle.rx_event.specs.Allowed.{IsHubbed}
 use Rattle.rx_event.specs.Kept.{Kept}
 
@@ -35,5 +35,5 @@ pub record Sound (b : Kept) (h : List Event) : Type 0 where
   pub stands : (n : ℕ) (e : Event) → slice_get h n ≡ Some e → StandsWell h e
   pub subscribes : (n : ℕ) (e : Event) → slice_get h n ≡ Some e → SubscribesWell h e
   pub one_inner : (f x y : ℕ) → TwoOpenInners h f x y → x ≡ y
-  -- a held resource reads as what accepted it
-  pub accepted : (r : ℕ) → IsTrue (is_held h r) → accepted_by b h r ≡ slice_get h r
+  -- an owned resource reads as what accepted it
+  pub accepted : (r : ℕ) → IsTrue (is_owned h r) → accepted_by b h r ≡ slice_get h r

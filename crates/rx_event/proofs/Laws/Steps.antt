@@ -9,13 +9,13 @@ use Rattle.rx_event.specs.declared.event.Place.{Place}
 use Rattle.rx_event.specs.declared.event.Place.TheVariants.{Root, Source, Inner, Notifier}
 use Rattle.rx_event.specs.declared.event.Kind.{Kind}
 use Rattle.rx_event.specs.declared.event.Event.{Event}
-use Rattle.rx_event.specs.declared.event.Event.TheVariants.{Open, Connect, Accept, Use, Remove, Item, Decline, End, Close, Take}
+use Rattle.rx_event.specs.declared.event.Event.TheVariants.{Open, Connect, Accept, Use, Remove, Lease, Return, Item, Decline, End, Close, Take}
 use Rattle.rx_event.specs.Events.{is_merging, parent_named}
 use Rattle.rx_event.specs.Tree.{at, parent, is_open}
-use Rattle.rx_event.specs.Resources.{is_held, is_waiting}
+use Rattle.rx_event.specs.Resources.{is_owned, is_out, is_held, is_waiting}
 use Rattle.rx_event.specs.Moments.{Moment, moments_after, owed}
 use Rattle.rx_event.specs.Forced.{mirrored, fired, failed, completed, cut, left, connecting, due, IsDue, IsForced}
-use Rattle.rx_event.specs.Allowed.{opened, accepted, used, removed, emitted, declined, root_closed, disconnected, taken, IsFree, IsAllowed}
+use Rattle.rx_event.specs.Allowed.{opened, accepted, used, removed, leased, returned, emitted, declined, root_closed, disconnected, taken, IsFree, IsAllowed}
 use Rattle.rx_event.specs.Lawful.{Started, forced, allowed, opened_with, MayFollow, IsLawful}
 use Rattle.rx_event.proofs.Laws.Openness.{is_open_within}
 use Rattle.rx_event.proofs.Laws.Lawful.{IsLawful-push, IsLawful_empty, in_base, since_base, FoundAt, found_at}
@@ -74,13 +74,29 @@ pub may_use : (base : Kept) → {h : List Event} {r : ℕ} → MayFollow base h 
 may_use base (forced f) = absurd (false≢true (forced_kind base f))
 may_use base (allowed s a) = allowed_use base a
 
-allowed_remove : (base : Kept) → {h : List Event} {r : ℕ} → IsAllowed base h (Remove r) → is_held h r ≡ true
+allowed_remove : (base : Kept) → {h : List Event} {r : ℕ} → IsAllowed base h (Remove r) → is_owned h r ≡ true
 allowed_remove base (removed o) = o
 
--- what is removed is held
-pub may_remove : (base : Kept) → {h : List Event} {r : ℕ} → MayFollow base h (Remove r) → is_held h r ≡ true
+-- what is removed is owned
+pub may_remove : (base : Kept) → {h : List Event} {r : ℕ} → MayFollow base h (Remove r) → is_owned h r ≡ true
 may_remove base (forced f) = absurd (false≢true (forced_kind base f))
 may_remove base (allowed s a) = allowed_remove base a
+
+allowed_lease : (base : Kept) → {h : List Event} {r : ℕ} → IsAllowed base h (Lease r) → is_owned h r ≡ true
+allowed_lease base (leased o) = o
+
+-- what is leased is owned
+pub may_lease : (base : Kept) → {h : List Event} {r : ℕ} → MayFollow base h (Lease r) → is_owned h r ≡ true
+may_lease base (forced f) = absurd (false≢true (forced_kind base f))
+may_lease base (allowed s a) = allowed_lease base a
+
+allowed_return : (base : Kept) → {h : List Event} {l : ℕ} → IsAllowed base h (Return l) → is_out h l ≡ true
+allowed_return base (returned o) = o
+
+-- what is returned is out
+pub may_return : (base : Kept) → {h : List Event} {l : ℕ} → MayFollow base h (Return l) → is_out h l ≡ true
+may_return base (forced f) = absurd (false≢true (forced_kind base f))
+may_return base (allowed s a) = allowed_return base a
 
 allowed_take : (base : Kept) → {h : List Event} {r : ℕ} → IsAllowed base h (Take r) → is_waiting h r ≡ true
 allowed_take base (taken o) = o

@@ -1,5 +1,6 @@
 -- What one more event adds to the totals.
-use Rattle.std.proofs.Common.{◌≡◌, ℕ, ◌+◌, ◌≤◌, Bool, true, false, List, [], ◌∷◌, ◌++◌, length, Option, Some, None, cond, refl, sym, ap, ◌∙◌, arith, inl, inr, ◌⊎◌, ◌==◌, length-append}
+use Rattle.std.proofs.Common.{◌≡◌, ℕ, ◌+◌, ◌<◌, ◌≤◌, Bool, true, false, List, [], ◌∷◌, ◌++◌, length, Option, Some, None, cond, refl, sym, ap, ◌∙◌, arith}
+use Rattle.std.proofs.Common.{inl, inr, ◌⊎◌, ◌==◌, length-append}
 use Rattle.std.proofs.Math.Bool.{not, ◌&&◌, ◌||◌}
 use Rattle.std.specs.List.{sum_by, count_by}
 use Rattle.std.specs.Option.{option_map_or}
@@ -11,18 +12,21 @@ use Rattle.rx_event.specs.Kept.{Kept, resource_kept}
 use Rattle.rx_event.specs.declared.event.Place.TheVariants.{Root, Source, Inner, Notifier}
 use Rattle.rx_event.specs.declared.event.Kind.{Kind}
 use Rattle.rx_event.specs.declared.event.Event.{Event}
-use Rattle.rx_event.specs.declared.event.Event.TheVariants.{Open, Hub, Connect, Accept, Use, Remove, Item, Decline, End, Close, Take}
+use Rattle.rx_event.specs.declared.event.Event.TheVariants.{Open, Hub, Connect, Accept, Use, Remove, Lease, Return, Item, Decline, End, Close, Take}
 use Rattle.rx_event.specs.Events.{makes_node, makes_resource, node_of_accept, is_switch, is_inner_of, is_use_of, is_take_of, is_item, is_take}
 use Rattle.rx_event.specs.Tree.{at, places, is_open, is_within}
-use Rattle.rx_event.specs.Resources.{is_held, is_waiting, uses}
-use Rattle.rx_event.specs.Totals.{item_count, accepted_count, taken_count, held_count, waiting_count, open_count}
+use Rattle.rx_event.specs.Resources.{is_owned, is_leased, is_held, is_waiting, uses}
+use Rattle.rx_event.specs.Totals.{item_count, accepted_count, taken_count, owned_count, held_count, waiting_count, open_count}
 use Rattle.rx_event.specs.Lawful.{MayFollow, IsLawful}
 use Rattle.rx_event.proofs.Laws.Parents.{ancestors_step}
 use Rattle.rx_event.proofs.Laws.Openness.{is_cut, is_cut_none, is_cut_inner, is_cut_inner_flat, is_open_cut, is_open_last, is_open_made, is_open_within, is_open_last_none, shuts_none}
 use Rattle.rx_event.proofs.Laws.Steps.{by_events, may_open, may_accept, may_use, may_remove, may_take}
-use Rattle.rx_event.proofs.Laws.Sums.{sum_by-places-push, sums_balance, sum_by-same, sum_by_falls, sum_by_none, count_by_one}
+use Rattle.rx_event.proofs.Laws.Sums.{sum_by-places-push, sums_balance, sum_by-same, sum_by_no_rise, sum_by_falls, sum_by_none, sum_by_one, count_by_one}
 use Rattle.rx_event.proofs.Laws.Switches.{is_cut-inner_switch}
-use Rattle.rx_event.proofs.Laws.Resources.{loses, node_of, moves_none, is_held-push, is_held_last, is_held_within, is_held_unchanged, is_waiting-push, is_waiting_new, is_waiting_within, is_waiting_unchanged, is_waiting_past, is_held_past, waiting_parts}
+use Rattle.rx_event.proofs.Laws.Resources.{loses, node_of, moves_none, is_owned-push, is_owned_last, is_owned-remove, held_is, owned_held, is_held_last}
+use Rattle.rx_event.proofs.Laws.Resources.{is_held_within, is_held_kept, held_old, is_held-lease, is_held_unchanged, is_waiting-unheld, is_waiting_new}
+use Rattle.rx_event.proofs.Laws.Resources.{is_waiting_within, is_waiting_unchanged, is_waiting_past, is_held_past, waiting_parts}
+use Rattle.rx_event.proofs.Laws.Leases.{is_owned_within, is_leased_kept}
 
 pub one_if : {a b : Bool} → a ≡ b → cond {A = ℕ} a 1 0 ≡ cond {A = ℕ} b 1 0
 one_if same = ap (λ (b : Bool). cond {A = ℕ} b 1 0) same
@@ -66,24 +70,56 @@ uses_new base h e law made = uses-push base h e (length h) ∙ rw (uses_past bas
 -- resources counted -------------------------------------------------------------------------------
 
 -- how many resources the event takes from their nodes
-abbrev pub lost_count : List Event → Event → ℕ
-lost_count h e = count_by (λ r. is_held h r && loses h e r) (places h)
+abbrev pub unowned_count : List Event → Event → ℕ
+unowned_count h e = count_by (λ r. is_owned h r && loses h e r) (places h)
 
--- what is held after the event, and what it lost, was held before, or is new
-pub held_count-push : (base : Kept) → (h : List Event) (e : Event) → IsLawful base h →
+-- what is owned after the event, and what it took, was owned before, or is new
+pub owned_count-push : (base : Kept) → (h : List Event) (e : Event) → IsLawful base h →
+    owned_count (h ++ e ∷ []) + unowned_count h e ≡ owned_count h + cond (option_map_or (is_open h) (node_of_accept e) false) 1 0
+owned_count-push base h e law =
+    let older : count_by (is_owned (h ++ e ∷ [])) (places h) + unowned_count h e ≡ owned_count h + sum_by (λ (r : ℕ). 0) (places h) =
+    sums_balance (λ r. cond (is_owned (h ++ e ∷ []) r) 1 0) (λ r. cond (is_owned h r && loses h e r) 1 0) (λ r. cond (is_owned h r) 1 0) (λ r. 0) (length h)
+    (λ r l. rw (is_owned-push base h e law r l) (shape (is_owned h r) (loses h e r))) in
+    let none = sum_by_none (λ r. 0) (length h) (λ r l. refl) in
+    let last = sum_by-places-push (λ r. cond (is_owned (h ++ e ∷ []) r) 1 0) h e in
+    let new = one_if (is_owned_last base h e law) in
+    omega arith
+  where
+    shape : (owned lost : Bool) → cond (owned && not lost) 1 0 + cond (owned && lost) 1 0 ≡ cond owned 1 0 + 0
+    shape true true = refl
+    shape true false = refl
+    shape false lost = refl
+
+-- what is owned is held
+pub owned_count_within : (h : List Event) → owned_count h ≤ held_count h
+owned_count_within h = sum_by_no_rise (λ r. cond (is_held h r) 1 0) (λ r. cond (is_owned h r) 1 0) (length h)
+    (λ r l. shape (is_owned h r) (is_held h r) (owned_held h r)) where
+      shape : (owned held : Bool) → (owned ≡ true → held ≡ true) → cond {A = ℕ} owned 1 0 ≤ cond {A = ℕ} held 1 0
+      shape true true up = omega arith
+      shape true false up = absurd (false≢true (up refl))
+      shape false held up = omega arith
+
+-- how many resources are held no more after the event
+abbrev pub lost_count : List Event → Event → ℕ
+lost_count h e = count_by (λ r. is_held h r && not (is_held (h ++ e ∷ []) r)) (places h)
+
+-- what is held after the event, and what is held no more, was held before, or is new
+pub held_count-push : (base : Kept) → (h : List Event) (e : Event) → IsLawful base h → MayFollow base h e →
     held_count (h ++ e ∷ []) + lost_count h e ≡ held_count h + cond (option_map_or (is_open h) (node_of_accept e) false) 1 0
-held_count-push base h e law =
+held_count-push base h e law next =
     let older : count_by (is_held (h ++ e ∷ [])) (places h) + lost_count h e ≡ held_count h + sum_by (λ (r : ℕ). 0) (places h) =
-    sums_balance (λ r. cond (is_held (h ++ e ∷ []) r) 1 0) (λ r. cond (is_held h r && loses h e r) 1 0) (λ r. cond (is_held h r) 1 0) (λ r. 0) (length h) (λ r l. rw (is_held-push base h e law r l) (shape (is_held h r) (loses h e r))) in
+    sums_balance (λ r. cond (is_held (h ++ e ∷ []) r) 1 0) (λ r. cond (is_held h r && not (is_held (h ++ e ∷ []) r)) 1 0) (λ r. cond (is_held h r) 1 0)
+    (λ r. 0) (length h) (λ r l. shape (is_held (h ++ e ∷ []) r) (is_held h r) (held_old base h e law next r l)) in
     let none = sum_by_none (λ r. 0) (length h) (λ r l. refl) in
     let last = sum_by-places-push (λ r. cond (is_held (h ++ e ∷ []) r) 1 0) h e in
     let new = one_if (is_held_last base h e law) in
     omega arith
   where
-    shape : (held lost : Bool) → cond (held && not lost) 1 0 + cond (held && lost) 1 0 ≡ cond held 1 0 + 0
-    shape true true = refl
-    shape true false = refl
-    shape false lost = refl
+    shape : (after held : Bool) → (after ≡ true → held ≡ true) → cond {A = ℕ} after 1 0 + cond {A = ℕ} (held && not after) 1 0 ≡ cond {A = ℕ} held 1 0 + 0
+    shape true true old = refl
+    shape true false old = absurd (false≢true (old refl))
+    shape false true old = refl
+    shape false false old = refl
 
 takes_once : (base : Kept) → (h : List Event) (e : Event) → MayFollow base h e → count_by (λ r. is_take_of r e) (places h) ≡ cond (is_take e) 1 0
 takes_once base h (Take q) next = count_by_one q (length h) (is_waiting_within h q (may_take base next))
@@ -93,12 +129,15 @@ taken_waited : (base : Kept) → (h : List Event) (e : Event) → MayFollow base
 taken_waited base h (Take q) next r same = rw (← eqb-true q r same) (may_take base next)
 taken_waited base h _ next r same = absurd (false≢true same)
 
--- what waits after the event, and what it takes, waited before, or was lost by it
+-- what waits after the event, and what it takes, waited before, or is held no more
 pub waiting_count-push : (base : Kept) → (h : List Event) (e : Event) → IsLawful base h → MayFollow base h e →
     waiting_count (h ++ e ∷ []) + cond (is_take e) 1 0 ≡ waiting_count h + lost_count h e
 waiting_count-push base h e law next =
     let older : count_by (is_waiting (h ++ e ∷ [])) (places h) + count_by (λ r. is_take_of r e) (places h) ≡ waiting_count h + lost_count h e =
-    sums_balance (λ r. cond (is_waiting (h ++ e ∷ []) r) 1 0) (λ r. cond (is_take_of r e) 1 0) (λ r. cond (is_waiting h r) 1 0) (λ r. cond (is_held h r && loses h e r) 1 0) (length h) (λ r l. rw (is_waiting-push base h e law r l) (shape (is_waiting h r) (is_held h r) (loses h e r) (is_take_of r e) (λ w. (waiting_parts h r w).1) (taken_waited base h e next r))) in
+    sums_balance (λ r. cond (is_waiting (h ++ e ∷ []) r) 1 0) (λ r. cond (is_take_of r e) 1 0) (λ r. cond (is_waiting h r) 1 0)
+    (λ r. cond (is_held h r && not (is_held (h ++ e ∷ []) r)) 1 0) (length h) (λ r l. rw (is_waiting-unheld base h e law next r l)
+    (shape (is_waiting h r) (is_held h r) (not (is_held (h ++ e ∷ []) r)) (is_take_of r e) (λ w. (waiting_parts h r w).1)
+    (taken_waited base h e next r))) in
     let once = takes_once base h e next in
     let last = sum_by-places-push (λ r. cond (is_waiting (h ++ e ∷ []) r) 1 0) h e in
     let new = one_if (is_waiting_new base h e law next) in
@@ -122,30 +161,42 @@ accepts_open base h _ next = refl
 pub accepted_count-parts : (base : Kept) → (h : List Event) → IsLawful base h → accepted_count base h ≡ held_count h + waiting_count h + taken_count base h
 accepted_count-parts base = by_events base (λ h. accepted_count base h ≡ held_count h + waiting_count h + taken_count base h) (λ s. s.parts) (λ h e law next before.
     let a = accepted_count-push base h e in
-    let b = held_count-push base h e law in
+    let b = held_count-push base h e law next in
     let c = waiting_count-push base h e law next in
     let d = taken_count-push base h e in
     let n = one_if (accepts_open base h e next) in
     omega arith)
 
-pub lost_none : (h : List Event) (e : Event) → ((r : ℕ) → loses h e r ≡ false) → lost_count h e ≡ 0
-lost_none h e keeps = sum_by_none (λ r. cond (is_held h r && loses h e r) 1 0) (length h) (λ r l. rw (keeps r) (shape (is_held h r))) where
+pub lost_none : (h : List Event) (e : Event) → ((r : ℕ) → r < length h → is_held (h ++ e ∷ []) r ≡ is_held h r) → lost_count h e ≡ 0
+lost_none h e keeps = sum_by_none (λ r. cond (is_held h r && not (is_held (h ++ e ∷ []) r)) 1 0) (length h) (λ r l. rw (keeps r l) (shape (is_held h r))) where
+  shape : (b : Bool) → cond {A = ℕ} (b && not b) 1 0 ≡ 0
+  shape true = refl
+  shape false = refl
+
+pub unowned_none : (h : List Event) (e : Event) → ((r : ℕ) → loses h e r ≡ false) → unowned_count h e ≡ 0
+unowned_none h e keeps = sum_by_none (λ r. cond (is_owned h r && loses h e r) 1 0) (length h) (λ r l. rw (keeps r) (shape (is_owned h r))) where
   shape : (b : Bool) → cond {A = ℕ} (b && false) 1 0 ≡ 0
   shape true = refl
   shape false = refl
 
--- no event but an acceptance raises what is held
-pub held_count_no_rise : (base : Kept) → (h : List Event) (e : Event) → IsLawful base h → makes_resource e ≡ false → held_count (h ++ e ∷ []) ≤ held_count h
-held_count_no_rise base h e law none = let b = held_count-push base h e law in let n = one_if (no_accept e none) in omega arith where
-  no_accept : (e : Event) → makes_resource e ≡ false → option_map_or (is_open h) (node_of_accept e) false ≡ false
-  no_accept (Accept n tag) none = absurd (false≢true (sym none))
-  no_accept _ none = refl
+no_accept : (h : List Event) (e : Event) → makes_resource e ≡ false → option_map_or (is_open h) (node_of_accept e) false ≡ false
+no_accept h (Accept n tag) none = absurd (false≢true (sym none))
+no_accept h (Open place kind) none = refl
+no_accept h _ none = refl
+
+-- no event but an acceptance raises what is held, or what is owned
+pub held_count_no_rise : (base : Kept) → (h : List Event) (e : Event) → IsLawful base h → MayFollow base h e → makes_resource e ≡ false → held_count
+    (h ++ e ∷ []) ≤ held_count h
+held_count_no_rise base h e law next none = let b = held_count-push base h e law next in let n = one_if (no_accept h e none) in omega arith
+
+pub owned_count_no_rise : (base : Kept) → (h : List Event) (e : Event) → IsLawful base h → makes_resource e ≡ false → owned_count (h ++ e ∷ []) ≤ owned_count h
+owned_count_no_rise base h e law none = let b = owned_count-push base h e law in let n = one_if (no_accept h e none) in omega arith
 
 -- what is held and what waits go over into each other, but for an acceptance and a taking
 pub held_waiting_count-push : (base : Kept) → (h : List Event) (e : Event) → IsLawful base h → MayFollow base h e →
     held_count (h ++ e ∷ []) + waiting_count (h ++ e ∷ []) + cond (is_take e) 1 0 ≡ held_count h + waiting_count h + cond (makes_resource e) 1 0
 held_waiting_count-push base h e law next =
-    let b = held_count-push base h e law in
+    let b = held_count-push base h e law next in
     let c = waiting_count-push base h e law next in
     let n = one_if (accepts_open base h e next) in
     omega arith
@@ -172,64 +223,120 @@ accept_keeps h n tag r = by_node (node_of h r) where
   by_node None = refl
   by_node (Some m) = rw (is_cut_none h (Accept n tag) m refl) refl
 
+pub owned_count-accept : (base : Kept) → (h : List Event) (n tag : ℕ) → IsLawful base h → is_open h n ≡ true → owned_count (h ++ Accept n tag ∷ []) ≡
+    owned_count h + 1
+owned_count-accept base h n tag law o =
+    let b = owned_count-push base h (Accept n tag) law in
+    let k = unowned_none h (Accept n tag) (accept_keeps h n tag) in
+    let c = one_if o in
+    omega arith
+
+-- what an event leaves held that is not of its own making
+held_count-kept : (base : Kept) → (h : List Event) (e : Event) → IsLawful base h → ((r : ℕ) → r < length h → is_held (h ++ e ∷ []) r ≡ is_held h r) →
+    held_count (h ++ e ∷ []) ≡ held_count h + cond (option_map_or (is_open h) (node_of_accept e) false) 1 0
+held_count-kept base h e law keeps =
+    let older = sum_by-same (λ r. cond (is_held h r) 1 0) (λ r. cond (is_held (h ++ e ∷ []) r) 1 0) (length h) (λ r l. one_if (keeps r l)) in
+    let last = sum_by-places-push (λ r. cond (is_held (h ++ e ∷ []) r) 1 0) h e in
+    let new = one_if (is_held_last base h e law) in
+    omega arith
+
 pub held_count-accept : (base : Kept) → (h : List Event) (n tag : ℕ) → IsLawful base h → is_open h n ≡ true → held_count (h ++ Accept n tag ∷ []) ≡ held_count h + 1
 held_count-accept base h n tag law o =
-    let b = held_count-push base h (Accept n tag) law in
-    let k = lost_none h (Accept n tag) (accept_keeps h n tag) in
+    let b = held_count-kept base h (Accept n tag) law (λ r l. is_held_kept base h (Accept n tag) law r l refl refl refl refl) in
     let c = one_if o in
     omega arith
 
 pub waiting_count-accept : (base : Kept) → (h : List Event) (n tag : ℕ) → IsLawful base h → MayFollow base h (Accept n tag) → waiting_count (h ++ Accept n tag ∷ []) ≡ waiting_count h
 waiting_count-accept base h n tag law next =
     let b = waiting_count-push base h (Accept n tag) law next in
-    let k = lost_none h (Accept n tag) (accept_keeps h n tag) in
+    let k = lost_none h (Accept n tag) (λ r l. is_held_kept base h (Accept n tag) law r l refl refl refl refl) in
     omega arith
 
 -- a taking of what waits
-take_keeps : (h : List Event) (q r : ℕ) → loses h (Take q) r ≡ false
-take_keeps h q r = by_node (node_of h r) where
-  by_node : (o : Option ℕ) → (option_map_or (is_cut h (Take q)) o false || false) ≡ false
-  by_node None = refl
-  by_node (Some m) = rw (is_cut_none h (Take q) m refl) refl
-
 pub held_count-take : (base : Kept) → (h : List Event) (q : ℕ) → IsLawful base h → held_count (h ++ Take q ∷ []) ≡ held_count h
 held_count-take base h q law =
-    let b = held_count-push base h (Take q) law in
-    let k = lost_none h (Take q) (take_keeps h q) in
+    let b = held_count-kept base h (Take q) law (λ r l. is_held_kept base h (Take q) law r l refl refl refl refl) in
     omega arith
 
 pub waiting_count-take : (base : Kept) → (h : List Event) (q : ℕ) → IsLawful base h → MayFollow base h (Take q) → waiting_count (h ++ Take q ∷ []) + 1 ≡ waiting_count h
 waiting_count-take base h q law next =
     let b = waiting_count-push base h (Take q) law next in
-    let k = lost_none h (Take q) (take_keeps h q) in
+    let k = lost_none h (Take q) (λ r l. is_held_kept base h (Take q) law r l refl refl refl refl) in
     omega arith
 
--- a removal of what is held
-pub lost_one : (h : List Event) (q : ℕ) → is_held h q ≡ true → lost_count h (Remove q) ≡ 1
-lost_one h q held = sum_by-same (λ r. cond (q == r) 1 0) (λ r. cond (is_held h r && loses h (Remove q) r) 1 0) (length h) (λ r l. one_if (just_that r (node_of h r) (cases_Bool (q == r)))) ∙ count_by_one q (length h) (is_held_within h q held) where
-  no_cut : (o : Option ℕ) (b : Bool) → (option_map_or (is_cut h (Remove q)) o false || b) ≡ b
-  no_cut None b = refl
-  no_cut (Some m) b = rw (is_cut_none h (Remove q) m refl) refl
-
-  and_false : (b : Bool) → (b && false) ≡ false
-  and_false true = refl
-  and_false false = refl
-
-  just_that : (r : ℕ) (o : Option ℕ) → ((q == r) ≡ true) ⊎ ((q == r) ≡ false) →
-      (is_held h r && (option_map_or (is_cut h (Remove q)) o false || q == r)) ≡ (q == r)
-  just_that r o (inl same) = let there : is_held h r ≡ true = rw (← eqb-true q r same) held in rw (no_cut o (q == r), there) refl
-  just_that r o (inr apart) = rw (no_cut o (q == r), apart) (and_false (is_held h r))
-
-pub held_count-remove : (base : Kept) → (h : List Event) (q : ℕ) → IsLawful base h → is_held h q ≡ true → held_count (h ++ Remove q ∷ []) + 1 ≡ held_count h
-held_count-remove base h q law held =
-    let b = held_count-push base h (Remove q) law in
-    let k = lost_one h q held in
+-- a lease
+pub held_count-lease : (base : Kept) → (h : List Event) (q : ℕ) → IsLawful base h → MayFollow base h (Lease q) → held_count (h ++ Lease q ∷ []) ≡ held_count h
+held_count-lease base h q law next =
+    let b = held_count-kept base h (Lease q) law (λ r l. is_held-lease base h q law next r) in
     omega arith
 
-pub waiting_count-remove : (base : Kept) → (h : List Event) (q : ℕ) → IsLawful base h → MayFollow base h (Remove q) → waiting_count (h ++ Remove q ∷ []) ≡ waiting_count h + 1
+pub waiting_count-lease : (base : Kept) → (h : List Event) (q : ℕ) → IsLawful base h → MayFollow base h (Lease q) → waiting_count (h ++ Lease q ∷ []) ≡
+    waiting_count h
+waiting_count-lease base h q law next =
+    let b = waiting_count-push base h (Lease q) law next in
+    let k = lost_none h (Lease q) (λ r l. is_held-lease base h q law next r) in
+    omega arith
+
+-- a removal of what is owned
+pub unowned_one : (h : List Event) (q : ℕ) → is_owned h q ≡ true → unowned_count h (Remove q) ≡ 1
+unowned_one h q owned = sum_by-same (λ r. cond (q == r) 1 0) (λ r. cond (is_owned h r && loses h (Remove q) r) 1 0) (length h)
+    (λ r l. one_if (just_that r (node_of h r) (cases_Bool (q == r)))) ∙ count_by_one q (length h) (is_owned_within h q owned) where
+      no_cut : (o : Option ℕ) (b : Bool) → (option_map_or (is_cut h (Remove q)) o false || b) ≡ b
+      no_cut None b = refl
+      no_cut (Some m) b = rw (is_cut_none h (Remove q) m refl) refl
+
+      and_false : (b : Bool) → (b && false) ≡ false
+      and_false true = refl
+      and_false false = refl
+
+      just_that : (r : ℕ) (o : Option ℕ) → ((q == r) ≡ true) ⊎ ((q == r) ≡ false) →
+          (is_owned h r && (option_map_or (is_cut h (Remove q)) o false || q == r)) ≡ (q == r)
+      just_that r o (inl same) = let there : is_owned h r ≡ true = rw (← eqb-true q r same) owned in rw (no_cut o (q == r), there) refl
+      just_that r o (inr apart) = rw (no_cut o (q == r), apart) (and_false (is_owned h r))
+
+pub owned_count-remove : (base : Kept) → (h : List Event) (q : ℕ) → IsLawful base h → is_owned h q ≡ true → owned_count (h ++ Remove q ∷ []) + 1 ≡ owned_count h
+owned_count-remove base h q law owned =
+    let b = owned_count-push base h (Remove q) law in
+    let k = unowned_one h q owned in
+    omega arith
+
+-- what has no lease out is held no more
+lost_one : (base : Kept) → (h : List Event) (q : ℕ) → IsLawful base h → is_owned h q ≡ true → lost_count h (Remove q) ≡ cond (is_leased h q) 0 1
+lost_one base h q law owned =
+    sum_by-same (λ r. cond (q == r) (cond (is_leased h r) 0 1) 0) (λ r. cond (is_held h r && not (is_held (h ++ Remove q ∷ []) r)) 1 0) (length h)
+    (λ r l. each r l) ∙
+    sum_by_one (λ r. cond (is_leased h r) 0 1) q (length h) (is_owned_within h q owned)
+  where
+    shape : (o s same : Bool) → (same ≡ true → o ≡ true) → cond {A = ℕ} ((o || s) && not ((o && not same) || s)) 1 0 ≡ cond same (cond s 0 1) 0
+    shape true true true there = refl
+    shape true false true there = refl
+    shape true true false there = refl
+    shape true false false there = refl
+    shape false s true there = absurd (false≢true (there refl))
+    shape false true false there = refl
+    shape false false false there = refl
+
+    there : (r : ℕ) → (q == r) ≡ true → is_owned h r ≡ true
+    there r same = ap (is_owned h) (sym (eqb-true q r same)) ∙ owned
+
+    each : (r : ℕ) → r < length h → cond {A = ℕ} (is_held h r && not (is_held (h ++ Remove q ∷ []) r)) 1 0 ≡ cond (q == r) (cond (is_leased h r) 0 1) 0
+    each r l =
+        ap (λ b. cond {A = ℕ} b 1 0) (λ i. held_is h r i && not ((held_is (h ++ Remove q ∷ []) r ∙
+        (λ j. is_owned-remove base h q law r l j || is_leased_kept base h (Remove q) law r l refl refl j)) i)) ∙
+        shape (is_owned h r) (is_leased h r) (q == r) (there r)
+
+pub held_count-remove : (base : Kept) → (h : List Event) (q : ℕ) → IsLawful base h → MayFollow base h (Remove q) → held_count (h ++ Remove q ∷ []) + cond
+    (is_leased h q) 0 1 ≡ held_count h
+held_count-remove base h q law next =
+    let b = held_count-push base h (Remove q) law next in
+    let k = lost_one base h q law (may_remove base next) in
+    omega arith
+
+pub waiting_count-remove : (base : Kept) → (h : List Event) (q : ℕ) → IsLawful base h → MayFollow base h (Remove q) → waiting_count (h ++ Remove q ∷ []) ≡
+    waiting_count h + cond (is_leased h q) 0 1
 waiting_count-remove base h q law next =
     let b = waiting_count-push base h (Remove q) law next in
-    let k = lost_one h q (may_remove base next) in
+    let k = lost_one base h q law (may_remove base next) in
     omega arith
 
 -- open nodes counted ------------------------------------------------------------------------------
@@ -263,6 +370,8 @@ is_open_new base h (Hub mode) next = is_open_last h (Hub mode) refl
 is_open_new base h (Accept n tag) next = is_open_last h (Accept n tag) refl
 is_open_new base h (Use r) next = is_open_last h (Use r) refl
 is_open_new base h (Remove r) next = is_open_last h (Remove r) refl
+is_open_new base h (Lease r) next = is_open_last h (Lease r) refl
+is_open_new base h (Return l) next = is_open_last h (Return l) refl
 is_open_new base h (Item l v) next = is_open_last h (Item l v) refl
 is_open_new base h (Decline f) next = is_open_last h (Decline f) refl
 is_open_new base h (Take r) next = is_open_last h (Take r) refl

@@ -12,7 +12,7 @@ use Rattle.rx_event.specs.declared.event.Place.TheVariants.{Root, Source, Inner,
 use Rattle.rx_event.specs.declared.event.Kind.TheVariants.{Leaf, Pass, Flat, Switch, Until, Sub}
 use Rattle.rx_event.specs.declared.event.Mode.TheVariants.{Auto, Manual}
 use Rattle.rx_event.specs.declared.event.Event.{Event}
-use Rattle.rx_event.specs.declared.event.Event.TheVariants.{Open, Hub, Connect, Accept, Use, Remove, Item, Decline, End, Close, Take}
+use Rattle.rx_event.specs.declared.event.Event.TheVariants.{Open, Hub, Connect, Accept, Use, Remove, Lease, Return, Item, Decline, End, Close, Take}
 use Rattle.rx_event.specs.Events.{is_root, is_manual_hub, is_auto_hub, is_connect_of, is_subscriber_of, is_inner_of, hub_subscribed, is_connect}
 use Rattle.rx_event.specs.Tree.{at, places, parent, ancestors, is_open, shuts, open_subscribers, open_connections}
 use Rattle.rx_event.specs.Totals.{connect_count, open_count}
@@ -253,6 +253,8 @@ waits_after base h (Connect g) law none a = none_waits (kept_unsubscribed base h
 waits_after base h (Accept n tag) law none a = none_waits (kept_unsubscribed base h (Accept n tag) law none refl refl)
 waits_after base h (Use r) law none a = none_waits (kept_unsubscribed base h (Use r) law none refl refl)
 waits_after base h (Remove r) law none a = none_waits (kept_unsubscribed base h (Remove r) law none refl refl)
+waits_after base h (Lease r) law none a = none_waits (kept_unsubscribed base h (Lease r) law none refl refl)
+waits_after base h (Return l) law none a = none_waits (kept_unsubscribed base h (Return l) law none refl refl)
 waits_after base h (Item l v) law none a = none_waits (kept_unsubscribed base h (Item l v) law none refl refl)
 waits_after base h (Decline f) law none a = none_waits (kept_unsubscribed base h (Decline f) law none refl refl)
 waits_after base h (Take r) law none a = none_waits (kept_unsubscribed base h (Take r) law none refl refl)

@@ -1,22 +1,24 @@
 -- What is promised of the debt.
-use Rattle.std.specs.Prelude.{◌≡◌, ℕ, ℤ, ◌+◌, ◌*◌, ◌≤◌, false, List, [], ◌∷◌, ◌++◌, count_by}
+use Rattle.std.specs.Prelude.{◌≡◌, ℕ, ℤ, ◌+◌, ◌≤◌, false, List, [], ◌∷◌, ◌++◌, count_by}
 use Rattle.rx_note.specs.declared.note.Terminal.{Terminal}
 use Rattle.rx_event.specs.Kept.{Kept}
 use Rattle.rx_event.specs.declared.event.Place.TheVariants.{Root, Source, Inner, Notifier}
 use Rattle.rx_event.specs.declared.event.Kind.{Kind}
 use Rattle.rx_event.specs.declared.event.Mode.{Mode}
 use Rattle.rx_event.specs.declared.event.Event.{Event}
-use Rattle.rx_event.specs.declared.event.Event.TheVariants.{Open, Hub, Connect, Accept, Use, Remove, Item, Decline, End, Close, Take}
+use Rattle.rx_event.specs.declared.event.Event.TheVariants.{Open, Hub, Connect, Accept, Use, Remove, Lease, Return, Item, Decline, End, Close, Take}
 use Rattle.rx_event.specs.Events.{is_switch}
 use Rattle.rx_event.specs.Tree.{at}
 use Rattle.rx_event.specs.Climb.{stops}
 use Rattle.rx_event.specs.Moments.{is_projection}
-use Rattle.rx_event.specs.Totals.{open_count, held_count, waiting_count, owed_count, debt}
+use Rattle.rx_event.specs.Totals.{open_count, owned_count, held_count, lease_count, waiting_count, owed_count, debt}
 use Rattle.rx_event.specs.Lawful.{MayFollow, IsLawful}
 
 -- the debt after one more event
 pub record DebtChanges (base : Kept) : Type 0 where
-  pub counts : (h : List Event) → debt base h ≡ open_count h + 2 * held_count h + waiting_count h + owed_count base h
+  -- twice what is owned and once what is held by leases alone: once what is owned, and once what is held
+  pub counts : (h : List Event) →
+      debt base h ≡ open_count h + owned_count h + held_count h + waiting_count h + lease_count h + owed_count base h
   pub root : (h : List Event) (kind : Kind) → IsLawful base h → MayFollow base h (Open Root kind) →
       debt base (h ++ Open Root kind ∷ []) ≡ debt base h + 1
   pub source : (h : List Event) (p : ℕ) (kind : Kind) → IsLawful base h → MayFollow base h (Open (Source p) kind) →
@@ -34,6 +36,9 @@ pub record DebtChanges (base : Kept) : Type 0 where
       debt base (h ++ Accept n tag ∷ []) ≡ debt base h + 2
   pub used : (h : List Event) (r : ℕ) → IsLawful base h → MayFollow base h (Use r) → debt base (h ++ Use r ∷ []) ≡ debt base h
   pub removed : (h : List Event) (r : ℕ) → IsLawful base h → MayFollow base h (Remove r) → debt base (h ++ Remove r ∷ []) + 1 ≡ debt base h
+  pub leased : (h : List Event) (r : ℕ) → IsLawful base h → MayFollow base h (Lease r) → debt base (h ++ Lease r ∷ []) ≡ debt base h + 1
+  pub returned : (h : List Event) (l : ℕ) → IsLawful base h → MayFollow base h (Return l) →
+      debt base (h ++ Return l ∷ []) + 1 ≡ debt base h
   pub item : (h : List Event) (l : ℕ) (value : ℤ) → IsLawful base h → MayFollow base h (Item l value) →
       debt base (h ++ Item l value ∷ []) ≡ debt base h + count_by is_projection (stops h l)
   pub declined : (h : List Event) (f : ℕ) → IsLawful base h → MayFollow base h (Decline f) →

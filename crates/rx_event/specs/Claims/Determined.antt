@@ -6,10 +6,10 @@ use Rattle.rx_event.specs.declared.event.Event.{Event}
 use Rattle.rx_event.specs.declared.event.Event.TheVariants.{Connect, End, Close}
 use Rattle.rx_event.specs.Events.{makes_node}
 use Rattle.rx_event.specs.Tree.{is_open, open_nodes, open_connections, open_subscribers}
-use Rattle.rx_event.specs.Resources.{is_held, is_taken, is_waiting, held_resources, waiting_resources, uses}
+use Rattle.rx_event.specs.Resources.{is_owned, is_out, leases_of, leases_out, is_held, is_taken, is_waiting, held_resources, waiting_resources, uses}
 use Rattle.rx_event.specs.Moments.{owed}
 use Rattle.rx_event.specs.Notes.{notes_to}
-use Rattle.rx_event.specs.Totals.{item_count, accepted_count, taken_count, open_count, held_count, waiting_count}
+use Rattle.rx_event.specs.Totals.{item_count, accepted_count, taken_count, open_count, owned_count, held_count, lease_count, waiting_count}
 use Rattle.rx_event.specs.Marks.{marks_of}
 use Rattle.rx_event.specs.Forced.{IsSettled}
 use Rattle.rx_event.specs.Lawful.{IsLawful, IsForcedOn, IsStep}
@@ -31,12 +31,17 @@ pub record AreAlike (base : Kept) (k j : List Event) : Type 0 where
   pub connections : (g : ℕ) → open_connections k g ≡ open_connections j g
   pub subscribers : (g : ℕ) → open_subscribers k g ≡ open_subscribers j g
   -- the same resources are held, the same wait, and the same were taken, each used as often
+  pub same_owned : (r : ℕ) → is_owned k r ≡ is_owned j r
   pub same_held : (r : ℕ) → is_held k r ≡ is_held j r
   pub same_waiting : (r : ℕ) → is_waiting k r ≡ is_waiting j r
   pub same_taken : (r : ℕ) → is_taken k r ≡ is_taken j r
   pub held : held_resources k ≡ held_resources j
   pub waiting : waiting_resources k ≡ waiting_resources j
   pub used : (r : ℕ) → uses base k r ≡ uses base j r
+  -- the same leases are out
+  pub same_out : (l : ℕ) → is_out k l ≡ is_out j l
+  pub same_leases : (r : ℕ) → leases_of k r ≡ leases_of j r
+  pub out : leases_out k ≡ leases_out j
   -- the same is owed
   pub same_owed : (f : ℕ) → owed base k f ≡ owed base j f
   -- each open node remembers the same
@@ -44,6 +49,8 @@ pub record AreAlike (base : Kept) (k j : List Event) : Type 0 where
   -- and each node was told the same
   pub told : (n : ℕ) → notes_to k n ≡ notes_to j n
   pub open_total : open_count k ≡ open_count j
+  pub owned_total : owned_count k ≡ owned_count j
+  pub lease_total : lease_count k ≡ lease_count j
   pub held_total : held_count k ≡ held_count j
   pub waiting_total : waiting_count k ≡ waiting_count j
   pub nodes_total : count_by makes_node k ≡ count_by makes_node j

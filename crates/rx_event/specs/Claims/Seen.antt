@@ -2,9 +2,10 @@
 use Rattle.std.specs.Prelude.{◌≡◌, ℕ, List, map, length, IsTrue}
 use Rattle.rx_event.specs.Kept.{Kept}
 use Rattle.rx_event.specs.declared.event.Event.{Event}
-use Rattle.rx_event.specs.Events.{makes_node, makes_hub, makes_resource, has_source, is_leaf, is_merging, is_until, is_root, is_auto_hub, is_manual_hub}
+use Rattle.rx_event.specs.Events.{makes_node, makes_hub, makes_resource, makes_lease, has_source, is_leaf, is_merging, is_until, is_root, is_auto_hub}
+use Rattle.rx_event.specs.Events.{is_manual_hub}
 use Rattle.rx_event.specs.Tree.{at, hubs, is_open, open_nodes, open_connections, open_subscribers, has_open_child}
-use Rattle.rx_event.specs.Resources.{is_held, is_waiting}
+use Rattle.rx_event.specs.Resources.{is_owned, is_out, leases_of, is_held, is_waiting}
 use Rattle.rx_event.specs.Climb.{visits}
 use Rattle.rx_event.specs.Moments.{owed}
 use Rattle.rx_event.specs.Opened.{source_opened, notifier_opened}
@@ -33,6 +34,9 @@ pub record CallersSeeTheSame (base : Kept) (r s : ℕ → ℕ) (h c : List Event
   pub subscribers : (g : ℕ) → IsTrue (at makes_hub h g) → open_subscribers c (r g) ≡ map r (open_subscribers h g)
   pub ordered : (g p : ℕ) → IsTrue (at makes_hub h g) → IsTrue (is_open h p) → IsInOrderAt h g p → IsInOrderAt c (r g) (r p)
   pub ordered_back : (g p : ℕ) → IsTrue (at makes_hub h g) → IsTrue (is_open h p) → IsInOrderAt c (r g) (r p) → IsInOrderAt h g p
+  pub owned : (q : ℕ) → IsTrue (at makes_resource h q) → is_owned c (r q) ≡ is_owned h q
+  pub leases : (q : ℕ) → IsTrue (at makes_resource h q) → leases_of c (r q) ≡ leases_of h q
+  pub out : (l : ℕ) → IsTrue (at makes_lease h l) → is_out c (r l) ≡ is_out h l
   pub held : (q : ℕ) → IsTrue (at makes_resource h q) → is_held c (r q) ≡ is_held h q
   pub waiting : (q : ℕ) → IsTrue (at makes_resource h q) → is_waiting c (r q) ≡ is_waiting h q
   -- the same nodes and hubs, and as many

@@ -6,11 +6,11 @@ use Rattle.rx_event.specs.declared.event.Place.TheVariants.{Inner}
 use Rattle.rx_event.specs.declared.event.Kind.{Kind}
 use Rattle.rx_event.specs.declared.event.Event.{Event}
 use Rattle.rx_event.specs.declared.event.Event.TheVariants.{Open, Accept, Remove, End, Close, Take}
-use Rattle.rx_event.specs.Events.{makes_node, makes_resource, is_switch, is_inner_of, is_item, is_take, is_use_of, pays}
+use Rattle.rx_event.specs.Events.{makes_node, makes_resource, makes_lease, is_switch, is_inner_of, is_item, is_take, is_return, is_use_of, pays}
 use Rattle.rx_event.specs.Tree.{at, places, is_within, is_open, shuts}
-use Rattle.rx_event.specs.Resources.{uses}
+use Rattle.rx_event.specs.Resources.{is_leased, uses}
 use Rattle.rx_event.specs.Moments.{owed, is_projection_to, stops_of}
-use Rattle.rx_event.specs.Totals.{item_count, accepted_count, taken_count, held_count, waiting_count, open_count}
+use Rattle.rx_event.specs.Totals.{item_count, accepted_count, taken_count, owned_count, held_count, lease_count, waiting_count, open_count}
 use Rattle.rx_event.specs.Lawful.{MayFollow, IsLawful}
 
 -- the totals after one more event
@@ -27,14 +27,26 @@ pub record TotalChanges (base : Kept) : Type 0 where
   -- an end or another closing takes resources from those that are held to those that wait, and loses none
   pub unreleased : (h : List Event) (e : Event) → IsLawful base h → MayFollow base h e →
       held_count (h ++ e ∷ []) + waiting_count (h ++ e ∷ []) + (if is_take e then 1 else 0) ≡ held_count h + waiting_count h + (if makes_resource e then 1 else 0)
-  pub held : (h : List Event) (e : Event) → IsLawful base h → makes_resource e ≡ false →
+  -- a lease is one more that is out until it is returned
+  pub leases : (h : List Event) (e : Event) → IsLawful base h → MayFollow base h e →
+      lease_count (h ++ e ∷ []) + (if is_return e then 1 else 0) ≡ lease_count h + (if makes_lease e then 1 else 0)
+  -- what is owned is held
+  pub owned_within : (h : List Event) → owned_count h ≤ held_count h
+  pub owned : (h : List Event) (e : Event) → IsLawful base h → makes_resource e ≡ false →
+      owned_count (h ++ e ∷ []) ≤ owned_count h
+  pub owned_more : (h : List Event) (n tag : ℕ) → IsLawful base h → IsTrue (is_open h n) →
+      owned_count (h ++ Accept n tag ∷ []) ≡ owned_count h + 1
+  pub owned_less : (h : List Event) (r : ℕ) → IsLawful base h → MayFollow base h (Remove r) →
+      owned_count (h ++ Remove r ∷ []) + 1 ≡ owned_count h
+  pub held : (h : List Event) (e : Event) → IsLawful base h → MayFollow base h e → makes_resource e ≡ false →
       held_count (h ++ e ∷ []) ≤ held_count h
   pub held_more : (h : List Event) (n tag : ℕ) → IsLawful base h → IsTrue (is_open h n) →
       held_count (h ++ Accept n tag ∷ []) ≡ held_count h + 1
+  -- a removal takes what has no lease out from what is held to what waits, and leaves what has one
   pub removed : (h : List Event) (r : ℕ) → IsLawful base h → MayFollow base h (Remove r) →
-      held_count (h ++ Remove r ∷ []) + 1 ≡ held_count h
+      held_count (h ++ Remove r ∷ []) + (if is_leased h r then 0 else 1) ≡ held_count h
   pub waiting_more : (h : List Event) (r : ℕ) → IsLawful base h → MayFollow base h (Remove r) →
-      waiting_count (h ++ Remove r ∷ []) ≡ waiting_count h + 1
+      waiting_count (h ++ Remove r ∷ []) ≡ waiting_count h + (if is_leased h r then 0 else 1)
   pub waiting_less : (h : List Event) (r : ℕ) → IsLawful base h → MayFollow base h (Take r) →
       waiting_count (h ++ Take r ∷ []) + 1 ≡ waiting_count h
   -- open nodes

@@ -1,7 +1,8 @@
 //! What an event does to what others made.
 
 ghost use Rattle.std.specs.Prelude.{◌≡◌};
-ghost use Rattle.rx_event.specs.Events.{is_item, is_take, is_end, ended_of, completed_of, failed_of, used_of, removed_of, taken_of, paid_of};
+ghost use Rattle.rx_event.specs.Events.{is_item, is_take, is_return, is_end, ended_of, completed_of, failed_of, used_of, removed_of, leased_of};
+ghost use Rattle.rx_event.specs.Events.{returned_of, taken_of, paid_of};
 
 use super::{Event, Place};
 use rx_note::Terminal;
@@ -19,6 +20,13 @@ impl Event {
         ensures { result ≡ is_take self }
     {
         matches!(self, Event::Take(_))
+    }
+
+    /// Whether a lease is given back.
+    pub fn is_return(self) -> bool
+        ensures { result ≡ is_return self }
+    {
+        matches!(self, Event::Return(_))
     }
 
     /// Whether a node ends by itself.
@@ -74,6 +82,26 @@ impl Event {
     {
         match self {
             Event::Remove(r) => Some(r),
+            _ => None,
+        }
+    }
+
+    /// The resource that it leases.
+    pub fn leased(self) -> Option<u64>
+        ensures { result ≡ leased_of self }
+    {
+        match self {
+            Event::Lease(r) => Some(r),
+            _ => None,
+        }
+    }
+
+    /// The lease that it gives back.
+    pub fn returned(self) -> Option<u64>
+        ensures { result ≡ returned_of self }
+    {
+        match self {
+            Event::Return(l) => Some(l),
             _ => None,
         }
     }

@@ -1,7 +1,9 @@
 //! What an event makes, and where it stands.
 
 ghost use Rattle.std.specs.Prelude.{◌≡◌};
-ghost use Rattle.rx_event.specs.Events.{makes_node, makes_hub, makes_resource, is_root, is_leaf, is_switch, is_until, is_merging, is_mirroring, has_source, is_auto_hub, is_manual_hub, parent_named, source_named, inner_named, notifier_named, hub_subscribed, hub_connected, node_of_accept};
+ghost use Rattle.rx_event.specs.Events.{makes_node, makes_hub, makes_resource, makes_lease, is_root, is_leaf, is_switch, is_until, is_merging};
+ghost use Rattle.rx_event.specs.Events.{is_mirroring, has_source, is_auto_hub, is_manual_hub, parent_named, source_named, inner_named};
+ghost use Rattle.rx_event.specs.Events.{notifier_named, hub_subscribed, hub_connected, node_of_accept};
 ghost use Rattle.rx_event.specs.Allowed.{may_abort};
 
 use super::{Event, Kind, Mode, Place};
@@ -26,6 +28,13 @@ impl Event {
         ensures { result ≡ makes_resource self }
     {
         matches!(self, Event::Accept(_, _))
+    }
+
+    /// Whether it makes a lease.
+    pub fn makes_lease(self) -> bool
+        ensures { result ≡ makes_lease self }
+    {
+        matches!(self, Event::Lease(_))
     }
 
     /// Whether it opens a root. A connection is none.

@@ -67,6 +67,8 @@ fn same_event(one: Event, other: Event) -> bool
         },
         Event::Use(resource) => matches!(other, Event::Use(r) if resource == r),
         Event::Remove(resource) => matches!(other, Event::Remove(r) if resource == r),
+        Event::Lease(resource) => matches!(other, Event::Lease(r) if resource == r),
+        Event::Return(lease) => matches!(other, Event::Return(l) if lease == l),
         Event::Item(leaf, value) => match other {
             Event::Item(l, v) => leaf == l && value == v,
             _ => false,

@@ -3,7 +3,7 @@ use Rattle.std.proofs.Common.{◌≡◌, ◌≢◌, ℕ, suc, ◌<◌, Bool, tru
 use Rattle.std.proofs.Math.Bool.{not, ◌&&◌}
 use Rattle.std.specs.List.{AllPairs, Contains, filter, list_any, range_with_len}
 use Rattle.std.specs.Option.{option_map_or}
-use Rattle.std.proofs.lemmas.Bool.{false≢true}
+use Rattle.std.proofs.lemmas.Bool.{false≢true, and_parts}
 use Rattle.std.proofs.lemmas.List.{length-map}
 use Rattle.std.proofs.lemmas.List.Kept.{AllPairs-cons, AllPairs-filter}
 use Rattle.std.proofs.lemmas.List.Sums.{sum_by-cons, length-filter}
@@ -11,24 +11,27 @@ use Rattle.rx_event.specs.Kept.{Kept as Base}
 use Rattle.rx_resource.specs.declared.Resource.{Ghosts}
 use Rattle.rx_event.specs.declared.event.Event.{Event}
 use Rattle.rx_event.specs.Events.{makes_resource, is_take_of}
-use Rattle.rx_event.specs.Tree.{at, is_open}
-use Rattle.rx_event.specs.Resources.{is_held as is_held_in, is_waiting, is_taken}
-use Rattle.rx_event.specs.Totals.{open_count, held_count, waiting_count}
+use Rattle.rx_event.specs.Tree.{at, places, is_open}
+use Rattle.rx_event.specs.Resources.{is_out, is_held as is_held_in, is_waiting, is_taken}
+use Rattle.rx_event.specs.Totals.{open_count, held_count, lease_count, waiting_count}
 use Rattle.rx_event.specs.Lawful.{IsLawful}
 use Rattle.rx_event.proofs.Laws.Openness.{is_open_within}
+use Rattle.rx_event.proofs.Laws.Leases.{is_out_within}
 use Rattle.rx_event.proofs.Laws.Resources.{is_held_within, is_waiting_within, held_resource, held_not_taken, waiting_parts}
 use Rattle.rx_slots.specs.declared.Entry.{Entry}
 use Rattle.rx_slots.specs.declared.Key.{Key}
 use Rattle.rx_slots.specs.Slots.{Slots, entry_of, find}
+use Rattle.rx_tree.specs.declared.node.ResKey.{ResKey}
 use Rattle.rx_tree.specs.declared.node.Stowed.{Stowed}
 use Rattle.rx_tree.specs.Tree.{Tree, AreApart}
-use Rattle.rx_tree.specs.Resources.{is_held}
+use Rattle.rx_tree.specs.Resources.{is_owned, is_lent, is_held, lent_alone_count}
 use Rattle.rx_tree.proofs.Laws.Written.{found_entry}
 use Rattle.rx_ground.specs.Shown.{Kept, kept_from, kept_in, held_in, waiting_in}
-use Rattle.rx_ground.specs.Ties.{HasKey, IsTied, IsStored}
+use Rattle.rx_ground.specs.Ties.{HasKey, IsTied, IsStored, AreLeased}
 use Rattle.rx_ground.proofs.Laws.Members.{Contains-map, All-members, AllPairs-nil, AllPairs-map, Contains-from_map}
 use Rattle.rx_ground.proofs.Listed.{filter_member, filter_has, stands_from, kept_found, kept_listed}
-use Rattle.rx_ground.proofs.Taking.{held_agrees, waits_agrees}
+use Rattle.rx_ground.proofs.Lent.{is_alone}
+use Rattle.rx_ground.proofs.Taking.{held_agrees, alone_agrees, waits_agrees}
 use Rattle.rx_ground.proofs.Laws.Numbers.{ListsJust, just_counted}
 
 -- slots -------------------------------------------------------------------------------------------
@@ -211,5 +214,39 @@ module _ (base : Base) {T : Type 0} (g : Ghosts T) (h : List Event) (tree : Tree
       every = λ r held. let made = held_resource h r held in tied.stored.every r made (untaken r made (held_not_taken base h law r held));
     })
 
+    -- and with those that leases alone hold
+    pub length-alone : AreApart tree.resources → lent_alone_count tree ≡ count_by (is_alone h) (places h)
+    length-alone apart =
+        sym (length-filter_kept tree.resources alone) ∙
+        length-just (is_alone h) (filter (λ k. alone k.value) (kept_in tree.resources)) (length h)
+        (just_kept tree.resources alone (is_alone h) apart (record { each = alone_agrees base g h tree tied; every = every }))
+        (λ r a. is_held_within h r (and_parts (is_held_in h r) _ a).0)
+      where
+        alone : Stowed T → Bool
+        alone s = is_lent s && not (is_owned tree.nodes s)
+
+        every : (r : ℕ) → is_alone h r ≡ true → HasKey tree.resources r
+        every r a =
+            let held = (and_parts (is_held_in h r) _ a).0 in
+            let made = held_resource h r held in
+            tied.stored.every r made (untaken r made (held_not_taken base h law r held))
+
     pub length-held : AreApart tree.resources → length (held_in tree) ≡ held_count h
     length-held apart = length-just (is_held_in h) (held_in tree) (length h) (just_held apart) (is_held_within h)
+
+-- leases ------------------------------------------------------------------------------------------
+
+-- the leases kept are just those that are out
+pub just_out : {T : Type 0} (h : List Event) (resources : Slots (Stowed T)) (leases : Slots ResKey) → AreLeased h resources leases → AreApart leases →
+    ListsJust (is_out h) (numbers (kept_in leases))
+just_out h resources leases leased apart = just_all leases (is_out h) apart (record {
+  each = λ k c. (leased.each k.key k.value (kept_found leases k c)).out;
+  every = leased.every;
+})
+
+-- and as many
+pub count-leases : {T : Type 0} (h : List Event) (resources : Slots (Stowed T)) (leases : Slots ResKey) → AreLeased h resources leases → AreApart leases →
+    count_by is_some leases.entries ≡ lease_count h
+count-leases h resources leases leased apart =
+    sym (length-kept leases) ∙
+    length-just (is_out h) (kept_in leases) (length h) (just_out h resources leases leased apart) (is_out_within h)

@@ -1,6 +1,6 @@
 -- No key of an old node or resource comes back: not by one write, nor by more of them.
-use Rattle.std.proofs.Common.{◌≡◌, ℕ, ◌<◌, ◌≤◌, true, false, List, length, Option, Some, None, is_some, IsSome, refl, sym, ap, ◌∙◌, arith}
-use Rattle.std.proofs.Math.Bool.{not}
+use Rattle.std.proofs.Common.{◌≡◌, ℕ, ◌<◌, ◌≤◌, Bool, true, false, List, length, Option, Some, None, is_some, IsSome, refl, sym, ap, ◌∙◌, arith}
+use Rattle.std.proofs.Math.Bool.{not, ◌&&◌, ◌||◌}
 use Rattle.std.specs.Option.{option_map_or}
 use Rattle.std.proofs.lemmas.Bool.{and_parts, and_from}
 use Rattle.rx_event.specs.Kept.{Kept}
@@ -13,9 +13,17 @@ use Rattle.rx_tree.specs.declared.node.Node.{Node}
 use Rattle.rx_tree.specs.declared.node.Stowed.{Stowed}
 use Rattle.rx_tree.specs.declared.node.ResKey.{ResKey}
 use Rattle.rx_tree.specs.Tree.{Tree}
-use Rattle.rx_tree.specs.Resources.{store_key, is_held, is_held_at}
-use Rattle.rx_ground.specs.Ties.{IsTied, KeepsNodes, KeepsOlder, KeepsHeld, IsNewNode}
+use Rattle.rx_tree.specs.Resources.{store_key, is_lent, is_held, is_held_at}
+use Rattle.rx_ground.specs.Ties.{IsTied, KeepsNodes, KeepsOlder, KeepsHeld, KeepsLeases, IsNewNode}
 use Rattle.rx_ground.proofs.Stored.{stored_within}
+
+or_true : (b : Bool) → (b || true) ≡ true
+or_true true = refl
+or_true false = refl
+
+or_false : (b : Bool) → (b || false) ≡ b
+or_false true = refl
+or_false false = refl
 
 module _ {T : Type 0} where
   -- of what is older than this, only what was there is there
@@ -40,8 +48,12 @@ module _ {T : Type 0} where
             option_map_or (is_held old.nodes) o false ≡ true
         by_value None none e = e
         by_value (Some s) found e =
-            let p = and_parts (is_some (find new.nodes s.node)) (not s.removed) e in
-            and_from (is_some (find old.nodes s.node)) (not s.removed) (from s found p.0) p.1
+            either (is_lent s) (is_some (find new.nodes s.node)) (is_some (find old.nodes s.node)) (not s.removed) (from s found) e where
+              either : (lent now was stays : Bool) → (now ≡ true → was ≡ true) → ((now && stays) || lent) ≡ true → ((was && stays) || lent) ≡ true
+              either true now was stays from e = or_true (was && stays)
+              either false now was stays from e =
+                  let p = and_parts now stays (sym (or_false (now && stays)) ∙ e) in
+                  or_false (was && stays) ∙ and_from was stays (from p.0) p.1
 
   -- a closing
   pub keeps_closed : (h : List Event) (old new : Tree T) (number : ℕ) → KeepsNodes h old.nodes new.nodes → new.resources ≡ old.resources →
@@ -84,3 +96,7 @@ module _ {T : Type 0} where
   pub keeps_settled : (base : Kept) → (g : Ghosts T) (h k : List Event) (old new : Tree T) → IsLawful base h → IsTied base g h old →
       KeepsOlder k (length h) old.nodes new.nodes → new.resources ≡ old.resources → KeepsKeys old new (length h)
   keeps_settled base g h k old new law tied kept same = keeps_older base g h old new law tied kept.from same
+
+-- leases that stay, all of them
+pub leases_stay : (old new : Slots ResKey) (number : ℕ) → new ≡ old → KeepsLeases old new number
+leases_stay old new number same = record { from = λ key some less. ap (λ (s : Slots ResKey). is_some (find s key)) (sym same) ∙ some }

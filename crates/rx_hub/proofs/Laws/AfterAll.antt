@@ -7,7 +7,7 @@ use Rattle.rx_event.specs.Kept.{Kept}
 use Rattle.rx_event.specs.declared.event.Kind.TheVariants.{Leaf, Pass, Flat, Switch, Until, Sub}
 use Rattle.rx_event.specs.declared.event.Mode.{Mode}
 use Rattle.rx_event.specs.declared.event.Event.{Event}
-use Rattle.rx_event.specs.declared.event.Event.TheVariants.{Open, Hub as Publish, Connect, Accept, Use, Remove, Item, Decline, End, Close, Take}
+use Rattle.rx_event.specs.declared.event.Event.TheVariants.{Open, Hub as Publish, Connect, Accept, Use, Remove, Lease, Return, Item, Decline, End, Close, Take}
 use Rattle.rx_event.specs.Events.{makes_hub, is_connect, is_subscriber_of, is_connect_of}
 use Rattle.rx_event.specs.Tree.{at, places, is_open}
 use Rattle.rx_event.specs.Lawful.{MayFollow, IsLawful}
@@ -244,6 +244,8 @@ left_follow base h (Item l v) slot hubs law next are = nothing_made base h (Item
 left_follow base h (Decline f) slot hubs law next are = nothing_made base h (Decline f) hubs law next are refl (λ g. refl) (λ g. refl)
 left_follow base h (End n t) slot hubs law next are = nothing_made base h (End n t) hubs law next are refl (λ g. refl) (λ g. refl)
 left_follow base h (Close n) slot hubs law next are = nothing_made base h (Close n) hubs law next are refl (λ g. refl) (λ g. refl)
+left_follow base h (Lease r) slot hubs law next are = nothing_made base h (Lease r) hubs law next are refl (λ g. refl) (λ g. refl)
+left_follow base h (Return r) slot hubs law next are = nothing_made base h (Return r) hubs law next are refl (λ g. refl) (λ g. refl)
 left_follow base h (Take r) slot hubs law next are = nothing_made base h (Take r) hubs law next are refl (λ g. refl) (λ g. refl)
 
 pub map_agrees : (f g : Hub → Hub) (hubs : List Hub) → ((i : ℕ) (hub : Hub) → slice_get hubs i ≡ Some hub → f hub ≡ g hub) → map f hubs ≡ map g hubs

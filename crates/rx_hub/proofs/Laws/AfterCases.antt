@@ -13,7 +13,7 @@ use Rattle.rx_event.specs.declared.event.Kind.{Kind}
 use Rattle.rx_event.specs.declared.event.Kind.TheVariants.{Leaf, Pass, Flat, Switch, Until, Sub}
 use Rattle.rx_event.specs.declared.event.Mode.{Mode}
 use Rattle.rx_event.specs.declared.event.Event.{Event}
-use Rattle.rx_event.specs.declared.event.Event.TheVariants.{Open, Hub as Publish, Connect, Accept, Use, Remove, Item, Decline, End, Close, Take}
+use Rattle.rx_event.specs.declared.event.Event.TheVariants.{Open, Hub as Publish, Connect, Accept, Use, Remove, Lease, Return, Item, Decline, End, Close, Take}
 use Rattle.rx_event.specs.Events.{is_switch, is_inner_of, is_subscriber_of}
 use Rattle.rx_event.specs.Tree.{at, places, is_open, is_within}
 use Rattle.rx_event.specs.Lawful.{MayFollow, IsLawful}
@@ -150,6 +150,8 @@ joins_none key (Item l v) hubs none = refl
 joins_none key (Decline f) hubs none = refl
 joins_none key (End n t) hubs none = refl
 joins_none key (Close n) hubs none = refl
+joins_none key (Lease r) hubs none = refl
+joins_none key (Return r) hubs none = refl
 joins_none key (Take r) hubs none = refl
 
 pub hubs_same : (h : List Event) (e : Event) (slot : ℕ) (hubs : List Hub) → AreHubsOf h hubs → joins_hubs e ≡ false → ClosesNone h e →

@@ -6,13 +6,17 @@ use Rattle.rx_event.specs.declared.event.Kind.TheVariants.{Pass}
 use Rattle.rx_event.specs.declared.event.Event.{Event}
 use Rattle.rx_event.specs.declared.event.Event.TheVariants.{Open, Close}
 use Rattle.rx_event.specs.Lawful.{MayFollow}
-use Rattle.rx_event.specs.Calls.{Call, Opening, OpeningUsing, Holding, Applying, Removing, Emitting, Ending, Aborting, Declining, Failing, Disposing, Publishing, Connecting, Disconnecting, Taking, outside_of}
+use Rattle.rx_event.specs.Calls.{Call, Opening, OpeningUsing, Holding, Applying, Removing, Leasing, GivingBack, Emitting, Ending, Aborting, Declining}
+use Rattle.rx_event.specs.Calls.{Failing, Disposing, Publishing, Connecting, Disconnecting, Taking, outside_of}
 use Rattle.rx_register.specs.Causes.{added_by}
 use Rattle.rx_register.specs.State.{State, Writes}
 use Rattle.rx_register.specs.Paid.{IsPaid, HasRoomFor, Fits, notes_added}
 use Rattle.rx_register.specs.Claims.{MayFollowInTurn, MayCall}
-use Rattle.rx_register.proofs.Laws.Follow.{opening_follows, using_follows, accepting_follows, holding_follows, applying_follows, removing_follows, emitting_follows, ending_follows, aborting_follows, declining_follows, failing_follows, disposing_follows, publishing_follows, connecting_follows, disconnecting_one, disconnecting_follows, taking_follows}
-use Rattle.rx_register.proofs.Laws.Fits.{opening_fits, using_fits, holding_fits, applying_fits, removing_fits, emitting_fits, ending_fits, declining_fits, closing_fits, publishing_fits, connecting_fits, taking_fits}
+use Rattle.rx_register.proofs.Laws.Follow.{opening_follows, using_follows, accepting_follows, holding_follows, applying_follows, removing_follows}
+use Rattle.rx_register.proofs.Laws.Follow.{leasing_follows, returning_follows, emitting_follows, ending_follows, aborting_follows, declining_follows}
+use Rattle.rx_register.proofs.Laws.Follow.{failing_follows, disposing_follows, publishing_follows, connecting_follows, disconnecting_one}
+use Rattle.rx_register.proofs.Laws.Follow.{disconnecting_follows, taking_follows}
+use Rattle.rx_register.proofs.Laws.Fits.{opening_fits, using_fits, holding_fits, applying_fits, removing_fits, leasing_fits, returning_fits, emitting_fits, ending_fits, declining_fits, closing_fits, publishing_fits, connecting_fits, taking_fits}
 use Rattle.rx_register.proofs.Laws.Paid.{call_pays}
 
 pub call_follows : (base : Kept) → (h : List Event) (limit : ℕ) (fresh : Bool) (call : Call) → MayCall base h limit fresh call →
@@ -24,6 +28,8 @@ call_follows base h limit fresh (OpeningUsing place tag) m =
 call_follows base h limit fresh (Holding n tag) m = (holding_follows base h limit fresh n tag m.settled m.no_cause, tt)
 call_follows base h limit fresh (Applying r) m = (applying_follows base h limit fresh r m.settled m.no_cause, tt)
 call_follows base h limit fresh (Removing r) m = (removing_follows base h limit fresh r m.settled m.no_cause, tt)
+call_follows base h limit fresh (Leasing r) m = (leasing_follows base h limit fresh r m.settled m.no_cause, tt)
+call_follows base h limit fresh (GivingBack l) m = (returning_follows base h limit fresh l m.settled m.no_cause, tt)
 call_follows base h limit fresh (Emitting l v) m = (emitting_follows base h limit fresh l v m.settled m.no_cause, tt)
 call_follows base h limit fresh (Ending l t) m = (ending_follows base h limit fresh l t m.settled m.no_cause, tt)
 call_follows base h limit fresh (Aborting n c) m = (aborting_follows base h limit fresh n c m.settled m.no_cause, tt)
@@ -45,6 +51,8 @@ call_fits base h limit fresh (OpeningUsing place tag) m =
 call_fits base h limit fresh (Holding n tag) m = holding_fits base h n tag m.lawful m.settled (call_follows base h limit fresh (Holding n tag) m).0
 call_fits base h limit fresh (Applying r) m = applying_fits base h r m.lawful m.settled (call_follows base h limit fresh (Applying r) m).0
 call_fits base h limit fresh (Removing r) m = removing_fits base h r m.lawful m.settled (call_follows base h limit fresh (Removing r) m).0
+call_fits base h limit fresh (Leasing r) m = leasing_fits base h r m.lawful m.settled (call_follows base h limit fresh (Leasing r) m).0
+call_fits base h limit fresh (GivingBack l) m = returning_fits base h l m.lawful m.settled (call_follows base h limit fresh (GivingBack l) m).0
 call_fits base h limit fresh (Emitting l v) m = emitting_fits base h l v m.lawful m.settled (call_follows base h limit fresh (Emitting l v) m).0
 call_fits base h limit fresh (Ending l t) m = ending_fits base h l t m.lawful m.settled (call_follows base h limit fresh (Ending l t) m).0
 call_fits base h limit fresh (Aborting n c) m = ending_fits base h n (Error c) m.lawful m.settled (call_follows base h limit fresh (Aborting n c) m).0

@@ -10,7 +10,7 @@ use Rattle.rx_event.specs.declared.event.Kind.{Kind}
 use Rattle.rx_event.specs.declared.event.Kind.TheVariants.{Pass}
 use Rattle.rx_event.specs.declared.event.Mode.{Mode}
 use Rattle.rx_event.specs.declared.event.Event.{Event}
-use Rattle.rx_event.specs.declared.event.Event.TheVariants.{Open, Hub, Connect, Accept, Use, Remove, Item, Decline, End, Close, Take}
+use Rattle.rx_event.specs.declared.event.Event.TheVariants.{Open, Hub, Connect, Accept, Use, Remove, Lease, Return, Item, Decline, End, Close, Take}
 use Rattle.rx_event.specs.Events.{is_root, makes_node}
 use Rattle.rx_event.specs.Tree.{at, is_open}
 use Rattle.rx_event.specs.Climb.{stops}
@@ -25,7 +25,8 @@ use Rattle.rx_event.proofs.Laws.Lawful.{IsLawful-push, may_end}
 use Rattle.rx_event.proofs.Laws.Steps.{may_close}
 use Rattle.rx_event.proofs.Laws.Openness.{shuts_none}
 use Rattle.rx_event.proofs.Laws.Totals.{open_count-push, open_count_made, open_count_falls-end, open_count_falls-close, is_open_new}
-use Rattle.rx_event.proofs.Laws.Debt.{debt-root, debt-source, debt-notifier, debt_no_rise-inner, debt-connect, debt-hub, debt-use, debt-accept, debt-remove, debt-take, debt-item, debt-decline, debt_falls-end, debt_falls-close}
+use Rattle.rx_event.proofs.Laws.Debt.{debt-root, debt-source, debt-notifier, debt_no_rise-inner, debt-connect, debt-hub, debt-use, debt-accept, debt-remove, debt-lease, debt-return}
+use Rattle.rx_event.proofs.Laws.Debt.{debt-take, debt-item, debt-decline, debt_falls-end, debt_falls-close}
 use Rattle.rx_event.proofs.Laws.Hubs.{may_subscribe}
 use Rattle.rx_event.proofs.Laws.Waits.{kept_end, kept_close_allowed, kept_unsubscribed, settled_connected}
 use Rattle.rx_register.specs.Causes.{end_at, forces_connect, nodes_opened}
@@ -100,6 +101,16 @@ applying_fits base h r law settled next = fits_one base h (Use r) 1 0 (kept_unsu
 pub removing_fits : (base : Kept) → (h : List Event) (r : ℕ) → IsLawful base h → IsSettled base h → MayFollow base h (Remove r) →
     Fits base h (h ++ Remove r ∷ []) 0 0
 removing_fits base h r law settled next = fits_one base h (Remove r) 0 0 (kept_unsubscribed base h (Remove r) law (settled_connected base h settled) refl refl) (let d = debt-remove base h r law next in omega arith) (let o = stays_open base h (Remove r) next refl refl in omega arith)
+
+pub leasing_fits : (base : Kept) → (h : List Event) (r : ℕ) → IsLawful base h → IsSettled base h → MayFollow base h (Lease r) →
+    Fits base h (h ++ Lease r ∷ []) 2 0
+leasing_fits base h r law settled next = fits_one base h (Lease r) 2 0 (kept_unsubscribed base h (Lease r) law (settled_connected base h settled) refl refl)
+    (let d = debt-lease base h r law next in omega arith) (let o = stays_open base h (Lease r) next refl refl in omega arith)
+
+pub returning_fits : (base : Kept) → (h : List Event) (l : ℕ) → IsLawful base h → IsSettled base h → MayFollow base h (Return l) →
+    Fits base h (h ++ Return l ∷ []) 0 0
+returning_fits base h l law settled next = fits_one base h (Return l) 0 0 (kept_unsubscribed base h (Return l) law (settled_connected base h settled) refl refl)
+    (let d = debt-return base h l law next in omega arith) (let o = stays_open base h (Return l) next refl refl in omega arith)
 
 pub taking_fits : (base : Kept) → (h : List Event) (r : ℕ) → IsLawful base h → IsSettled base h → MayFollow base h (Take r) → Fits base h (h ++ Take r ∷ []) 0 0
 taking_fits base h r law settled next = fits_one base h (Take r) 0 0 (kept_unsubscribed base h (Take r) law (settled_connected base h settled) refl refl) (let d = debt-take base h r law next in omega arith) (let o = stays_open base h (Take r) next refl refl in omega arith)

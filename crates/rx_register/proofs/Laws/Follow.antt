@@ -16,9 +16,10 @@ use Rattle.rx_event.specs.declared.event.Kind.{Kind}
 use Rattle.rx_event.specs.declared.event.Kind.TheVariants.{Leaf, Pass, Flat, Switch, Until, Sub}
 use Rattle.rx_event.specs.declared.event.Mode.{Mode}
 use Rattle.rx_event.specs.declared.event.Event.{Event}
-use Rattle.rx_event.specs.declared.event.Event.TheVariants.{Open, Hub, Connect, Accept, Use, Remove, Item, Decline, End, Close, Take}
+use Rattle.rx_event.specs.declared.event.Event.TheVariants.{Open, Hub, Connect, Accept, Use, Remove, Lease, Return, Item, Decline, End, Close, Take}
 use Rattle.rx_event.specs.declared.refusal.Refusal.{Refusal}
-use Rattle.rx_event.specs.declared.refusal.Refusal.TheVariants.{Gone, WrongKind, PlaceTaken, NothingOwed, NotRoot, NoHub, HubOrder, Connected, NotConnected, NotHeld, HasChild, TooMany}
+use Rattle.rx_event.specs.declared.refusal.Refusal.TheVariants.{Gone, WrongKind, PlaceTaken, NothingOwed, NotRoot, NoHub, HubOrder, Connected, NotConnected}
+use Rattle.rx_event.specs.declared.refusal.Refusal.TheVariants.{NoLease, NotHeld, Leased, HasChild, TooMany}
 use Rattle.rx_event.specs.Events.{is_connect_of, makes_hub, has_source, is_merging, is_until}
 use Rattle.rx_event.specs.Tree.{at, places, parent, ancestors, is_open, is_open_child_of, has_open_child, open_nodes, open_connections}
 use Rattle.rx_event.specs.Moments.{owed}
@@ -26,9 +27,10 @@ use Rattle.rx_event.specs.Resources.{is_waiting}
 use Rattle.rx_event.specs.Climb.{visits, most_visits}
 use Rattle.rx_event.specs.Totals.{open_count}
 use Rattle.rx_event.specs.Forced.{IsConnectDue, IsSettled}
-use Rattle.rx_event.specs.Allowed.{IsFree, IsHubbed, IsInOrder, IsInOrderAt, most_nodes, most_hubs, opened, published, connected, accepted, used, removed, emitted, declined, leaf_ended, aborted, projection_failed, root_closed, disconnected, taken}
+use Rattle.rx_event.specs.Allowed.{IsFree, IsHubbed, IsInOrder, IsInOrderAt, most_nodes, most_hubs, opened, published, connected, accepted, used, removed}
+use Rattle.rx_event.specs.Allowed.{leased, returned, emitted, declined, leaf_ended, aborted, projection_failed, root_closed, disconnected, taken}
 use Rattle.rx_event.specs.Lawful.{MayFollow, IsLawful, allowed, opened_with}
-use Rattle.rx_event.specs.Calls.{Opening, OpeningUsing, Holding, Applying, Removing, Emitting, Ending, Aborting, Declining, Failing, Disposing, Publishing, Connecting}
+use Rattle.rx_event.specs.Calls.{Opening, OpeningUsing, Holding, Applying, Removing, Leasing, GivingBack, Emitting, Ending, Aborting, Declining, Failing, Disposing, Publishing, Connecting}
 use Rattle.rx_event.specs.Refusals.{first_cause}
 use Rattle.rx_event.proofs.Laws.Lists.{first_passes}
 use Rattle.rx_event.proofs.Laws.Places.{slice_get_last}
@@ -146,7 +148,16 @@ pub applying_follows : (base : Kept) → (h : List Event) (limit : ℕ) (is_fres
 applying_follows base h limit is_fresh r settled none = allowed settled (used (not-false _ (no_cause (causes base h limit is_fresh (Applying r)) none NotHeld)))
 
 pub removing_follows : (base : Kept) → (h : List Event) (limit : ℕ) (is_fresh : Bool) (r : ℕ) → IsSettled base h → first_cause (causes base h limit is_fresh (Removing r)) ≡ None → MayFollow base h (Remove r)
-removing_follows base h limit is_fresh r settled none = allowed settled (removed (not-false _ (no_cause (causes base h limit is_fresh (Removing r)) none NotHeld)))
+removing_follows base h limit is_fresh r settled none = allowed settled (removed (not-false _ (no_cause (causes base h limit is_fresh (Removing r)) none Leased)))
+
+pub leasing_follows : (base : Kept) → (h : List Event) (limit : ℕ) (is_fresh : Bool) (r : ℕ) → IsSettled base h →
+    first_cause (causes base h limit is_fresh (Leasing r)) ≡ None → MayFollow base h (Lease r)
+leasing_follows base h limit is_fresh r settled none = allowed settled (leased (not-false _ (no_cause (causes base h limit is_fresh (Leasing r)) none Leased)))
+
+pub returning_follows : (base : Kept) → (h : List Event) (limit : ℕ) (is_fresh : Bool) (l : ℕ) → IsSettled base h →
+    first_cause (causes base h limit is_fresh (GivingBack l)) ≡ None → MayFollow base h (Return l)
+returning_follows base h limit is_fresh l settled none =
+    allowed settled (returned (not-false _ (no_cause (causes base h limit is_fresh (GivingBack l)) none NoLease)))
 
 pub taking_follows : (base : Kept) → (h : List Event) (r : ℕ) → IsSettled base h → is_waiting h r ≡ true → MayFollow base h (Take r)
 taking_follows base h r settled waits = allowed settled (taken waits)

@@ -3,7 +3,8 @@ use Rattle.std.proofs.Common.{◌≡◌, Bool, true, false, List, [], ◌∷◌,
 use Rattle.std.specs.List.{AllByRecursion}
 use Rattle.std.proofs.lemmas.Option.{none-some}
 use Rattle.rx_event.specs.declared.refusal.Refusal.{Refusal}
-use Rattle.rx_event.specs.declared.refusal.Refusal.TheVariants.{NoMemory, Full, Gone, WrongKind, PlaceTaken, NothingOwed, NotRoot, NoHub, HubOrder, Connected, NotConnected, NotFresh, NotHeld, HasChild, TooMany}
+use Rattle.rx_event.specs.declared.refusal.Refusal.TheVariants.{NoMemory, Full, Gone, WrongKind, PlaceTaken, NothingOwed, NotRoot, NoHub, HubOrder, Connected}
+use Rattle.rx_event.specs.declared.refusal.Refusal.TheVariants.{NotConnected, NotFresh, NoLease, NotHeld, Leased, HasChild, TooMany}
 use Rattle.rx_event.specs.Refusals.{first_of_these, first_cause, refusal_order}
 
 none_of : (stands : Refusal → Bool) (whys : List Refusal) → first_of_these stands whys ≡ None → AllByRecursion (λ why. stands why ≡ false) whys
@@ -27,8 +28,10 @@ no_cause stands none why = by_order (none_of stands refusal_order none) why wher
   by_order a Connected = a.1.1.1.1.1.1.1.0
   by_order a NotConnected = a.1.1.1.1.1.1.1.1.0
   by_order a NotFresh = a.1.1.1.1.1.1.1.1.1.0
-  by_order a NotHeld = a.1.1.1.1.1.1.1.1.1.1.0
-  by_order a HasChild = a.1.1.1.1.1.1.1.1.1.1.1.0
-  by_order a TooMany = a.1.1.1.1.1.1.1.1.1.1.1.1.0
-  by_order a Full = a.1.1.1.1.1.1.1.1.1.1.1.1.1.0
-  by_order a NoMemory = a.1.1.1.1.1.1.1.1.1.1.1.1.1.1.0
+  by_order a NoLease = a.1.1.1.1.1.1.1.1.1.1.0
+  by_order a NotHeld = a.1.1.1.1.1.1.1.1.1.1.1.0
+  by_order a Leased = a.1.1.1.1.1.1.1.1.1.1.1.1.0
+  by_order a HasChild = a.1.1.1.1.1.1.1.1.1.1.1.1.1.0
+  by_order a TooMany = a.1.1.1.1.1.1.1.1.1.1.1.1.1.1.0
+  by_order a Full = a.1.1.1.1.1.1.1.1.1.1.1.1.1.1.1.0
+  by_order a NoMemory = a.1.1.1.1.1.1.1.1.1.1.1.1.1.1.1.1.0

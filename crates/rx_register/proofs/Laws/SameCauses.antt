@@ -13,13 +13,15 @@ use Rattle.rx_event.specs.declared.event.Kind.TheVariants.{Leaf, Pass, Flat, Swi
 use Rattle.rx_event.specs.declared.event.Event.{Event}
 use Rattle.rx_event.specs.declared.event.Event.TheVariants.{Connect}
 use Rattle.rx_event.specs.declared.refusal.Refusal.{Refusal}
-use Rattle.rx_event.specs.declared.refusal.Refusal.TheVariants.{Full, Gone, WrongKind, PlaceTaken, NothingOwed, NotRoot, NoHub, HubOrder, Connected, NotConnected, NotHeld, HasChild, TooMany}
-use Rattle.rx_event.specs.Events.{makes_node, makes_hub, makes_resource}
+use Rattle.rx_event.specs.declared.refusal.Refusal.TheVariants.{Full, Gone, WrongKind, PlaceTaken, NothingOwed, NotRoot, NoHub, HubOrder, Connected, NotConnected}
+use Rattle.rx_event.specs.declared.refusal.Refusal.TheVariants.{NoLease, NotHeld, Leased, HasChild, TooMany}
+use Rattle.rx_event.specs.Events.{makes_node, makes_hub, makes_resource, makes_lease}
 use Rattle.rx_event.specs.Tree.{at, ancestors, is_open, is_within, open_connections}
 use Rattle.rx_event.specs.Allowed.{most_nodes, most_hubs, IsInOrderAt}
 use Rattle.rx_event.specs.Climb.{most_visits}
 use Rattle.rx_event.specs.Refusals.{first_of_these, first_cause}
-use Rattle.rx_event.specs.Calls.{Opening, OpeningUsing, Holding, Applying, Removing, Emitting, Ending, Aborting, Declining, Failing, Disposing, Publishing, Connecting, Disconnecting, Taking, Call}
+use Rattle.rx_event.specs.Calls.{Opening, OpeningUsing, Holding, Applying, Removing, Leasing, GivingBack, Emitting, Ending, Aborting, Declining, Failing}
+use Rattle.rx_event.specs.Calls.{Disposing, Publishing, Connecting, Disconnecting, Taking, Call}
 use Rattle.rx_event.specs.Renumbered.{place_by, kind_by, call_by, AreSameBy}
 use Rattle.rx_event.specs.Claims.Seen.{CallersSeeTheSame}
 use Rattle.rx_event.proofs.Laws.Searches.{list_any_found, list_any_holds}
@@ -44,6 +46,8 @@ NamesKnown h (OpeningUsing place tag) = NamesPlace h place
 NamesKnown h (Holding n tag) = at makes_node h n ≡ true
 NamesKnown h (Applying q) = at makes_resource h q ≡ true
 NamesKnown h (Removing q) = at makes_resource h q ≡ true
+NamesKnown h (Leasing q) = at makes_resource h q ≡ true
+NamesKnown h (GivingBack l) = at makes_lease h l ≡ true
 NamesKnown h (Emitting l v) = at makes_node h l ≡ true
 NamesKnown h (Ending l t) = at makes_node h l ≡ true
 NamesKnown h (Aborting n code) = at makes_node h n ≡ true
@@ -245,6 +249,19 @@ module _ (base : Kept) (r s : ℕ → ℕ) (h c : List Event) (a : AreSameBy bas
       (unlimited (causes base h m fresh (Removing q))) by_cause where
         by_cause : (why : Refusal) → unlimited (causes base c l fresh (Removing (r q))) why ≡ unlimited (causes base h m fresh (Removing q)) why
         by_cause NotHeld = ap not (seen.held q known)
+        by_cause Leased = ap not (seen.owned q known)
+        by_cause _ = refl
+  same_cause l m fresh (Leasing q) known = same_first (unlimited (causes base c l fresh (Leasing (r q))))
+      (unlimited (causes base h m fresh (Leasing q))) by_cause where
+        by_cause : (why : Refusal) → unlimited (causes base c l fresh (Leasing (r q))) why ≡ unlimited (causes base h m fresh (Leasing q)) why
+        by_cause NotHeld = ap not (seen.held q known)
+        by_cause Leased = ap not (seen.owned q known)
+        by_cause _ = refl
+  same_cause l m fresh (GivingBack lease) known = same_first (unlimited (causes base c l fresh (GivingBack (r lease))))
+      (unlimited (causes base h m fresh (GivingBack lease))) by_cause where
+        by_cause : (why : Refusal) → unlimited (causes base c l fresh (GivingBack (r lease))) why ≡
+            unlimited (causes base h m fresh (GivingBack lease)) why
+        by_cause NoLease = ap not (seen.out lease known)
         by_cause _ = refl
   same_cause l m fresh (Emitting leaf v) known =
       at_node leaf known (unlimited (causes base c l fresh (Emitting (r leaf) v)))

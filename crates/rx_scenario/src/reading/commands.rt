@@ -3,7 +3,7 @@
 ghost use Rattle.serde_json.specs.View.{view};
 ghost use Rattle.rx_scenario.specs.Scenario.{command_of as command_meant, action_of as action_meant};
 ghost use Rattle.rx_device.specs.Gives.{Gives};
-ghost use Rattle.rx_scenario.specs.Reading.{using_of, open_of, hold_of, apply_of, remove_of, next_of, end_of, abort_of, decline_of, fail_of, dispose_of, hub_of, connect_of, disconnect_of, drain_of, command_by, cancel_of, action_by, action_in};
+ghost use Rattle.rx_scenario.specs.Reading.{using_of, open_of, hold_of, apply_of, remove_of, lease_of, return_of, next_of, end_of, abort_of, decline_of, fail_of, dispose_of, hub_of, connect_of, disconnect_of, drain_of, command_by, cancel_of, action_by, action_in};
 
 use super::members::{
     code_in, is_step_of, kind_in, mode_in, name_in, optional_name_in, site_in, terminal_in,
@@ -76,6 +76,29 @@ fn remove_of(alloc: Global, object: &Value) -> Result<Command, ShapeError>
     }
     let res = name_in(alloc, object, "res")?;
     Ok(Command::Remove { res })
+}
+
+#[tactic(auto, unfolding(crate::specs::Reading::lease_of))]
+fn lease_of(alloc: Global, object: &Value) -> Result<Command, ShapeError>
+    ensures { Gives command_meant result (lease_of (view object.now)) }
+{
+    if !is_step_of(object, &["res", "name"]) {
+        return Err(ShapeError::Shape);
+    }
+    let res = name_in(alloc, object, "res")?;
+    let name = name_in(alloc, object, "name")?;
+    Ok(Command::Lease { res, name })
+}
+
+#[tactic(auto, unfolding(crate::specs::Reading::return_of))]
+fn return_of(alloc: Global, object: &Value) -> Result<Command, ShapeError>
+    ensures { Gives command_meant result (return_of (view object.now)) }
+{
+    if !is_step_of(object, &["lease"]) {
+        return Err(ShapeError::Shape);
+    }
+    let lease = name_in(alloc, object, "lease")?;
+    Ok(Command::Return { lease })
 }
 
 #[tactic(auto, unfolding(crate::specs::Reading::next_of))]
@@ -203,6 +226,8 @@ fn command_by(alloc: Global, what: &str, object: &Value) -> Result<Command, Shap
         "hold" => hold_of(alloc, object),
         "apply" => apply_of(alloc, object),
         "remove" => remove_of(alloc, object),
+        "lease" => lease_of(alloc, object),
+        "return" => return_of(alloc, object),
         "next" => next_of(alloc, object),
         "end" => end_of(alloc, object),
         "abort" => abort_of(alloc, object),

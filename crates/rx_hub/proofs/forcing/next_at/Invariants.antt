@@ -1,6 +1,6 @@
 use Rattle.std.proofs.Common.{◌≡◌, length}
 use Rattle.rx_hub.specs.Chains.{IsCalm, IsChain}
-use Rattle.rx_hub.specs.Lists.{list_at}
+use Rattle.rx_lists.specs.Lists.{list_at}
 use Rattle.rx_hub.specs.Rules.{given_by}
 use Rattle.rx_hub.proofs.forcing.next_at.Given as goal
 

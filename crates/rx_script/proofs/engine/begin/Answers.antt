@@ -6,6 +6,7 @@ returns-clause-sound g c = record {
   kept = c.promise.ensures;
   nodes = search rules;
   resources = search rules;
+  leases = search rules;
   faults = omega arith;
   base = search rules;
 }

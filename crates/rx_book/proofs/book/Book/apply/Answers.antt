@@ -2,7 +2,7 @@ use Rattle.std.proofs.Common.{true, length, refl, subst, ◌∙◌, arith}
 use Rattle.std.specs.Prelude.{Ok}
 use Rattle.rx_event.specs.Calls.{Applying}
 use Rattle.rx_register.specs.Causes.{causes}
-use Rattle.rx_ground.proofs.Laws.KeysKept.{keeps_held}
+use Rattle.rx_ground.proofs.Laws.KeysKept.{leases_stay, keeps_held}
 use Rattle.rx_book.specs.State.{State}
 use Rattle.rx_book.specs.Requests.{apply_request, stands}
 use Rattle.rx_book.specs.Answers.{AnswersWord}
@@ -61,7 +61,7 @@ returns g c =
     let w = rw c.tree_res_key-key.ensures at u.written in
     let l = called g (goal.at.returns g c).After-promise in
     let kept = keeps_held b.tree mid.tree (length b.register.history) u.nodes u.kept in
-    let done = accepts R b _ l mid new w kept c.write_use-answer.ensures.tied.of_tree s.standing s.base s.forced s.nodes s.resources s.limit s.given in
+    let done = accepts R b _ l mid new w kept c.write_use-answer.ensures.tied.of_tree s.standing s.base s.forced s.nodes s.resources s.limit s.given s.leases (leases_stay _ _ _ c.write_use-answer.ensures.leases) in
     let same = state_roomier R c.self.inside.ground b c.admit.ensures.kept in
     subst (λ (x : State). AnswersWord x (apply_request x c.args.res) (state_of R new) (Ok c.write_use-answer.result)) (same ∙ c.self.view_is)
     (answers_ok tt done)

@@ -4,7 +4,7 @@ use Rattle.rx_event.specs.declared.event.Event.TheVariants.{Connect}
 use Rattle.rx_event.specs.Calls.{Connecting}
 use Rattle.rx_event.proofs.Laws.StaysOpen.{connected_stays}
 use Rattle.rx_register.specs.Causes.{causes}
-use Rattle.rx_ground.proofs.Laws.KeysKept.{keeps_opened}
+use Rattle.rx_ground.proofs.Laws.KeysKept.{leases_stay, keeps_opened}
 use Rattle.rx_book.specs.State.{State}
 use Rattle.rx_book.specs.Requests.{connect_request}
 use Rattle.rx_book.specs.Answers.{AnswersKey}
@@ -63,7 +63,7 @@ returns g c =
     let s = c.settle.ensures in
     let l = called g (goal.at.returns g c).After-promise in
     let kept = keeps_opened b.register.base R h b.tree mid.tree c.write_connect-key.result l.may.lawful l.standing.tied.of_tree u.new u.resources in
-    let done = accepts R b _ l mid new u.written kept u.tied.of_tree s.standing s.base s.forced s.nodes s.resources s.limit s.given in
+    let done = accepts R b _ l mid new u.written kept u.tied.of_tree s.standing s.base s.forced s.nodes s.resources s.limit s.given s.leases (leases_stay _ _ _ u.leases) in
     let alive = connected_stays b.register.base h new.register.history c.args.hub l.may.lawful l.may.settled (one_ready R b _ l (Connect c.args.hub) refl).next done.step.forced in
     let key = key_listed R mid new s.nodes (length h) c.write_connect-key.result c.shown_key.result c.shown_key.ensures u.new.numbered u.new.found alive in
     let same = state_roomier R c.self.inside.ground b c.admit.ensures.kept in

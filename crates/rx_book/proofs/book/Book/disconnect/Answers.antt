@@ -4,7 +4,7 @@ use Rattle.rx_event.specs.declared.event.Event.{Event}
 use Rattle.rx_event.specs.declared.event.Event.TheVariants.{Close}
 use Rattle.rx_event.specs.Calls.{Disconnecting, outside_of}
 use Rattle.rx_register.specs.State.{Writes}
-use Rattle.rx_ground.proofs.Laws.KeysKept.{keeps_closed}
+use Rattle.rx_ground.proofs.Laws.KeysKept.{leases_stay, keeps_closed}
 use Rattle.rx_book.specs.Requests.{disconnect_request}
 use Rattle.rx_book.proofs.Answered.{answers_ok, answers_err}
 use Rattle.rx_book.proofs.Called.{IsLetIn, let_in_free, one_ready, pays, connects_none, accepts, subscribes_none}
@@ -51,5 +51,5 @@ returns g c =
     let p = (goal.at.returns g c).In-Some-connection in
     let kept = keeps_closed mid.register.history b.tree mid.tree (length b.register.history) w.kept w.resources in
     let done = accepts g.R.Resource b _ (called g p) mid c.settle.new.self (writes g p _ w.written) kept w.tied.of_tree
-    s.standing s.base s.forced s.nodes s.resources s.limit s.given in
+    s.standing s.base s.forced s.nodes s.resources s.limit s.given s.leases (leases_stay _ _ _ w.leases) in
     rw (← c.self.view_is) (answers_ok c.len-place.ensures done)

@@ -1,7 +1,7 @@
 use Rattle.std.proofs.Common.{ap, ◌∙◌}
 use Rattle.rx_event.specs.Kept.{Kept}
 use Rattle.rx_event.specs.Totals.{accepted_count, taken_count}
-use Rattle.rx_book.proofs.Closings.{disconnected_taken, disconnected_accepted, roots_older, hub_found, hub_missing, disconnectable, closes_some, less_room}
+use Rattle.rx_book.proofs.Closings.{disconnected_out, disconnected_taken, disconnected_accepted, roots_older, hub_found, hub_missing, disconnectable, closes_some, less_room}
 use Rattle.rx_book.proofs.book.Book.disconnect_hubs.Goals as goal
 
 pub loop-hub-smaller : goal.loop-hub-smaller
@@ -16,6 +16,7 @@ loop-hub-preserved g c = record {
   limit = c.in-Ok.ensures.accepted.limit ∙ c.loop-hub.invariant.limit;
   given = c.in-Ok.ensures.accepted.given ∙ c.loop-hub.invariant.given;
   roots = λ n found. c.loop-hub.invariant.roots n (roots_older _ c.in-Some.hub c.in-Ok.ensures.accepted.step n found);
+  out = λ l found. c.loop-hub.invariant.out l (disconnected_out _ c.in-Some.hub c.in-Ok.ensures.accepted.step l found);
   accepted = ap (λ (b : Kept). accepted_count b c.disconnect.new.self.history) c.in-Ok.ensures.accepted.base ∙ disconnected_accepted _ _ _ _ c.in-Ok.ensures.accepted.step ∙ c.loop-hub.invariant.accepted;
   taken = ap (λ (b : Kept). taken_count b c.disconnect.new.self.history) c.in-Ok.ensures.accepted.base ∙ disconnected_taken _ _ _ _ c.in-Ok.ensures.accepted.step ∙ c.loop-hub.invariant.taken;
 }

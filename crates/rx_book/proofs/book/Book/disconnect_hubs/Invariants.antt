@@ -1,6 +1,7 @@
 -- So far only connections were closed that a caller had made.
 use Rattle.std.proofs.Common.{◌≡◌, ◌-◌, ℕ, true, length, ◌+◌}
 use Rattle.rx_event.specs.Claims.Closing.{is_open_root}
+use Rattle.rx_event.specs.Resources.{is_out}
 use Rattle.rx_event.specs.Totals.{accepted_count, taken_count}
 use Rattle.rx_book.specs.State.{IsPromised}
 use Rattle.rx_book.proofs.book.Book.disconnect_hubs.Given as goal
@@ -12,6 +13,7 @@ invariant-loop-hub g l = record {
   limit : l.self.limit ≡ l.initial.self.limit;
   given : l.self.given ≡ l.initial.self.given;
   roots : (n : ℕ) → is_open_root l.self.history n ≡ true → is_open_root l.initial.self.history n ≡ true;
+  out : (n : ℕ) → is_out l.self.history n ≡ true → is_out l.initial.self.history n ≡ true;
   accepted : accepted_count l.self.base l.self.history ≡ accepted_count l.initial.self.base l.initial.self.history;
   taken : taken_count l.self.base l.self.history ≡ taken_count l.initial.self.base l.initial.self.history;
 }

@@ -1,5 +1,6 @@
 -- So far only roots were disposed of.
-use Rattle.std.proofs.Common.{◌≡◌, ◌-◌, length, ◌+◌}
+use Rattle.std.proofs.Common.{◌≡◌, ◌-◌, ℕ, true, length, ◌+◌}
+use Rattle.rx_event.specs.Resources.{is_out}
 use Rattle.rx_event.specs.Totals.{accepted_count, taken_count}
 use Rattle.rx_book.specs.State.{IsPromised}
 use Rattle.rx_book.proofs.book.Book.dispose_roots.Given as goal
@@ -10,6 +11,7 @@ invariant-loop-root g l = record {
   base : l.self.base ≡ l.initial.self.base;
   limit : l.self.limit ≡ l.initial.self.limit;
   given : l.self.given ≡ l.initial.self.given;
+  out : (n : ℕ) → is_out l.self.history n ≡ true → is_out l.initial.self.history n ≡ true;
   accepted : accepted_count l.self.base l.self.history ≡ accepted_count l.initial.self.base l.initial.self.history;
   taken : taken_count l.self.base l.self.history ≡ taken_count l.initial.self.base l.initial.self.history;
 }

@@ -1,7 +1,7 @@
 use Rattle.std.proofs.Common.{Some, None, true, length, refl}
 use Rattle.rx_event.specs.Calls.{Failing}
 use Rattle.rx_register.specs.Causes.{causes}
-use Rattle.rx_ground.proofs.Laws.KeysKept.{keeps_closed}
+use Rattle.rx_ground.proofs.Laws.KeysKept.{leases_stay, keeps_closed}
 use Rattle.rx_book.specs.Requests.{fail_request}
 use Rattle.rx_book.specs.Shown.{state_of}
 use Rattle.rx_book.proofs.Answered.{answers_ok, answers_err}
@@ -49,5 +49,5 @@ returns g c =
     let l = called g (goal.at.returns g c).In_default in
     let kept = keeps_closed mid.register.history b.tree mid.tree (length b.register.history) w.kept w.resources in
     let done = accepts g.R.Resource b _ l mid c.settle.new.self (rw c.tree_key-key.ensures at w.written) kept w.tied.of_tree
-    s.standing s.base s.forced s.nodes s.resources s.limit s.given in
+    s.standing s.base s.forced s.nodes s.resources s.limit s.given s.leases (leases_stay _ _ _ w.leases) in
     rw (← c.self.view_is) (answers_ok c.len-place.ensures done)

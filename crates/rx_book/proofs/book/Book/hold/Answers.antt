@@ -8,7 +8,7 @@ use Rattle.rx_event.specs.Resources.{accepted_by}
 use Rattle.rx_event.proofs.Laws.Resources.{accepted_by_new}
 use Rattle.rx_event.proofs.Laws.StaysOpen.{accepted_stays}
 use Rattle.rx_register.specs.Causes.{causes}
-use Rattle.rx_ground.proofs.Laws.KeysKept.{keeps_held}
+use Rattle.rx_ground.proofs.Laws.KeysKept.{leases_stay, keeps_held}
 use Rattle.rx_book.specs.State.{State}
 use Rattle.rx_book.specs.Requests.{hold_request, stands}
 use Rattle.rx_book.specs.Answers.{AnswersResKey}
@@ -72,7 +72,7 @@ returns g c =
     let n = length h in
     let node = c.args.node.number in
     let tag = R.tag_of c.args.resource in
-    let done = accepts R b _ l mid new w (keeps_held b.tree mid.tree n a.nodes a.kept) a.tied.of_tree s.standing s.base s.forced s.nodes s.resources s.limit s.given in
+    let done = accepts R b _ l mid new w (keeps_held b.tree mid.tree n a.nodes a.kept) a.tied.of_tree s.standing s.base s.forced s.nodes s.resources s.limit s.given s.leases (leases_stay _ _ _ a.leases) in
     let alive = accepted_stays b.register.base h new.register.history node tag l.may.lawful (one_ready R b _ l (Accept node tag) refl).next done.step.forced in
     let accepted = ap (λ (k : Kept). accepted_by k mid.register.history n) w.base ∙ ap (λ (k : List Event). accepted_by b.register.base k n) w.history ∙
     accepted_by_new b.register.base h (Accept node tag) l.may.lawful in

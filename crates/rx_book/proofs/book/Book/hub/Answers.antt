@@ -2,7 +2,7 @@ use Rattle.std.proofs.Common.{true, length, refl, sym, subst, ◌∙◌, arith}
 use Rattle.std.specs.Prelude.{Ok}
 use Rattle.rx_event.specs.Calls.{Publishing}
 use Rattle.rx_register.specs.Causes.{causes}
-use Rattle.rx_ground.proofs.Laws.KeysKept.{keeps_same}
+use Rattle.rx_ground.proofs.Laws.KeysKept.{leases_stay, keeps_same}
 use Rattle.rx_book.specs.State.{State}
 use Rattle.rx_book.specs.Requests.{hub_request}
 use Rattle.rx_book.specs.Answers.{AnswersPlaceOrWant}
@@ -59,7 +59,7 @@ returns g c =
     let s = c.settle.ensures in
     let l = called g (goal.at.returns g c).After-promise in
     let kept = keeps_same b.tree mid.tree (length b.register.history) u.tree in
-    let done = accepts R b _ l mid new u.written kept u.tied.of_tree s.standing s.base s.forced s.nodes s.resources s.limit s.given in
+    let done = accepts R b _ l mid new u.written kept u.tied.of_tree s.standing s.base s.forced s.nodes s.resources s.limit s.given s.leases (leases_stay _ _ _ u.leases) in
     let same = state_roomier R c.self.inside.ground b c.admit.ensures.kept in
     subst (λ (x : State). AnswersPlaceOrWant x (hub_request c.args.mode) (state_of R new) (Ok c.write_hub-number.result)) (same ∙ c.self.view_is)
     (answers_ok u.number done)

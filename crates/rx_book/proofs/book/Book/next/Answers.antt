@@ -4,7 +4,7 @@ use Rattle.std.proofs.lemmas.Int.{to_z-of_z}
 use Rattle.rx_event.specs.Calls.{Emitting}
 use Rattle.rx_event.specs.Totals.{debt}
 use Rattle.rx_register.specs.Causes.{causes}
-use Rattle.rx_ground.proofs.Laws.KeysKept.{keeps_closed}
+use Rattle.rx_ground.proofs.Laws.KeysKept.{leases_stay, keeps_closed}
 use Rattle.rx_ground.specs.Shown.{Ground}
 use Rattle.rx_ground.specs.Reached.{IsReach}
 use Rattle.rx_ground.specs.Ties.{IsRoomier, IsStanding}
@@ -103,7 +103,7 @@ returns g c =
     let w = rw (c.tree_key-key.ensures, to_z-of_z w64 c.args.value c.ranges.value) at c.write_item.ensures.written in
     let l = called g (goal.at.returns g c).After-promise in
     let kept = keeps_closed mid.register.history b.tree mid.tree _ c.write_item.ensures.kept c.write_item.ensures.resources in
-    let done = accepts R b _ l mid new w kept c.write_item.ensures.tied.of_tree s.standing s.base s.forced s.nodes s.resources s.limit s.given in
+    let done = accepts R b _ l mid new w kept c.write_item.ensures.tied.of_tree s.standing s.base s.forced s.nodes s.resources s.limit s.given s.leases (leases_stay _ _ _ c.write_item.ensures.leases) in
     let same = state_roomier R c.self.inside.ground b (roomier g (goal.at.returns g c).After-promise) in
     subst (λ (x : State). AnswersPlaceOrWant x (next_request x c.args.leaf c.args.value) (state_of R new) (Ok c.len-place.result)) (same ∙ c.self.view_is)
     (answers_ok c.len-place.ensures done)

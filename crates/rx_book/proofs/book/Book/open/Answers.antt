@@ -6,7 +6,7 @@ use Rattle.rx_event.proofs.Laws.StaysOpen.{opened_stays}
 use Rattle.rx_register.specs.Causes.{causes, added_by, nodes_opened, forces_connect}
 use Rattle.rx_register.specs.State.{State as Register}
 use Rattle.rx_ground.specs.Ties.{IsReady}
-use Rattle.rx_ground.proofs.Laws.KeysKept.{keeps_opened}
+use Rattle.rx_ground.proofs.Laws.KeysKept.{leases_stay, keeps_opened}
 use Rattle.rx_book.specs.declared.key.Key.{Key}
 use Rattle.rx_book.specs.State.{State}
 use Rattle.rx_book.specs.Requests.{open_request, stands, place_of}
@@ -110,7 +110,7 @@ returns g c =
     let p = (goal.at.returns g c).After-promise in
     let l = called g p in
     let kept = keeps_opened b.register.base R h b.tree mid.tree c.write_open-key.result l.may.lawful l.standing.tied.of_tree o.new o.resources in
-    let done = accepts R b _ l mid new w kept o.tied.of_tree s.standing s.base s.forced s.nodes s.resources s.limit s.given in
+    let done = accepts R b _ l mid new w kept o.tied.of_tree s.standing s.base s.forced s.nodes s.resources s.limit s.given s.leases (leases_stay _ _ _ o.leases) in
     let alive = opened_stays b.register.base h new.register.history (place_of c.args.at) c.args.kind l.may.lawful (ready g p).next done.step.forced in
     let key = key_listed R mid new s.nodes (length h) c.write_open-key.result c.shown_key.result c.shown_key.ensures o.new.numbered o.new.found alive in
     let forces = c.forces_connect-connects.ensures ∙ sym (ap (λ (r : Register). forces_connect r.history c.args.kind) c.in_ok-admit.ensures.kept.register) in

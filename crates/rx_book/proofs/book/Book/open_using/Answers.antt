@@ -18,7 +18,7 @@ use Rattle.rx_register.specs.State.{State as Register, Writes}
 use Rattle.rx_register.proofs.Laws.Paid.{Writes-append}
 use Rattle.rx_register.proofs.Laws.NoCause.{no_cause}
 use Rattle.rx_ground.specs.Ties.{IsReady}
-use Rattle.rx_ground.proofs.Laws.KeysKept.{keeps_on, keeps_held, keeps_opened}
+use Rattle.rx_ground.proofs.Laws.KeysKept.{leases_stay, keeps_on, keeps_held, keeps_opened}
 use Rattle.rx_book.specs.State.{State}
 use Rattle.rx_book.specs.Requests.{using_request, stands, place_of, is_fresh_in, is_live}
 use Rattle.rx_book.specs.Answers.{AnswersOpenedUsing}
@@ -160,7 +160,7 @@ returns g c =
     let kept = keeps_on b.tree mid.tree last.tree (length h) (length mid.register.history) (omega arith) opened
     (keeps_held mid.tree last.tree (length mid.register.history) a.nodes a.kept) in
     let both = Writes-append b.register mid.register last.register (e ∷ []) (f ∷ []) w v in
-    let done = accepts R b _ l last new both kept a.tied.of_tree s.standing s.base s.forced s.nodes s.resources s.limit s.given in
+    let done = accepts R b _ l last new both kept a.tied.of_tree s.standing s.base s.forced s.nodes s.resources s.limit s.given s.leases (leases_stay _ _ _ (a.leases ∙ o.leases)) in
     let alive = opened_using_stays b.register.base h new.register.history (place_of c.args.at) (R.tag_of c.args.resource) l.may.lawful (opens g p).next done.step.forced in
     let found = ap (λ (nodes : Slots Node). is_some (find nodes c.write_open-node.result)) a.nodes ∙ o.new.found in
     let key = key_listed R last new s.nodes (length h) c.write_open-node.result c.shown_key.result c.shown_key.ensures o.new.numbered found alive in

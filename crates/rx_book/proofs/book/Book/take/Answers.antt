@@ -3,7 +3,7 @@ use Rattle.rx_event.specs.declared.event.Event.TheVariants.{Take}
 use Rattle.rx_event.specs.Forced.{IsSettled}
 use Rattle.rx_event.specs.Kept.{Kept}
 use Rattle.rx_event.proofs.Laws.Calm.{closes_none_kept, settled_on, unforced}
-use Rattle.rx_ground.proofs.Laws.KeysKept.{keeps_held}
+use Rattle.rx_ground.proofs.Laws.KeysKept.{leases_stay, keeps_held}
 use Rattle.rx_book.specs.Requests.{take_request}
 use Rattle.rx_book.proofs.Called.{IsLetIn, let_in_free, one_ready, pays, connects_none, accepts}
 use Rattle.rx_book.proofs.Taken.{listed_waits, fewer_wait}
@@ -52,7 +52,7 @@ returns g c =
     rw (← c.self.view_is) (record {
       cases = t.waited.listed;
       accepted = accepts R b _ l mid new t.written (keeps_held b.tree mid.tree (length b.register.history) t.nodes t.kept) t.tied.of_tree s.standing s.base s.forced s.nodes
-          s.resources s.limit s.given;
+          s.resources s.limit s.given s.leases (leases_stay _ _ _ t.leases);
       kept = tt;
       fewer = fewer_wait R b new r l.standing.tied.of_tree s.standing.tied.of_tree c.promise.ensures.tree.resources_apart c.promise-2.ensures.tree.resources_apart
           l.may.lawful ready.next grown;

@@ -1,5 +1,5 @@
-use Rattle.rx_event.proofs.Laws.Released.{held_count_closed, taken_count_closed}
+use Rattle.rx_event.proofs.Laws.Released.{owned_count_closed, held_count_closed, taken_count_closed}
 use Rattle.rx_event.proofs.theorems.resources.a_closed_history_holds_nothing.Goals as goal
 
 pub returns : goal.returns
-returns c = λ base. record { held = held_count_closed; taken = taken_count_closed base }
+returns c = λ base. record { owned = owned_count_closed; held = held_count_closed; taken = taken_count_closed base }

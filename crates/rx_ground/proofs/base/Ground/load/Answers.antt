@@ -1,11 +1,16 @@
 use Rattle.std.proofs.Common.{◌≡◌, ◌+◌, ◌-◌, ◌*◌, ap, ◌∙◌, arith}
+use Rattle.std.specs.List.{count_by}
+use Rattle.rx_event.specs.Tree.{places}
 use Rattle.rx_event.specs.Totals.{debt}
 use Rattle.rx_event.proofs.Laws.Debt.{debt-counts}
 use Rattle.rx_event.proofs.Laws.Totals.{accepted_count-parts}
 use Rattle.rx_tree.specs.Owed.{owed_in}
 use Rattle.rx_ground.specs.Shown.{Ground}
 use Rattle.rx_ground.proofs.Owing.{owed_in-count}
-use Rattle.rx_ground.proofs.Loads.{debt_counted, debt_bounded}
+use Rattle.rx_tree.specs.Resources.{lent_alone_count}
+use Rattle.rx_ground.proofs.Lent.{is_alone}
+use Rattle.rx_ground.proofs.Laws.Kept.{length-alone}
+use Rattle.rx_ground.proofs.Loads.{held_counted, debt_counted, debt_bounded}
 use Rattle.rx_ground.proofs.base.Ground.load.Given.{Over}
 use Rattle.rx_ground.proofs.base.Ground.load.Goals as goal
 
@@ -19,23 +24,37 @@ overflow_sub-held-2 g c =
     let parts = accepted_count-parts c.args.self.now.register.base c.args.self.now.register.history c.promise.ensures.register.lawful in
     omega (arith, c.accepted.ensures, c.taken.ensures, c.waiting_count-waiting.ensures)
 
-pub overflow_mul-result : goal.overflow_mul-result
-overflow_mul-result g c =
-    let parts = accepted_count-parts c.args.self.now.register.base c.args.self.now.register.history c.promise.ensures.register.lawful in
-    let counts = debt-counts c.args.self.now.register.base c.args.self.now.register.history in
-    let bounded = debt_bounded c.args.self.now.register c.promise.ensures.register c.requires.standing.paid in
-    omega (arith, c.accepted.ensures, c.taken.ensures, c.waiting_count-waiting.ensures)
+alone_of : (g : Over) (c : goal.After-owed-owed g) → c.lent_alone-alone.result ≡ count_by (is_alone c.args.self.now.register.history) (places c.args.self.now.register.history)
+alone_of g c =
+    let b = c.args.self.now in
+    c.lent_alone-alone.ensures ∙ ap (λ (s : Ground _). lent_alone_count s.tree) c.self.view_is ∙
+    length-alone b.register.base g.R.Resource b.register.history b.tree c.requires.standing.tied.of_tree c.promise.ensures.register.lawful c.promise.ensures.tree.resources_apart
 
 counted : (g : Over) (c : goal.After-owed-owed g) →
     (let waiting = c.waiting_count-waiting.result in
-    c.open_count-open.result + 2 * (c.accepted.result - c.taken.result - waiting) + waiting + c.owed-owed.result) ≡ debt c.args.self.now.register.base c.args.self.now.register.history
+    let alone = c.lent_alone-alone.result in
+    c.open_count-open.result + 2 * ((c.accepted.result - c.taken.result - waiting) - alone) + alone + waiting + c.lease_count-leases.result + c.owed-owed.result) ≡ debt c.args.self.now.register.base c.args.self.now.register.history
 counted g c =
     let b = c.args.self.now in
     let records = c.requires.standing.tied.of_tree.records in
     let same = ap (λ (s : Ground _). owed_in s.tree.nodes) c.self.view_is in
     let owing = c.owed-owed.ensures ∙ same ∙ owed_in-count b.register.base b.register.history c.promise.ensures.register.lawful b.tree.nodes b.tree.chain records c.promise.ensures.tree.sound.apart in
     let of = debt_counted b.register.base b.register.history c.promise.ensures.register.lawful in
-    of _ _ _ _ _ c.open_count-open.ensures c.waiting_count-waiting.ensures c.accepted.ensures c.taken.ensures owing
+    of _ _ _ _ _ _ _ c.open_count-open.ensures c.waiting_count-waiting.ensures c.accepted.ensures c.taken.ensures (alone_of g c) c.lease_count-leases.ensures owing
+
+pub overflow_mul-result : goal.overflow_mul-result
+overflow_mul-result g c =
+    let is = counted g c in
+    let bounded = debt_bounded c.args.self.now.register c.promise.ensures.register c.requires.standing.paid in
+    omega arith
+
+pub overflow_sub-result : goal.overflow_sub-result
+overflow_sub-result g c =
+    let b = c.args.self.now in
+    let parts = accepted_count-parts b.register.base b.register.history c.promise.ensures.register.lawful in
+    let apart = held_counted b.register.history in
+    let alone = alone_of g c in
+    omega (arith, c.accepted.ensures, c.taken.ensures, c.waiting_count-waiting.ensures)
 
 pub overflow_add-result : goal.overflow_add-result
 overflow_add-result g c =
@@ -51,6 +70,18 @@ overflow_add-result-2 g c =
 
 pub overflow_add-result-3 : goal.overflow_add-result-3
 overflow_add-result-3 g c =
+    let is = counted g c in
+    let bounded = debt_bounded c.args.self.now.register c.promise.ensures.register c.requires.standing.paid in
+    omega arith
+
+pub overflow_add-result-4 : goal.overflow_add-result-4
+overflow_add-result-4 g c =
+    let is = counted g c in
+    let bounded = debt_bounded c.args.self.now.register c.promise.ensures.register c.requires.standing.paid in
+    omega arith
+
+pub overflow_add-result-5 : goal.overflow_add-result-5
+overflow_add-result-5 g c =
     let is = counted g c in
     let bounded = debt_bounded c.args.self.now.register c.promise.ensures.register c.requires.standing.paid in
     omega arith

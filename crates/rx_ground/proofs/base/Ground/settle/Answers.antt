@@ -4,7 +4,7 @@ use Rattle.rx_ground.proofs.Settling.{way_starts, way_rechained, way_on, next_re
 use Rattle.rx_ground.proofs.base.Ground.settle.Goals as goal
 
 pub loop-due-init : goal.loop-due-init
-loop-due-init g c = record { way = way_starts g.R.Resource c.args.self.now c.requires.tied c.requires.paid c.requires.room }
+loop-due-init g c = record { way = way_starts g.R.Resource c.args.self.now c.requires.tied c.requires.leased c.requires.paid c.requires.room }
 
 pub write_due-requires-clause-ready : goal.write_due-requires-clause-ready
 write_due-requires-clause-ready g c κs within =
@@ -21,7 +21,7 @@ loop-due-preserved g c =
     let w = way_rechained g.R.Resource c.args.self.now c.loop-due.self c.next_forced.new.self c.loop-due.invariant.way c.in-Some.ensures.kept c.in-Some.ensures.tied in
     record {
       way = way_on g.R.Resource c.args.self.now c.next_forced.new.self c.write_due.new.self c.in-Some.due w c.promise.ensures.register.lawful c.in-Some.ensures.next
-          c.write_due.ensures.written c.write_due.ensures.tied c.write_due.ensures.nodes c.write_due.ensures.resources c.write_due.ensures.hubs c.write_due.ensures.memory;
+          c.write_due.ensures.written c.write_due.ensures.tied c.write_due.ensures.leased c.write_due.ensures.nodes c.write_due.ensures.resources c.write_due.ensures.hubs c.write_due.ensures.leases c.write_due.ensures.memory;
     }
 
 pub loop-due-smaller : goal.loop-due-smaller
@@ -33,7 +33,7 @@ loop-due-smaller g c =
 pub returns-clause-standing : goal.returns-clause-standing
 returns-clause-standing g c =
     let w = way_rechained g.R.Resource c.args.self.now c.loop-due.self c.next_forced.new.self c.loop-due.invariant.way c.in_default.ensures.kept c.in_default.ensures.tied in
-    record { tied = w.tied; settled = c.in_default.ensures.next; paid = w.paid }
+    record { tied = w.tied; leased = w.leased; settled = c.in_default.ensures.next; paid = w.paid }
 
 pub returns-clause-base : goal.returns-clause-base
 returns-clause-base g c = (way_rechained g.R.Resource c.args.self.now c.loop-due.self c.next_forced.new.self c.loop-due.invariant.way c.in_default.ensures.kept c.in_default.ensures.tied).base
@@ -58,3 +58,6 @@ returns-clause-given g c = (way_rechained g.R.Resource c.args.self.now c.loop-du
 
 pub returns-clause-memory : goal.returns-clause-memory
 returns-clause-memory g c = (way_rechained g.R.Resource c.args.self.now c.loop-due.self c.next_forced.new.self c.loop-due.invariant.way c.in_default.ensures.kept c.in_default.ensures.tied).memory
+
+pub returns-clause-leases : goal.returns-clause-leases
+returns-clause-leases g c = (way_rechained g.R.Resource c.args.self.now c.loop-due.self c.next_forced.new.self c.loop-due.invariant.way c.in_default.ensures.kept c.in_default.ensures.tied).same_leases

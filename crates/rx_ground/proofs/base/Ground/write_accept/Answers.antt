@@ -1,11 +1,11 @@
-use Rattle.std.proofs.Common.{◌≡◌, ◌∷◌, ◌++◌, [], List, length, refl, sym, subst, ◌∙◌, IsSome, ◌+◌, ◌-◌, ◌<◌, ap, arith, vec_capacity}
+use Rattle.std.proofs.Common.{◌≡◌, ◌∷◌, ◌++◌, [], List, length, is_some, refl, sym, subst, ◌∙◌, IsSome, ◌+◌, ◌-◌, ◌<◌, ap, arith, vec_capacity}
 use Rattle.rx_event.specs.declared.event.Event.{Event}
 use Rattle.rx_event.specs.declared.event.Event.TheVariants.{Accept}
 use Rattle.rx_event.specs.Lawful.{MayFollow}
-use Rattle.rx_slots.specs.Slots.{find, Slots}
+use Rattle.rx_slots.specs.Slots.{find, Slots, with_number}
 use Rattle.rx_tree.specs.Resources.{store_key}
 use Rattle.rx_event.proofs.Laws.Steps.{may_accept}
-use Rattle.rx_ground.specs.Ties.{IsTied, AreTied}
+use Rattle.rx_ground.specs.Ties.{AreLeased, IsTied, AreTied}
 use Rattle.rx_tree.specs.declared.node.Node.{Node}
 use Rattle.rx_ground.proofs.Memory.{written_memory}
 use Rattle.rx_ground.proofs.Written.{writes_silent}
@@ -14,6 +14,8 @@ use Rattle.rx_ground.proofs.Tied.{tied_still}
 use Rattle.rx_ground.proofs.HeldKept.{held_new}
 use Rattle.rx_ground.proofs.Newest.{past_resources}
 use Rattle.rx_ground.proofs.Published.{rebased, tied_on_same}
+use Rattle.rx_ground.proofs.Leases.{leased_kept}
+use Rattle.rx_tree.proofs.Laws.Keys.{none_not_some}
 use Rattle.rx_ground.proofs.base.Ground.write_accept.Goals as goal
 
 pub hold-requires-clause-newest : goal.hold-requires-clause-newest
@@ -46,3 +48,10 @@ returns-clause-memory g c =
     let nodes = c.in-Ok.ensures.nodes in
     written_memory (Accept c.args.node.number (g.R.Resource.tag_of c.args.resource) ∷ []) (returns-clause-written g c) (rw (← c.self.view_is) (ap (λ (s : Slots Node). s.count + s.room) nodes)) (rw (← c.self.view_is) (omega arith)) (rw (← c.self.view_is) (ap (λ (s : Slots Node). s.count + (vec_capacity c.self.inside.closed - s.count)) nodes)) (rw (← c.self.view_is) refl)
     (rw (← c.self.view_is) refl)
+
+pub returns-clause-leased : goal.returns-clause-leased
+returns-clause-leased g c =
+    let h = c.self.inside.register.history in
+    let was : AreLeased h c.self.inside.tree.resources c.self.inside.leases = rw (← c.self.view_is) at c.requires.leased in
+    let held = c.in-Ok.ensures in
+    leased_kept c.self.inside.register.base h _ (Accept c.args.node.number (g.R.Resource.tag_of c.args.resource)) c.self.inside.tree.resources _ c.self.inside.leases _ c.promise.ensures.lawful was refl refl (rw c.tag-tag.ensures at c.write.ensures.events) (refl) (λ l res is. ap is_some (held.kept (store_key res) (λ same. none_not_some _ (ap (find c.self.inside.tree.resources) same ∙ ap (with_number c.in-Ok.res.number) held.was_free) is.stored)) ∙ is.stored)

@@ -8,11 +8,12 @@ use Rattle.rx_hub.specs.After.{is_inside}
 use Rattle.rx_hub.specs.Hubs.{Hubs}
 use Rattle.rx_hub.proofs.Laws.AfterCases.{hubs_closed}
 use Rattle.rx_ground.specs.Shown.{Ground}
-use Rattle.rx_ground.specs.Ties.{IsTied, AreTied, KeepsNodes, Cuts, left_inside}
+use Rattle.rx_ground.specs.Ties.{AreLeased, IsTied, AreTied, KeepsNodes, Cuts, left_inside}
 use Rattle.rx_ground.proofs.Memory.{written_memory}
 use Rattle.rx_ground.proofs.Written.{writes_silent}
 use Rattle.rx_ground.proofs.Tied.{tied_close, cut_keeps}
 use Rattle.rx_ground.proofs.Published.{rebased, tied_closed}
+use Rattle.rx_ground.proofs.Leases.{leased_quiet}
 use Rattle.rx_ground.proofs.base.Ground.write_close.Given.{Over}
 use Rattle.rx_ground.proofs.base.Ground.write_close.Goals as goal
 
@@ -95,3 +96,12 @@ returns-clause-memory g c =
     written_memory (Close c.args.node.number ∷ []) (returns-clause-written g c) (rw (← c.self.view_is) nodes) (rw (← c.self.view_is) resources)
     (rw (← c.self.view_is) closing) (rw (← c.self.view_is) hubs)
     (rw (← c.self.view_is) (ap (λ (s : Hubs). s.slots) (left_hubs g c)))
+
+pub returns-clause-leased : goal.returns-clause-leased
+returns-clause-leased g c =
+    let h = c.self.inside.register.history in
+    let was : AreLeased h c.self.inside.tree.resources c.self.inside.leases = rw (← c.self.view_is) at c.requires.leased in
+    leased_quiet c.self.inside.register.base h _ (Close c.args.node.number) c.self.inside.tree.resources _ c.self.inside.leases _ c.promise.ensures.lawful was refl refl (grown g c) (ap (λ (b : Ground g.row.R.Denot). b.leases) c.self-2.view_is ∙ (rw (← c.self.view_is) at c.cut.ensures.leases)) (cut_tree g c).resources
+
+pub returns-clause-leases : goal.returns-clause-leases
+returns-clause-leases g c = rw (← c.self.view_is) (ap (λ (b : Ground g.row.R.Denot). b.leases) c.self-2.view_is ∙ (rw (← c.self.view_is) at c.cut.ensures.leases))

@@ -10,7 +10,7 @@ use Rattle.rx_hub.specs.After.{hubs_after}
 use Rattle.rx_hub.specs.Hubs.{Hub, Hubs, connected}
 use Rattle.rx_hub.proofs.Laws.AfterReady.{ready_to_connect}
 use Rattle.rx_ground.specs.Shown.{Ground}
-use Rattle.rx_ground.specs.Ties.{AreTied, IsNewNode, KeepsOlder}
+use Rattle.rx_ground.specs.Ties.{AreLeased, AreTied, IsNewNode, KeepsOlder}
 use Rattle.rx_ground.proofs.Tied.{IsOpenedIn, found_still, tied_top}
 use Rattle.rx_ground.proofs.Records.{all_left}
 use Rattle.rx_ground.proofs.Joined.{as_many_at}
@@ -18,6 +18,7 @@ use Rattle.rx_ground.proofs.Memory.{written_memory}
 use Rattle.rx_ground.proofs.Written.{writes_silent}
 use Rattle.rx_ground.proofs.Newest.{newest}
 use Rattle.rx_ground.proofs.Published.{rebased, connected_after, tied_connected}
+use Rattle.rx_ground.proofs.Leases.{leased_quiet}
 use Rattle.rx_ground.proofs.base.Ground.write_connect.Given.{Over}
 use Rattle.rx_ground.proofs.base.Ground.write_connect.Goals as goal
 
@@ -67,7 +68,7 @@ returns-clause-tied g c =
     let opened = opened_in g c in
     let stays = all_left c.self.inside.register.base h e law next old.nodes old.chain was.of_tree.records (λ n less. is_open_kept h e n less refl) in
     let tied = tied_top c.self.inside.register.base g.R.Resource h law old old c.open.new.self was.of_tree c.in-Ok.key e next refl refl refl (λ n. refl)
-    (λ r. record { removes = refl; takes = refl; uses = refl }) stays refl opened in
+    (λ r. record { removes = refl; takes = refl; uses = refl; leases = refl; returns = refl }) stays refl opened in
     let still : (k : Key) → IsSome (find old.nodes k) → IsSome (find c.open.new.self.nodes k) =
     λ k some. ap is_some (found_still c.self.inside.register.base g.R.Resource h law old old c.open.new.self was.of_tree c.in-Ok.key e None opened k some) ∙
     some in
@@ -131,3 +132,9 @@ returns-clause-memory g c =
     written_memory (Connect c.args.hub ∷ []) (returns-clause-written g c) (rw (← c.self.view_is) (omega arith))
     (rw (← c.self.view_is) (ap (λ (s : Slots (Stowed g.row.R.Denot)). s.count + s.room) c.in-Ok.ensures.resources)) (rw (← c.self.view_is) (omega arith))
     (rw (← c.self.view_is) hubs) (rw (← c.self.view_is) (ap (λ (s : Hubs). s.slots) c.connect.ensures))
+
+pub returns-clause-leased : goal.returns-clause-leased
+returns-clause-leased g c =
+    let h = c.self.inside.register.history in
+    let was : AreLeased h c.self.inside.tree.resources c.self.inside.leases = rw (← c.self.view_is) at c.requires.leased in
+    leased_quiet c.self.inside.register.base h _ (Connect c.args.hub) c.self.inside.tree.resources _ c.self.inside.leases _ c.promise.ensures.lawful was refl refl (c.write.ensures.events) (refl) c.in-Ok.ensures.resources

@@ -8,13 +8,14 @@ use Rattle.rx_event.proofs.Laws.Steps.{may_decline}
 use Rattle.rx_slots.specs.Slots.{find, Slots}
 use Rattle.rx_tree.specs.declared.node.Node.{Node}
 use Rattle.rx_tree.specs.declared.node.Stowed.{Stowed}
-use Rattle.rx_ground.specs.Ties.{IsTied, AreTied, Remarks}
+use Rattle.rx_ground.specs.Ties.{AreLeased, IsTied, AreTied, Remarks}
 use Rattle.rx_ground.proofs.Memory.{written_memory, same_places}
 use Rattle.rx_ground.proofs.Written.{writes_silent}
 use Rattle.rx_ground.proofs.Owing.{owed_told, owed_in-bounded, owed_marks-le}
 use Rattle.rx_ground.proofs.Tied.{tied_decline, remarked_keeps}
 use Rattle.rx_ground.proofs.Settling.{set_remarks}
 use Rattle.rx_ground.proofs.Published.{rebased, tied_on_marked}
+use Rattle.rx_ground.proofs.Leases.{leased_quiet}
 use Rattle.rx_ground.proofs.base.Ground.write_decline.Given.{Over}
 use Rattle.rx_ground.proofs.base.Ground.write_decline.Goals as goal
 
@@ -62,3 +63,9 @@ returns-clause-memory g c =
     let rest = (marked g c).nodes.rest in
     written_memory (Decline c.args.merging.number ∷ []) (returns-clause-written g c) (rw (← c.self.view_is) (same_places c.self.inside.tree.nodes c.set_marks.new.self.nodes rest)) (rw (← c.self.view_is) (ap (λ (s : Slots (Stowed g.row.R.Denot)). s.count + s.room) (marked g c).resources)) (rw (← c.self.view_is) (ap (λ (s : Slots Node). s.count + (vec_capacity c.self.inside.closed - s.count)) rest)) (rw (← c.self.view_is) refl)
     (rw (← c.self.view_is) refl)
+
+pub returns-clause-leased : goal.returns-clause-leased
+returns-clause-leased g c =
+    let h = c.self.inside.register.history in
+    let was : AreLeased h c.self.inside.tree.resources c.self.inside.leases = rw (← c.self.view_is) at c.requires.leased in
+    leased_quiet c.self.inside.register.base h _ (Decline c.args.merging.number) c.self.inside.tree.resources _ c.self.inside.leases _ c.promise.ensures.lawful was refl refl (c.write.ensures.events) (refl) (marked g c).resources

@@ -1,10 +1,10 @@
-use Rattle.std.proofs.Common.{◌≡◌, ◌∷◌, ◌++◌, [], sym, ap, subst, ◌∙◌, arith, IsSome, Option, Some, option_map, slice_get, false, ◌≤◌, ◌+◌, ◌-◌, vec_capacity, length}
+use Rattle.std.proofs.Common.{◌≡◌, ◌∷◌, ◌++◌, [], refl, sym, ap, subst, ◌∙◌, arith, IsSome, Option, Some, option_map, slice_get, false, ◌≤◌, ◌+◌, ◌-◌, vec_capacity, length}
 use Rattle.std.specs.Option.{option_map_or}
 use Rattle.rx_event.specs.declared.event.Event.{Event}
 use Rattle.rx_event.specs.declared.event.Event.TheVariants.{End}
 use Rattle.rx_event.specs.Lawful.{MayFollow}
 use Rattle.rx_slots.specs.Slots.{find, Slots}
-use Rattle.rx_ground.specs.Ties.{IsTied, AreTied}
+use Rattle.rx_ground.specs.Ties.{AreLeased, IsTied, AreTied}
 use Rattle.rx_event.specs.Events.{is_root}
 use Rattle.rx_event.specs.Tree.{at}
 use Rattle.rx_register.specs.State.{State}
@@ -25,6 +25,7 @@ use Rattle.rx_hub.proofs.Laws.AfterCases.{hubs_ended}
 use Rattle.rx_ground.proofs.Published.{rebased, tied_closed}
 use Rattle.std.proofs.lemmas.Option.{same_Some}
 use Rattle.rx_tree.specs.declared.node.Node.{Node}
+use Rattle.rx_ground.proofs.Leases.{leased_quiet}
 use Rattle.rx_ground.proofs.base.Ground.write_end.Given.{Over}
 use Rattle.rx_ground.proofs.base.Ground.write_end.Goals as goal
 
@@ -155,3 +156,12 @@ pub cut-requires-clause-tied : goal.cut-requires-clause-tied
 cut-requires-clause-tied g c κs within =
     let was : AreTied c.self.inside.register.base g.R.Resource c.self.inside.register.history c.self.inside.tree c.self.inside.hubs = rw (← c.self.view_is) at c.requires.tied in
     subst (λ (s : State). AreTied s.base g.R.Resource s.history c.self.inside.tree c.self.inside.hubs) (sym c.tell_end.ensures.kept) was
+
+pub returns-clause-leased : goal.returns-clause-leased
+returns-clause-leased g c =
+    let h = c.self.inside.register.history in
+    let was : AreLeased h c.self.inside.tree.resources c.self.inside.leases = rw (← c.self.view_is) at c.requires.leased in
+    leased_quiet c.self.inside.register.base h _ (End c.args.node.number c.args.terminal) c.self.inside.tree.resources _ c.self.inside.leases _ c.promise.ensures.lawful was refl refl (grown g c) (ap (λ (b : Ground g.row.R.Denot). b.leases) c.self-2.view_is ∙ c.cut.ensures.leases) (ended g c).2
+
+pub returns-clause-leases : goal.returns-clause-leases
+returns-clause-leases g c = rw (← c.self.view_is) (ap (λ (b : Ground g.row.R.Denot). b.leases) c.self-2.view_is ∙ c.cut.ensures.leases)

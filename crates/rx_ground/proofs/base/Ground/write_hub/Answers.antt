@@ -3,11 +3,12 @@ use Rattle.rx_event.specs.declared.event.Event.{Event}
 use Rattle.rx_event.specs.declared.event.Event.TheVariants.{Hub as Publish}
 use Rattle.rx_event.specs.Lawful.{MayFollow}
 use Rattle.rx_hub.specs.Hubs.{Hub, new_hub}
-use Rattle.rx_ground.specs.Ties.{AreTied}
+use Rattle.rx_ground.specs.Ties.{AreLeased, AreTied}
 use Rattle.rx_ground.proofs.Memory.{written_memory}
 use Rattle.rx_ground.proofs.Written.{writes_silent}
 use Rattle.rx_ground.proofs.Tied.{tied_same}
 use Rattle.rx_ground.proofs.Published.{rebased, hub_is_older, tied_published}
+use Rattle.rx_ground.proofs.Leases.{leased_quiet}
 use Rattle.rx_ground.proofs.base.Ground.write_hub.Goals as goal
 
 pub add-requires-clause-newest : goal.add-requires-clause-newest
@@ -26,7 +27,7 @@ returns-clause-tied g c =
     let was : AreTied c.self.inside.register.base g.R.Resource h c.self.inside.tree c.self.inside.hubs = rw (← c.self.view_is) at c.requires.tied in
     let next : MayFollow c.self.inside.register.base h e = rw (← c.self.view_is) at c.requires.ready.next in
     let tied = tied_same c.self.inside.register.base g.R.Resource h e c.promise.ensures.lawful next c.self.inside.tree was.of_tree refl refl refl (λ n. refl)
-    (λ r. record { removes = refl; takes = refl; uses = refl }) in
+    (λ r. record { removes = refl; takes = refl; uses = refl; leases = refl; returns = refl }) in
     rebased g.R.Resource (c.write.ensures.base) (rw c.write.ensures.events (tied_published g.R.Resource c.self.inside.register.base c.args.mode c.promise.ensures.lawful next was tied (rw c.len-number.ensures at c.add.ensures.hubs)))
 
 pub returns-clause-memory : goal.returns-clause-memory
@@ -38,3 +39,9 @@ returns-clause-memory g c =
     written_memory (Publish c.args.mode ∷ []) (returns-clause-written g c) (rw (← c.self.view_is) refl) (rw (← c.self.view_is) refl)
     (rw (← c.self.view_is) refl) (rw (← c.self.view_is) (omega arith))
     (rw (← c.self.view_is) c.add.ensures.slots)
+
+pub returns-clause-leased : goal.returns-clause-leased
+returns-clause-leased g c =
+    let h = c.self.inside.register.history in
+    let was : AreLeased h c.self.inside.tree.resources c.self.inside.leases = rw (← c.self.view_is) at c.requires.leased in
+    leased_quiet c.self.inside.register.base h _ (Publish c.args.mode) c.self.inside.tree.resources _ c.self.inside.leases _ c.promise.ensures.lawful was refl refl (c.write.ensures.events) (refl) refl

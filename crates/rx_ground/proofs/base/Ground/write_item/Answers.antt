@@ -1,17 +1,18 @@
-use Rattle.std.proofs.Common.{◌+◌, ◌-◌, ◌∷◌, [], ap, ◌∙◌, w64, refl, vec_capacity}
+use Rattle.std.proofs.Common.{◌+◌, ◌-◌, ◌∷◌, ◌++◌, [], ap, ◌∙◌, w64, refl, vec_capacity}
 use Rattle.std.proofs.lemmas.Int.{to_z-of_z}
 use Rattle.rx_event.specs.declared.event.Event.TheVariants.{Item}
 use Rattle.rx_event.specs.Lawful.{MayFollow}
 use Rattle.rx_slots.specs.Slots.{Slots}
 use Rattle.rx_tree.specs.declared.node.Node.{Node}
 use Rattle.rx_tree.specs.declared.node.Stowed.{Stowed}
-use Rattle.rx_ground.specs.Ties.{AreTied}
+use Rattle.rx_ground.specs.Ties.{AreLeased, AreTied}
 use Rattle.rx_ground.proofs.Published.{rebased}
 use Rattle.rx_register.specs.State.{State as Register}
 use Rattle.rx_ground.proofs.Arrived.{arrived_writes, arrived_tied}
 use Rattle.rx_ground.proofs.Memory.{written_memory, same_places}
 use Rattle.rx_ground.proofs.Owing.{owed_in-bounded}
 use Rattle.rx_ground.proofs.Routed.{walk_tied}
+use Rattle.rx_ground.proofs.Leases.{leased_quiet}
 use Rattle.rx_ground.proofs.base.Ground.write_item.Goals as goal
 
 pub pass_on-requires-clause-walk : goal.pass_on-requires-clause-walk
@@ -49,3 +50,11 @@ returns-clause-memory g c =
     (rw (← c.self.view_is) (ap (λ (s : Slots (Stowed g.row.R.Denot)). s.count + s.room) passed.resources))
     (rw (← c.self.view_is) (ap (λ (s : Slots Node). s.count + (vec_capacity c.self.inside.closed - s.count)) passed.places)) (rw (← c.self.view_is) refl)
     (rw (← c.self.view_is) refl)
+
+pub returns-clause-leased : goal.returns-clause-leased
+returns-clause-leased g c =
+    let h = c.self.inside.register.history in
+    let was : AreLeased h c.self.inside.tree.resources c.self.inside.leases = rw (← c.self.view_is) at c.requires.leased in
+    let passed = rw (to_z-of_z w64 c.args.value c.ranges.value) at c.pass_on.ensures.passed in
+    let events = rw (to_z-of_z w64 c.args.value c.ranges.value) at c.write.ensures.events in
+    leased_quiet c.self.inside.register.base h _ (Item c.args.leaf.number c.args.value) c.self.inside.tree.resources _ c.self.inside.leases _ c.promise.ensures.lawful was refl refl (events ∙ ap (λ (r : Register). r.history ++ Item c.args.leaf.number c.args.value ∷ []) passed.same) refl passed.resources

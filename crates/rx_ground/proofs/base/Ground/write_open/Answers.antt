@@ -12,7 +12,7 @@ use Rattle.rx_tree.specs.Owed.{owed_in}
 use Rattle.rx_hub.specs.After.{hubs_after, with_made}
 use Rattle.rx_hub.specs.Hubs.{Hub, Hubs, AreBelow}
 use Rattle.rx_ground.specs.Shown.{Ground}
-use Rattle.rx_ground.specs.Ties.{IsTied, AreTied}
+use Rattle.rx_ground.specs.Ties.{AreLeased, IsTied, AreTied}
 use Rattle.rx_ground.specs.Inners.{MakesWay, ClearsHubs}
 use Rattle.rx_ground.proofs.Tied.{IsOpenedIn}
 use Rattle.rx_ground.proofs.Memory.{written_memory, same_places}
@@ -22,6 +22,7 @@ use Rattle.rx_ground.proofs.Owing.{owed_in-bounded}
 use Rattle.rx_ground.proofs.Exchanged.{opened_tied, opened_new, opened_found, few_above, owes_above, above_there_still, way_newest, way_placed, way_resources}
 use Rattle.rx_ground.proofs.Published.{rebased, cleared, rest_same, joined_left, ready_left, tied_opened}
 use Rattle.rx_ground.proofs.Joined.{joined_found, slot_free, as_many, some_hub}
+use Rattle.rx_ground.proofs.Leases.{leased_quiet}
 use Rattle.rx_ground.proofs.base.Ground.write_open.Given.{Over}
 use Rattle.rx_ground.proofs.base.Ground.write_open.Goals as goal
 
@@ -346,3 +347,16 @@ returns-clause-left g c =
     let less = c.in-Ok.ensures.had_room (omega arith) in
     let kept = ap (λ (s : Slots Node). s.room) c.mark_opened.ensures.rest in
     rw (← c.self.view_is) (omega arith)
+
+lent_same : (g : Over) (c : goal.After-write g) → c.self-2.inside.leases ≡ c.self.inside.leases
+lent_same g c = ap (λ (b : Ground g.row.R.Denot). b.leases) c.self-2.view_is ∙ c.exchange-replaces.ensures.leases ∙ sym (ap (λ (b : Ground g.row.R.Denot). b.leases) c.self.view_is)
+
+pub returns-clause-leased : goal.returns-clause-leased
+returns-clause-leased g c =
+    let h = c.self.inside.register.history in
+    let was : AreLeased h c.self.inside.tree.resources c.self.inside.leases = rw (← c.self.view_is) at c.requires.leased in
+    leased_quiet c.self.inside.register.base h _ (Open c.args.place c.args.kind) c.self.inside.tree.resources _ c.self.inside.leases _ c.promise.ensures.lawful was refl refl
+    (c.write.ensures.events ∙ ap (λ (s : State). s.history ++ Open c.args.place c.args.kind ∷ []) (registered g c)) (lent_same g c) (same_resources g c)
+
+pub returns-clause-leases : goal.returns-clause-leases
+returns-clause-leases g c = rw (← c.self.view_is) (lent_same g c)

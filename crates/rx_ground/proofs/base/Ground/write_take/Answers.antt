@@ -5,7 +5,7 @@ use Rattle.rx_event.specs.Resources.{is_waiting}
 use Rattle.rx_event.specs.Forced.{IsSettled}
 use Rattle.rx_event.specs.Allowed.{taken}
 use Rattle.rx_event.specs.Lawful.{MayFollow, allowed}
-use Rattle.rx_ground.specs.Ties.{IsTied, AreTied, IsReady}
+use Rattle.rx_ground.specs.Ties.{AreLeased, IsTied, AreTied, IsReady}
 use Rattle.rx_slots.specs.Slots.{Slots}
 use Rattle.rx_tree.specs.declared.node.Node.{Node}
 use Rattle.rx_ground.proofs.Memory.{written_memory}
@@ -15,6 +15,7 @@ use Rattle.rx_ground.proofs.Tied.{tied_still}
 use Rattle.rx_ground.proofs.HeldKept.{held_gone}
 use Rattle.rx_ground.proofs.Taking.{takes_waiting, takes_live, takes_listed, none_waits}
 use Rattle.rx_ground.proofs.Published.{rebased, tied_on_same}
+use Rattle.rx_ground.proofs.Leases.{leased_taken}
 use Rattle.rx_ground.proofs.base.Ground.write_take.Given.{Over}
 use Rattle.rx_ground.proofs.base.Ground.write_take.Goals as goal
 
@@ -72,3 +73,11 @@ returns-clause-memory g c =
     let more = c.in_ok-number.ensures.some.room in
     written_memory (Take c.in_ok-number.number ∷ []) (rw c.new.ensures at (returns-clause-written g c)) (rw (← c.self.view_is) (ap (λ (s : Slots Node). s.count + s.room) nodes)) (rw (← c.self.view_is) (omega arith)) (rw (← c.self.view_is) (ap (λ (s : Slots Node). s.count + (vec_capacity c.self.inside.closed - s.count)) nodes)) (rw (← c.self.view_is) refl)
     (rw (← c.self.view_is) refl)
+
+pub returns-clause-leased : goal.returns-clause-leased
+returns-clause-leased g c =
+    let h = c.self.inside.register.history in
+    let was : AreLeased h c.self.inside.tree.resources c.self.inside.leases = rw (← c.self.view_is) at c.requires.leased in
+    let tied : IsTied c.self.inside.register.base g.R.Resource h c.self.inside.tree = rw (← c.self.view_is) at c.requires.tied.of_tree in
+    let t = c.in_ok-number.ensures.some in
+    leased_taken c.self.inside.register.base h _ (Take c.in_ok-number.number) c.self.inside.tree.resources _ c.self.inside.leases _ c.promise.ensures.lawful was refl refl (c.write.ensures.events) (refl) t.key (subst (λ n. is_waiting h n ≡ true) (sym t.numbered) (takes_waiting g.R.Resource h c.self.inside.tree c.take_waiting.new.self c.in_ok-number.number c.in_ok-number.resource c.self.inside.register.base tied t)) t.others

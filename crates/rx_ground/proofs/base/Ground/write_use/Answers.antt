@@ -4,16 +4,17 @@ use Rattle.rx_event.specs.declared.event.Event.TheVariants.{Use}
 use Rattle.rx_event.specs.Lawful.{MayFollow}
 use Rattle.rx_resource.specs.declared.Life.TheVariants.{Live}
 use Rattle.rx_tree.specs.Resources.{store_key, stowed_of, with_resource, is_held_at, Uses}
-use Rattle.rx_ground.specs.Ties.{IsTied, AreTied}
+use Rattle.rx_ground.specs.Ties.{AreLeased, IsTied, AreTied}
 use Rattle.rx_slots.specs.Slots.{Slots}
 use Rattle.rx_tree.specs.declared.node.Node.{Node}
 use Rattle.rx_ground.proofs.Memory.{written_memory, same_places}
 use Rattle.rx_ground.proofs.Written.{writes_silent}
 use Rattle.rx_ground.proofs.Stored.{stored_used}
-use Rattle.rx_ground.proofs.Tied.{tied_still}
+use Rattle.rx_ground.proofs.Tied.{tied_still, still_there}
 use Rattle.rx_ground.proofs.HeldKept.{held_rewritten}
 use Rattle.rx_ground.proofs.Newest.{held_found, of_found, if_found}
 use Rattle.rx_ground.proofs.Published.{rebased, tied_on_same}
+use Rattle.rx_ground.proofs.Leases.{leased_found}
 use Rattle.rx_ground.proofs.base.Ground.write_use.Goals as goal
 
 pub apply-answer-requires-clause-live : goal.apply-answer-requires-clause-live
@@ -73,3 +74,12 @@ returns-clause-memory g c =
     let u = of_found (stowed_of old c.args.res) f.stowed (Uses g.R.Resource old new c.args.res) f.found c.apply-answer.ensures in
     written_memory (Use c.args.res.number ∷ []) (returns-clause-written g c) (rw (← c.self.view_is) (ap (λ (s : Slots Node). s.count + s.room) u.nodes)) (rw (← c.self.view_is) (same_places old.resources new.resources u.written.rest)) (rw (← c.self.view_is) (ap (λ (s : Slots Node). s.count + (vec_capacity c.self.inside.closed - s.count)) u.nodes)) (rw (← c.self.view_is) refl)
     (rw (← c.self.view_is) refl)
+
+pub returns-clause-leased : goal.returns-clause-leased
+returns-clause-leased g c =
+    let h = c.self.inside.register.history in
+    let was : AreLeased h c.self.inside.tree.resources c.self.inside.leases = rw (← c.self.view_is) at c.requires.leased in
+    let held : is_held_at c.self.inside.tree c.args.res ≡ true = rw (← c.self.view_is) at c.requires.held in
+    let f = held_found c.self.inside.tree c.args.res held in
+    let u = of_found (stowed_of c.self.inside.tree c.args.res) f.stowed (Uses g.R.Resource c.self.inside.tree c.apply-answer.new.self c.args.res) f.found c.apply-answer.ensures in
+    leased_found c.self.inside.register.base h _ (Use c.args.res.number) c.self.inside.tree.resources _ c.self.inside.leases _ c.promise.ensures.lawful was refl refl (c.write.ensures.events) (refl) (still_there (store_key c.args.res) u.written)

@@ -1,5 +1,5 @@
 use Rattle.std.proofs.Common.{ap, arith}
-use Rattle.rx_hub.specs.Lists.{Lists}
+use Rattle.rx_lists.specs.Lists.{Lists}
 use Rattle.rx_hub.proofs.Stored.{kept_same}
 use Rattle.rx_hub.proofs.store.Store.admit.Goals as goal
 

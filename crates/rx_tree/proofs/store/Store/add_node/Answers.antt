@@ -1,7 +1,7 @@
 use Rattle.std.proofs.Common.{refl, sym, ap, ◌∙◌}
 use Rattle.rx_tree.specs.declared.links.Place.TheVariants.{Children, Held, Sibling, Noted}
 use Rattle.rx_tree.specs.declared.node.Node.{Node}
-use Rattle.rx_tree.specs.Store.{alone}
+use Rattle.rx_tree.specs.Store.{alone, no_counts}
 use Rattle.rx_tree.proofs.StoreLemmas.{inserts-project, part-added, keeps_links}
 use Rattle.rx_tree.proofs.CountSteps.{counted_kept, found_before, owed_opened}
 use Rattle.rx_tree.proofs.store.Store.add_node.Goals as goal
@@ -33,7 +33,8 @@ returns-in-Ok-clause-counted g c =
     let came = inserts-project (λ l. l.node) a.nodes c.insert.new.self c.in-Ok.key c.args.number c.alone-linked.result e.numbered e.was_free e.changes e.found
     e.kept e.count in
     counted_kept a b c.requires.counted refl
-    (part-added (λ l. l.held_count) (λ j. 0) _ _ c.in-Ok.key.slot c.args.number c.alone-linked.result e.was_free e.changes c.alone-linked.ensures.held_count)
+    (part-added (λ l. l.held_count) (λ j. no_counts) _ _ c.in-Ok.key.slot c.args.number c.alone-linked.result e.was_free e.changes
+    c.alone-linked.ensures.held_count)
     refl
     (found_before a b c.in-Ok.key c.args.number c.alone-linked.result.node came c.requires.homes)
     (c.requires.counted.owed ∙ sym (owed_opened a b c.in-Ok.key c.args.number c.alone-linked.result.node came

@@ -1,6 +1,6 @@
-use Rattle.std.proofs.Common.{◌+◌, ◌==◌, cond, refl, sym, ap, subst, ◌∙◌, arith}
+use Rattle.std.proofs.Common.{false, ◌==◌, cond, refl, sym, ap, subst, ◌∙◌, arith}
 use Rattle.rx_tree.specs.declared.links.Place.TheVariants.{Stored}
-use Rattle.rx_tree.specs.Store.{alone, project, resources_of, held_count_at, Inserts}
+use Rattle.rx_tree.specs.Store.{alone, project, resources_of, held_count_at, one_more, Inserts}
 use Rattle.rx_tree.proofs.StoreLemmas.{inserts-project, part-added, keeps_links}
 use Rattle.rx_tree.proofs.CountSteps.{count_fits, counted_came}
 use Rattle.rx_tree.proofs.store.Store.add_resource.Goals as goal
@@ -12,8 +12,8 @@ overflow_add-count g c =
     let b = record c.args.self.now { resources = c.insert.new.self } in
     let came = inserts-project (λ r. r.stowed) a.resources c.insert.new.self c.in-Ok.key c.args.number
     (record { stowed = c.args.stowed; link = c.alone-link.result }) e.numbered e.was_free e.changes e.found e.kept e.count in
-    let few = count_fits a b c.requires.counted c.in-Ok.key c.args.number c.args.stowed came c.requires.held in
-    let count = c.held_count-count.ensures in
+    let few = count_fits a b c.requires.counted c.in-Ok.key c.args.number c.args.stowed came c.requires.owned c.requires.free in
+    let count = ap (λ n. n.free) c.held_count-count.ensures in
     let slots = c.slot_count-slots.ensures.value in
     let fits = c.slot_count-slots.type_inv in
     omega (arith, few, count, slots, fits)
@@ -42,5 +42,5 @@ returns-in-Ok-clause-counted g c =
     let came = subst (λ r. Inserts (resources_of c.args.self.now) (project (λ r. r.stowed) r) c.in-Ok.key c.args.number c.args.stowed)
     (sym h.resources) (inserts-project (λ r. r.stowed) c.args.self.now.resources c.insert.new.self c.in-Ok.key c.args.number
     (record { stowed = c.args.stowed; link = c.alone-link.result }) e.numbered e.was_free e.changes e.found e.kept e.count) in
-    counted_came a c.set_held_count.new.self c.requires.counted c.in-Ok.key c.args.number c.args.stowed came c.requires.held h.nodes h.waiting
-    (λ j. h.held j ∙ ap (λ n. cond (home == j) (n + 1) (held_count_at a j)) c.held_count-count.ensures) h.owed
+    counted_came a c.set_held_count.new.self c.requires.counted c.in-Ok.key c.args.number c.args.stowed came c.requires.owned c.requires.free h.nodes h.waiting
+    (λ j. h.held j ∙ ap (λ n. cond (home == j) (one_more false n) (held_count_at a j)) c.held_count-count.ensures) h.owed

@@ -1,16 +1,16 @@
-use Rattle.std.proofs.Common.{◌+◌, ◌-◌, ◌==◌, cond, option_map, Some, IfSome, IsTrue, refl, sym, ap, subst, ◌∙◌, arith}
+use Rattle.std.proofs.Common.{◌≤◌, length, ◌==◌, cond, option_map, Some, IfSome, IsTrue, refl, sym, ap, subst, ◌∙◌, arith}
 use Rattle.std.specs.Option.{option_copied_mut}
 use Rattle.rx_tree.specs.declared.links.Place.TheVariants.{Stored}
 use Rattle.rx_slots.specs.Slots.{with_value, entry_of, Changes}
-use Rattle.rx_tree.specs.Store.{alone, project, nodes_of, resources_of, held_count_at}
-use Rattle.rx_tree.specs.Resources.{is_held, removed}
+use Rattle.rx_tree.specs.Store.{alone, project, nodes_of, resources_of, held_count_at, count_if, one_less, one_more}
+use Rattle.rx_tree.specs.Resources.{is_owned, is_lent, removed}
 use Rattle.rx_tree.specs.Tree.{Rewrites}
 use Rattle.rx_tree.proofs.StoreLemmas.{find-project, changes-written, rewrites-project, part-rewritten, keeps_links}
-use Rattle.rx_tree.proofs.CountSteps.{some_held, waiting_fits, counted_removed}
+use Rattle.rx_tree.proofs.CountSteps.{removed_some, removed_fits, counted_removed}
 use Rattle.rx_tree.proofs.store.Store.mark_removed.Goals as goal
 
-pub overflow_sub-count : goal.overflow_sub-count
-overflow_sub-count g c =
+pub less-requires : goal.less-requires
+less-requires g c =
     let a = c.args.self.now in
     let at = sym c.get_mut.ensures.value ∙ ap option_copied_mut c.in-Some.is in
     let found = find-project (λ r. r.stowed) a.resources c.args.key ∙ ap (option_map (λ r. r.stowed)) at in
@@ -18,26 +18,26 @@ overflow_sub-count g c =
       resources = with_value c.args.self.now.resources c.args.key
           (record c.in-Some.stored.now { stowed = removed c.in-Some.stored.now.stowed });
     } in
-    let held = subst (λ o. IfSome o (λ stowed. IsTrue (is_held (nodes_of a) stowed))) found c.requires.held in
-    let some = some_held a b c.requires.counted c.args.key c.in-Some.stored.now.stowed found held
-    (changes-written (λ r. r.stowed) a.resources c.args.key c.in-Some.stored.now _ c.in-Some.stored.now.stowed removed at refl found) in
-    let count = c.held_count-count.ensures in
-    omega (arith, some, count)
+    let owned = subst (λ o. IfSome o (λ stowed. IsTrue (is_owned (nodes_of a) stowed))) found c.requires.owned in
+    let some = removed_some a b c.requires.counted c.args.key c.in-Some.stored.now.stowed found
+    (changes-written (λ r. r.stowed) a.resources c.args.key c.in-Some.stored.now _ c.in-Some.stored.now.stowed removed at refl found) owned in
+    subst (λ n. 1 ≤ count_if (is_lent c.in-Some.stored.now.stowed) n) (sym c.held_count-count.ensures) some
 
-pub overflow_add-self : goal.overflow_add-self
-overflow_add-self g c =
+pub more-self-requires : goal.more-self-requires
+more-self-requires g c =
     let a = c.args.self.now in
     let at = sym c.get_mut.ensures.value ∙ ap option_copied_mut c.in-Some.is in
     let found = find-project (λ r. r.stowed) a.resources c.args.key ∙ ap (option_map (λ r. r.stowed)) at in
-    let held = subst (λ o. IfSome o (λ stowed. IsTrue (is_held (nodes_of a) stowed))) found c.requires.held in
-    let few = waiting_fits a c.set_held_count.new.self c.requires.counted c.args.key c.in-Some.stored.now.stowed found held
+    let owned = subst (λ o. IfSome o (λ stowed. IsTrue (is_owned (nodes_of a) stowed))) found c.requires.owned in
+    let few = removed_fits a c.set_held_count.new.self c.requires.counted c.args.key c.in-Some.stored.now.stowed found
     (subst (λ r. Changes (resources_of a) (project (λ r. r.stowed) r) c.args.key.slot (Some (entry_of c.args.key.number (removed c.in-Some.stored.now.stowed))))
     (sym c.set_held_count.ensures.resources)
-    (changes-written (λ r. r.stowed) a.resources c.args.key c.in-Some.stored.now _ c.in-Some.stored.now.stowed removed at refl found)) in
-    let same = c.set_held_count.ensures.waiting in
+    (changes-written (λ r. r.stowed) a.resources c.args.key c.in-Some.stored.now _ c.in-Some.stored.now.stowed removed at refl found)) owned in
+    let same = ap (count_if (is_lent c.in-Some.stored.now.stowed)) c.set_held_count.ensures.waiting in
+    let longer = ap (λ r. length r.entries) c.set_held_count.ensures.resources in
     let slots = c.slot_count-slots.ensures.value in
     let fits = c.slot_count-slots.type_inv in
-    omega (arith, few, same, slots, fits)
+    omega (arith, few, same, longer, slots, fits)
 
 pub returns-in-Some-clause-rewrites : goal.returns-in-Some-clause-rewrites
 returns-in-Some-clause-rewrites g c = subst (λ r. Rewrites (resources_of c.args.self.now) (project (λ r. r.stowed) r) c.args.key removed)
@@ -68,15 +68,16 @@ pub returns-in-Some-clause-counted : goal.returns-in-Some-clause-counted
 returns-in-Some-clause-counted g c =
     let a = c.args.self.now in
     let h = c.set_held_count.ensures in
-    let b = record c.set_held_count.new.self { waiting_count = c.set_held_count.new.self.waiting_count + 1 } in
+    let b = record c.set_held_count.new.self { waiting_count = c.more-self.result } in
     let at = sym c.get_mut.ensures.value ∙ ap option_copied_mut c.in-Some.is in
     let found = find-project (λ r. r.stowed) a.resources c.args.key ∙ ap (option_map (λ r. r.stowed)) at in
-    let held = subst (λ o. IfSome o (λ stowed. IsTrue (is_held (nodes_of a) stowed))) found c.requires.held in
+    let owned = subst (λ o. IfSome o (λ stowed. IsTrue (is_owned (nodes_of a) stowed))) found c.requires.owned in
     let home = c.in-Some.stored.now.stowed.node.slot in
-    counted_removed a b c.requires.counted c.args.key c.in-Some.stored.now.stowed found held
+    counted_removed a b c.requires.counted c.args.key c.in-Some.stored.now.stowed found
     (subst (λ r. Changes (resources_of a) (project (λ r. r.stowed) r) c.args.key.slot (Some (entry_of c.args.key.number (removed c.in-Some.stored.now.stowed))))
     (sym h.resources)
     (changes-written (λ r. r.stowed) a.resources c.args.key c.in-Some.stored.now
     (record c.in-Some.stored.now { stowed = removed c.in-Some.stored.now.stowed }) c.in-Some.stored.now.stowed removed at refl found))
-    h.nodes (ap (λ n. n + 1) h.waiting)
-    (λ j. h.held j ∙ ap (λ n. cond (home == j) (n - 1) (held_count_at a j)) c.held_count-count.ensures) h.owed
+    owned h.nodes (c.more-self.ensures ∙ ap (one_more (is_lent c.in-Some.stored.now.stowed)) h.waiting)
+    (λ j. h.held j ∙ ap (λ n. cond (home == j) n (held_count_at a j)) (c.less.ensures ∙ ap (one_less (is_lent c.in-Some.stored.now.stowed))
+    c.held_count-count.ensures)) h.owed

@@ -1,8 +1,8 @@
-use Rattle.std.proofs.Common.{◌+◌, ◌-◌, option_map, refl, sym, ap, ◌∙◌, arith}
+use Rattle.std.proofs.Common.{◌≡◌, ◌+◌, ◌-◌, Bool, true, false, option_map, refl, sym, ap, ◌∙◌, arith}
 use Rattle.rx_tree.specs.declared.links.Place.TheVariants.{Children, Held, Sibling, Noted}
-use Rattle.rx_tree.specs.Store.{alone}
+use Rattle.rx_tree.specs.Store.{alone, count_if}
 use Rattle.rx_tree.proofs.StoreLemmas.{find-project, takes-project, changes-project, part-taken, part-gone, links_taken}
-use Rattle.rx_tree.proofs.CountSteps.{out_fits, some_owed, counted_out}
+use Rattle.rx_tree.proofs.CountSteps.{out_fits, some_owed, counted_gone}
 use Rattle.rx_tree.proofs.store.Store.take_node.Goals as goal
 
 pub returns-clause-taken : goal.returns-clause-taken
@@ -22,7 +22,17 @@ overflow_add-self g c =
     let a = c.args.self.now in
     let b = record c.args.self.now { nodes = c.take.new.self } in
     let few = out_fits a b c.requires.counted c.args.key c.in_ok-linked.linked (sym c.take.ensures.value ∙ c.in_ok-linked.was)
-    (changes-project (λ l. l.node) _ _ c.args.key.slot _ c.in_ok-linked.ensures.changes) in
+    (changes-project (λ l. l.node) _ _ c.args.key.slot _ c.in_ok-linked.ensures.changes) false in
+    let slots = c.slot_count-slots.ensures.value in
+    let fits = c.slot_count-slots.type_inv in
+    omega (arith, few, slots, fits)
+
+pub overflow_add-self-2 : goal.overflow_add-self-2
+overflow_add-self-2 g c =
+    let a = c.args.self.now in
+    let b = record c.args.self.now { nodes = c.take.new.self } in
+    let few = out_fits a b c.requires.counted c.args.key c.in_ok-linked.linked (sym c.take.ensures.value ∙ c.in_ok-linked.was)
+    (changes-project (λ l. l.node) _ _ c.args.key.slot _ c.in_ok-linked.ensures.changes) true in
     let slots = c.slot_count-slots.ensures.value in
     let fits = c.slot_count-slots.type_inv in
     omega (arith, few, slots, fits)
@@ -36,14 +46,29 @@ overflow_sub-self g c =
 
 pub returns-clause-counted : goal.returns-clause-counted
 returns-clause-counted g c =
+    let both : (l : Bool) → count_if l (record {
+      free = c.args.self.now.waiting_count.free + c.in_ok-linked.linked.held_count.free;
+      lent =
+          c.args.self.now.waiting_count.lent + c.in_ok-linked.linked.held_count.lent;
+    }) ≡
+    count_if l c.args.self.now.waiting_count + count_if l c.in_ok-linked.linked.held_count = λ l. elim l as
+    (λ l. count_if l (record {
+      free = c.args.self.now.waiting_count.free + c.in_ok-linked.linked.held_count.free;
+      lent =
+          c.args.self.now.waiting_count.lent + c.in_ok-linked.linked.held_count.lent;
+    }) ≡
+    count_if l c.args.self.now.waiting_count + count_if l c.in_ok-linked.linked.held_count) [ true ↦ refl | false ↦ refl ] in
     let a = c.args.self.now in
     let b = record c.args.self.now {
       nodes = c.take.new.self;
-      waiting_count = c.args.self.now.waiting_count + c.in_ok-linked.linked.held_count;
+      waiting_count = record {
+        free = c.args.self.now.waiting_count.free + c.in_ok-linked.linked.held_count.free;
+        lent = c.args.self.now.waiting_count.lent + c.in_ok-linked.linked.held_count.lent;
+      };
       owed = c.args.self.now.owed - c.in_ok-linked.linked.node.marks.owed;
     } in
-    counted_out a b c.requires.counted c.args.key c.in_ok-linked.linked (sym c.take.ensures.value ∙ c.in_ok-linked.was)
-    (changes-project (λ l. l.node) _ _ c.args.key.slot _ c.in_ok-linked.ensures.changes) refl refl c.in_ok-linked.ensures.changes refl
+    counted_gone a b c.requires.counted c.args.key c.in_ok-linked.linked (sym c.take.ensures.value ∙ c.in_ok-linked.was)
+    (changes-project (λ l. l.node) _ _ c.args.key.slot _ c.in_ok-linked.ensures.changes) refl both c.in_ok-linked.ensures.changes refl
 
 pub returns-clause-value : goal.returns-clause-value
 returns-clause-value g c = sym (find-project (λ l. l.node) c.args.self.now.nodes c.args.key ∙

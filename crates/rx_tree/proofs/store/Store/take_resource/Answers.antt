@@ -1,9 +1,9 @@
-use Rattle.std.proofs.Common.{◌≡◌, ◌-◌, false, option_map, IfSome, refl, sym, ap, subst, ◌∙◌}
+use Rattle.std.proofs.Common.{◌≡◌, false, option_map, IfSome, refl, sym, ap, subst, ◌∙◌}
 use Rattle.rx_tree.specs.declared.links.Place.TheVariants.{Stored}
 use Rattle.rx_tree.specs.Store.{alone, nodes_of}
 use Rattle.rx_tree.specs.Resources.{is_held}
 use Rattle.rx_tree.proofs.StoreLemmas.{find-project, takes-project, changes-project, part-taken, keeps_links}
-use Rattle.rx_tree.proofs.CountSteps.{counted_taken}
+use Rattle.rx_tree.proofs.CountSteps.{some_waiting, counted_taken}
 use Rattle.rx_tree.proofs.store.Store.take_resource.Goals as goal
 
 pub returns-clause-taken : goal.returns-clause-taken
@@ -18,8 +18,17 @@ returns-clause-links g c = keeps_links c.args.self.now (record c.args.self.now {
 pub returns-clause-counted : goal.returns-clause-counted
 returns-clause-counted g c =
     let a = c.args.self.now in
-    let b = record c.args.self.now { resources = c.take.new.self; waiting_count = c.args.self.now.waiting_count - 1 } in
+    let b = record c.args.self.now { resources = c.take.new.self; waiting_count = c.less-self.result } in
     let found = find-project (λ r. r.stowed) a.resources c.args.key ∙ ap (option_map (λ r. r.stowed)) (sym c.take.ensures.value ∙ c.in_ok-stored.was) in
     counted_taken a b c.requires.counted c.args.key c.in_ok-stored.stored.stowed found
     (subst (λ o. IfSome o (λ stowed. is_held (nodes_of a) stowed ≡ false)) found c.requires.waits)
-    (changes-project (λ r. r.stowed) _ _ c.args.key.slot _ c.in_ok-stored.ensures.changes) refl refl refl
+    (changes-project (λ r. r.stowed) _ _ c.args.key.slot _ c.in_ok-stored.ensures.changes) refl c.less-self.ensures refl
+
+pub less-self-requires : goal.less-self-requires
+less-self-requires g c =
+    let a = c.args.self.now in
+    let b = record c.args.self.now { resources = c.take.new.self } in
+    let found = find-project (λ r. r.stowed) a.resources c.args.key ∙ ap (option_map (λ r. r.stowed)) (sym c.take.ensures.value ∙ c.in_ok-stored.was) in
+    some_waiting a b c.requires.counted c.args.key c.in_ok-stored.stored.stowed found
+    (subst (λ o. IfSome o (λ stowed. is_held (nodes_of a) stowed ≡ false)) found c.requires.waits)
+    (changes-project (λ r. r.stowed) _ _ c.args.key.slot _ c.in_ok-stored.ensures.changes)

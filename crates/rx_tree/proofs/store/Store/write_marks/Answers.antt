@@ -2,7 +2,7 @@ use Rattle.std.proofs.Common.{◌+◌, ◌-◌, option_map, refl, sym, ap, ◌�
 use Rattle.std.specs.Option.{option_copied_mut}
 use Rattle.rx_tree.specs.declared.links.Place.TheVariants.{Children, Held, Sibling, Noted}
 use Rattle.rx_slots.specs.Slots.{with_value}
-use Rattle.rx_tree.specs.Store.{alone, nodes_of}
+use Rattle.rx_tree.specs.Store.{alone, nodes_of, no_counts}
 use Rattle.rx_tree.specs.Tree.{with_marks}
 use Rattle.rx_tree.proofs.Laws.Owed.{owed_part, owed_written}
 use Rattle.rx_tree.proofs.StoreLemmas.{find-project, changes-written, rewrites-project, part-rewritten, keeps_links}
@@ -56,7 +56,7 @@ returns-in-Some-clause-counted g c =
     } in
     let seen = find-project (λ l. l.node) a.nodes c.args.key ∙ ap (option_map (λ l. l.node)) found in
     counted_kept a b c.requires.counted refl
-    (part-rewritten (λ l. l.held_count) (λ j. 0) c.args.self.now.nodes _ c.args.key.slot c.args.key.number c.in-Some.linked.now _ found refl refl)
+    (part-rewritten (λ l. l.held_count) (λ j. no_counts) c.args.self.now.nodes _ c.args.key.slot c.args.key.number c.in-Some.linked.now _ found refl refl)
     refl
     (λ key stowed at. found_marked a b c.args.key (with_marks c.args.marks)
     (rewrites-project (λ l. l.node) c.args.self.now.nodes c.args.key c.in-Some.linked.now _ (with_marks c.args.marks) found refl) stowed.node)

@@ -1,0 +1,81 @@
+-- How many leases of each resource an event leaves out.
+use Rattle.std.proofs.Common.{◌≡◌, ℕ, ◌+◌, ◌-◌, ◌<◌, ◌≤◌, ◌==◌, Bool, true, false, List, [], ◌∷◌, ◌++◌, length, get_or, Option, Some, None, cond, slice_get}
+use Rattle.std.proofs.Common.{refl, sym, ap, ◌∙◌, arith, length-append}
+use Rattle.std.specs.Option.{option_and_then, option_map_or}
+use Rattle.std.proofs.lemmas.Bool.{false≢true}
+use Rattle.rx_event.specs.Kept.{nothing_kept}
+use Rattle.rx_event.specs.declared.event.Event.{Event}
+use Rattle.rx_event.specs.declared.event.Event.TheVariants.{Open, Hub, Connect, Accept, Use, Remove, Lease, Return, Item, Decline, End, Close, Take}
+use Rattle.rx_event.specs.Events.{makes_lease, leased_of, returned_of}
+use Rattle.rx_event.specs.Resources.{leases_of}
+use Rattle.rx_event.specs.Lawful.{IsLawful, MayFollow}
+use Rattle.rx_event.proofs.Laws.Leases.{out_lease, leases_of_kept, leases_of_still, leases_of-return}
+use Rattle.rx_event.proofs.Laws.Steps.{may_return}
+use Rattle.rx_audit.specs.Tables.{IsTally, counts_with, counts_less}
+use Rattle.rx_audit.specs.Rules.{is_key, resource_of}
+use Rattle.rx_audit.proofs.Keys.{length-counts_with, counts_with_at, counts_few, length-counts_less, counts_less_at, counts_less_few}
+
+-- a lease is one of some resource
+leased : (h : List Event) (l : ℕ) → option_map_or makes_lease (slice_get h l) false ≡ true → (q : ℕ) × (slice_get h l ≡ Some (Lease q))
+leased h l made = by_event (slice_get h l) refl made where
+  by_event : (o : Option Event) → slice_get h l ≡ o → option_map_or makes_lease o false ≡ true → (q : ℕ) × (slice_get h l ≡ Some (Lease q))
+  by_event (Some (Lease q)) found made = (q, found)
+  by_event None found made = absurd (false≢true made)
+  by_event (Some _) found made = absurd (false≢true made)
+
+module _ (h : List Event) (old : List ℕ) (law : IsLawful nothing_kept h) (tied : IsTally old (leases_of h)) where
+  module _ (e : Event) (key : Option ℕ) where
+    abbrev counted : List ℕ
+    counted = counts_less (counts_with old (leased_of e)) key
+
+    lengths : length counted ≡ length old
+    lengths = length-counts_less (counts_with old (leased_of e)) key ∙ length-counts_with old (leased_of e)
+
+    at_each : (n : ℕ) → n < length old → get_or counted n 0 ≡ (leases_of h n + cond (is_key (leased_of e) n) 1 0) - cond (is_key key n) 1 0
+    at_each n less =
+        counts_less_at (counts_with old (leased_of e)) key n (let same = length-counts_with old (leased_of e) in omega arith) ∙
+        ap (λ (k : ℕ). k - cond (is_key key n) 1 0) (counts_with_at old (leased_of e) n less ∙ ap (λ (k : ℕ). k + cond (is_key (leased_of e) n) 1 0) (tied n less))
+
+  -- an event that leases and returns nothing
+  quiet : (e : Event) → leased_of e ≡ None → returned_of e ≡ None → ((n : ℕ) → leases_of (h ++ e ∷ []) n ≡ leases_of h n) →
+      (n : ℕ) → n < length old → get_or (counted e (option_and_then (resource_of h) (returned_of e))) n 0 ≡ leases_of (h ++ e ∷ []) n
+  quiet e none back same n less =
+      at_each e (option_and_then (resource_of h) (returned_of e)) n less ∙
+      (λ i. (leases_of h n + cond (is_key (none i) n) 1 0) - cond (is_key (option_and_then (resource_of h) (back i)) n) 1 0) ∙
+      (let s = same n in omega arith)
+
+  pub leases_found : (e : Event) → MayFollow nothing_kept h e → IsTally (counted e (option_and_then (resource_of h) (returned_of e))) (leases_of (h ++ e ∷ []))
+  leases_found e next n within =
+      by_event e next n (let same = lengths e (option_and_then (resource_of h) (returned_of e)) in omega arith) where
+        by_event : (e : Event) → MayFollow nothing_kept h e → (n : ℕ) → n < length old →
+            get_or (counted e (option_and_then (resource_of h) (returned_of e))) n 0 ≡ leases_of (h ++ e ∷ []) n
+        by_event (Lease r) next n less =
+            let more = leases_of_kept nothing_kept h (Lease r) law refl n in
+            at_each (Lease r) None n less ∙ omega arith
+        by_event (Return l) next n less =
+            let one = leased h l (out_lease h l (may_return nothing_kept next)) in
+            let fewer = leases_of-return nothing_kept h l one.0 law next one.1 n in
+            let key : resource_of h l ≡ Some one.0 = ap (option_and_then leased_of) one.1 in
+            at_each (Return l) (resource_of h l) n less ∙ ap (λ (k : Option ℕ). (leases_of h n + 0) - cond (is_key k n) 1 0) key ∙ omega arith
+        by_event (Open place kind) next n less = quiet (Open place kind) refl refl (λ m. leases_of_still nothing_kept h (Open place kind) law refl m refl) n less
+        by_event (Hub mode) next n less = quiet (Hub mode) refl refl (λ m. leases_of_still nothing_kept h (Hub mode) law refl m refl) n less
+        by_event (Connect g) next n less = quiet (Connect g) refl refl (λ m. leases_of_still nothing_kept h (Connect g) law refl m refl) n less
+        by_event (Accept k tag) next n less = quiet (Accept k tag) refl refl (λ m. leases_of_still nothing_kept h (Accept k tag) law refl m refl) n less
+        by_event (Use r) next n less = quiet (Use r) refl refl (λ m. leases_of_still nothing_kept h (Use r) law refl m refl) n less
+        by_event (Remove r) next n less = quiet (Remove r) refl refl (λ m. leases_of_still nothing_kept h (Remove r) law refl m refl) n less
+        by_event (Item k v) next n less = quiet (Item k v) refl refl (λ m. leases_of_still nothing_kept h (Item k v) law refl m refl) n less
+        by_event (Decline f) next n less = quiet (Decline f) refl refl (λ m. leases_of_still nothing_kept h (Decline f) law refl m refl) n less
+        by_event (End k t) next n less = quiet (End k t) refl refl (λ m. leases_of_still nothing_kept h (End k t) law refl m refl) n less
+        by_event (Close k) next n less = quiet (Close k) refl refl (λ m. leases_of_still nothing_kept h (Close k) law refl m refl) n less
+        by_event (Take r) next n less = quiet (Take r) refl refl (λ m. leases_of_still nothing_kept h (Take r) law refl m refl) n less
+
+  pub leases_long : (e : Event) → length (counted e (option_and_then (resource_of h) (returned_of e))) ≡ length old
+  leases_long e = lengths e (option_and_then (resource_of h) (returned_of e))
+
+-- no resource has more than there are events
+pub leases_few : (old : List ℕ) (a b : Option ℕ) (many : ℕ) → ((n : ℕ) → get_or old n 0 ≤ many) → (n : ℕ) → get_or (counts_less (counts_with old a) b) n 0 ≤ many + 1
+leases_few old a b many few n =
+    let x = counts_less_few (counts_with old a) b n in
+    let y = counts_few old a n in
+    let z = few n in
+    omega arith

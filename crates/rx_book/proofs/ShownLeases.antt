@@ -1,0 +1,49 @@
+-- The lease of least number.
+use Rattle.std.proofs.Common.{◌≡◌, ℕ, ◌<◌, true, false, List, length, Some, None, refl, sym, ap, ◌∙◌, arith}
+use Rattle.std.specs.List.{find}
+use Rattle.std.proofs.lemmas.Bool.{false_from_ne_true}
+use Rattle.rx_event.specs.declared.event.Event.{Event}
+use Rattle.rx_event.specs.Tree.{places}
+use Rattle.rx_event.specs.Resources.{is_out}
+use Rattle.rx_event.proofs.Laws.Leases.{is_out_within}
+use Rattle.rx_slots.specs.declared.Key.{Key as SlotKey}
+use Rattle.rx_slots.specs.Slots.{Slots}
+use Rattle.rx_tree.specs.declared.node.ResKey.{ResKey as TreeResKey}
+use Rattle.rx_tree.specs.declared.node.Stowed.{Stowed}
+use Rattle.rx_tree.specs.Tree.{IsFirst, HasNone}
+use Rattle.rx_tree.proofs.Laws.Keys.{some_of}
+use Rattle.rx_lease.specs.declared.leases.LeaseKey.{LeaseKey as GroundLeaseKey}
+use Rattle.rx_lease.specs.Leases.{IsOut, lease_key}
+use Rattle.rx_ground.specs.Ties.{AreLeased}
+use Rattle.rx_ground.proofs.Laws.Ranges.{find_nothing, find_first}
+use Rattle.rx_book.specs.State.{has_lease_key}
+use Rattle.rx_book.specs.Shown.{lease_key_shown, lease_keys_of}
+use Rattle.rx_book.proofs.ShownKeys.{has_lease_key_is}
+
+module _ {T : Type 0} (h : List Event) (resources : Slots (Stowed T)) (leases : Slots TreeResKey) (leased : AreLeased h resources leases) where
+  -- a lease that is out has a key
+  out_key : (l : ℕ) → is_out h l ≡ true → (key : SlotKey) × (key.number ≡ l) × IsOut leases key
+  out_key l out = let has = leased.every l out in (has.key, has.numbered, rw has.found refl)
+
+  -- where there is no key, none is out
+  pub open_lease_none : HasNone (IsOut leases) 0 → find (is_out h) (places h) ≡ None
+  open_lease_none none = find_nothing (is_out h) (λ l. false_from_ne_true (is_out h l) (no_lease l)) (places h) where
+    no_lease : (l : ℕ) → is_out h l ≡ true → ⊥
+    no_lease l out = let k = out_key l out in let less = none k.0 k.2 in absurd (omega arith)
+
+  -- and the first key is that of the first lease that is out
+  pub open_lease_some : (key : SlotKey) → IsFirst (IsOut leases) 0 key → find (is_out h) (places h) ≡ Some key.number
+  open_lease_some key first =
+      let within = is_out_within h key.number is_so in
+      find_first (is_out h) 0 (length h) key.number (omega arith) (omega arith) is_so (λ l less. false_from_ne_true (is_out h l) (not_less l less))
+    where
+      is_so : is_out h key.number ≡ true
+      is_so = let res = some_of _ first.one in (leased.each key res.0 res.1).out
+
+      not_less : (l : ℕ) → l < key.number → is_out h l ≡ true → ⊥
+      not_less l less out = let k = out_key l out in let above = first.least k.0 k.2 (omega arith) in let e = k.1 in absurd (omega arith)
+
+-- its key is known
+pub lease_listed : (leases : Slots TreeResKey) (lease : GroundLeaseKey) → IsFirst (IsOut leases) 0 (lease_key lease) →
+    has_lease_key (lease_keys_of leases) (lease_key_shown lease) ≡ true
+lease_listed leases lease first = has_lease_key_is leases (lease_key_shown lease) ∙ first.one

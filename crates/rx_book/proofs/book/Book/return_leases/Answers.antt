@@ -1,0 +1,25 @@
+use Rattle.std.proofs.Common.{ap, ◌∙◌, arith}
+use Rattle.rx_event.specs.Kept.{Kept}
+use Rattle.rx_event.specs.Totals.{accepted_count, taken_count}
+use Rattle.rx_book.proofs.Closings.{returned_taken, returned_accepted, lease_found, lease_missing, returnable, less_room}
+use Rattle.rx_book.proofs.book.Book.return_leases.Goals as goal
+
+pub loop-lease-smaller : goal.loop-lease-smaller
+loop-lease-smaller g c = less_room c.loop-lease.self c.give_back.new.self _ c.in-Ok.ensures.accepted c.promise-in-Ok.ensures (omega arith)
+
+pub loop-lease-preserved : goal.loop-lease-preserved
+loop-lease-preserved g c = record {
+  kept = c.promise-in-Ok.ensures;
+  base = c.in-Ok.ensures.accepted.base ∙ c.loop-lease.invariant.base;
+  accepted = ap (λ (b : Kept). accepted_count b c.give_back.new.self.history) c.in-Ok.ensures.accepted.base ∙ returned_accepted _ _ _ _ c.in-Ok.ensures.accepted.step ∙
+      c.loop-lease.invariant.accepted;
+  taken = ap (λ (b : Kept). taken_count b c.give_back.new.self.history) c.in-Ok.ensures.accepted.base ∙ returned_taken _ _ _ _ c.in-Ok.ensures.accepted.step ∙
+      c.loop-lease.invariant.taken;
+}
+
+pub unreachable-requires : goal.unreachable-requires
+unreachable-requires g c = returnable c.loop-lease.self c.in-Some.lease c.in-Err.field-0 c.in-Some.ensures.key
+    (lease_found c.loop-lease.self.history c.in-Some.lease.number c.in-Some.ensures.least) c.in-Err.ensures.refused
+
+pub returns-clause-none_out : goal.returns-clause-none_out
+returns-clause-none_out g c = lease_missing c.loop-lease.self.history c.in_default.ensures.least

@@ -1,0 +1,16 @@
+-- So far only leases were given back.
+use Rattle.std.proofs.Common.{◌≡◌, ◌-◌, length, ◌+◌}
+use Rattle.rx_event.specs.Totals.{accepted_count, taken_count}
+use Rattle.rx_book.specs.State.{IsPromised}
+use Rattle.rx_book.proofs.book.Book.return_leases.Given as goal
+
+abbrev pub invariant-loop-lease : goal.invariant-loop-lease
+invariant-loop-lease g l = record {
+  kept : IsPromised l.self;
+  base : l.self.base ≡ l.initial.self.base;
+  accepted : accepted_count l.self.base l.self.history ≡ accepted_count l.initial.self.base l.initial.self.history;
+  taken : taken_count l.self.base l.self.history ≡ taken_count l.initial.self.base l.initial.self.history;
+}
+
+abbrev pub decreases-loop-lease : goal.decreases-loop-lease
+decreases-loop-lease g l = l.self.base.at_length + l.self.limit - length l.self.history

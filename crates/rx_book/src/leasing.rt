@@ -1,0 +1,56 @@
+//! Leases: a resource stays as long as a dependent uses it.
+
+ghost use Rattle.std.specs.Prelude.{◌≡◌, ◌+◌};
+ghost use Rattle.rx_book.specs.Requests.{lease_request, give_back_request};
+ghost use Rattle.rx_book.specs.Answers.{AnswersLeaseKey, AnswersPlace};
+
+use crate::Book;
+use crate::admit::admit;
+use crate::key::{LeaseKey, ResKey, ground_lease_key, shown_lease_key, tree_res_key};
+use rx_event::Refusal;
+use rx_ground::Wanted;
+use rx_resource::Resource;
+
+impl<R: Resource> Book<R> {
+    /// Leases a resource to a dependent, and gives the lease's key: until it is given back the resource
+    /// is held, also once its node is closed or it was removed from there (a dependent of
+    /// System.Reactive's RefCountDisposable). Refused, in this order: `NotHeld` where the key is no held
+    /// resource's, `Leased` where its node is closed or it was removed, so that leases alone hold it,
+    /// `Full`, `NoMemory`. A refusal changes nothing.
+    pub fn lease(&mut self, res: ResKey) -> Result<LeaseKey, Refusal>
+        ensures { AnswersLeaseKey self.old (lease_request self.old res) self.new result }
+    {
+        let key = tree_res_key(res);
+        let cause = self.ground.leasing_cause(key);
+        let wanted = Wanted {
+            events: 2,
+            notes: 0,
+            nodes: 0,
+            resources: 0,
+            hubs: 0,
+            leases: 1,
+        };
+        admit(&mut self.ground, cause, wanted)?;
+        self.ground.promise();
+        let lease = self.ground.write_lease(key);
+        self.ground.settle();
+        Ok(shown_lease_key(lease))
+    }
+
+    /// Gives a lease back; answers the place of its event. At the last one of a resource whose node is
+    /// closed, or that was removed, the resource waits for its release. Refused `NoLease` where the key
+    /// is of no lease that is out. It takes no memory. A refusal changes nothing.
+    pub fn give_back(&mut self, lease: LeaseKey) -> Result<u64, Refusal>
+        ensures { AnswersPlace self.old (give_back_request self.old lease) self.new result }
+    {
+        let key = ground_lease_key(lease);
+        self.ground.promise();
+        if let Some(why) = self.ground.returning_cause(key) {
+            return Err(why);
+        }
+        let place = self.ground.len();
+        self.ground.write_return(key);
+        self.ground.settle();
+        Ok(place)
+    }
+}

@@ -1,0 +1,47 @@
+-- What a tree says of a stored resource, whether it is owned, leased and held, the history says too.
+use Rattle.std.proofs.Common.{◌≡◌, ℕ, zero, suc, ◌==◌, Bool, true, false, List, Some, is_some, refl, sym, ap, ◌∙◌}
+use Rattle.std.specs.Prelude.{nat_lt}
+use Rattle.std.proofs.Math.Bool.{not, ◌&&◌, ◌||◌}
+use Rattle.std.specs.Cmp.{both_ways as same_test}
+use Rattle.std.proofs.lemmas.Bool.{lt-ltb, ne_eqb}
+use Rattle.std.proofs.Common.{◌<◌, arith}
+use Rattle.rx_event.specs.Kept.{Kept}
+use Rattle.rx_resource.specs.declared.Resource.{Ghosts}
+use Rattle.rx_event.specs.declared.event.Event.{Event}
+use Rattle.rx_event.specs.Events.{makes_resource}
+use Rattle.rx_event.specs.Tree.{at, is_open}
+use Rattle.rx_event.specs.Resources.{is_owned as is_owned_in, is_leased, is_held as is_held_in, leases_of}
+use Rattle.rx_event.proofs.Laws.Resources.{held_is}
+use Rattle.rx_slots.specs.declared.Key.{Key}
+use Rattle.rx_slots.specs.Slots.{find}
+use Rattle.rx_tree.specs.declared.node.Stowed.{Stowed}
+use Rattle.rx_tree.specs.Tree.{Tree}
+use Rattle.rx_tree.specs.Resources.{is_owned, is_lent, is_held}
+use Rattle.rx_tree.proofs.Laws.Keys.{some_of}
+use Rattle.rx_ground.specs.Ties.{IsTied, IsStored}
+
+-- some are, where they are not none
+some_are : (n : ℕ) → nat_lt 0 n ≡ not (n == 0)
+some_are zero = refl
+some_are (suc n) = rw (lt-ltb 0 (suc n) (omega arith), ne_eqb (suc n) 0 (λ e. omega arith)) refl
+
+-- leases alone hold it
+abbrev pub is_alone : List Event → ℕ → Bool
+is_alone h r = is_held_in h r && not (is_owned_in h r)
+
+module _ (base : Kept) {T : Type 0} (g : Ghosts T) (h : List Event) (tree : Tree T) (tied : IsTied base g h tree) (key : Key) (s : Stowed T)
+    (found : find tree.resources key ≡ Some s) where
+  is : IsStored base g h tree.nodes key.number s
+  is = tied.stored.each key s found
+
+  pub owned_agrees : is_owned_in h key.number ≡ is_owned tree.nodes s
+  owned_agrees = is.owned ∙ ap (λ b. b && not s.removed) node where
+    node : is_open h s.node.number ≡ is_some (find tree.nodes s.node)
+    node = same_test _ _ is.home (λ some. let f = some_of (find tree.nodes s.node) some in (tied.records.each s.node f.0 f.1).alive)
+
+  pub lent_agrees : is_leased h key.number ≡ is_lent s
+  lent_agrees =
+      ap (λ b. b && nat_lt 0 (leases_of h key.number)) is.made ∙ ap (nat_lt 0) (sym is.lent) ∙ some_are s.leases
+
+  pub held_agrees : is_held_in h key.number ≡ is_held tree.nodes s
+  held_agrees = held_is h key.number ∙ (λ i. owned_agrees i || lent_agrees i)

@@ -1,0 +1,84 @@
+use Rattle.std.proofs.Common.{◌≡◌, ◌∷◌, ◌++◌, [], List, length, is_some, IsSome, Some, refl, sym, ap, subst, ◌∙◌, true, ◌+◌, ◌-◌, slice_get, arith, vec_capacity}
+use Rattle.rx_event.specs.declared.event.Event.{Event}
+use Rattle.rx_event.specs.declared.event.Event.TheVariants.{Lease, Return}
+use Rattle.rx_event.specs.Lawful.{MayFollow}
+use Rattle.rx_slots.specs.declared.Key.{Key}
+use Rattle.rx_slots.specs.Slots.{Slots, find}
+use Rattle.rx_tree.specs.declared.node.Node.{Node}
+use Rattle.rx_tree.specs.declared.node.Stowed.{Stowed}
+use Rattle.rx_tree.specs.declared.node.ResKey.{ResKey}
+use Rattle.rx_tree.specs.Resources.{store_key, one_lease_less}
+use Rattle.rx_tree.proofs.Laws.Keys.{some_of}
+use Rattle.rx_lease.specs.Leases.{lease_key}
+use Rattle.rx_ground.specs.Ties.{IsTied, AreTied, AreLeased, IsLeaseOf}
+use Rattle.rx_ground.proofs.Memory.{written_memory, same_places}
+use Rattle.rx_ground.proofs.Written.{writes_silent}
+use Rattle.rx_ground.proofs.Stored.{stored_returned}
+use Rattle.rx_ground.proofs.Tied.{tied_still, still_there}
+use Rattle.rx_ground.proofs.HeldKept.{held_rewritten, less_held}
+use Rattle.rx_ground.proofs.Leases.{lent_there, leased_less, leased_same, leases_less}
+use Rattle.rx_ground.proofs.Published.{rebased, tied_on_same}
+use Rattle.rx_ground.proofs.base.Ground.write_return.Goals as goal
+
+pub unlend-requires-clause-lent : goal.unlend-requires-clause-lent
+unlend-requires-clause-lent g c κs within =
+    let tied : IsTied c.self.inside.register.base g.R.Resource c.self.inside.register.history c.self.inside.tree = rw (← c.self.view_is) at c.requires.tied.of_tree in
+    let was : AreLeased c.self.inside.register.history c.self.inside.tree.resources c.self.inside.leases = rw (← c.self.view_is) at c.requires.leased in
+    lent_there c.self.inside.register.base g.R.Resource c.self.inside.register.history c.self.inside.tree tied c.args.lease.number c.in-Some.res
+    (was.each (lease_key c.args.lease) c.in-Some.res (sym c.give_back.ensures.value ∙ c.in-Some.is))
+
+pub returns-clause-written : goal.returns-clause-written
+returns-clause-written g c = rw (← c.self.view_is) (writes_silent c.self.inside.register c.write.new.self (Return c.args.lease.number) refl c.write.ensures.base
+    c.write.ensures.events c.write.ensures.pending c.write.ensures.room c.write.ensures.limit c.write.ensures.given c.write.ensures.mail_room)
+
+pub returns-clause-tied : goal.returns-clause-tied
+returns-clause-tied g c =
+    let base = c.self.inside.register.base in
+    let h = c.self.inside.register.history in
+    let old = c.self.inside.tree in
+    let new = c.unlend.new.self in
+    let e : Event = Return c.args.lease.number in
+    let law = c.promise.ensures.lawful in
+    let tied : IsTied base g.R.Resource h old = rw (← c.self.view_is) at c.requires.tied.of_tree in
+    let next : MayFollow base h e = rw (← c.self.view_is) at c.requires.ready.next in
+    let was : AreTied base g.R.Resource h old c.self.inside.hubs = rw (← c.self.view_is) at c.requires.tied in
+    let leased : AreLeased h old.resources c.self.inside.leases = rw (← c.self.view_is) at c.requires.leased in
+    let of = leased.each (lease_key c.args.lease) c.in-Some.res (sym c.give_back.ensures.value ∙ c.in-Some.is) in
+    let x = some_of (find old.resources (store_key c.in-Some.res)) of.stored in
+    let nodes = c.unlend.ensures.nodes in
+    let stored = stored_returned base g.R.Resource h law old new tied.stored c.promise-2.ensures.resources_apart nodes c.args.lease.number (store_key c.in-Some.res) x.0 next of.made x.1 c.unlend.ensures.resources in
+    let still = tied_still base g.R.Resource h e law next old tied new refl refl (λ n. refl) nodes c.unlend.ensures.chain stored in
+    rebased g.R.Resource c.write.ensures.base (tied_on_same g.R.Resource base e law next was c.write.ensures.events refl refl nodes
+    (subst (λ (k : List Event). IsTied base g.R.Resource k new) (sym c.write.ensures.events) still))
+
+pub returns-clause-leased : goal.returns-clause-leased
+returns-clause-leased g c =
+    let base = c.self.inside.register.base in
+    let h = c.self.inside.register.history in
+    let e : Event = Return c.args.lease.number in
+    let old = c.self.inside.tree.resources in
+    let new = c.unlend.new.self.resources in
+    let was : AreLeased h old c.self.inside.leases = rw (← c.self.view_is) at c.requires.leased in
+    let given = c.give_back.ensures in
+    let there = ap is_some (sym given.value ∙ c.in-Some.is) in
+    let less = leased_less h old c.self.inside.leases was base c.promise.ensures.lawful c.promise-3.ensures c.give_back.new.self (lease_key c.args.lease) there given.gone given.kept in
+    let still = leased_same (h ++ e ∷ []) old c.give_back.new.self less new c.give_back.new.self
+    (λ l res is. still_there (store_key c.in-Some.res) c.unlend.ensures.resources (store_key res) is.stored) (λ key. refl) in
+    subst (λ (k : List Event). AreLeased k new c.give_back.new.self) (sym c.write.ensures.events) still
+
+pub returns-clause-kept : goal.returns-clause-kept
+returns-clause-kept g c = rw (← c.self.view_is) (held_rewritten c.self.inside.tree c.unlend.new.self (length c.self.inside.register.history)
+    (store_key c.in-Some.res) one_lease_less c.unlend.ensures.nodes c.unlend.ensures.resources (less_held c.self.inside.tree.nodes))
+
+pub returns-clause-memory : goal.returns-clause-memory
+returns-clause-memory g c =
+    let nodes = c.unlend.ensures.nodes in
+    written_memory (Return c.args.lease.number ∷ []) (returns-clause-written g c)
+    (rw (← c.self.view_is) (ap (λ (s : Slots Node). s.count + s.room) nodes))
+    (rw (← c.self.view_is) (same_places c.self.inside.tree.resources c.unlend.new.self.resources c.unlend.ensures.resources.rest))
+    (rw (← c.self.view_is) (ap (λ (s : Slots Node). s.count + (vec_capacity c.self.inside.closed - s.count)) nodes))
+    (rw (← c.self.view_is) refl) (rw (← c.self.view_is) refl)
+
+pub returns-clause-leases : goal.returns-clause-leases
+returns-clause-leases g c = rw (← c.self.view_is) (leases_less c.self.inside.leases c.give_back.new.self (length c.self.inside.register.history)
+    (lease_key c.args.lease) c.give_back.ensures.gone c.give_back.ensures.kept)

@@ -1,0 +1,114 @@
+-- Lists of slots whose numbers rise, as one comes last and as one leaves.
+use Rattle.std.proofs.Common.{◌≡◌, ◌≢◌, ℕ, zero, suc, ◌+◌, ◌<◌, ◌≤◌, ◌==◌, ◌||◌, ◌&&◌, ◌++◌, cond, Bool, true, false, List, [], ◌∷◌, length, Option, Some, None}
+use Rattle.std.proofs.Common.{is_some, refl, sym, ap, ◌∙◌, inl, inr, ◌⊎◌, arith}
+use Rattle.std.proofs.Math.Bool.{not}
+use Rattle.std.proofs.lemmas.Bool.{cases_Bool, false≢true, both_ways, eqb-true, eq-eqb, and_parts, and_from}
+use Rattle.rx_lists.specs.Lists.{is_in, take_out, head_of}
+use Rattle.rx_lease.specs.Order.{AreRising}
+
+-- who stands on a longer list
+pub is_in-append : (y m : ℕ) (xs : List ℕ) → is_in y (xs ++ m ∷ []) ≡ (is_in y xs || (y == m))
+is_in-append y m [] = or_false (y == m) where
+  or_false : (b : Bool) → (b || false) ≡ b
+  or_false true = refl
+  or_false false = refl
+is_in-append y m (x ∷ xs) = ap (λ b. (y == x) || b) (is_in-append y m xs) ∙ shape (y == x) (is_in y xs) (y == m) where
+  shape : (a b c : Bool) → (a || (b || c)) ≡ ((a || b) || c)
+  shape true b c = refl
+  shape false b c = refl
+
+-- and on one that a number left
+pub is_in-out : (y m : ℕ) (xs : List ℕ) → is_in y (take_out m xs) ≡ (is_in y xs && not (m == y))
+is_in-out y m [] = refl
+is_in-out y m (x ∷ xs) = by_test (is_in-out y m xs) (cases_Bool (m == x)) where
+  absorbs : (a b : Bool) → (a ≡ true → b ≡ true) → (c : Bool) → (c && not b) ≡ ((a || c) && not b)
+  absorbs true true has c = and_none c where
+    and_none : (c : Bool) → (c && false) ≡ false
+    and_none true = refl
+    and_none false = refl
+  absorbs true false has c = absurd (false≢true (has refl))
+  absorbs false b has c = refl
+
+  keeps : (a b : Bool) → (a ≡ true → b ≡ false) → (c : Bool) → (a || (c && not b)) ≡ ((a || c) && not b)
+  keeps true true off c = absurd (false≢true (sym (off refl)))
+  keeps true false off c = refl
+  keeps false b off c = refl
+
+  by_test : is_in y (take_out m xs) ≡ (is_in y xs && not (m == y)) → ((m == x) ≡ true) ⊎ ((m == x) ≡ false) →
+      is_in y (cond (not (m == x)) (x ∷ take_out m xs) (take_out m xs)) ≡ (((y == x) || is_in y xs) && not (m == y))
+  by_test below (inl same) =
+      rw same (below ∙ absorbs (y == x) (m == y) (λ is. eq-eqb m y (eqb-true m x same ∙ sym (eqb-true y x is))) (is_in y xs))
+  by_test below (inr other) =
+      rw other (ap (λ b. (y == x) || b) below ∙ keeps (y == x) (m == y) (λ is. ap (λ k. m == k) (eqb-true y x is) ∙ other) (is_in y xs))
+
+-- the first of a list stands on it, and where there is none nobody does
+pub head_in : (xs : List ℕ) (m : ℕ) → head_of xs ≡ Some m → is_in m xs ≡ true
+head_in [] m is = absurd (false≢true (ap is_some is))
+head_in (x ∷ xs) m is = rw (eq-eqb m x (sym (same_number x m is))) refl where
+  same_number : (a b : ℕ) → Some a ≡ Some b → a ≡ b
+  same_number a b e = cc
+
+pub nobody_in : (xs : List ℕ) → head_of xs ≡ None → (y : ℕ) → is_in y xs ≡ false
+nobody_in [] is y = refl
+nobody_in (x ∷ xs) is y = absurd (false≢true (sym (ap is_some is)))
+
+module _ (f : ℕ → ℕ) where
+  pub rising_append : (m : ℕ) (xs : List ℕ) → AreRising f xs → ((y : ℕ) → is_in y xs ≡ true → f y < f m) → AreRising f (xs ++ m ∷ [])
+  rising_append m [] r below = ((λ y on. absurd (false≢true on)), tt)
+  rising_append m (x ∷ xs) r below =
+      ((λ y on. first y (cases_Bool (is_in y xs)) (sym (is_in-append y m xs) ∙ on)), rising_append m xs r.1 (λ y on. below y (rw on (or_true (y == x))))) where
+        or_true : (b : Bool) → (b || true) ≡ true
+        or_true true = refl
+        or_true false = refl
+
+        last : (y : ℕ) → is_in y xs ≡ false → (is_in y xs || (y == m)) ≡ true → y ≡ m
+        last y off on = eqb-true y m (ap (λ b. b || (y == m)) (sym off) ∙ on)
+
+        first : (y : ℕ) → (is_in y xs ≡ true) ⊎ (is_in y xs ≡ false) → (is_in y xs || (y == m)) ≡ true → f x < f y
+        first y (inl old) on = r.0 y old
+        first y (inr new) on = let same = last y new on in let l = below x (rw (eq-eqb x x refl) refl) in omega (arith, ap f same)
+
+  pub rising_out : (m : ℕ) (xs : List ℕ) → AreRising f xs → AreRising f (take_out m xs)
+  rising_out m [] r = tt
+  rising_out m (x ∷ xs) r = by_test (rising_out m xs r.1) (m == x) where
+    by_test : AreRising f (take_out m xs) → (b : Bool) → AreRising f (cond (not b) (x ∷ take_out m xs) (take_out m xs))
+    by_test below true = below
+    by_test below false = ((λ y on. r.0 y (and_parts (is_in y xs) (not (m == y)) (sym (is_in-out y m xs) ∙ on)).0), below)
+
+  -- the first is least
+  pub first_least : (xs : List ℕ) (m : ℕ) → head_of xs ≡ Some m → AreRising f xs → (y : ℕ) → is_in y xs ≡ true → f m ≤ f y
+  first_least [] m is r y on = absurd (false≢true on)
+  first_least (x ∷ xs) m is r y on = by_test (cases_Bool (y == x)) where
+    same : x ≡ m
+    same = same_number x m is where
+      same_number : (a b : ℕ) → Some a ≡ Some b → a ≡ b
+      same_number a b e = cc
+
+    by_test : ((y == x) ≡ true) ⊎ ((y == x) ≡ false) → f m ≤ f y
+    by_test (inl is_first) = let e = eqb-true y x is_first in omega (arith, ap f same, ap f e)
+    by_test (inr later) = let l = r.0 y (ap (λ b. b || is_in y xs) (sym later) ∙ on) in omega (arith, ap f same)
+
+-- what is read alike of all on a list rises alike
+pub rising_same : (f g : ℕ → ℕ) (xs : List ℕ) → ((y : ℕ) → is_in y xs ≡ true → g y ≡ f y) → AreRising f xs → AreRising g xs
+rising_same f g [] same r = tt
+rising_same f g (x ∷ xs) same r = (
+  (λ y on. let l = r.0 y on in let a = same x (rw (eq-eqb x x refl) refl) in let b = same y (rw on (or_true (y == x))) in omega arith),
+  rising_same f g xs (λ y on. same y (rw on (or_true (y == x)))) r.1,
+) where
+  or_true : (b : Bool) → (b || true) ≡ true
+  or_true true = refl
+  or_true false = refl
+
+-- two on a list that stand for one number are one
+pub rising_apart : (f : ℕ → ℕ) (xs : List ℕ) → AreRising f xs → (a b : ℕ) → is_in a xs ≡ true → is_in b xs ≡ true → f a ≡ f b → a ≡ b
+rising_apart f [] r a b on_a on_b same = absurd (false≢true on_a)
+rising_apart f (x ∷ xs) r a b on_a on_b same =
+    by_tests (λ on_a on_b. rising_apart f xs r.1 a b on_a on_b same) (cases_Bool (a == x)) (cases_Bool (b == x)) where
+      later : (y : ℕ) → (y == x) ≡ false → is_in y (x ∷ xs) ≡ true → is_in y xs ≡ true
+      later y other on = ap (λ c. c || is_in y xs) (sym other) ∙ on
+
+      by_tests : (is_in a xs ≡ true → is_in b xs ≡ true → a ≡ b) → ((a == x) ≡ true) ⊎ ((a == x) ≡ false) → ((b == x) ≡ true) ⊎ ((b == x) ≡ false) → a ≡ b
+      by_tests below (inl p) (inl q) = eqb-true a x p ∙ sym (eqb-true b x q)
+      by_tests below (inl p) (inr q) = absurd (let l = r.0 b (later b q on_b) in let e = ap f (eqb-true a x p) in omega arith)
+      by_tests below (inr p) (inl q) = absurd (let l = r.0 a (later a p on_a) in let e = ap f (eqb-true b x q) in omega arith)
+      by_tests below (inr p) (inr q) = below (later a p on_a) (later b q on_b)

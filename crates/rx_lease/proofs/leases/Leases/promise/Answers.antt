@@ -1,0 +1,6 @@
+use Rattle.std.proofs.Common.{sym}
+use Rattle.rx_lease.proofs.Kept.{order_apart}
+use Rattle.rx_lease.proofs.leases.Leases.promise.Goals as goal
+
+pub returns : goal.returns
+returns c = rw (← c.self.view_is) (order_apart c.self.inside.out c.self.inside.order c.self.invariant)

@@ -1,0 +1,4 @@
+mod Places
+mod TieLemmas
+mod Ringed
+mod RingSteps

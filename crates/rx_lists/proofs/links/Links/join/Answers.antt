@@ -1,0 +1,13 @@
+use Rattle.std.proofs.Common.{ap}
+use Rattle.rx_lists.specs.Rings.{next_of, previous_of}
+use Rattle.rx_lists.specs.Places.{places}
+use Rattle.rx_tree.proofs.Laws.Relinked.{joins_of}
+use Rattle.rx_lists.proofs.TieLemmas.{relinks_both}
+use Rattle.rx_lists.proofs.links.Links.join.Goals as goal
+
+pub returns-clause-joins : goal.returns-clause-joins
+returns-clause-joins c = joins_of places _ _ (next_of c.tie.new.self) (previous_of c.tie.new.self) _ _ c.args.end c.args.place c.link-last.result.previous
+    (ap (λ k. k.previous) c.link-last.ensures) c.tie.ensures.next c.tie.ensures.previous c.tie-2.ensures.next c.tie-2.ensures.previous
+
+pub returns-clause-rest : goal.returns-clause-rest
+returns-clause-rest c = relinks_both _ _ _ c.tie.ensures.rest c.tie-2.ensures.rest

@@ -1,0 +1,19 @@
+use Rattle.std.proofs.Common.{ap, ◌∙◌}
+use Rattle.rx_tree.specs.Rings.{set_step}
+use Rattle.rx_lists.specs.Rings.{next_of, previous_of}
+use Rattle.rx_lists.specs.Places.{places}
+use Rattle.rx_tree.proofs.Laws.Relinked.{leaves_of}
+use Rattle.rx_lists.proofs.TieLemmas.{relinks_both}
+use Rattle.rx_lists.proofs.links.Links.leave.Goals as goal
+
+pub returns-clause-leaves : goal.returns-clause-leaves
+returns-clause-leaves c =
+    let before = ap (λ k. k.previous) c.link-link.ensures in
+    let after = ap (λ k. k.next) c.link-link.ensures in
+    leaves_of places _ _ (next_of c.tie.new.self) (previous_of c.tie.new.self) _ _ c.args.place (record {
+      to = λ q. c.tie.ensures.next q ∙ (λ i. set_step places (before i) (after i) (next_of c.args.self.now) q);
+      back = λ q. c.tie.ensures.previous q ∙ (λ i. set_step places (after i) (before i) (previous_of c.args.self.now) q);
+    }) c.tie-2.ensures.next c.tie-2.ensures.previous
+
+pub returns-clause-rest : goal.returns-clause-rest
+returns-clause-rest c = relinks_both _ _ _ c.tie.ensures.rest c.tie-2.ensures.rest

@@ -1,0 +1,27 @@
+use Rattle.std.proofs.Common.{◌==◌, true≢false, sym, ap, ◌∙◌}
+use Rattle.rx_lists.specs.declared.links.Place.TheVariants.{Member}
+use Rattle.std.proofs.lemmas.Bool.{false_from_ne_true}
+use Rattle.rx_lists.specs.Places.{is_end}
+use Rattle.rx_lists.proofs.Ringed.{not_itself, eq_is, member_is, stands_on, eq_refl}
+use Rattle.rx_lists.proofs.rings.Rings.is_free.Goals as goal
+
+pub returns-in-Member-clause-free : goal.returns-in-Member-clause-free
+returns-in-Member-clause-free c = let s = c.self.inside.links in rw (← c.self.view_is)
+    (λ same e. false_from_ne_true _ (λ i. not_itself s.ends.items s.members.items 0 c.self.invariant e c.args.member i
+    (sym (ap (λ l. l.next) c.link.ensures) ∙ c.in-Member.is ∙ ap (λ k. Member k) (eq_is _ _ same))))
+
+pub returns-in-Member-clause-taken : goal.returns-in-Member-clause-taken
+returns-in-Member-clause-taken c = let s = c.self.inside.links in rw (← c.self.view_is)
+    (λ e i. false_from_ne_true _ (λ same. not_itself s.ends.items s.members.items 0 c.self.invariant e c.args.member i
+    (sym (ap (λ l. l.next) c.link.ensures) ∙ c.in-Member.is ∙ ap (λ k. Member k) (eq_is _ _ same))))
+
+pub returns-in-Member-clause-stands : goal.returns-in-Member-clause-stands
+returns-in-Member-clause-stands c = let s = c.self.inside.links in rw (← c.self.view_is)
+    (λ other. stands_on s.ends.items s.members.items 0 c.self.invariant c.args.member
+    (λ loop. true≢false (sym (eq_refl c.args.member) ∙ ap (λ n. n == c.args.member)
+    (member_is _ _ (sym loop ∙ sym (ap (λ l. l.next) c.link.ensures) ∙ c.in-Member.is)) ∙ other)))
+
+pub returns-in-End-clause-stands : goal.returns-in-End-clause-stands
+returns-in-End-clause-stands c = let s = c.self.inside.links in rw (← c.self.view_is)
+    (λ other. stands_on s.ends.items s.members.items 0 c.self.invariant c.args.member
+    (λ loop. true≢false (ap is_end (sym (sym (ap (λ l. l.next) c.link.ensures) ∙ c.in-End.is) ∙ loop))))
