@@ -1,0 +1,11 @@
+mod Ranges
+mod Prefixes
+mod Turning
+mod Shutting
+mod Lining
+mod Barring
+mod Listing
+mod Choosing
+mod Leveling
+mod Leaving
+mod Placing

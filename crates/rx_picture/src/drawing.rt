@@ -1,0 +1,80 @@
+//! What is drawn of a history: rows, and where they stand.
+
+ghost use Rattle.std.specs.Prelude.{◌≡◌, IfOk, true, length, replicate};
+ghost use Rattle.rx_picture.specs.Choice.{AreMarks};
+ghost use Rattle.rx_picture.specs.Drawn.{IsDrawing, is_shown, is_placed};
+ghost use Rattle.rx_picture.specs.Tables.{AreTables};
+
+use crate::choice::choose;
+use crate::columns::columns_of;
+use crate::levels::levels_of;
+use crate::row::Row;
+use crate::rows::rows_of;
+use crate::tables::{Tables, drawn_marks, left_marks, tables_of};
+use rx_event::Event;
+use std::alloc::{AllocError, Global};
+
+/// How many rows are shown at most. What leaks comes first, by rising number, then the others.
+const MOST_ROWS: usize = 200;
+
+/// How many places are shown at most. Those at which a shown row begins come first, by rising
+/// number, then the others.
+const MOST_PLACES: usize = 2000;
+
+/// What is drawn of a history.
+#[derive(Drop)]
+pub struct Drawing {
+    /// The rows that are shown, by rising number.
+    pub rows: Vec<Row>,
+    /// By number: how many rows are shown above its own.
+    pub lanes: Vec<usize>,
+    /// By place, and for the end of the history: how many places are shown before it.
+    pub columns: Vec<usize>,
+    /// By number of a node: how many nodes stand above it, and one.
+    pub levels: Vec<usize>,
+}
+
+/// So many marks, all of them set.
+fn all_marks(alloc: Global, size: usize) -> Result<Vec<bool>, AllocError>
+    ensures { IfOk result (λ v. v.items ≡ replicate size true) }
+{
+    Ok(vec![in alloc; true; size]?)
+}
+
+/// Marks the rows that are shown.
+fn shown_marks(alloc: Global, events: &[Event], tables: &Tables) -> Result<Vec<bool>, AllocError>
+    requires { AreTables events.now tables.now }
+    ensures { IfOk result (λ v. AreMarks v.items (length events.now) (is_shown events.now)) }
+{
+    let left = left_marks(alloc, events, tables)?;
+    let drawn = drawn_marks(alloc, events)?;
+    choose(alloc, &left, &drawn, MOST_ROWS)
+}
+
+/// Marks the places that are shown.
+fn placed_marks(alloc: Global, events: &[Event], shown: &[bool]) -> Result<Vec<bool>, AllocError>
+    requires { AreMarks shown.now (length events.now) (is_shown events.now) }
+    ensures { IfOk result (λ v. AreMarks v.items (length events.now) (is_placed events.now)) }
+{
+    let every = all_marks(alloc, events.len())?;
+    choose(alloc, shown, &every, MOST_PLACES)
+}
+
+/// What is drawn of the events, which need not be lawful. The error comes where memory is refused.
+pub fn draw(alloc: Global, events: &[Event]) -> Result<Drawing, AllocError>
+    ensures { IfOk result (λ d. IsDrawing events.now d) }
+{
+    let tables = tables_of(alloc, events)?;
+    let shown = shown_marks(alloc, events, &tables)?;
+    let placed = placed_marks(alloc, events, &shown)?;
+    let rows = rows_of(alloc, events, &tables, &shown)?;
+    let lanes = columns_of(alloc, &shown)?;
+    let columns = columns_of(alloc, &placed)?;
+    let levels = levels_of(alloc, events)?;
+    Ok(Drawing {
+        rows,
+        lanes,
+        columns,
+        levels,
+    })
+}
