@@ -37,7 +37,7 @@
 //!   that the code chose ([`courses_are_reported_alike`]).
 //! - [`close`] leaves nothing open, held or waiting, and takes no memory.
 //! - `run` closes its book in every outcome and before the first byte is written; that it does so where
-//!   it answers an error is neither proved nor tested yet. It is tested that `Memory` is given only where memory
+//!   it answers an error is tested and not proved. So it is that `Memory` is given only where memory
 //!   was really refused, and that the faults of a report are those that the resources answered: proved
 //!   is that there are at most as many as accepted resources.
 //! - How often a resource was used is proved; that it was used on the word of its step, which no history

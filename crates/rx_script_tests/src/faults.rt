@@ -1,7 +1,7 @@
 //! Streams that fail: the fault is named, and everything accepted is released once.
 
 use super::same::same;
-use super::sights::{Failing, Narrow, stock_of};
+use super::sights::{Failing, Narrow, are_released_once, stock_by, stock_of, trackers};
 use rx_resource::{Resource, Tracker};
 use rx_script::{Form, ScriptError, Watched, run};
 use std::alloc::Global;
@@ -24,17 +24,17 @@ totals nodes=2 open=1 accepted=4 held=1 waiting=3 taken=0
 closed 4 faults 1
 ";
 
-// A run into a writer that has so much room: its outcome, what was written, and how many
-// resources were released.
+// A run into a writer that has so much room: its outcome, what was written, and whether each of the
+// four resources that it accepts was released once.
 #[derive(Drop)]
 struct Narrowed {
     outcome: Result<(), ScriptError>,
     taken: Vec<u8>,
-    released: u32,
+    is_closed: bool,
 }
 
 fn run_into(alloc: Global, room: usize, fails: bool) -> Result<Narrowed, Fail> {
-    let tracker = Tracker::new(alloc)?;
+    let trackers = trackers(alloc, 5)?;
     let mut input = SCENARIO.as_bytes();
     let mut output = Narrow {
         taken: Vec::new(alloc),
@@ -45,13 +45,13 @@ fn run_into(alloc: Global, room: usize, fails: bool) -> Result<Narrowed, Fail> {
         alloc,
         &mut Watched::new(&mut input),
         &mut Watched::new(&mut output),
-        stock_of(alloc, &tracker, &[0, 1, 2, 3, 4])?,
+        stock_by(alloc, &trackers)?,
         Form::Report,
     );
     Ok(Narrowed {
         outcome,
         taken: output.taken,
-        released: tracker.released(),
+        is_closed: are_released_once(&trackers, 4),
     })
 }
 
@@ -59,9 +59,8 @@ fn run_into(alloc: Global, room: usize, fails: bool) -> Result<Narrowed, Fail> {
 fn a_writer_that_takes_a_few_bytes_at_a_time_gets_all(rt: HostRuntime) -> Result<(), Fail> {
     for fails in [true, false] {
         let whole = run_into(rt.alloc(), 1000, fails)?;
-        assert!(rt; whole.outcome.is_ok());
+        assert!(rt; whole.outcome.is_ok() && whole.is_closed);
         same(&rt, whole.taken.as_slice(), REPORT.as_bytes());
-        same(&rt, whole.released, 4);
     }
     Ok(())
 }
@@ -73,7 +72,7 @@ fn a_writer_that_stops_has_a_front_of_the_report(rt: HostRuntime) -> Result<(), 
             let stopped = run_into(rt.alloc(), room, fails)?;
             assert!(rt; matches!(stopped.outcome, Err(ScriptError::Write)));
             same(&rt, stopped.taken.as_slice(), &REPORT.as_bytes()[..room]);
-            same(&rt, stopped.released, 4);
+            assert!(rt; stopped.is_closed);
         }
     }
     Ok(())
@@ -82,7 +81,7 @@ fn a_writer_that_stops_has_a_front_of_the_report(rt: HostRuntime) -> Result<(), 
 #[test]
 fn a_reader_that_fails_is_a_read_fault(rt: HostRuntime) -> Result<(), Fail> {
     for fails_at in [0, 1, 5] {
-        let tracker = Tracker::new(rt.alloc())?;
+        let trackers = trackers(rt.alloc(), 5)?;
         let mut input = Failing {
             bytes: SCENARIO.as_bytes(),
             reads: 0,
@@ -93,13 +92,13 @@ fn a_reader_that_fails_is_a_read_fault(rt: HostRuntime) -> Result<(), Fail> {
             rt.alloc(),
             &mut Watched::new(&mut input),
             &mut Watched::new(&mut output),
-            stock_of(rt.alloc(), &tracker, &[0, 1, 2, 3, 4])?,
+            stock_by(rt.alloc(), &trackers)?,
             Form::Report,
         );
         assert!(rt; matches!(outcome, Err(ScriptError::Read)));
         assert!(rt; output.is_empty());
         same(&rt, input.reads, fails_at);
-        same(&rt, tracker.released(), 0);
+        assert!(rt; are_released_once(&trackers, 0));
     }
     Ok(())
 }

@@ -1,25 +1,36 @@
-//! Memory refused, at many of the places where a run asks for some, and a closing that takes none.
+//! Memory refused, at many of the places where a run asks for some, before and after its resources are
+//! accepted; and a closing that takes none.
 
 use super::same::same;
-use super::sights::stock_of;
+use super::sights::{are_released_once, heard_count, stock_by, trackers};
 use rx_book::{At, Book};
 use rx_event::Kind;
 use rx_resource::{Resource, Tracked, Tracker};
-use rx_scarce::{MOST_BLOCKS, Scarce};
+use rx_scarce::Scarce;
 use rx_script::{Closed, Form, ScriptError, Watched, close, run};
-use std::alloc::Global;
+use std::alloc::{AllocError, Global};
 use std::test::Fail;
 
-// More runs than are refused.
-const RUNS: u32 = 2000;
+// What is left in bytes: more than a run takes.
+const ROOM: usize = 100_000;
 
-const SCENARIO: &str = "{\"steps\":[
-    {\"do\":\"using\",\"name\":\"a\",\"place\":\"root\",\"res\":\"r\"},
-    {\"do\":\"open\",\"name\":\"l\",\"place\":\"source\",\"of\":\"a\",\"kind\":\"leaf\"},
-    {\"do\":\"hold\",\"node\":\"l\",\"res\":\"s\"},
+// How many bytes more each run has than the one before it.
+const STEP: usize = 64;
+
+// So many runs that the last of them has all of the room.
+const RUNS: usize = 1564;
+
+// Each resource hears a word at the next step after the one that hands it in. Most steps are handed to
+// the agenda only once all three have heard theirs, and that takes more memory than the reading does.
+const SCENARIO: &str = "{\"steps\":[{\"do\":\"using\",\"name\":\"a\",\"place\":\"root\",\"res\":\"r\",\"then\":[
+    {\"do\":\"apply\",\"res\":\"r\",\"word\":8},
+    {\"do\":\"hold\",\"node\":\"a\",\"res\":\"s\"},
     {\"do\":\"apply\",\"res\":\"s\",\"word\":9},
-    {\"do\":\"next\",\"node\":\"l\",\"value\":5},
+    {\"do\":\"using\",\"name\":\"b\",\"place\":\"root\",\"res\":\"t\"},
+    {\"do\":\"apply\",\"res\":\"t\",\"word\":10,\"then\":[
     {\"do\":\"next\",\"node\":\"x\",\"value\":5},
+    {\"do\":\"open\",\"name\":\"l\",\"place\":\"source\",\"of\":\"a\",\"kind\":\"leaf\"},
+    {\"do\":\"next\",\"node\":\"l\",\"value\":5},
     {\"do\":\"remove\",\"res\":\"s\"},
     {\"do\":\"end\",\"node\":\"l\"},
     {\"do\":\"open\",\"name\":\"f\",\"place\":\"root\",\"kind\":\"flat\"},
@@ -38,36 +49,71 @@ const SCENARIO: &str = "{\"steps\":[
     {\"do\":\"next\",\"node\":\"e\",\"value\":7},
     {\"do\":\"hub\",\"name\":\"m\",\"mode\":\"manual\"},
     {\"do\":\"connect\",\"hub\":\"m\",\"name\":\"d\"},
-    {\"do\":\"using\",\"name\":\"b\",\"place\":\"root\",\"res\":\"t\",\"then\":[
-        {\"label\":\"x\",\"after\":5,\"do\":\"dispose\",\"node\":\"b\"},
-        {\"do\":\"cancel\",\"step\":\"x\"}]}]}";
+    {\"label\":\"x\",\"after\":5,\"do\":\"dispose\",\"node\":\"b\"},
+    {\"do\":\"cancel\",\"step\":\"x\"}]}]}]}";
 
-const REPORT: &str = "refused 5 NoName
+const REPORT: &str = "refused 6 NoName
 node a closed: next=5 completed
+node b open:
 node f closed: project=1 project=2 project=3 error=4
 node p closed: error=6
 node o open: next=7
-node b open:
-res r tag=0 uses=0 waiting
+res r tag=0 uses=1 waiting
 res s tag=1 uses=1 waiting
-res t tag=2 uses=0 held
+res t tag=2 uses=1 held
 totals nodes=11 open=5 accepted=3 held=1 waiting=2 taken=0
 closed 3 faults 0
 ";
 
-#[test]
-fn a_run_without_memory_writes_nothing_and_keeps_nothing(rt: HostRuntime) -> Result<(), Fail> {
-    let mut output: Vec<u8> = Vec::with_capacity(rt.alloc(), 4096)?;
-    let mut stocks: Vec<Vec<Tracked>> = Vec::new(rt.alloc());
-    let tracker = Tracker::new(rt.alloc())?;
+// Resources for a run, and what tells of each.
+#[derive(Drop)]
+struct Course {
+    trackers: Vec<Tracker>,
+    stock: Vec<Tracked>,
+}
+
+// What so many runs need, made while there is memory.
+fn courses(alloc: Global) -> Result<Vec<Course>, Fail> {
+    let mut courses = Vec::new(alloc);
     for _ in 0..RUNS {
-        stocks.push(stock_of(rt.alloc(), &tracker, &[0, 1, 2])?)?;
+        let trackers = trackers(alloc, 3)?;
+        let stock = stock_by(alloc, &trackers)?;
+        courses.push(Course { trackers, stock })?;
     }
-    let mut refused = 0u32;
-    let mut scarce = Scarce::new(rt.alloc())?;
-    for _ in 0..RUNS {
-        let Some(stock) = stocks.pop() else { break };
-        let before = tracker.released();
+    Ok(courses)
+}
+
+// How many of the accepted resources heard a word, where each accepted one was released once: beside
+// those there may be one that was accepted last. None where another one was released, or one was not.
+fn closed_count(trackers: &[Tracker]) -> Option<usize> {
+    let heard = heard_count(trackers);
+    if are_released_once(trackers, heard) || are_released_once(trackers, heard.saturating_add(1)) {
+        Some(heard)
+    } else {
+        None
+    }
+}
+
+// A block that leaves so many steps of the room. Given back, it joins what lies behind it.
+fn rest_of_room(alloc: Global, steps: usize) -> Result<Vec<u8>, AllocError> {
+    Vec::with_capacity(alloc, ROOM.saturating_sub(steps.saturating_mul(STEP)))
+}
+
+#[test]
+fn a_run_without_memory_writes_nothing_and_releases_what_it_accepted(
+    rt: HostRuntime,
+) -> Result<(), Fail> {
+    let mut output: Vec<u8> = Vec::with_capacity(rt.alloc(), 4096)?;
+    let mut courses = courses(rt.alloc())?;
+    let mut refused = [0u32; 4];
+    let room = rest_of_room(rt.alloc(), 0)?;
+    let _scarce = Scarce::new(rt.alloc())?;
+    drop(room);
+    for steps in 0..RUNS {
+        let Some(Course { trackers, stock }) = courses.pop() else {
+            break;
+        };
+        let _rest = rest_of_room(rt.alloc(), steps)?;
         let mut input = SCENARIO.as_bytes();
         let outcome = run(
             rt.alloc(),
@@ -77,17 +123,18 @@ fn a_run_without_memory_writes_nothing_and_keeps_nothing(rt: HostRuntime) -> Res
             Form::Report,
         );
         if outcome.is_ok() {
+            assert!(rt; are_released_once(&trackers, 3));
             break;
         }
         assert!(rt; matches!(outcome, Err(ScriptError::Memory)), "{outcome:?}");
         assert!(rt; output.is_empty());
-        assert!(rt; tracker.released().wrapping_sub(before) <= 3);
-        refused = refused.wrapping_add(1);
-        assert!(rt; scarce.give_back_one());
+        let Some(heard) = closed_count(&trackers) else {
+            return Err(Fail::from("an accepted resource was not released once"));
+        };
+        refused[heard.min(3)] = refused[heard.min(3)].wrapping_add(1);
     }
     same(&rt, output.as_slice(), REPORT.as_bytes());
-    assert!(rt; refused > 3, "refused {refused}");
-    assert!(rt; scarce.block_count() < MOST_BLOCKS);
+    assert!(rt; refused[0] > 0 && refused[3] > 0, "{refused:?}");
     Ok(())
 }
 

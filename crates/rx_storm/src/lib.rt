@@ -22,9 +22,9 @@
 //! - With `Memory` or `Thread` nothing was written; with `Write` a front of the text may have been.
 //! - A feeding thread's source gives the numbers from 0 up to its count, in order, and then completes.
 //! - That threads are started and nothing that they gave back is left out, that as many resources were
-//!   released as were taken, that seats and receipts agree with the book, and that releases run side by
-//!   side is tested and not proved; so it is that `Memory` and `Thread` come only where memory or a thread
-//!   was really refused. That the book is closed also where an error is answered, no test tells yet.
+//!   released as were taken, that seats and receipts agree with the book, that releases run side by side,
+//!   and that the book is closed also where an error is answered is tested and not proved; so it is that
+//!   `Memory` and `Thread` come only where memory or a thread was really refused.
 //! - How long a storm takes, and in which order its threads get the lock, nothing says.
 #![tactic(auto)]
 

@@ -1,4 +1,5 @@
-//! Storms that were run: their figures, faults of writer, memory and threads, and releases at one time.
+//! Storms that were run: their figures, faults of writer, memory and threads, releases at one time, a
+//! receipt that is false, and that the book is closed in each outcome.
 
 ghost use Rattle.std.specs.Prelude.{◌≡◌, vec_len, IfOk};
 ghost use Rattle.std.specs.List.{All};
@@ -7,14 +8,15 @@ ghost use Rattle.rx_ledger.specs.Shares.{Opens};
 
 use super::same::same;
 use rx_audit::{Verdict, audit};
-use rx_book::Book;
+use rx_book::{At, Book};
+use rx_cli::weathered;
 use rx_crew::{Desk, Gate, finish};
 use rx_device::Watched;
 use rx_event::Event;
-use rx_ledger::PARTS;
-use rx_resource::Sample;
+use rx_ledger::{PARTS, Receipt};
+use rx_resource::{Sample, Tracked, Tracker};
 use rx_scarce::Scarce;
-use rx_storm::{StormFault, run_threads, storm};
+use rx_storm::{Gathered, Lack, StormFault, end_storm, run_threads, storm};
 use std::alloc::{AllocError, Global};
 use std::io::Write;
 use std::marker::Brand;
@@ -72,15 +74,16 @@ fn a_storm_tells_its_figures(rt: HostRuntime) -> Result<(), Fail> {
     Ok(())
 }
 
-// Takes ten bytes and fails then.
+// Takes so many bytes and fails then.
 #[derive(Drop)]
 struct Narrow {
     taken: Vec<u8>,
+    room: usize,
 }
 
 impl Write for Narrow {
     fn write(&mut self, buf: &[u8]) -> io::Result<usize> {
-        let end = buf.len().min(10 - self.taken.len().min(10));
+        let end = buf.len().min(self.room.saturating_sub(self.taken.len()));
         if end == 0 {
             return Err(io::Error::from(io::ErrorKind::Other));
         }
@@ -97,6 +100,7 @@ impl Write for Narrow {
 fn a_writer_that_fails_is_a_write_fault(rt: HostRuntime) -> Result<(), Fail> {
     let mut narrow = Narrow {
         taken: Vec::new(rt.alloc()),
+        room: 10,
     };
     let told = usual(&rt, rt.alloc(), &Open, &mut narrow);
     same(&rt, told, Err(StormFault::Write));
@@ -207,6 +211,124 @@ fn the_audit_of_a_storm_is_lawful(rt: HostRuntime) -> Result<(), Fail> {
             },
         ) => assert!(rt; live.is_empty() && held.is_empty() && waiting.is_empty()),
         _ => return Err(Fail::from("the history is not lawful")),
+    }
+    Ok(())
+}
+
+// A storm of twenty items whose receipts get one more, of an event that is not in the history.
+fn end_with_a_false_receipt<
+    I: Ledger + Send + Sync,
+    A: Ledger + Send + Sync,
+    K: Ledger + Send + Sync,
+    T: Threads + Wait + Sync,
+>(
+    rt: &T,
+    alloc: Global,
+    blanks: (Blank, Blank, Blank),
+    output: &mut Vec<u8>,
+) -> Result<Result<bool, StormFault>, Fail>
+    requires items { Opens I.name I.parts blanks.0.name blanks.0.parts }
+    requires accepted { Opens A.name A.parts blanks.1.name blanks.1.parts }
+    requires taken { Opens K.name K.parts blanks.2.name blanks.2.parts }
+{
+    let book = Book::new(alloc, 1000);
+    let (desk, first) = Desk::<Sample, I, A, K>::new(book, blanks.0, blanks.1, blanks.2);
+    let stock = four_samples(alloc)?;
+    let mut gathered = run_threads(rt, alloc, &desk, first, stock, 3, 20, &Open);
+    gathered.receipts.push(Receipt {
+        place: 0,
+        event: Event::Take(0),
+    })?;
+    Ok(end_storm(alloc, desk, gathered, &mut Watched::new(output)))
+}
+
+#[test]
+fn a_false_receipt_is_a_mismatch_of_status_5(rt: HostRuntime) -> Result<(), Fail> {
+    let blanks = (Blank::new(PARTS), Blank::new(PARTS), Blank::new(PARTS));
+    let mut output = Vec::new(rt.alloc());
+    let outcome = end_with_a_false_receipt::<Brand, Brand, Brand, _>(
+        &rt,
+        rt.alloc(),
+        blanks,
+        &mut output,
+    )?;
+    same(&rt, outcome, Ok(false));
+    let figures =
+        "accepted 4\ntaken 4\nreleased 4\nfaults 1\nheld 0\nwaiting 0\nnotes 84\nevents 104\n";
+    same(&rt, output.as_slice(), figures.as_bytes());
+    let mut errors = Vec::new(rt.alloc());
+    let status = weathered(&mut Watched::new(&mut errors), outcome);
+    same(&rt, status, 5);
+    same(&rt, errors.as_slice(), b"rxbook: mismatch\n".as_slice());
+    Ok(())
+}
+
+// What is told of a storm in whose book a root is left open.
+const ONE_HELD: &str =
+    "accepted 1\ntaken 0\nreleased 0\nfaults 0\nheld 1\nwaiting 0\nnotes 0\nevents 2\n";
+
+// The end of a storm in whose book a root is left open, with this resource; its threads lacked this.
+fn end_with_an_open_root<I: Ledger, A: Ledger, K: Ledger, W: Write>(
+    rt: &impl Wait,
+    alloc: Global,
+    blanks: (Blank, Blank, Blank),
+    resource: Tracked,
+    fault: Option<Lack>,
+    writer: &mut W,
+) -> Result<Result<bool, StormFault>, Fail>
+    requires items { Opens I.name I.parts blanks.0.name blanks.0.parts }
+    requires accepted { Opens A.name A.parts blanks.1.name blanks.1.parts }
+    requires taken { Opens K.name K.parts blanks.2.name blanks.2.parts }
+{
+    let book = Book::new(alloc, 1000);
+    let (desk, mut first) = Desk::<Tracked, I, A, K>::new(book, blanks.0, blanks.1, blanks.2);
+    let opened = desk
+        .floor
+        .lock(rt)
+        .open_using(&mut first, At::Root, resource);
+    if opened.is_err() {
+        return Err(Fail::from("a using node is refused"));
+    }
+    let mut seats = Vec::new(alloc);
+    seats.push(first)?;
+    let gathered = Gathered {
+        seats,
+        receipts: Vec::new(alloc),
+        released: 0,
+        faults: 0,
+        fault,
+    };
+    Ok(end_storm(alloc, desk, gathered, &mut Watched::new(writer)))
+}
+
+#[test]
+fn the_book_of_a_storm_is_closed_in_each_outcome(rt: HostRuntime) -> Result<(), Fail> {
+    let figures = ONE_HELD.as_bytes();
+    let cases = [
+        (None, 100, Ok(true)),
+        (None, 10, Err(StormFault::Write)),
+        (Some(Lack::Memory), 0, Err(StormFault::Memory)),
+        (Some(Lack::Thread), 0, Err(StormFault::Thread)),
+    ];
+    for (fault, room, outcome) in cases {
+        let tracker = Tracker::new(rt.alloc())?;
+        let blanks = (Blank::new(PARTS), Blank::new(PARTS), Blank::new(PARTS));
+        let mut narrow = Narrow {
+            taken: Vec::new(rt.alloc()),
+            room,
+        };
+        let ended = end_with_an_open_root::<Brand, Brand, Brand, _>(
+            &rt,
+            rt.alloc(),
+            blanks,
+            tracker.resource(7, None)?,
+            fault,
+            &mut narrow,
+        )?;
+        same(&rt, ended, outcome);
+        same(&rt, (tracker.released(), tracker.dropped()), (1, 1));
+        let written = figures.len().min(room);
+        same(&rt, narrow.taken.as_slice(), &figures[..written]);
     }
     Ok(())
 }
