@@ -1,6 +1,7 @@
 //! What is wrong with a dump: which event is none, and which of its elements.
 
-use crate::wanted::{Told, Wanted, shown};
+use crate::walk::{Stop, Walk, tell};
+use crate::wanted::{Wanted, shown};
 use crate::words::{ENDS, EVENTS, KINDS, MODES, PLACES};
 use serde_json::Value;
 use std::alloc::Global;
@@ -28,33 +29,32 @@ fn is_word(event: &Value, place: usize, word: &str) -> bool {
 }
 
 // What is wrong with the element at a place.
-fn element_fault(alloc: Global, event: &Value, place: usize, wanted: Wanted) -> Told {
+fn element_fault(alloc: Global, event: &Value, place: usize, wanted: Wanted) -> Walk {
     let Some(element) = event.get(place) else {
         let wanted = wanted.described(alloc)?;
-        return Ok(Some(format!(in alloc; ", element {place}: missing; {wanted} is expected")?));
+        return tell(format!(in alloc; ", element {place}: missing; {wanted} is expected"));
     };
-    match wanted.misfit(alloc, element)? {
-        Some(told) => Ok(Some(format!(in alloc; ", element {place}: {told}")?)),
-        None => Ok(None),
+    if wanted.fits(element) {
+        return Ok(());
     }
+    let told = wanted.misfit(alloc, element)?;
+    tell(format!(in alloc; ", element {place}: {told}"))
 }
 
 // What is wrong with an event that is to have just these elements.
-fn elements_fault(alloc: Global, event: &Value, wanted: &[Wanted]) -> Told {
+fn elements_fault(alloc: Global, event: &Value, wanted: &[Wanted]) -> Walk {
     for (place, part) in wanted.iter().enumerate() {
-        if let Some(told) = element_fault(alloc, event, place, *part)? {
-            return Ok(Some(told));
-        }
+        element_fault(alloc, event, place, *part)?;
     }
     let most = wanted.len();
     if event.get(most).is_none() {
-        return Ok(None);
+        return Ok(());
     }
-    Ok(Some(format!(in alloc; ", element {most}: one too many; the event has {most} elements")?))
+    tell(format!(in alloc; ", element {most}: one too many; the event has {most} elements"))
 }
 
 // What is wrong with the opening of a node.
-fn open_fault(alloc: Global, event: &Value) -> Told {
+fn open_fault(alloc: Global, event: &Value) -> Walk {
     if is_word(event, 1, "root") {
         if is_word(event, 2, "sub") {
             return elements_fault(alloc, event, &[EVENT, PLACE, KIND, NUMBER]);
@@ -68,7 +68,7 @@ fn open_fault(alloc: Global, event: &Value) -> Told {
 }
 
 // What is wrong with the end of a node.
-fn end_fault(alloc: Global, event: &Value) -> Told {
+fn end_fault(alloc: Global, event: &Value) -> Walk {
     if is_word(event, 2, "error") {
         return elements_fault(alloc, event, &[EVENT, NUMBER, END, CODE]);
     }
@@ -76,10 +76,10 @@ fn end_fault(alloc: Global, event: &Value) -> Told {
 }
 
 // What is wrong with an event.
-fn event_fault(alloc: Global, event: &Value) -> Told {
+fn event_fault(alloc: Global, event: &Value) -> Walk {
     if !event.is_array() {
         let shown = shown(alloc, event)?;
-        return Ok(Some(format!(in alloc; ": an event is an array, and this is {shown}")?));
+        return tell(format!(in alloc; ": an event is an array, and this is {shown}"));
     }
     match event.get(0usize).and_then(Value::as_str).unwrap_or("") {
         "open" => open_fault(alloc, event),
@@ -94,15 +94,16 @@ fn event_fault(alloc: Global, event: &Value) -> Told {
     }
 }
 
-/// What is wrong with an array that is no dump; None where nothing was found.
-pub fn dump_fault(alloc: Global, dump: &Value) -> Told {
+/// What is wrong with an array that is no dump.
+pub fn dump_fault(alloc: Global, dump: &Value) -> Walk {
     let Some(events) = dump.as_array() else {
-        return Ok(None);
+        return Ok(());
     };
     for (place, event) in events.iter().enumerate() {
-        if let Some(told) = event_fault(alloc, event)? {
-            return Ok(Some(format!(in alloc; "event {place}{told}")?));
+        match event_fault(alloc, event) {
+            Err(Stop::Told(told)) => return tell(format!(in alloc; "event {place}{told}")),
+            walk => walk?,
         }
     }
-    Ok(None)
+    Ok(())
 }

@@ -10,7 +10,7 @@ use crate::forced::forced_after;
 use crate::past::Past;
 use crate::rules::broken_rule;
 use crate::scenario::scenario_fault;
-use crate::wanted::Told;
+use crate::walk::{Walk, told_by};
 use rx_audit::{Verdict, audit};
 use rx_device::{MOST_BYTES, ShapeError};
 use rx_dump::{history_of, push_dump};
@@ -19,9 +19,12 @@ use rx_scenario::scenario_of;
 use serde_json::{Error, Value};
 use std::alloc::{AllocError, Global};
 
-// The sentence, or this one where there is none.
-fn or_else(alloc: Global, told: Option<String>, other: &str) -> Result<String, AllocError> {
-    match told {
+/// A sentence, where there is something to say.
+type Told = Result<Option<String>, AllocError>;
+
+// The sentence that was told, or this one where none was.
+fn or_else(alloc: Global, walk: Walk, other: &str) -> Result<String, AllocError> {
+    match told_by(walk)? {
         Some(told) => Ok(told),
         None => String::from_str(alloc, other),
     }
@@ -50,14 +53,14 @@ fn event_text(alloc: Global, event: Event) -> Result<String, AllocError> {
     String::from_str(alloc, inner)
 }
 
-// What is said of a history after which the rules force something.
-fn force(alloc: Global, history: &[Event]) -> Result<String, AllocError> {
+// What is said of a history after which the rules force something, at this moment.
+fn force(alloc: Global, moment: &str, history: &[Event]) -> Result<String, AllocError> {
     match forced_after(alloc, history)? {
         Some(event) => {
             let shown = event_text(alloc, event)?;
-            format!(in alloc; "the rules force another event first, as {shown}")
+            format!(in alloc; "{moment} the rules force another event, as {shown}")
         }
-        None => String::from_str(alloc, "the rules force another event first"),
+        None => format!(in alloc; "{moment} the rules force another event"),
     }
 }
 
@@ -82,11 +85,11 @@ fn reason(
             };
             or_else(
                 alloc,
-                broken_rule(alloc, past, event)?,
+                broken_rule(alloc, past, event),
                 "it may not follow the events before it",
             )
         }
-        _ => force(alloc, front),
+        _ => force(alloc, "before it", front),
     }
 }
 
@@ -104,12 +107,6 @@ fn unlawful(alloc: Global, history: &[Event], place: u64) -> Result<String, Allo
     format!(in alloc; "event {place}, {shown}: {reason}")
 }
 
-// What is said of a history that is in order and not settled.
-fn unsettled(alloc: Global, history: &[Event]) -> Result<String, AllocError> {
-    let told = force(alloc, history)?;
-    format!(in alloc; "at the end: {told}")
-}
-
 // What the verdict on a history leaves to say.
 fn verdict_told(alloc: Global, history: &[Event], verdict: &Verdict) -> Told
     ensures { IfOk result (λ told. is_none told ≡ is_lawful verdict.now) }
@@ -117,7 +114,7 @@ fn verdict_told(alloc: Global, history: &[Event], verdict: &Verdict) -> Told
     match verdict {
         Verdict::Lawful { .. } => Ok(None),
         Verdict::Unlawful { place } => Ok(Some(unlawful(alloc, history, *place)?)),
-        Verdict::Unsettled => Ok(Some(unsettled(alloc, history)?)),
+        Verdict::Unsettled => Ok(Some(force(alloc, "at the end", history)?)),
     }
 }
 
@@ -129,8 +126,8 @@ fn explain_dump(alloc: Global, value: &Value) -> Told
         Ok(history) => history,
         Err(ShapeError::Memory) => return Err(AllocError),
         Err(ShapeError::Shape) => {
-            let told = dump_fault(alloc, value)?;
-            return Ok(Some(or_else(alloc, told, "the input is no dump")?));
+            let walk = dump_fault(alloc, value);
+            return Ok(Some(or_else(alloc, walk, "the input is no dump")?));
         }
     };
     match audit(alloc, history.as_slice()) {
@@ -147,8 +144,8 @@ fn explain_scenario(alloc: Global, value: &Value) -> Told
         Ok(_scenario) => Ok(None),
         Err(ShapeError::Memory) => Err(AllocError),
         Err(ShapeError::Shape) => {
-            let told = scenario_fault(alloc, value)?;
-            Ok(Some(or_else(alloc, told, "the input is no scenario")?))
+            let walk = scenario_fault(alloc, value);
+            Ok(Some(or_else(alloc, walk, "the input is no scenario")?))
         }
     }
 }

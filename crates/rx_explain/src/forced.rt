@@ -3,15 +3,15 @@
 
 use crate::past::parent_of;
 use rx_audit::{Verdict, audit};
-use rx_event::Event;
+use rx_event::{Event, Kind};
 use rx_note::Terminal;
 use std::alloc::{AllocError, Global};
 
 /// How many nodes above the last event are tried.
 const MOST_LEVELS: u32 = 16;
 
-/// How many connections, and how many subscribers, are tried.
-const MOST_TRIED: u32 = 4;
+/// How many connections, subscribers and TakeUntils are tried.
+const MOST_TRIED: u32 = 8;
 
 /// Whether an event may follow a lawful history.
 pub fn may_follow(alloc: Global, events: &[Event], next: Event) -> Result<bool, AllocError> {
@@ -20,15 +20,6 @@ pub fn may_follow(alloc: Global, events: &[Event], next: Event) -> Result<bool, 
     match audit(alloc, longer.as_slice()) {
         Ok(verdict) => Ok(!matches!(&verdict, Verdict::Unlawful { .. })),
         Err(_) => Err(AllocError),
-    }
-}
-
-// The event, if it may follow.
-fn tried(alloc: Global, events: &[Event], next: Event) -> Result<Option<Event>, AllocError> {
-    if may_follow(alloc, events, next)? {
-        Ok(Some(next))
-    } else {
-        Ok(None)
     }
 }
 
@@ -53,9 +44,9 @@ fn end_above(
     let mut here = node;
     for _level in 0..MOST_LEVELS {
         for way in [terminal, Terminal::Completed] {
-            let found = tried(alloc, events, Event::End(here, way))?;
-            if found.is_some() {
-                return Ok(found);
+            let end = Event::End(here, way);
+            if may_follow(alloc, events, end)? {
+                return Ok(Some(end));
             }
         }
         match parent_of(events, here) {
@@ -66,64 +57,69 @@ fn end_above(
     Ok(None)
 }
 
-// A connection that is to be closed, among the first that are found.
-fn idle_connection(alloc: Global, events: &[Event]) -> Result<Option<Event>, AllocError> {
-    let mut left = MOST_TRIED;
-    for (place, event) in events.iter().enumerate() {
-        if event.connects().is_some() && left > 0 {
-            left -= 1;
-            let found = tried(alloc, events, Event::Close(place as u64))?;
-            if found.is_some() {
-                return Ok(found);
-            }
-        }
+// What a rule may force at the node that this event made, where its cause is not told by the last event.
+fn candidate(made: Event, node: u64, terminal: Terminal) -> Option<Event> {
+    match made {
+        Event::Connect(_) => Some(Event::Close(node)),
+        Event::Open {
+            kind: Kind::Sub(_),
+            ..
+        } => Some(Event::End(node, terminal)),
+        Event::Open {
+            kind: Kind::Until,
+            ..
+        } => Some(Event::End(node, Terminal::Completed)),
+        _ => None,
     }
-    Ok(None)
 }
 
-// A subscriber that is to end as its hub's connection did, among the first that are found.
-fn cut_subscriber(
+// A forced event at a connection, a subscriber or a TakeUntil, among the first of these.
+fn forced_elsewhere(
     alloc: Global,
     events: &[Event],
     terminal: Terminal,
 ) -> Result<Option<Event>, AllocError> {
     let mut left = MOST_TRIED;
-    for (place, event) in events.iter().enumerate() {
-        if event.subscribes_to().is_some() && left > 0 {
+    for (place, made) in events.iter().enumerate() {
+        if let Some(next) = candidate(*made, place as u64, terminal) {
+            if left == 0 {
+                return Ok(None);
+            }
             left -= 1;
-            let found = tried(alloc, events, Event::End(place as u64, terminal))?;
-            if found.is_some() {
-                return Ok(found);
+            if may_follow(alloc, events, next)? {
+                return Ok(Some(next));
             }
         }
     }
     Ok(None)
 }
 
-/// An event that is forced after a lawful history, where one is found near its last event.
+// How what is forced ends after this event.
+fn terminal_after(last: Event) -> Terminal {
+    match last {
+        Event::End(_, terminal) => terminal,
+        _ => Terminal::Completed,
+    }
+}
+
+/// An event that is forced after a lawful history, where one is found near its last event, or at one of
+/// the first connections, subscribers and TakeUntils.
 pub fn forced_after(alloc: Global, events: &[Event]) -> Result<Option<Event>, AllocError> {
     let Some(last) = events.last().copied() else {
         return Ok(None);
     };
     if let Some(hub) = last.subscribes_to() {
-        let found = tried(alloc, events, Event::Connect(hub))?;
-        if found.is_some() {
-            return Ok(found);
+        let connection = Event::Connect(hub);
+        if may_follow(alloc, events, connection)? {
+            return Ok(Some(connection));
         }
     }
-    let terminal = match last {
-        Event::End(_, terminal) => terminal,
-        _ => Terminal::Completed,
-    };
+    let terminal = terminal_after(last);
     if let Some(node) = node_of(last) {
         let found = end_above(alloc, events, node, terminal)?;
         if found.is_some() {
             return Ok(found);
         }
     }
-    let found = cut_subscriber(alloc, events, terminal)?;
-    if found.is_some() {
-        return Ok(found);
-    }
-    idle_connection(alloc, events)
+    forced_elsewhere(alloc, events, terminal)
 }

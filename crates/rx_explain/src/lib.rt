@@ -24,6 +24,7 @@ mod forced;
 mod past;
 mod rules;
 mod scenario;
+mod walk;
 mod wanted;
 mod words;
 

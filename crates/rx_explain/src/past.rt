@@ -60,20 +60,10 @@ pub fn opening_at(events: &[Event], wanted: Place) -> Option<usize> {
     None
 }
 
-/// The handing out of a resource.
-pub fn taking_of(events: &[Event], resource: u64) -> Option<usize> {
+/// The first place of an event.
+pub fn place_of(events: &[Event], wanted: Event) -> Option<usize> {
     for (place, event) in events.iter().enumerate() {
-        if *event == Event::Take(resource) {
-            return Some(place);
-        }
-    }
-    None
-}
-
-/// The removal of a resource from its node.
-pub fn removal_of(events: &[Event], resource: u64) -> Option<usize> {
-    for (place, event) in events.iter().enumerate() {
-        if *event == Event::Remove(resource) {
+        if *event == wanted {
             return Some(place);
         }
     }

@@ -1,8 +1,8 @@
 //! Which rule an event breaks that comes after a settled history.
 
 use crate::forced::may_follow;
-use crate::past::{Past, end_of, event_at, opening_at, removal_of, taking_of};
-use crate::wanted::Told;
+use crate::past::{Past, end_of, event_at, opening_at, place_of};
+use crate::walk::{Walk, tell};
 use rx_event::{Event, Kind, Place};
 use rx_note::Terminal;
 use std::alloc::Global;
@@ -13,97 +13,87 @@ const MOST_NODES: usize = 1_048_576;
 const TOO_MANY: &str = "it would take more than 1048576 open nodes";
 
 // A sentence that has no parts.
-fn say(alloc: Global, sentence: &str) -> Told {
-    Ok(Some(String::from_str(alloc, sentence)?))
+fn say(alloc: Global, sentence: &str) -> Walk {
+    tell(String::from_str(alloc, sentence))
 }
 
 // Why a node is not open; None where it is.
-fn not_open(alloc: Global, past: Past<'_>, node: u64) -> Told {
+fn not_open(alloc: Global, past: Past<'_>, node: u64) -> Walk {
     if past.live.contains(&node) {
-        return Ok(None);
+        return Ok(());
     }
     if !event_at(past.events, node).is_some_and(Event::makes_node) {
-        return Ok(Some(format!(in alloc; "there is no node {node}")?));
+        return tell(format!(in alloc; "there is no node {node}"));
     }
     match end_of(past.events, node) {
-        Some(end) => Ok(Some(format!(in alloc; "node {node} is closed, by event {end}")?)),
-        None => Ok(Some(format!(in alloc; "node {node} is closed")?)),
+        Some(end) => tell(format!(in alloc; "node {node} is closed, by event {end}")),
+        None => tell(format!(in alloc; "node {node} is closed")),
     }
 }
 
 // Why there is no such hub; None where there is.
-fn no_hub(alloc: Global, past: Past<'_>, hub: u64) -> Told {
+fn no_hub(alloc: Global, past: Past<'_>, hub: u64) -> Walk {
     if event_at(past.events, hub).is_some_and(Event::makes_hub) {
-        return Ok(None);
+        return Ok(());
     }
-    Ok(Some(format!(in alloc; "there is no hub {hub}")?))
+    tell(format!(in alloc; "there is no hub {hub}"))
 }
 
 // Why a node has no such place, or why that was used.
-fn no_place(alloc: Global, past: Past<'_>, place: Place) -> Told {
+fn no_place(alloc: Global, past: Past<'_>, place: Place) -> Walk {
     let Some(node) = place.above() else {
-        return Ok(None);
+        return Ok(());
     };
-    if let Some(told) = not_open(alloc, past, node)? {
-        return Ok(Some(told));
-    }
+    not_open(alloc, past, node)?;
     let Some(made) = event_at(past.events, node) else {
-        return Ok(None);
+        return Ok(());
     };
     match place {
-        Place::Source(_) if !made.has_source() => Ok(Some(format!(in alloc;
+        Place::Source(_) if !made.has_source() => tell(format!(in alloc;
             "node {node} has no place for a source"
-        )?)),
-        Place::Inner(_) if !made.is_merging() => Ok(Some(format!(in alloc;
+        )),
+        Place::Inner(_) if !made.is_merging() => tell(format!(in alloc;
             "node {node} is no FlatMap and no Switch"
-        )?)),
-        Place::Notifier(_) if !made.is_until() => Ok(Some(format!(in alloc;
+        )),
+        Place::Notifier(_) if !made.is_until() => tell(format!(in alloc;
             "node {node} is no TakeUntil"
-        )?)),
-        Place::Inner(_) => Ok(None),
+        )),
+        Place::Inner(_) => Ok(()),
         _ => used_before(alloc, past, place),
     }
 }
 
 // Why a place that serves once was used.
-fn used_before(alloc: Global, past: Past<'_>, place: Place) -> Told {
+fn used_before(alloc: Global, past: Past<'_>, place: Place) -> Walk {
     match opening_at(past.events, place) {
-        Some(before) => Ok(Some(format!(in alloc;
-            "the place was used before, by event {before}"
-        )?)),
-        None => Ok(None),
+        Some(before) => tell(format!(in alloc; "the place was used before, by event {before}")),
+        None => Ok(()),
     }
 }
 
 // Why a node may not subscribe to a hub there.
-fn no_subscriber(alloc: Global, past: Past<'_>, place: Place, hub: u64) -> Told {
-    if let Some(told) = no_hub(alloc, past, hub)? {
-        return Ok(Some(told));
-    }
+fn no_subscriber(alloc: Global, past: Past<'_>, place: Place, hub: u64) -> Walk {
+    no_hub(alloc, past, hub)?;
     let kind = Kind::Leaf;
     if past.live.len() + 1 < MOST_NODES
         && may_follow(alloc, past.events, Event::Open { place, kind })?
     {
-        return Ok(Some(format!(in alloc;
+        return tell(format!(in alloc;
             "a subscriber of hub {hub} may stand below no connection of that hub or of an earlier one"
-        )?));
+        ));
     }
-    Ok(None)
+    Ok(())
 }
 
 // Why a node may not be opened there.
-fn open_rule(alloc: Global, past: Past<'_>, place: Place, kind: Kind) -> Told {
-    if let Some(told) = no_place(alloc, past, place)? {
-        return Ok(Some(told));
-    }
+fn open_rule(alloc: Global, past: Past<'_>, place: Place, kind: Kind) -> Walk {
+    no_place(alloc, past, place)?;
     if let Some(hub) = kind.hub() {
-        if let Some(told) = no_subscriber(alloc, past, place, hub)? {
-            return Ok(Some(told));
-        }
+        no_subscriber(alloc, past, place, hub)?;
     }
     match place {
         Place::Inner(node) if past.live.len() < MOST_NODES => {
-            Ok(Some(format!(in alloc; "nothing is owed at node {node}")?))
+            tell(format!(in alloc; "nothing is owed at node {node}"))
         }
         _ => say(alloc, TOO_MANY),
     }
@@ -120,122 +110,104 @@ fn connection_of(past: Past<'_>, hub: u64) -> Option<u64> {
 }
 
 // Why a hub may not be connected.
-fn connect_rule(alloc: Global, past: Past<'_>, hub: u64) -> Told {
-    if let Some(told) = no_hub(alloc, past, hub)? {
-        return Ok(Some(told));
-    }
+fn connect_rule(alloc: Global, past: Past<'_>, hub: u64) -> Walk {
+    no_hub(alloc, past, hub)?;
     if event_at(past.events, hub).is_some_and(Event::is_auto_hub) {
-        return Ok(Some(format!(in alloc;
+        return tell(format!(in alloc;
             "hub {hub} has RefCount: it is connected where a subscriber waits, and else not"
-        )?));
+        ));
     }
     match connection_of(past, hub) {
-        Some(node) => Ok(Some(format!(in alloc;
-            "hub {hub} is connected already, by node {node}"
-        )?)),
+        Some(node) => tell(format!(in alloc; "hub {hub} is connected already, by node {node}")),
         None => say(alloc, TOO_MANY),
     }
 }
 
 // Why there is no such resource, or why it does not wait any more; None where it is held or waits.
-fn gone_resource(alloc: Global, past: Past<'_>, resource: u64) -> Told {
+fn gone_resource(alloc: Global, past: Past<'_>, resource: u64) -> Walk {
     if !event_at(past.events, resource).is_some_and(Event::makes_resource) {
-        return Ok(Some(format!(in alloc; "there is no resource {resource}")?));
+        return tell(format!(in alloc; "there is no resource {resource}"));
     }
-    match taking_of(past.events, resource) {
-        Some(taking) => Ok(Some(format!(in alloc;
+    match place_of(past.events, Event::Take(resource)) {
+        Some(taking) => tell(format!(in alloc;
             "resource {resource} was handed out, by event {taking}"
-        )?)),
-        None => Ok(None),
+        )),
+        None => Ok(()),
     }
 }
 
 // Why a resource is not held.
-fn held_rule(alloc: Global, past: Past<'_>, resource: u64) -> Told {
-    if let Some(told) = gone_resource(alloc, past, resource)? {
-        return Ok(Some(told));
-    }
-    match removal_of(past.events, resource) {
-        Some(removal) => Ok(Some(format!(in alloc;
+fn held_rule(alloc: Global, past: Past<'_>, resource: u64) -> Walk {
+    gone_resource(alloc, past, resource)?;
+    match place_of(past.events, Event::Remove(resource)) {
+        Some(removal) => tell(format!(in alloc;
             "resource {resource} is not held: event {removal} removed it"
-        )?)),
-        None => Ok(Some(format!(in alloc; "resource {resource} is not held: its node is closed")?)),
+        )),
+        None => tell(format!(in alloc; "resource {resource} is not held: its node is closed")),
     }
 }
 
 // Why a resource does not wait to be handed out.
-fn take_rule(alloc: Global, past: Past<'_>, resource: u64) -> Told {
-    if let Some(told) = gone_resource(alloc, past, resource)? {
-        return Ok(Some(told));
-    }
-    Ok(Some(format!(in alloc;
+fn take_rule(alloc: Global, past: Past<'_>, resource: u64) -> Walk {
+    gone_resource(alloc, past, resource)?;
+    tell(format!(in alloc;
         "resource {resource} is still held: it waits once it is removed or its node is closed"
-    )?))
+    ))
 }
 
 // Why a leaf may not emit.
-fn item_rule(alloc: Global, past: Past<'_>, leaf: u64) -> Told {
-    if let Some(told) = not_open(alloc, past, leaf)? {
-        return Ok(Some(told));
-    }
+fn item_rule(alloc: Global, past: Past<'_>, leaf: u64) -> Walk {
+    not_open(alloc, past, leaf)?;
     if !event_at(past.events, leaf).is_some_and(Event::is_leaf) {
-        return Ok(Some(format!(in alloc; "node {leaf} is no leaf")?));
+        return tell(format!(in alloc; "node {leaf} is no leaf"));
     }
     say(alloc, "the item would make more than 1048576 visits")
 }
 
 // Why a node may not decline an item.
-fn decline_rule(alloc: Global, past: Past<'_>, node: u64) -> Told {
-    if let Some(told) = not_open(alloc, past, node)? {
-        return Ok(Some(told));
-    }
+fn decline_rule(alloc: Global, past: Past<'_>, node: u64) -> Walk {
+    not_open(alloc, past, node)?;
     if !event_at(past.events, node).is_some_and(Event::is_merging) {
-        return Ok(Some(format!(in alloc; "node {node} is no FlatMap and no Switch")?));
+        return tell(format!(in alloc; "node {node} is no FlatMap and no Switch"));
     }
-    Ok(Some(format!(in alloc; "nothing is owed at node {node}")?))
+    tell(format!(in alloc; "nothing is owed at node {node}"))
 }
 
 // Why a node may not end so.
-fn end_rule(alloc: Global, past: Past<'_>, node: u64, terminal: Terminal) -> Told {
-    if let Some(told) = not_open(alloc, past, node)? {
-        return Ok(Some(told));
-    }
+fn end_rule(alloc: Global, past: Past<'_>, node: u64, terminal: Terminal) -> Walk {
+    not_open(alloc, past, node)?;
     let is_subscriber = match event_at(past.events, node) {
         Some(made) => made.subscribes_to().is_some(),
         None => false,
     };
     if is_subscriber {
-        return Ok(Some(format!(in alloc;
+        return tell(format!(in alloc;
             "node {node} is a subscriber: it ends as the connection of its hub does"
-        )?));
+        ));
     }
     match terminal {
-        Terminal::Completed => Ok(Some(format!(in alloc;
+        Terminal::Completed => tell(format!(in alloc;
             "node {node} is no leaf: it completes where a rule forces that, and else not"
-        )?)),
-        Terminal::Error(_) => Ok(Some(format!(in alloc;
+        )),
+        Terminal::Error(_) => tell(format!(in alloc;
             "a node below node {node} is open, and nothing is owed there"
-        )?)),
+        )),
     }
 }
 
 // Why a node may not be closed.
-fn close_rule(alloc: Global, past: Past<'_>, node: u64) -> Told {
-    if let Some(told) = not_open(alloc, past, node)? {
-        return Ok(Some(told));
-    }
+fn close_rule(alloc: Global, past: Past<'_>, node: u64) -> Walk {
+    not_open(alloc, past, node)?;
     match event_at(past.events, node) {
-        Some(Event::Connect(hub)) => Ok(Some(format!(in alloc;
+        Some(Event::Connect(hub)) => tell(format!(in alloc;
             "node {node} is the connection of hub {hub}, which has RefCount: it closes with the last subscriber"
-        )?)),
-        _ => Ok(Some(format!(in alloc;
-            "node {node} is no root: it closes with the node above it"
-        )?)),
+        )),
+        _ => tell(format!(in alloc; "node {node} is no root: it closes with the node above it")),
     }
 }
 
 /// Which rule an event breaks that may not follow a settled history.
-pub fn broken_rule(alloc: Global, past: Past<'_>, event: Event) -> Told {
+pub fn broken_rule(alloc: Global, past: Past<'_>, event: Event) -> Walk {
     match event {
         Event::Open { place, kind } => open_rule(alloc, past, place, kind),
         Event::Hub(_) => say(alloc, "there are 1024 hubs already"),

@@ -1,10 +1,13 @@
 //! What is wrong with a scenario. It is gone through in the order in which it is written, but for the
 //! members of an object, which come in an order of their own.
 
-use crate::wanted::{Told, Wanted, hint, quoted, shown};
-use crate::words::{COMMANDS, KINDS, MODES, OF_SCENARIOS, OF_STEPS, PLACES, is_among, members_of};
+use crate::walk::{Walk, inside, numbered, tell};
+use crate::wanted::{Wanted, quoted, shown};
+use crate::words::{
+    COMMANDS, KINDS, MODES, OF_SCENARIOS, OF_STEPS, PLACES, is_among, members_of, nearest,
+};
 use serde_json::Value;
-use std::alloc::Global;
+use std::alloc::{AllocError, Global};
 use std::collections::HashSet;
 
 /// The most steps of a scenario.
@@ -65,157 +68,149 @@ fn need_of(step: &Value, command: &str, member: &str) -> Need {
     }
 }
 
-// What is wrong with a member, if there is something.
-fn member_fault(alloc: Global, object: &Value, member: &str, need: Need) -> Told {
+// What is wrong with a member that is there.
+fn value_fault(alloc: Global, member: &str, value: &Value) -> Walk {
+    let wanted = wanted_of(member);
+    if wanted.fits(value) {
+        return Ok(());
+    }
+    let told = wanted.misfit(alloc, value)?;
+    tell(format!(in alloc; ".{member}: {told}"))
+}
+
+// What is wrong with a member.
+fn member_fault(alloc: Global, object: &Value, member: &str, need: Need) -> Walk {
     match (object.get(member), need) {
         (None, Need::Must) => {
             let wanted = wanted_of(member).described(alloc)?;
-            Ok(Some(format!(in alloc; ".{member}: missing; {wanted} is expected")?))
+            tell(format!(in alloc; ".{member}: missing; {wanted} is expected"))
         }
-        (None, _) => Ok(None),
-        (Some(_), Need::Never(reason)) => Ok(Some(format!(in alloc;
-            ".{member}: not to be given: {reason}"
-        )?)),
-        (Some(value), _) => match wanted_of(member).misfit(alloc, value)? {
-            Some(told) => Ok(Some(format!(in alloc; ".{member}: {told}")?)),
-            None => Ok(None),
-        },
+        (None, _) => Ok(()),
+        (Some(_), Need::Never(reason)) => {
+            tell(format!(in alloc; ".{member}: not to be given: {reason}"))
+        }
+        (Some(value), _) => value_fault(alloc, member, value),
+    }
+}
+
+// What is said of a member that stands on neither list.
+fn stranger_told(
+    alloc: Global,
+    member: &str,
+    own: &'static str,
+    common: &'static str,
+) -> Result<String, AllocError> {
+    let shown = quoted(alloc, member)?;
+    let near = nearest(member, own).or(nearest(member, common));
+    match near {
+        Some(known) => {
+            format!(in alloc; ": no member {shown} is known here; the nearest is \"{known}\"")
+        }
+        None => format!(in alloc; ": no member {shown} is known here"),
     }
 }
 
 // The member that is on neither list, if there is one.
-fn stranger(alloc: Global, object: &Value, own: &'static str, common: &'static str) -> Told {
+fn stranger(alloc: Global, object: &Value, own: &'static str, common: &'static str) -> Walk {
     let Some(members) = object.as_object() else {
-        return Ok(None);
+        return Ok(());
     };
     for member in members.keys() {
         let member = member.as_str();
         if !is_among(member, own) && !is_among(member, common) {
-            let shown = quoted(alloc, member)?;
-            let near = hint(alloc, member, own)?;
-            let hint = if near.is_empty() {
-                hint(alloc, member, common)?
-            } else {
-                near
-            };
-            return Ok(Some(format!(in alloc; ": no member {shown} is known here{hint}")?));
+            return tell(stranger_told(alloc, member, own, common));
         }
     }
-    Ok(None)
+    Ok(())
 }
 
 // What is wrong with the members of a command.
-fn command_fault(alloc: Global, step: &Value, command: &str) -> Told {
+fn command_fault(alloc: Global, step: &Value, command: &str) -> Walk {
     for member in members_of(command).split(", ") {
         if member.is_empty() {
             break;
         }
-        let need = need_of(step, command, member);
-        if let Some(told) = member_fault(alloc, step, member, need)? {
-            return Ok(Some(told));
-        }
+        member_fault(alloc, step, member, need_of(step, command, member))?;
     }
-    Ok(None)
+    Ok(())
 }
 
 // What is wrong with the times and the label of a step.
-fn times_fault(alloc: Global, step: &Value, follows: bool) -> Told {
+fn times_fault(alloc: Global, step: &Value, follows: bool) -> Walk {
     let (at, after) = if follows {
         (Need::Never("a step of a \"then\" has \"after\""), Need::May)
     } else {
         (Need::May, Need::Never("a step of \"steps\" has \"at\""))
     };
-    for (member, need) in [("at", at), ("after", after), ("label", Need::May)] {
-        if let Some(told) = member_fault(alloc, step, member, need)? {
-            return Ok(Some(told));
-        }
-    }
-    Ok(None)
+    member_fault(alloc, step, "at", at)?;
+    member_fault(alloc, step, "after", after)?;
+    member_fault(alloc, step, "label", Need::May)
 }
 
 // What is wrong with a step, without those that follow it.
-fn head_fault(alloc: Global, step: &Value, follows: bool) -> Told {
+fn head_fault(alloc: Global, step: &Value, follows: bool) -> Walk {
     if !step.is_object() {
         let shown = shown(alloc, step)?;
-        return Ok(Some(format!(in alloc; ": a step is an object, and this is {shown}")?));
+        return tell(format!(in alloc; ": a step is an object, and this is {shown}"));
     }
-    if let Some(told) = member_fault(alloc, step, "do", Need::Must)? {
-        return Ok(Some(told));
-    }
+    member_fault(alloc, step, "do", Need::Must)?;
     let command = step.get("do").and_then(Value::as_str).unwrap_or("");
-    if let Some(told) = stranger(alloc, step, members_of(command), OF_STEPS)? {
-        return Ok(Some(told));
-    }
-    if let Some(told) = command_fault(alloc, step, command)? {
-        return Ok(Some(told));
-    }
+    stranger(alloc, step, members_of(command), OF_STEPS)?;
+    command_fault(alloc, step, command)?;
     times_fault(alloc, step, follows)
 }
 
 // Counts a step and notes its label; what is wrong with these.
-fn note(alloc: Global, step: &Value, seen: &mut Seen) -> Told {
+fn note(alloc: Global, step: &Value, seen: &mut Seen) -> Walk {
     if seen.count >= MOST_STEPS {
-        return Ok(Some(format!(in alloc;
-            ": one step too many; a scenario has at most {MOST_STEPS}"
-        )?));
+        return tell(format!(in alloc; ": one step too many; a scenario has at most {MOST_STEPS}"));
     }
     seen.count = seen.count.wrapping_add(1);
     let Some(label) = step.get("label").and_then(Value::as_str) else {
-        return Ok(None);
+        return Ok(());
     };
     if seen.labels.insert(String::from_str(alloc, label)?)? {
-        return Ok(None);
+        return Ok(());
     }
-    Ok(Some(format!(in alloc; ".label: an earlier step has the label \"{label}\"")?))
+    tell(format!(in alloc; ".label: an earlier step has the label \"{label}\""))
 }
 
 // What is wrong with a step, below which a `then` may stand so deep.
 #[cycle(steps)]
-fn step_fault(alloc: Global, step: &Value, follows: bool, depth: u32, seen: &mut Seen) -> Told {
-    if let Some(told) = head_fault(alloc, step, follows)? {
-        return Ok(Some(told));
-    }
-    if let Some(told) = note(alloc, step, seen)? {
-        return Ok(Some(told));
-    }
+fn step_fault(alloc: Global, step: &Value, follows: bool, depth: u32, seen: &mut Seen) -> Walk {
+    head_fault(alloc, step, follows)?;
+    note(alloc, step, seen)?;
     let Some(then) = step.get("then") else {
-        return Ok(None);
+        return Ok(());
     };
     if depth == 0 {
-        return Ok(Some(format!(in alloc;
+        return tell(format!(in alloc;
             ".then: too deep; a \"then\" stands at most {MOST_LEVELS} deep"
-        )?));
+        ));
     }
-    match list_fault(alloc, then, true, depth - 1, seen)? {
-        Some(told) => Ok(Some(format!(in alloc; ".then{told}")?)),
-        None => Ok(None),
-    }
+    inside(
+        alloc,
+        ".then",
+        list_fault(alloc, then, true, depth - 1, seen),
+    )
 }
 
 // What is wrong with the first faulty one of some steps.
 #[cycle(steps)]
-fn list_fault(alloc: Global, list: &Value, follows: bool, depth: u32, seen: &mut Seen) -> Told {
+fn list_fault(alloc: Global, list: &Value, follows: bool, depth: u32, seen: &mut Seen) -> Walk {
     let Some(steps) = list.as_array() else {
-        return list_misfit(alloc, list);
+        let told = Wanted::Steps.misfit(alloc, list)?;
+        return tell(format!(in alloc; ": {told}"));
     };
     for (place, step) in steps.iter().enumerate() {
-        if let Some(told) = step_fault(alloc, step, follows, depth, seen)? {
-            return Ok(Some(format!(in alloc; "[{place}]{told}")?));
-        }
+        let walk = step_fault(alloc, step, follows, depth, seen);
+        numbered(alloc, place, walk)?;
     }
-    Ok(None)
-}
-
-// What is said of steps that are no array.
-fn list_misfit(alloc: Global, list: &Value) -> Told {
-    match Wanted::Steps.misfit(alloc, list)? {
-        Some(told) => Ok(Some(format!(in alloc; ": {told}")?)),
-        None => Ok(None),
-    }
+    Ok(())
 }
 
 // What is wrong with the steps of a scenario.
-fn steps_fault(alloc: Global, scenario: &Value) -> Told {
+fn steps_fault(alloc: Global, scenario: &Value) -> Walk {
     let Some(steps) = scenario.get("steps") else {
         return member_fault(alloc, scenario, "steps", Need::Must);
     };
@@ -223,28 +218,21 @@ fn steps_fault(alloc: Global, scenario: &Value) -> Told {
         count: 0,
         labels: HashSet::new(alloc),
     };
-    match list_fault(alloc, steps, false, MOST_LEVELS, &mut seen)? {
-        Some(told) => Ok(Some(format!(in alloc; ".steps{told}")?)),
-        None => Ok(None),
-    }
+    let walk = list_fault(alloc, steps, false, MOST_LEVELS, &mut seen);
+    inside(alloc, ".steps", walk)
 }
 
-/// What is wrong with a value that is no scenario; None where nothing was found.
-pub fn scenario_fault(alloc: Global, scenario: &Value) -> Told {
+/// What is wrong with a value that is no scenario.
+pub fn scenario_fault(alloc: Global, scenario: &Value) -> Walk {
     if !scenario.is_object() {
         let shown = shown(alloc, scenario)?;
-        return Ok(Some(format!(in alloc;
+        return tell(format!(in alloc;
             "a scenario is an object and a dump an array, and this is {shown}"
-        )?));
+        ));
     }
-    if let Some(told) = stranger(alloc, scenario, OF_SCENARIOS, OF_SCENARIOS)? {
-        return Ok(Some(format!(in alloc; "the scenario{told}")?));
-    }
-    if let Some(told) = member_fault(alloc, scenario, "events", Need::May)? {
-        return Ok(Some(told));
-    }
-    if let Some(told) = member_fault(alloc, scenario, "until", Need::May)? {
-        return Ok(Some(told));
-    }
+    let walk = stranger(alloc, scenario, OF_SCENARIOS, OF_SCENARIOS);
+    inside(alloc, "the scenario", walk)?;
+    member_fault(alloc, scenario, "events", Need::May)?;
+    member_fault(alloc, scenario, "until", Need::May)?;
     steps_fault(alloc, scenario)
 }

@@ -4,9 +4,6 @@ use crate::words::{is_among, nearest};
 use serde_json::Value;
 use std::alloc::{AllocError, Global};
 
-/// A sentence, where there is something to say.
-pub type Told = Result<Option<String>, AllocError>;
-
 /// What is expected of a value.
 #[derive(Clone, Copy)]
 pub enum Wanted {
@@ -42,8 +39,8 @@ fn is_within(number: Option<u64>, least: u64, most: u64) -> bool {
 }
 
 impl Wanted {
-    // Whether the value is what is expected.
-    fn fits(self, value: &Value) -> bool {
+    /// Whether the value is what is expected.
+    pub fn fits(self, value: &Value) -> bool {
         match self {
             Wanted::Name => value.as_str().is_some_and(is_name),
             Wanted::Number(least, most) => is_within(value.as_u64(), least, most),
@@ -73,22 +70,19 @@ impl Wanted {
     }
 
     /// What there is to say of a value that is not what is expected.
-    pub fn misfit(self, alloc: Global, value: &Value) -> Told {
-        if self.fits(value) {
-            return Ok(None);
-        }
+    pub fn misfit(self, alloc: Global, value: &Value) -> Result<String, AllocError> {
         let wanted = self.described(alloc)?;
         let shown = shown(alloc, value)?;
         let hint = match self {
             Wanted::Word(list) => hint(alloc, value.as_str().unwrap_or(""), list)?,
             _ => String::new(alloc),
         };
-        Ok(Some(format!(in alloc; "{wanted} is expected, and this is {shown}{hint}")?))
+        format!(in alloc; "{wanted} is expected, and this is {shown}{hint}")
     }
 }
 
-/// The nearest word of a list, as the end of a sentence; nothing where none is near.
-pub fn hint(alloc: Global, word: &str, list: &'static str) -> Result<String, AllocError> {
+// The nearest word of a list, as the end of a sentence; nothing where none is near.
+fn hint(alloc: Global, word: &str, list: &'static str) -> Result<String, AllocError> {
     match nearest(word, list) {
         Some(known) => format!(in alloc; "; the nearest is \"{known}\""),
         None => Ok(String::new(alloc)),
