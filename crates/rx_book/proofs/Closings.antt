@@ -179,10 +179,11 @@ pub closed_book : (mid new : State) → IsLetGo mid.history → ((l : ℕ) → i
     (new.keys ≡ []) × (new.held ≡ []) × (new.lease_keys ≡ [])
 closed_book mid new free returned takes kept =
     let closed = nothing_open new.base new.history kept.lawful kept.settled (takes_let_go mid.base takes free) in
-    let out : (l : ℕ) → is_out new.history l ≡ false = λ l. false_from_ne_true _ (λ found. both_ways (is_out mid.history l) (returned l) (takes_out mid.base takes l found)) in
-    (none_listed (λ k. k.number) (is_open new.history) new.keys kept.keys closed,
-    none_listed (λ b. b.number) (is_held new.history) new.held kept.held (none_held new.history closed out),
-    none_listed (λ k. k.number) (is_out new.history) new.lease_keys kept.lease_keys out)
+    let out : (l : ℕ) → is_out new.history l ≡ false = λ l. false_from_ne_true _ (λ found. both_ways (is_out mid.history l) (returned l) (takes_out mid.base takes l found)) in (
+      none_listed (λ k. k.number) (is_open new.history) new.keys kept.keys closed,
+      none_listed (λ b. b.number) (is_held new.history) new.held kept.held (none_held new.history closed out),
+      none_listed (λ k. k.number) (is_out new.history) new.lease_keys kept.lease_keys out,
+    )
 
 -- what was accepted and not yet taken is taken at last
 pub closed_released : (old mid new : State) (released : ℕ) → new.base ≡ mid.base → IsPromised old → accepted_count mid.base mid.history ≡ accepted_count old.base old.history → taken_count mid.base mid.history ≡ taken_count old.base old.history → Takes mid.base mid.history new.history

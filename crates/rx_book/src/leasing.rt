@@ -1,6 +1,5 @@
 //! Leases: a resource stays as long as a dependent uses it.
 
-ghost use Rattle.std.specs.Prelude.{◌≡◌, ◌+◌};
 ghost use Rattle.rx_book.specs.Requests.{lease_request, give_back_request};
 ghost use Rattle.rx_book.specs.Answers.{AnswersLeaseKey, AnswersPlace};
 

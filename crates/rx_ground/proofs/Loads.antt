@@ -24,8 +24,12 @@ counted_apart p q within [] = refl
 counted_apart p q within (n ∷ ns) =
     let rest = counted_apart p q within ns in
     let one = shape (p n) (q n) (within n) in
-    omega (arith, sum_by-cons (λ k. cond {A = ℕ} (p k) 1 0) n ns, sum_by-cons (λ k. cond {A = ℕ} (q k) 1 0) n ns,
-        sum_by-cons (λ k. cond {A = ℕ} (p k && not (q k)) 1 0) n ns) where
+    omega (
+      arith,
+      sum_by-cons (λ k. cond {A = ℕ} (p k) 1 0) n ns,
+      sum_by-cons (λ k. cond {A = ℕ} (q k) 1 0) n ns,
+      sum_by-cons (λ k. cond {A = ℕ} (p k && not (q k)) 1 0) n ns,
+    ) where
       shape : (a b : Bool) → (b ≡ true → a ≡ true) → cond {A = ℕ} a 1 0 ≡ cond {A = ℕ} b 1 0 + cond {A = ℕ} (a && not b) 1 0
       shape true true w = refl
       shape true false w = refl

@@ -12,7 +12,7 @@ use Rattle.rx_event.specs.declared.event.Event.{Event}
 use Rattle.rx_event.specs.declared.event.Event.TheVariants.{Accept, Use, Remove, Lease, Return, Take}
 use Rattle.rx_event.specs.Events.{makes_resource, node_of_accept, is_remove_of, is_lease_of, is_return, is_take_of, is_use_of}
 use Rattle.rx_event.specs.Tree.{at, is_open}
-use Rattle.rx_event.specs.Resources.{is_owned, is_out, leases_of, uses}
+use Rattle.rx_event.specs.Resources.{is_owned, leases_of, uses}
 use Rattle.rx_event.specs.Lawful.{MayFollow, IsLawful}
 use Rattle.rx_event.proofs.Laws.Places.{slice_get_last, at-append, at_within}
 use Rattle.rx_event.proofs.Laws.Searches.{list_any_push, or_false}

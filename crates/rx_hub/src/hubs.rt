@@ -8,9 +8,9 @@ ghost use Rattle.rx_lists.specs.Lists.{list_at};
 
 use crate::forcing::{Rule, next_at};
 use crate::hub::{HubDue, LastEnd, Published};
-use rx_lists::Rings;
 use crate::store::Store;
 use rx_event::Mode;
+use rx_lists::Rings;
 use rx_slots::Key;
 use std::alloc::{AllocError, Global};
 use std::marker::Model;

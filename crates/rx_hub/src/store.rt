@@ -5,8 +5,8 @@ ghost use Rattle.std.specs.Prelude.{slice_index_or, OnOk, OnErr, IsOk, IsTrue, I
 ghost use Rattle.rx_hub.specs.Store.{key_in};
 
 use crate::hub::{LastEnd, Published};
-use rx_lists::Rings;
 use rx_event::Mode;
+use rx_lists::Rings;
 use rx_slots::Key;
 use std::alloc::{AllocError, Global};
 use std::marker::Model;

@@ -1,5 +1,5 @@
 -- What a contract says of the leases that are out: slots in which the key of each finds the key of its resource.
-use Rattle.std.specs.Prelude.{◌≡◌, Bool, is_some, IsSome}
+use Rattle.std.specs.Prelude.{Bool, is_some, IsSome}
 use Rattle.rx_slots.specs.declared.Key.{Key}
 use Rattle.rx_slots.specs.Slots.{Slots, find}
 use Rattle.rx_tree.specs.declared.node.ResKey.{ResKey}

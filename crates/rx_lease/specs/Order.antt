@@ -1,5 +1,5 @@
 -- How the leases stand in the order of their numbers. No public clause cites this module.
-use Rattle.std.specs.Prelude.{◌≡◌, ℕ, ◌+◌, ◌<◌, ◌≤◌, Bool, true, nat_lt, cond, is_some, List, [], ◌∷◌, length}
+use Rattle.std.specs.Prelude.{◌≡◌, ℕ, ◌+◌, ◌<◌, ◌≤◌, true, nat_lt, cond, is_some, List, [], ◌∷◌, length}
 use Rattle.std.specs.Option.{option_map_or}
 use Rattle.rx_slots.specs.Slots.{Slots, entry_at}
 use Rattle.rx_tree.specs.declared.node.ResKey.{ResKey}

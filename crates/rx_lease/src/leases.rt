@@ -1,6 +1,6 @@
 //! Leases in the order in which they were given out.
 
-ghost use Rattle.std.specs.Prelude.{◌≡◌, ◌+◌, ◌<◌, ◌≤◌, [], IsOk, IsSome, Some, None, IfSome, IfNone, OnOk, OnSome, length, is_some, count_by};
+ghost use Rattle.std.specs.Prelude.{◌≡◌, ◌+◌, ◌<◌, ◌≤◌, [], IsOk, Some, None, IfSome, IfNone, OnOk, OnSome, length, is_some, count_by};
 ghost use Rattle.rx_lists.specs.Lists.{list_at};
 
 use rx_lists::Rings;

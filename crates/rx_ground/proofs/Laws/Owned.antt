@@ -1,6 +1,5 @@
 -- A resource that is held under its key, and that the history leaves owned, is owned there.
-use Rattle.std.proofs.Common.{◌≡◌, true, List, Option, sym, ap, ◌∙◌}
-use Rattle.std.specs.Option.{option_map_or}
+use Rattle.std.proofs.Common.{◌≡◌, true, List, sym, ◌∙◌}
 use Rattle.rx_event.specs.Kept.{Kept}
 use Rattle.rx_resource.specs.declared.Resource.{Ghosts}
 use Rattle.rx_event.specs.declared.event.Event.{Event}

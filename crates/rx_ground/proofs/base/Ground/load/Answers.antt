@@ -2,7 +2,6 @@ use Rattle.std.proofs.Common.{◌≡◌, ◌+◌, ◌-◌, ◌*◌, ap, ◌∙�
 use Rattle.std.specs.List.{count_by}
 use Rattle.rx_event.specs.Tree.{places}
 use Rattle.rx_event.specs.Totals.{debt}
-use Rattle.rx_event.proofs.Laws.Debt.{debt-counts}
 use Rattle.rx_event.proofs.Laws.Totals.{accepted_count-parts}
 use Rattle.rx_tree.specs.Owed.{owed_in}
 use Rattle.rx_ground.specs.Shown.{Ground}

@@ -2,12 +2,9 @@ use Rattle.std.proofs.Common.{◌≡◌, ◌∷◌, ◌++◌, [], List, length, 
 use Rattle.rx_event.specs.declared.event.Event.{Event}
 use Rattle.rx_event.specs.declared.event.Event.TheVariants.{Lease}
 use Rattle.rx_event.specs.Lawful.{MayFollow}
-use Rattle.rx_slots.specs.declared.Key.{Key}
-use Rattle.rx_slots.specs.Slots.{Slots, find}
+use Rattle.rx_slots.specs.Slots.{Slots}
 use Rattle.rx_tree.specs.declared.node.Node.{Node}
-use Rattle.rx_tree.specs.declared.node.Stowed.{Stowed}
-use Rattle.rx_tree.specs.declared.node.ResKey.{ResKey}
-use Rattle.rx_tree.specs.Resources.{store_key, stowed_of, one_lease_more, is_owned_at}
+use Rattle.rx_tree.specs.Resources.{store_key, stowed_of, is_owned_at}
 use Rattle.rx_lease.specs.Leases.{lease_key}
 use Rattle.rx_ground.specs.Ties.{IsTied, AreTied, AreLeased}
 use Rattle.rx_ground.proofs.Memory.{written_memory, same_places}

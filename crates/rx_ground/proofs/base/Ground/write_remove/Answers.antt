@@ -1,8 +1,8 @@
-use Rattle.std.proofs.Common.{◌≡◌, List, length, refl, sym, subst, true, is_some, ◌∷◌, [], ◌+◌, ◌-◌, ap, vec_capacity}
+use Rattle.std.proofs.Common.{◌≡◌, List, length, refl, sym, subst, true, ◌∷◌, [], ◌+◌, ◌-◌, ap, vec_capacity}
 use Rattle.rx_event.specs.declared.event.Event.{Event}
 use Rattle.rx_event.specs.declared.event.Event.TheVariants.{Remove}
 use Rattle.rx_event.specs.Lawful.{MayFollow}
-use Rattle.rx_slots.specs.Slots.{find, Slots}
+use Rattle.rx_slots.specs.Slots.{Slots}
 use Rattle.rx_tree.specs.Resources.{store_key, removed, is_owned_at}
 use Rattle.rx_ground.specs.Ties.{AreLeased, IsTied, AreTied}
 use Rattle.rx_tree.specs.declared.node.Node.{Node}

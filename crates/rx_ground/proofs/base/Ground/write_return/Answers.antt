@@ -1,16 +1,13 @@
-use Rattle.std.proofs.Common.{◌≡◌, ◌∷◌, ◌++◌, [], List, length, is_some, IsSome, Some, refl, sym, ap, subst, ◌∙◌, true, ◌+◌, ◌-◌, slice_get, arith, vec_capacity}
+use Rattle.std.proofs.Common.{◌∷◌, ◌++◌, [], List, length, is_some, Some, refl, sym, ap, subst, ◌∙◌, ◌+◌, ◌-◌, vec_capacity}
 use Rattle.rx_event.specs.declared.event.Event.{Event}
-use Rattle.rx_event.specs.declared.event.Event.TheVariants.{Lease, Return}
+use Rattle.rx_event.specs.declared.event.Event.TheVariants.{Return}
 use Rattle.rx_event.specs.Lawful.{MayFollow}
-use Rattle.rx_slots.specs.declared.Key.{Key}
 use Rattle.rx_slots.specs.Slots.{Slots, find}
 use Rattle.rx_tree.specs.declared.node.Node.{Node}
-use Rattle.rx_tree.specs.declared.node.Stowed.{Stowed}
-use Rattle.rx_tree.specs.declared.node.ResKey.{ResKey}
 use Rattle.rx_tree.specs.Resources.{store_key, one_lease_less}
 use Rattle.rx_tree.proofs.Laws.Keys.{some_of}
 use Rattle.rx_lease.specs.Leases.{lease_key}
-use Rattle.rx_ground.specs.Ties.{IsTied, AreTied, AreLeased, IsLeaseOf}
+use Rattle.rx_ground.specs.Ties.{IsTied, AreTied, AreLeased}
 use Rattle.rx_ground.proofs.Memory.{written_memory, same_places}
 use Rattle.rx_ground.proofs.Written.{writes_silent}
 use Rattle.rx_ground.proofs.Stored.{stored_returned}

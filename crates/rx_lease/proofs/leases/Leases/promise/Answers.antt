@@ -1,4 +1,3 @@
-use Rattle.std.proofs.Common.{sym}
 use Rattle.rx_lease.proofs.Kept.{order_apart}
 use Rattle.rx_lease.proofs.leases.Leases.promise.Goals as goal
 

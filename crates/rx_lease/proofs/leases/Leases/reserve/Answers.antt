@@ -1,4 +1,4 @@
-use Rattle.std.proofs.Common.{◌≡◌, ◌<◌, List, length, refl, ap, ◌∙◌, arith}
+use Rattle.std.proofs.Common.{length, refl, ap, ◌∙◌, arith}
 use Rattle.rx_slots.specs.Slots.{Slots}
 use Rattle.rx_tree.specs.declared.node.ResKey.{ResKey}
 use Rattle.rx_lists.specs.Lists.{Lists, list_at}
