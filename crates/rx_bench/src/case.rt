@@ -26,6 +26,8 @@ pub enum Case {
     Share,
     /// Resources at one node of a book.
     Hold,
+    /// Leases that come and go at resources of a book.
+    Lease,
     /// A scenario in JSON, run over memory.
     Scenario,
     /// Threads at one desk.
@@ -46,6 +48,7 @@ impl Case {
             Case::Inner => "inner",
             Case::Share => "share",
             Case::Hold => "hold",
+            Case::Lease => "lease",
             Case::Scenario => "scenario",
             Case::Storm => "storm",
         }
@@ -57,7 +60,8 @@ impl Case {
     {
         match self {
             Case::Timeline | Case::Trampoline | Case::Cycle | Case::Items => 10_000_000,
-            Case::Sorted | Case::Crowd | Case::Inner | Case::Share | Case::Hold => 1_000_000,
+            Case::Sorted | Case::Crowd | Case::Inner | Case::Share | Case::Hold | Case::Lease =>
+                1_000_000,
             Case::Chain => 100_000,
             Case::Scenario => 65_536,
             Case::Storm => 10_000,
@@ -66,7 +70,7 @@ impl Case {
 }
 
 /// All of them.
-static CASES: [Case; 12] = [
+static CASES: [Case; 13] = [
     Case::Timeline,
     Case::Trampoline,
     Case::Sorted,
@@ -77,6 +81,7 @@ static CASES: [Case; 12] = [
     Case::Inner,
     Case::Share,
     Case::Hold,
+    Case::Lease,
     Case::Scenario,
     Case::Storm,
 ];

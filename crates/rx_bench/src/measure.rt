@@ -13,6 +13,7 @@ use crate::done::{Done, Halt};
 use crate::hold::run_hold;
 use crate::inner::run_inner;
 use crate::items::run_items;
+use crate::lease::run_lease;
 use crate::scenario::{Scenario, run_scenario};
 use crate::share::run_share;
 use crate::sorted::SortedList;
@@ -42,6 +43,7 @@ fn run_on_book(alloc: Global, request: Request) -> Result<Done, Halt>
         Case::Inner => run_inner(&mut book, size),
         Case::Share => run_share(alloc, &mut book, size),
         Case::Hold => run_hold(alloc, &mut book, size),
+        Case::Lease => run_lease(alloc, &mut book, size),
         _ => Err(Halt::Refused),
     }
 }

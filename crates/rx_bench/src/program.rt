@@ -85,7 +85,7 @@ fn bench<T: Threads + Wait + Sync, C: Clock, O: Write, E: Write>(
 }
 
 /// Each case at a small size.
-static SMALL: [(Case, u64); 13] = [
+static SMALL: [(Case, u64); 14] = [
     (Case::Timeline, 1),
     (Case::Timeline, 2),
     (Case::Sorted, 2),
@@ -100,6 +100,8 @@ static SMALL: [(Case, u64); 13] = [
     // The resources 1 and 3 are removed, and then 0 and 2 are closed with their node. The first that waits is
     // handed out first: 1, 3, 0, 2, whose mark is ((2 * 31 + 4) * 31 + 1) * 31 + 3.
     (Case::Hold, 4),
+    // The numbers of the resources, 1 to 4.
+    (Case::Lease, 4),
     (Case::Scenario, 12),
     // The mark of the figures: 64 accepted, taken and released, 128 notes, 448 events.
     (Case::Storm, 1),
