@@ -11,7 +11,7 @@ use Rattle.rx_event.specs.declared.event.Kind.{Kind}
 use Rattle.rx_event.specs.declared.event.Kind.TheVariants.{Sub}
 use Rattle.rx_event.specs.declared.event.Event.{Event}
 use Rattle.rx_event.specs.declared.event.Event.TheVariants.{Open, Hub, Connect, Accept, Use, Remove, Lease, Return, Item, Decline, End, Close, Take}
-use Rattle.rx_event.specs.Events.{makes_hub, has_source, is_leaf, is_merging, is_until, is_root, is_manual_hub, is_source_of, is_notifier_of}
+use Rattle.rx_event.specs.Events.{makes_hub, has_source, is_leaf, is_merging, is_until, is_root, is_manual_hub, is_auto_hub, hub_subscribed, is_source_of, is_notifier_of}
 use Rattle.rx_event.specs.Tree.{at, hubs, is_open, open_nodes, ancestors, has_open_child}
 use Rattle.rx_event.specs.Resources.{is_owned, is_out, is_held, is_waiting}
 use Rattle.rx_event.specs.Climb.{visits}
@@ -80,3 +80,10 @@ item_allowed h l = is_open h l && at is_leaf h l && nat_le (visits h l) 1048576
 
 unfoldable pub open_allowed : List Event → Place → Kind → Bool
 open_allowed h place kind = is_free h place && is_hubbed h place kind && nat_lt (length (open_nodes h)) 1048576
+
+-- the event's subscriber, which may be opened, has to be given a connection
+abbrev pub needs_connection : List Event → Event → Bool
+needs_connection h e = option_map_or (λ g. at is_auto_hub h g && not (has_key (open_connected h) h g)) (hub_subscribed e) false
+
+unfoldable pub leaves_room : List Event → Event → Bool
+leaves_room h e = nat_le (length (open_nodes h)) 1048574 || not (needs_connection h e)

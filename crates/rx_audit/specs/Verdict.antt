@@ -9,7 +9,9 @@ use Rattle.rx_event.specs.Resources.{held_resources, waiting_resources}
 use Rattle.rx_event.specs.Forced.{IsSettled}
 use Rattle.rx_event.specs.Lawful.{IsLawful, MayFollow}
 use Rattle.rx_audit.specs.declared.found.Found.{Found}
+use Rattle.rx_audit.specs.declared.advance.Nodes.{Nodes}
 use Rattle.rx_audit.specs.Known.{IsFoundHere}
+use Rattle.rx_audit.specs.Standing.{IsKnown}
 use Rattle.rx_audit.specs.declared.verdict.Verdict.{Verdict}
 use Rattle.rx_audit.specs.declared.verdict.Verdict.TheVariants.{Lawful, Unlawful, Unsettled}
 
@@ -50,7 +52,7 @@ abbrev pub opened_with : List Event → Event → Bool
 opened_with h (Accept n tag) = at opens_pass h n && (length h == n + 1) && is_open h n
 opened_with h _ = false
 
--- the events are lawful, and this was found of all of them
-pub record IsAllFound (h : List Event) (found : Found) : Type 0 where
-  pub lawful : IsLawful nothing_kept h
+-- the events are lawful, and this was found and is kept of all of them
+pub record IsAllFound (h : List Event) (found : Found) (nodes : Nodes) : Type 0 where
   pub is : IsFoundHere h found
+  pub known : IsKnown h found.live.items nodes
