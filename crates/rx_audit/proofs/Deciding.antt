@@ -4,7 +4,7 @@ use Rattle.std.proofs.Common.{◌∷◌, Option, Some, None, refl, sym, ap, ◌�
 use Rattle.std.proofs.Math.Bool.{not, ◌&&◌, ◌||◌}
 use Rattle.std.specs.List.{list_any, range_with_len, filter}
 use Rattle.std.specs.Option.{option_map_or, option_and_then}
-use Rattle.std.proofs.lemmas.Bool.{cases_Bool, and_parts, or_parts, eqb-true, eq-eqb, false≢true}
+use Rattle.std.proofs.lemmas.Bool.{cases_Bool, or_parts, eqb-true, eq-eqb, false≢true}
 use Rattle.std.proofs.lemmas.Option.{same_Some, none-some, option_and_then_some}
 use Rattle.std.proofs.lemmas.Map.Keys.{any_passes_from_place}
 use Rattle.rx_note.specs.declared.note.Terminal.{Terminal}
@@ -17,7 +17,7 @@ use Rattle.rx_event.specs.Tree.{at, places, is_open}
 use Rattle.rx_event.specs.Forced.{SourceEnded}
 use Rattle.rx_event.specs.Sames.{same_terminal}
 use Rattle.rx_audit.specs.Rules.{is_key, hub_subscribed_at, hub_connected_at}
-use Rattle.rx_audit.specs.Rules.{joins, ends_source, ends_source_so, is_cut, open_subscribed, open_connected, has_key}
+use Rattle.rx_audit.specs.Rules.{joins, ends_source, is_cut, open_subscribed, open_connected, has_key}
 
 -- tests ----------------------------------------------------------------------------------------------
 
@@ -225,39 +225,22 @@ joined (Some g) p e = (g, (refl, key_is p g e))
 joins_of : (o p : Option ℕ) (g : ℕ) → o ≡ Some g → p ≡ Some g → joins o p ≡ true
 joins_of o p g e f = rw (e, f) (eq-eqb g g refl)
 
-source_at : (h : List Event) (s : ℕ) (t : Terminal) (i : ℕ) (e : Event) → s < i → slice_get h i ≡ Some e → ends_source_so h s t e ≡ true → SourceEnded h s t
-source_at h s t i (End c u) l at_i holds =
-    let w = and_parts (joins (hub_subscribed_at h s) (hub_connected_at h c)) (same_terminal u t) holds in
-    let j = joined (hub_subscribed_at h s) (hub_connected_at h c) w.0 in
-    record {
-      hub = j.0;
-      connection = c;
-      place = i;
-      subscribes = subscriber_at h s j.0 j.1.0;
-      connects = connection_at h c j.0 j.1.1;
-      later = l;
-      ended = at_i ∙ ap (λ v. Some (End c v)) (terminal_is u t w.1);
-    }
-source_at h s t i (Open place kind) l at_i holds = absurd (false≢true holds)
-source_at h s t i (Hub mode) l at_i holds = absurd (false≢true holds)
-source_at h s t i (Connect g) l at_i holds = absurd (false≢true holds)
-source_at h s t i (Accept m tag) l at_i holds = absurd (false≢true holds)
-source_at h s t i (Use r) l at_i holds = absurd (false≢true holds)
-source_at h s t i (Remove r) l at_i holds = absurd (false≢true holds)
-source_at h s t i (Lease r) l at_i holds = absurd (false≢true holds)
-source_at h s t i (Return r) l at_i holds = absurd (false≢true holds)
-source_at h s t i (Item m v) l at_i holds = absurd (false≢true holds)
-source_at h s t i (Decline f) l at_i holds = absurd (false≢true holds)
-source_at h s t i (Close m) l at_i holds = absurd (false≢true holds)
-source_at h s t i (Take r) l at_i holds = absurd (false≢true holds)
-
 no_join : {C : Type 0} (o : Option ℕ) → joins o None ≡ true → C
 no_join None e = absurd (false≢true e)
 no_join (Some g) e = absurd (false≢true e)
 
 cut_at : (h : List Event) (s i : ℕ) (e : Event) → s < i → slice_get h i ≡ Some e → ends_source h s e ≡ true → (t : Terminal) × SourceEnded h s t
 cut_at h s i (End c u) l at_i holds =
-    (u, source_at h s u i (End c u) l at_i (both (joins (hub_subscribed_at h s) (hub_connected_at h c)) (same_terminal u u) holds (terminal_self u)))
+    let j = joined (hub_subscribed_at h s) (hub_connected_at h c) holds in
+    (u, record {
+      hub = j.0;
+      connection = c;
+      place = i;
+      subscribes = subscriber_at h s j.0 j.1.0;
+      connects = connection_at h c j.0 j.1.1;
+      later = l;
+      ended = at_i;
+    })
 cut_at h s i (Open place kind) l at_i holds = no_join (hub_subscribed_at h s) holds
 cut_at h s i (Hub mode) l at_i holds = no_join (hub_subscribed_at h s) holds
 cut_at h s i (Connect g) l at_i holds = no_join (hub_subscribed_at h s) holds

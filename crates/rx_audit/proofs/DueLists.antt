@@ -1,8 +1,8 @@
 -- What has to end or to close after one more event is on the list.
-use Rattle.std.proofs.Common.{◌≡◌, ℕ, zero, suc, ◌+◌, ◌-◌, ◌<◌, ◌≤◌, Bool, true, false, List, [], ◌∷◌, ◌++◌, length, Option, Some, None, refl, sym, ap, ◌∙◌, arith, inl, inr, ◌⊎◌, get_or, slice_get}
+use Rattle.std.proofs.Common.{◌≡◌, ℕ, zero, suc, ◌+◌, ◌-◌, ◌<◌, ◌≤◌, Bool, true, false, List, [], ◌∷◌, ◌++◌, length, Some, None, refl, sym, ap, ◌∙◌, arith, inl, inr, ◌⊎◌, get_or, slice_get}
 use Rattle.std.proofs.Math.Bool.{◌&&◌, ◌||◌}
 use Rattle.std.specs.Option.{option_and_then, option_map_or}
-use Rattle.std.proofs.lemmas.Bool.{cases_Bool, cases_order, both_ways, false≢true, and_parts, eq-eqb}
+use Rattle.std.proofs.lemmas.Bool.{cases_order, both_ways, false≢true, and_parts, eq-eqb}
 use Rattle.std.proofs.lemmas.Option.{slice_get_within, same_Some, none-some}
 use Rattle.rx_note.specs.declared.note.Terminal.{Terminal}
 use Rattle.rx_event.specs.Kept.{nothing_kept}

@@ -1,13 +1,12 @@
 -- What one event adds to what was found.
-use Rattle.std.proofs.Common.{◌≡◌, ℕ, zero, suc, ◌+◌, ◌*◌, ◌-◌, nat_lt, ◌⊎◌, inl, inr, ◌<◌, ◌≤◌, Bool, true, false, List, [], ◌∷◌}
-use Rattle.std.proofs.Common.{◌++◌, length, Option, Some, None, refl, sym, ap, ◌∙◌, arith, get_or, cond, count_by, add-zero, replicate, ℤ, take, drop}
-use Rattle.std.proofs.Common.{length-append}
+use Rattle.std.proofs.Common.{◌≡◌, ℕ, zero, suc, ◌+◌, ◌*◌, ◌-◌, nat_lt, ◌⊎◌, inl, inr, ◌<◌, Bool, true, false, List, [], ◌∷◌}
+use Rattle.std.proofs.Common.{◌++◌, length, Option, Some, None, refl, sym, ap, ◌∙◌, arith, get_or, cond, count_by, replicate, take, drop}
 use Rattle.std.proofs.Math.Seq.{take-append_seam}
 use Rattle.std.proofs.Math.Bool.{◌||◌}
 use Rattle.std.specs.List.{list_any, filter_map, sum_by, cons_option}
 use Rattle.std.specs.Option.{option_and_then}
 use Rattle.std.proofs.lemmas.List.Folds.{list_any-append}
-use Rattle.std.proofs.lemmas.List.Sums.{sum_by-append, sum_by-cons}
+use Rattle.std.proofs.lemmas.List.Sums.{sum_by-cons}
 use Rattle.rx_event.specs.declared.event.Event.{Event}
 use Rattle.rx_event.specs.Climb.{Stop, Delivery, Projection, Firing, climb}
 use Rattle.rx_event.specs.Moments.{is_firing_of, is_projection_to}
@@ -18,7 +17,7 @@ use Rattle.rx_audit.specs.Tables.{IsMarked, IsTable, marks_with, mark_count}
 use Rattle.rx_audit.specs.Rules.{is_key, fired_by, projected_by}
 use Rattle.rx_audit.specs.declared.reach.Visit.{Visit}
 use Rattle.rx_audit.specs.Flow.{times, IsOften, IsReached}
-use Rattle.std.proofs.lemmas.Bool.{cases_lt, cases_Bool, lt-ltb, le-ltb}
+use Rattle.std.proofs.lemmas.Bool.{cases_Bool, lt-ltb}
 use Rattle.rx_audit.proofs.Keys.{length-marks_with, marks_with_at}
 
 -- firings and projections --------------------------------------------------------------------------

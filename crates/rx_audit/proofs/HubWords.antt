@@ -1,12 +1,10 @@
 -- What the words of a hub tell: whether it has a connection, subscribers, one that waits, and who of them is cut.
-use Rattle.std.proofs.Common.{◌≡◌, ℕ, zero, suc, ◌+◌, ◌-◌, ◌<◌, ◌≤◌, Bool, true, false, List, [], ◌∷◌, ◌++◌, length, Option, Some, None, cond, refl, sym, ap, subst, ◌∙◌, arith, inl, inr, ◌⊎◌, ◌==◌, get_or, slice_get, drop, filter, nat_lt, replicate, length-append}
-use Rattle.std.proofs.lemmas.List.{length-replicate}
+use Rattle.std.proofs.Common.{◌≡◌, ℕ, zero, suc, ◌-◌, ◌<◌, ◌≤◌, Bool, true, false, List, [], ◌∷◌, length, Option, Some, None, cond, refl, sym, ap, ◌∙◌, arith, inl, inr, ◌⊎◌, get_or, slice_get, drop, nat_lt}
 use Rattle.std.proofs.Math.Bool.{not, ◌&&◌, ◌||◌}
 use Rattle.std.specs.List.{list_any, range_with_len}
-use Rattle.std.specs.Option.{option_map_or, option_and_then, option_or}
+use Rattle.std.specs.Option.{option_map_or, option_and_then}
 use Rattle.std.proofs.lemmas.Bool.{cases_Bool, cases_order, both_ways, false≢true, and_parts, lt-ltb, ltb-true, eq-eqb}
-use Rattle.std.proofs.lemmas.List.Elements.{filter-append}
-use Rattle.std.proofs.lemmas.Option.{none-some, same_Some, slice_get_within}
+use Rattle.std.proofs.lemmas.Option.{none-some, slice_get_within}
 use Rattle.rx_event.specs.Kept.{nothing_kept}
 use Rattle.rx_event.specs.declared.event.Event.{Event}
 use Rattle.rx_event.specs.Events.{is_subscriber_of, is_connect_of}

@@ -1,10 +1,9 @@
 -- From the tests to the verdict.
 use Rattle.std.proofs.Common.{◌≡◌, ℕ, ℤ, zero, suc, ◌+◌, ◌<◌, ◌≤◌, Bool, true, false, List, [], ◌∷◌, ◌++◌, length}
-use Rattle.std.proofs.Common.{take, Option, Some, None, refl, sym, ap, ◌∙◌, arith, ◌==◌, slice_get, get_or, inl, inr, ◌⊎◌, IsTrue, ◌↔◌, length-append}
-use Rattle.std.proofs.Math.Bool.{not, ◌&&◌}
-use Rattle.std.specs.Option.{option_map_or, option_and_then}
-use Rattle.std.proofs.lemmas.Bool.{cases_order, and_parts, both_ways, false≢true, eqb-true, eq-eqb}
-use Rattle.std.proofs.lemmas.Option.{slice_get_past, none-some}
+use Rattle.std.proofs.Common.{take, Option, Some, None, refl, sym, ap, ◌∙◌, arith, ◌==◌, slice_get, get_or, IsTrue, ◌↔◌, length-append}
+use Rattle.std.proofs.Math.Bool.{◌&&◌}
+use Rattle.std.specs.Option.{option_map_or}
+use Rattle.std.proofs.lemmas.Bool.{and_parts, both_ways, false≢true, eqb-true, eq-eqb}
 use Rattle.rx_event.specs.Kept.{nothing_kept}
 use Rattle.rx_event.specs.declared.event.Place.{Place}
 use Rattle.rx_event.specs.declared.event.Kind.{Kind}
@@ -22,7 +21,8 @@ use Rattle.rx_audit.specs.declared.advance.Nodes.{Nodes}
 use Rattle.rx_audit.specs.Standing.{IsFollowed, IsKnown}
 use Rattle.rx_audit.specs.Found.{IsFound, HasFewVisits}
 use Rattle.rx_event.specs.Climb.{visits, most_visits}
-use Rattle.rx_audit.specs.Verdict.{IsFoundUnlawful, opens_pass, opened_with}
+use Rattle.rx_audit.specs.Verdict.{IsFoundUnlawful}
+use Rattle.rx_audit.specs.Allowing.{opens_pass, opened_with}
 use Rattle.std.proofs.Common.{drop, take-append-drop}
 use Rattle.rx_audit.specs.Allowing.{allowed_simply, item_allowed, open_allowed, leaves_room}
 use Rattle.rx_audit.proofs.Deciding.{both}

@@ -1,12 +1,10 @@
 -- Marks and counts by a key.
 use Rattle.std.proofs.Common.{◌≡◌, ℕ, zero, suc, ◌+◌, ◌-◌, ◌<◌, ◌≤◌, Bool, true, false, List, [], ◌∷◌, length, Option, Some, None}
-use Rattle.std.proofs.Common.{refl, sym, ap, ◌∙◌, arith, ◌==◌, ◌≢◌, get_or, set, get_or-set_other, get_or-set_same, ◌⊎◌, inl, inr, cond, take}
+use Rattle.std.proofs.Common.{refl, sym, arith, ◌==◌, ◌≢◌, get_or, set, get_or-set_other, get_or-set_same, ◌⊎◌, inl, inr, cond}
 use Rattle.std.proofs.Common.{add-zero}
 use Rattle.std.proofs.Math.Bool.{◌||◌}
 use Rattle.std.proofs.Math.ListN.{length-set}
 use Rattle.std.proofs.lemmas.Bool.{cases_order, eq-eqb, ne_eqb}
-use Rattle.std.specs.List.{list_any}
-use Rattle.std.proofs.lemmas.List.Folds.{list_any_more}
 use Rattle.rx_audit.specs.Tables.{marks_with, counts_with, counts_less}
 use Rattle.rx_audit.specs.Rules.{is_key}
 

@@ -1,7 +1,7 @@
 -- Lists that lead from one number that passes a test to its neighbours: one number less, and one more.
-use Rattle.std.proofs.Common.{◌≡◌, ◌≢◌, ℕ, zero, suc, ◌+◌, ◌-◌, ◌<◌, ◌≤◌, Bool, true, false, List, length, Option, Some, None, refl, sym, ap, ◌∙◌, arith, inl, inr, ◌⊎◌, get_or, set, get_or-set_other, get_or-set_same}
+use Rattle.std.proofs.Common.{◌≡◌, ◌≢◌, ℕ, zero, suc, ◌-◌, ◌<◌, ◌≤◌, Bool, true, false, List, length, refl, sym, ap, ◌∙◌, arith, inl, inr, ◌⊎◌, get_or, set, get_or-set_other, get_or-set_same}
 use Rattle.std.proofs.Math.ListN.{length-set}
-use Rattle.std.proofs.lemmas.Bool.{cases_order, cases_Bool, both_ways, false≢true}
+use Rattle.std.proofs.lemmas.Bool.{cases_order, cases_Bool, both_ways}
 use Rattle.rx_audit.specs.Latest.{last_below, table_with}
 use Rattle.rx_audit.specs.Listed.{IsNext, IsRow, number_of}
 use Rattle.rx_audit.proofs.Latest.{last_le, last_holds, last_none, last_same}

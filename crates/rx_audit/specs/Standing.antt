@@ -1,10 +1,12 @@
--- What is kept of the nodes and the hubs of a history. No public clause cites this module.
-use Rattle.std.specs.Prelude.{◌≡◌, ℕ, ◌<◌, ◌≤◌, Bool, List, length}
+-- What is found of a history, and what is kept of its nodes and hubs. No public clause cites this module.
+use Rattle.std.specs.Prelude.{◌≡◌, ℕ, ◌≤◌, Bool, List, length}
 use Rattle.rx_event.specs.Kept.{nothing_kept}
 use Rattle.rx_event.specs.declared.event.Event.{Event}
 use Rattle.rx_event.specs.Tree.{is_open}
 use Rattle.rx_event.specs.Lawful.{IsLawful}
 use Rattle.rx_audit.specs.declared.advance.Nodes.{Nodes}
+use Rattle.rx_audit.specs.declared.found.Found.{Found}
+use Rattle.rx_audit.specs.Known.{IsFoundHere}
 use Rattle.rx_audit.specs.Tables.{IsMarked}
 use Rattle.rx_audit.specs.Latest.{AreChildren}
 use Rattle.rx_audit.specs.Listed.{AreLinked, AreOpenListed}
@@ -29,3 +31,8 @@ pub record IsKnown (h : List Event) (live : List Bool) (nodes : Nodes) : Type 0 
   pub tied : IsMarked live (is_open h)
   pub room : length h ≤ length live
   pub followed : IsFollowed h (length live) nodes
+
+-- the events are lawful, and this was found and is kept of all of them
+pub record IsAllFound (h : List Event) (found : Found) (nodes : Nodes) : Type 0 where
+  pub is : IsFoundHere h found
+  pub known : IsKnown h found.live.items nodes

@@ -1,14 +1,14 @@
 //! One event more: what is kept of the nodes and the hubs. Each event costs what it changes.
 
 ghost use Rattle.rx_event.specs.Kept.{nothing_kept};
-ghost use Rattle.std.specs.Prelude.{◌≡◌, ◌<◌, ◌≤◌, IfOk, OnOk, Some, None, [], ◌∷◌, ◌++◌, length, replicate};
+ghost use Rattle.std.specs.Prelude.{◌≡◌, ◌<◌, IfOk, OnOk, Some, None, [], ◌∷◌, ◌++◌, length};
 ghost use Rattle.rx_event.specs.Tree.{is_open};
 ghost use Rattle.rx_event.specs.Lawful.{IsLawful, MayFollow};
 ghost use Rattle.rx_audit.specs.Tables.{IsMarked, mark_count};
 ghost use Rattle.rx_audit.specs.Latest.{AreChildren, AreClosed};
 ghost use Rattle.rx_audit.specs.Found.{HasFewVisits};
 ghost use Rattle.rx_audit.specs.Marking.{IsKept, IsCovered, leaf_of};
-ghost use Rattle.rx_audit.specs.DueList.{Keeps, HasAll, HasCut, HasLeft};
+ghost use Rattle.rx_audit.specs.DueList.{Keeps};
 ghost use Rattle.rx_audit.specs.HubTables.{AreHubs};
 ghost use Rattle.rx_audit.specs.Listed.{AreLinked, AreOpenListed};
 ghost use Rattle.rx_audit.specs.Standing.{IsFollowed};

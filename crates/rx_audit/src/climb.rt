@@ -1,6 +1,6 @@
 //! Where an item goes.
 
-ghost use Rattle.std.specs.Prelude.{◌≡◌, ℕ, ◌-◌, ◌<◌, ◌==◌, ◌&&◌, false, true, Some, None, IfOk, length, is_some, sum_by};
+ghost use Rattle.std.specs.Prelude.{◌≡◌, ℕ, ◌-◌, ◌<◌, false, true, Some, None, IfOk, length, is_some, sum_by};
 ghost use Rattle.std.specs.Option.{option_and_then, option_to_list};
 ghost use Rattle.rx_event.specs.Tree.{at, parent};
 ghost use Rattle.rx_event.specs.Climb.{stop_at, onward_from, onward};

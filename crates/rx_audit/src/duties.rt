@@ -1,19 +1,18 @@
 //! The list of the nodes that may have to end or to close.
 
 ghost use Rattle.rx_event.specs.Kept.{nothing_kept};
-ghost use Rattle.std.specs.Prelude.{◌≡◌, ℕ, ◌+◌, ◌<◌, ◌≤◌, ◌&&◌, ◌||◌, ◌↔◌, IsTrue, IfOk, OnOk, true, false, Some, [], ◌∷◌, ◌++◌, length, is_some, slice_get, take};
+ghost use Rattle.std.specs.Prelude.{◌≡◌, ℕ, ◌+◌, ◌<◌, ◌&&◌, ◌||◌, ◌↔◌, IsTrue, OnOk, true, false, Some, [], ◌∷◌, ◌++◌, length, is_some, take};
 ghost use Rattle.rx_event.specs.declared.event.Event.{Event};
 ghost use Rattle.rx_event.specs.Tree.{is_open};
 ghost use Rattle.rx_event.specs.Forced.{IsSettled};
 ghost use Rattle.rx_event.specs.Lawful.{IsLawful, MayFollow};
-ghost use Rattle.rx_audit.specs.Latest.{AreClosed, IsNoted};
+ghost use Rattle.rx_audit.specs.Latest.{IsNoted};
 ghost use Rattle.rx_audit.specs.Tables.{IsMarked};
 ghost use Rattle.rx_audit.specs.Marking.{IsKept, IsCovered, IsUntouched, node_due};
-ghost use Rattle.rx_audit.specs.DueList.{acts, Keeps, HasAll, HasCut, HasLeft, HasEnded, HasLost, IsLostNoted, lost_connection};
-ghost use Rattle.rx_audit.specs.HubTables.{AreHubs};
+ghost use Rattle.rx_audit.specs.DueList.{acts, Keeps, HasEnded, HasLost, IsLostNoted, lost_connection};
 ghost use Rattle.rx_audit.specs.Listed.{AreLinked, AreOpenListed, on_list};
 ghost use Rattle.rx_audit.specs.Rules.{is_cut};
-ghost use Rattle.rx_audit.specs.Standing.{IsFollowed, IsKnown};
+ghost use Rattle.rx_audit.specs.Standing.{IsKnown};
 
 use crate::advance::Nodes;
 use crate::children::value_at;

@@ -6,7 +6,7 @@ ghost use Rattle.rx_event.specs.Lawful.{IsLawful, MayFollow};
 ghost use Rattle.rx_audit.specs.HubTables.{AreHubs};
 ghost use Rattle.rx_audit.specs.Rules.{hub_ended};
 
-use crate::children::{put, value_at, zeros};
+use crate::children::{put, zeros};
 use crate::marks::one_if;
 use crate::subscribers::hub_connected_at;
 use rx_event::Event;

@@ -1,6 +1,6 @@
 //! The open subscribers of each hub, one after another.
 
-ghost use Rattle.std.specs.Prelude.{◌≡◌, ℕ, ◌+◌, ◌<◌, true, false, Some, None, [], ◌∷◌, ◌++◌, IfOk, length, replicate, slice_index_or, slice_set, sum_by};
+ghost use Rattle.std.specs.Prelude.{◌≡◌, ℕ, ◌+◌, ◌<◌, true, false, Some, None, [], ◌∷◌, ◌++◌, IfOk, length, slice_index_or, slice_set, sum_by};
 ghost use Rattle.rx_event.specs.Events.{is_subscriber_of};
 ghost use Rattle.rx_event.specs.Tree.{open_subscribers};
 ghost use Rattle.rx_audit.specs.Latest.{table_with};

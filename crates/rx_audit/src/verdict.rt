@@ -1,18 +1,18 @@
 //! The verdict on a list of events.
 
 ghost use Rattle.rx_event.specs.Kept.{nothing_kept};
-ghost use Rattle.std.specs.Prelude.{◌≡◌, ◌+◌, ◌<◌, ◌≤◌, ◌&&◌, ◌↔◌, true, false, IsTrue, IfOk, [], ◌∷◌, ◌++◌, Some, None, MatchOption, length};
+ghost use Rattle.std.specs.Prelude.{◌≡◌, ◌<◌, ◌&&◌, ◌↔◌, true, false, IsTrue, IfOk, [], Some, None, MatchOption, length};
 ghost use Rattle.rx_event.specs.declared.event.Event.{Event};
 ghost use Rattle.rx_event.specs.Tree.{open_nodes};
 ghost use Rattle.rx_event.specs.Resources.{held_resources, waiting_resources};
 ghost use Rattle.rx_event.specs.Allowed.{IsAllowed};
 ghost use Rattle.rx_event.specs.Forced.{IsSettled};
 ghost use Rattle.rx_event.specs.Lawful.{MayFollow};
-ghost use Rattle.rx_audit.specs.Allowing.{needs_connection, leaves_room, open_allowed};
+ghost use Rattle.rx_audit.specs.Allowing.{needs_connection, leaves_room, open_allowed, opens_pass, opened_with};
 ghost use Rattle.rx_audit.specs.Known.{IsFoundHere};
-ghost use Rattle.rx_audit.specs.Standing.{IsFollowed, IsKnown};
+ghost use Rattle.rx_audit.specs.Standing.{IsFollowed, IsKnown, IsAllFound};
 ghost use Rattle.rx_audit.specs.Found.{IsFound};
-ghost use Rattle.rx_audit.specs.Verdict.{IsVerdict, IsFoundUnlawful, IsAllFound, opens_pass, opened_with};
+ghost use Rattle.rx_audit.specs.Verdict.{IsVerdict, IsFoundUnlawful};
 
 use crate::advance::{Nodes, no_nodes};
 use crate::allowed::{

@@ -1,6 +1,6 @@
 use Rattle.std.proofs.Common.{◌≡◌, ℕ, ◌++◌, [], ◌∷◌, length, subst, ap, ◌∙◌, arith}
 use Rattle.rx_audit.specs.declared.children.Children.{Children}
-use Rattle.rx_audit.specs.Latest.{AreChildren, AreClosed}
+use Rattle.rx_audit.specs.Latest.{AreChildren}
 use Rattle.rx_audit.specs.Listed.{AreLinked}
 use Rattle.rx_audit.specs.HubTables.{AreHubs}
 use Rattle.rx_audit.proofs.DueLists.{all_after}

@@ -1,4 +1,4 @@
-use Rattle.std.proofs.Common.{◌≡◌, ℕ, ◌++◌, [], ◌∷◌, length, subst, ◌∙◌, arith}
+use Rattle.std.proofs.Common.{ℕ, ◌++◌, [], ◌∷◌, subst, ◌∙◌, arith}
 use Rattle.rx_audit.specs.Listed.{AreLinked}
 use Rattle.rx_audit.specs.HubTables.{AreHubs}
 use Rattle.rx_audit.proofs.OpenListed.{hub_older, open_listed_after}

@@ -1,6 +1,6 @@
 use Rattle.std.proofs.Common.{length, arith}
 use Rattle.rx_audit.proofs.ClosingBelow.{noted_last}
-use Rattle.rx_audit.proofs.DueLists.{keeps_more, keeps_on, lost_more, lost_all, lost_keeps}
+use Rattle.rx_audit.proofs.DueLists.{keeps_more, keeps_on, lost_more, lost_all}
 use Rattle.rx_audit.proofs.duties.note_left.Goals as goal
 
 pub loop-s-init : goal.loop-s-init

@@ -1,5 +1,4 @@
-use Rattle.std.proofs.Common.{ap, ◌∙◌, length}
-use Rattle.rx_audit.specs.Tables.{IsTally, counts_with, counts_less}
+use Rattle.std.proofs.Common.{length}
 use Rattle.rx_audit.proofs.Lending.{leases_found, leases_long, leases_few}
 use Rattle.rx_audit.proofs.found.find_leases.Goals as goal
 

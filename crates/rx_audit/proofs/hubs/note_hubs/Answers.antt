@@ -1,7 +1,7 @@
-use Rattle.std.proofs.Common.{◌≡◌, List, ℕ, suc, ◌+◌, length, ap, ◌∙◌, arith}
+use Rattle.std.proofs.Common.{◌≡◌, ℕ, suc, ◌+◌, length, ap, ◌∙◌, arith}
 use Rattle.std.specs.Option.{option_or}
 use Rattle.rx_audit.specs.Latest.{table_with}
-use Rattle.rx_audit.proofs.HubsAfter.{hubs_more, hub_count_few}
+use Rattle.rx_audit.proofs.HubsAfter.{hubs_more}
 use Rattle.rx_audit.proofs.hubs.note_hubs.Goals as goal
 
 pub returns : goal.returns

@@ -1,4 +1,4 @@
-use Rattle.std.proofs.Common.{◌≡◌, List, ℕ, suc, ◌+◌, set, length, sym, ap, ◌∙◌, arith}
+use Rattle.std.proofs.Common.{◌≡◌, suc, ◌+◌, set, length, sym, ap, ◌∙◌, arith}
 use Rattle.rx_audit.specs.Latest.{table_with}
 use Rattle.rx_audit.specs.Listed.{number_of}
 use Rattle.rx_audit.proofs.SubscriberRows.{rows_more, rows_same, subscribes_so, subscribes_none}

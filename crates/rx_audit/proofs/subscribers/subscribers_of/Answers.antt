@@ -1,5 +1,5 @@
-use Rattle.std.proofs.Common.{length, arith}
-use Rattle.rx_audit.proofs.SubscriberRows.{walk_starts, walk_first, walk_less, walk_next, walk_more, walk_ends}
+use Rattle.std.proofs.Common.{length}
+use Rattle.rx_audit.proofs.SubscriberRows.{walk_starts, walk_first, walk_less, walk_next, walk_more}
 use Rattle.rx_audit.proofs.subscribers.subscribers_of.Goals as goal
 
 pub loop-next-init : goal.loop-next-init

@@ -1,5 +1,4 @@
-use Rattle.std.proofs.Common.{sym}
-use Rattle.std.proofs.lemmas.Bool.{false≢true, both_ways}
+use Rattle.std.proofs.lemmas.Bool.{both_ways}
 use Rattle.rx_audit.proofs.Judging.{forced_follows, unforced_follows}
 use Rattle.rx_audit.proofs.verdict.may_follow_unsettled.Goals as goal
 
