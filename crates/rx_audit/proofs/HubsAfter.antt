@@ -134,3 +134,7 @@ hub_count_few h = few (at makes_hub h) 0 (length h) where
     by_test : (b : Bool) → length (filter p (range_with_len (s + 1) n)) ≤ n → length (cond b (s ∷ filter p (range_with_len (s + 1) n)) (filter p (range_with_len (s + 1) n))) ≤ suc n
     by_test true l = omega arith
     by_test false l = omega arith
+
+pub one_at_most : (k : ℕ) (b : Bool) → k ≡ cond b 1 0 → k ≤ 1
+one_at_most k true is = omega arith
+one_at_most k false is = omega arith

@@ -40,6 +40,9 @@ relink-requires-clause-linked c =
     let w = c.requires.followed in
     rw (c.in_ok-keep.ensures.children, c.in_ok-keep.ensures.subscribers, w.children.youngest_size) w.linked
 
+pub relink-requires-clause-listed : goal.relink-requires-clause-listed
+relink-requires-clause-listed c = rw c.in_ok-keep.ensures.subscribers c.requires.followed.listed
+
 pub relink-requires-clause-hubs : goal.relink-requires-clause-hubs
 relink-requires-clause-hubs c =
     let w = c.requires.followed in

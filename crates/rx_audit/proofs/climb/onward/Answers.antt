@@ -3,9 +3,9 @@ use Rattle.std.specs.List.{sum_by}
 use Rattle.rx_audit.proofs.Flowing.{onward_at, onward_nowhere}
 use Rattle.rx_audit.proofs.climb.onward.Goals as goal
 
-pub returns-in_ok-next : goal.returns-in_ok-next
-returns-in_ok-next c =
-    λ number. c.in_ok-next.ensures number
+pub returns-in_ok-next-in-Some : goal.returns-in_ok-next-in-Some
+returns-in_ok-next-in-Some c =
+    λ number. c.in_ok-next-in-Some.ensures number
     ∙ ap (sum_by number) (sym (onward_at c.args.past.now c.args.n c.in-Some.event (sym c.if-stops_at.ensures) (sym c.event_at.ensures ∙ c.in-Some.is)))
 
 pub returns-in-None : goal.returns-in-None

@@ -18,7 +18,8 @@ loop-i-init c = record {
 }
 
 pub settle-settled-requires : goal.settle-settled-requires
-settle-settled-requires c = known_from c.args.events.now c.loop-i.i c.loop-i.found c.loop-i.nodes c.loop-i.invariant.lawful c.loop-i.invariant.found c.loop-i.invariant.followed
+settle-settled-requires c = rw c.as_slice.ensures.value
+    (known_from c.args.events.now c.loop-i.i c.loop-i.found c.loop-i.nodes c.loop-i.invariant.lawful c.loop-i.invariant.found c.loop-i.invariant.followed)
 
 pub returns-then-not-branch : goal.returns-then-not-branch
 unfolding any_event
