@@ -12,6 +12,7 @@ ghost use Rattle.rx_audit.specs.Standing.{IsFollowed};
 ghost use Rattle.rx_audit.specs.Tables.{IsTally};
 
 use crate::advance::{Nodes, advance};
+use crate::children::zeros;
 use crate::marks::{count, count_less, count_of, is_marked, mark};
 use rx_event::Event;
 use std::alloc::{AllocError, Global};
@@ -29,7 +30,7 @@ pub struct Found {
     /// The lease was given back.
     pub returned: Vec<bool>,
     /// How many leases of the resource are out.
-    pub leases: Vec<u128>,
+    pub leases: Vec<usize>,
     /// The resource was handed out.
     pub taken: Vec<bool>,
 }
@@ -41,13 +42,6 @@ pub fn unmarked(alloc: Global, size: usize) -> Result<Vec<bool>, AllocError>
     Ok(vec![in alloc; false; size]?)
 }
 
-/// A list of this many counts, all of them 0.
-fn uncounted(alloc: Global, size: usize) -> Result<Vec<u128>, AllocError>
-    ensures { IfOk result (λ v. v.items ≡ replicate size 0) }
-{
-    Ok(vec![in alloc; 0; size]?)
-}
-
 /// Nothing was found yet, of this many events.
 pub fn nothing_found(alloc: Global, size: usize) -> Result<Found, AllocError>
     ensures { IfOk result (λ f. IsFound [] size f) }
@@ -57,7 +51,7 @@ pub fn nothing_found(alloc: Global, size: usize) -> Result<Found, AllocError>
         live_count: 0,
         removed: unmarked(alloc, size)?,
         returned: unmarked(alloc, size)?,
-        leases: uncounted(alloc, size)?,
+        leases: zeros(alloc, size)?,
         taken: unmarked(alloc, size)?,
     })
 }
@@ -71,11 +65,12 @@ fn given_back(past: &[Event], event: Event) -> Option<u64>
 }
 
 /// Finds how many leases of each resource the event leaves out.
-fn find_leases(past: &[Event], event: Event, leases: &mut [u128])
+fn find_leases(past: &[Event], event: Event, leases: &mut [usize])
     requires lawful { IsLawful nothing_kept past.now }
     requires next { MayFollow nothing_kept past.now event }
     requires leases { IsTally leases.old (leases_of past.now) }
     requires few { (n : ℕ) → slice_index_or leases.old n 0 ≤ length past.now }
+    requires room { length past.now < length leases.old }
     ensures leases { IsTally leases.new (leases_of (past.now ++ event ∷ [])) }
     ensures len { length leases.new ≡ length leases.old }
     ensures few { (n : ℕ) → slice_index_or leases.new n 0 ≤ length past.now + 1 }

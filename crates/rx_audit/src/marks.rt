@@ -24,7 +24,7 @@ pub fn mark(marks: &mut [bool], key: Option<u64>)
 }
 
 /// The count of number `n`.
-pub fn count_of(counts: &[u128], n: u64) -> u128
+pub fn count_of(counts: &[usize], n: u64) -> usize
     ensures { result ≡ slice_index_or counts.now n 0 }
 {
     let n = n as usize;
@@ -32,8 +32,8 @@ pub fn count_of(counts: &[u128], n: u64) -> u128
 }
 
 /// Makes the count of the number one more, if there is a number and the list has it.
-pub fn count(counts: &mut [u128], key: Option<u64>)
-    requires { (n : ℕ) → slice_index_or counts.old n 0 + 1 < 2 ^ 128 }
+pub fn count(counts: &mut [usize], key: Option<u64>)
+    requires { (n : ℕ) → slice_index_or counts.old n 0 + 1 < 2 ^ 64 }
     ensures { counts.new ≡ counts_with counts.old key }
 {
     if let Some(n) = key {
@@ -45,7 +45,7 @@ pub fn count(counts: &mut [u128], key: Option<u64>)
 }
 
 /// Makes the count of the number one less, if there is a number and the list has it and it is not 0.
-pub fn count_less(counts: &mut [u128], key: Option<u64>)
+pub fn count_less(counts: &mut [usize], key: Option<u64>)
     ensures { counts.new ≡ counts_less counts.old key }
 {
     if let Some(n) = key {

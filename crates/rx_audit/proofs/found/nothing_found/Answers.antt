@@ -12,9 +12,9 @@ returns c = record {
   removed_size = ap length c.in_ok-unmarked-2.ensures ∙ length-replicate c.args.size false;
   returned = rw c.in_ok-unmarked-3.ensures (λ n l. no_table c.args.size (λ n. false) (λ n. refl) n);
   returned_size = ap length c.in_ok-unmarked-3.ensures ∙ length-replicate c.args.size false;
-  leases = rw c.in_ok-uncounted.ensures (λ n l. no_tally c.args.size n ∙ sym (nothing_leased n));
-  leases_size = ap length c.in_ok-uncounted.ensures ∙ length-replicate c.args.size 0;
-  leases_few = rw c.in_ok-uncounted.ensures (λ n. let e = no_tally c.args.size n in omega arith);
+  leases = rw c.in_ok-zeros.ensures (λ n l. no_tally c.args.size n ∙ sym (nothing_leased n));
+  leases_size = ap length c.in_ok-zeros.ensures ∙ length-replicate c.args.size 0;
+  leases_few = rw c.in_ok-zeros.ensures (λ n. let e = no_tally c.args.size n in omega arith);
   taken = rw c.in_ok-unmarked-4.ensures (λ n l. no_table c.args.size (λ n. false) (λ n. refl) n);
   taken_size = ap length c.in_ok-unmarked-4.ensures ∙ length-replicate c.args.size false;
 }
