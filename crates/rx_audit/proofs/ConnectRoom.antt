@@ -73,16 +73,18 @@ needs_due : (h : List Event) (place : Place) (kind : Kind) → IsFree nothing_ke
     → (g : ℕ) × IsConnectDue (h ++ Open place kind ∷ []) g
 needs_due h place (Sub k) free needs =
     let p = and_parts (at is_auto_hub h k) (not (has_key (open_connected h) h k)) needs in
-    let older : k < length h = at_within is_auto_hub h k p.0 in
-    (k, record {
-      auto = at-append is_auto_hub h (Open place (Sub k) ∷ []) k older ∙ p.0;
-      subscriber = length h;
-      subscribes = ap (λ o. option_map_or (is_subscriber_of k) o false) (slice_get_last h (Open place (Sub k))) ∙ eq-eqb k k refl;
-      subscribed = opened_at h place (Sub k) free;
-      waits = λ t x. (let l = x.later in let w = slice_get_within (h ++ Open place (Sub k) ∷ []) x.place _ x.ended in omega (arith, length-append h (Open place (Sub k) ∷ [])));
-      unconnected = filter_none (λ n. at (is_connect_of k) (h ++ Open place (Sub k) ∷ []) n && is_open (h ++ Open place (Sub k) ∷ []) n)
-          (places (h ++ Open place (Sub k) ∷ [])) (not_true _ (λ y. unconnected k (not_not (has_key (open_connected h) h k) p.1) y));
-    })
+    let older : k < length h = at_within is_auto_hub h k p.0 in (
+      k,
+      record {
+        auto = at-append is_auto_hub h (Open place (Sub k) ∷ []) k older ∙ p.0;
+        subscriber = length h;
+        subscribes = ap (λ o. option_map_or (is_subscriber_of k) o false) (slice_get_last h (Open place (Sub k))) ∙ eq-eqb k k refl;
+        subscribed = opened_at h place (Sub k) free;
+        waits = λ t x. (let l = x.later in let w = slice_get_within (h ++ Open place (Sub k) ∷ []) x.place _ x.ended in omega (arith, length-append h (Open place (Sub k) ∷ [])));
+        unconnected = filter_none (λ n. at (is_connect_of k) (h ++ Open place (Sub k) ∷ []) n && is_open (h ++ Open place (Sub k) ∷ []) n)
+            (places (h ++ Open place (Sub k) ∷ [])) (not_true _ (λ y. unconnected k (not_not (has_key (open_connected h) h k) p.1) y));
+      },
+    )
   where
     unconnected : (j : ℕ) → has_key (open_connected h) h j ≡ false
         → list_any (λ n. at (is_connect_of j) (h ++ Open place (Sub k) ∷ []) n && is_open (h ++ Open place (Sub k) ∷ []) n) (places (h ++ Open place (Sub k) ∷ [])) ≡ true → ⊥

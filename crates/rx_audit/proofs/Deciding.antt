@@ -231,16 +231,18 @@ no_join (Some g) e = absurd (false≢true e)
 
 cut_at : (h : List Event) (s i : ℕ) (e : Event) → s < i → slice_get h i ≡ Some e → ends_source h s e ≡ true → (t : Terminal) × SourceEnded h s t
 cut_at h s i (End c u) l at_i holds =
-    let j = joined (hub_subscribed_at h s) (hub_connected_at h c) holds in
-    (u, record {
-      hub = j.0;
-      connection = c;
-      place = i;
-      subscribes = subscriber_at h s j.0 j.1.0;
-      connects = connection_at h c j.0 j.1.1;
-      later = l;
-      ended = at_i;
-    })
+    let j = joined (hub_subscribed_at h s) (hub_connected_at h c) holds in (
+      u,
+      record {
+        hub = j.0;
+        connection = c;
+        place = i;
+        subscribes = subscriber_at h s j.0 j.1.0;
+        connects = connection_at h c j.0 j.1.1;
+        later = l;
+        ended = at_i;
+      },
+    )
 cut_at h s i (Open place kind) l at_i holds = no_join (hub_subscribed_at h s) holds
 cut_at h s i (Hub mode) l at_i holds = no_join (hub_subscribed_at h s) holds
 cut_at h s i (Connect g) l at_i holds = no_join (hub_subscribed_at h s) holds

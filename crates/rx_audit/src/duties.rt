@@ -16,8 +16,8 @@ ghost use Rattle.rx_audit.specs.Standing.{IsKnown};
 
 use crate::advance::Nodes;
 use crate::children::value_at;
-use crate::forced::{any_connect_due, close_due, is_cut};
 use crate::event_tests::event_at;
+use crate::forced::{any_connect_due, close_due, is_cut};
 use crate::hubs::{Hubs, hub_ended};
 use crate::marks::is_marked;
 use crate::nodes::{marks_at, touched};

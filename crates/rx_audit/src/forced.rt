@@ -171,9 +171,7 @@ fn cut_so(past: &[Event], live: &[bool], nodes: &Nodes, s: u64, terminal: Termin
     requires { IsKnown past.now live.now nodes.now }
     ensures { result ≡ cut_so past.now nodes.now.hubs.ended.items s terminal }
 {
-    is_marked(live, s)
-        && is_cut(past, live, nodes, s)
-        && ended_last_so(past, nodes, s, terminal)
+    is_marked(live, s) && is_cut(past, live, nodes, s) && ended_last_so(past, nodes, s, terminal)
 }
 
 /// Whether the node has to end so, by its marks.
@@ -223,7 +221,8 @@ fn forced_now(past: &[Event], live: &[bool], nodes: &Nodes, event: Event) -> boo
 {
     match event {
         Event::Connect(g) => connect_due(past, live, nodes, g),
-        Event::End(n, t) => !any_connect_due(past, live, nodes) && ends_now(past, live, nodes, n, t),
+        Event::End(n, t) => !any_connect_due(past, live, nodes)
+            && ends_now(past, live, nodes, n, t),
         Event::Close(c) => !any_connect_due(past, live, nodes) && close_due(past, live, nodes, c),
         _ => false,
     }

@@ -120,13 +120,7 @@ pub fn reached(
             return Ok(None);
         }
         total += more as u64;
-        spread(
-            &mut log,
-            entries,
-            i,
-            next.as_slice(),
-            visit.count,
-        )?;
+        spread(&mut log, entries, i, next.as_slice(), visit.count)?;
     }
     Ok(Some(log))
 }

@@ -60,9 +60,7 @@ fn needs_connection(past: &[Event], live: &[bool], nodes: &Nodes, event: Event) 
     ensures { result ≡ needs_connection past.now event }
 {
     match event.subscribes_to() {
-        Some(g) => {
-            at(Event::is_auto_hub, past, g) && !is_connected(past, live, nodes, g)
-        }
+        Some(g) => at(Event::is_auto_hub, past, g) && !is_connected(past, live, nodes, g),
         None => false,
     }
 }
