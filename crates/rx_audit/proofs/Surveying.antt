@@ -1,6 +1,6 @@
 -- Marks of the keys of a range of numbers.
 use Rattle.std.proofs.Common.{◌≡◌, ℕ, ◌+◌, ◌<◌, Bool, true, List}
-use Rattle.std.proofs.Common.{length, Some, ap, ◌∙◌, arith, get_or}
+use Rattle.std.proofs.Common.{length, Some, ap, ◌∙◌, arith}
 use Rattle.std.proofs.Common.{take, slice_get, length-take}
 use Rattle.std.proofs.lemmas.Option.{option_and_then_some}
 use Rattle.std.proofs.lemmas.List.Folds.{list_any_at}
