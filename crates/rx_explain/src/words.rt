@@ -23,7 +23,8 @@ pub const MODES: &str = "auto, manual";
 pub const ENDS: &str = "completed, error";
 
 /// What an event of a dump is.
-pub const EVENTS: &str = "open, hub, connect, accept, use, remove, lease, return, item, decline, end, close, take";
+pub const EVENTS: &str =
+    "open, hub, connect, accept, use, remove, lease, return, item, decline, end, close, take";
 
 /// The members of a command, beside those that every step may have.
 pub fn members_of(command: &str) -> &'static str {
