@@ -81,7 +81,7 @@ fn returned_in(alloc: Global, events: &[Event]) -> Result<HashSet<u64>, AllocErr
 }
 
 // How many leases of each resource are out; one of which none is has no entry.
-#[tactic(auto, unfolding(rx_event::specs::Resources::leases_of), unfolding(rx_event::specs::Resources::is_out))]
+#[tactic(auto, unfolding(rx_event::specs::Resources::leases_of, rx_event::specs::Resources::is_out))]
 fn leases_in(alloc: Global, events: &[Event]) -> Result<HashMap<u64, u64>, AllocError>
     ensures { IfOk result (λ m. (r : ℕ) → unwrap_or (get nat_eq m r) 0 ≡ leases_of events.now r) }
 {
