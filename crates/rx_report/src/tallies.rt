@@ -1,13 +1,13 @@
 //! What each resource and each node met, in one pass over all that happened.
 
 ghost use Rattle.rx_event.specs.Kept.{nothing_kept};
-ghost use Rattle.std.specs.Prelude.{◌≡◌, ◌==◌, [], ℕ, map, filter, nat_eq, unwrap_or, IfOk};
+ghost use Rattle.std.specs.Prelude.{◌≡◌, ◌==◌, false, [], ℕ, map, filter, nat_eq, slice_get, option_and_then, unwrap_or, IfOk};
 ghost use Rattle.std.specs.List.{list_any};
 ghost use Rattle.std.specs.Option.{option_map_or};
 ghost use Rattle.std.specs.HashMap.{get};
 ghost use Rattle.std.specs.HashSet.{contains};
-ghost use Rattle.rx_event.specs.Events.{is_take_of, is_return_of};
-ghost use Rattle.rx_event.specs.Resources.{uses, leases_of};
+ghost use Rattle.rx_event.specs.Events.{leased_of, is_return_of, is_take_of};
+ghost use Rattle.rx_event.specs.Resources.{uses, is_out_of, leases_of};
 ghost use Rattle.rx_event.specs.Notes.{notes};
 ghost use Rattle.rx_report.specs.Tallies.{AreTalliesOf};
 
@@ -80,18 +80,47 @@ fn returned_in(alloc: Global, events: &[Event]) -> Result<HashSet<u64>, AllocErr
     Ok(returned)
 }
 
+fn leased_of(event: &Event) -> Option<u64>
+    ensures { result ≡ leased_of event.now }
+{
+    match *event {
+        Event::Lease(resource) => Some(resource),
+        _ => None,
+    }
+}
+
+// The resource of which a lease was given out at this place.
+fn leased_there(events: &[Event], place: usize) -> Option<u64>
+    ensures { result ≡ option_and_then leased_of (slice_get events.now place) }
+{
+    match events.get(place) {
+        Some(event) => leased_of(event),
+        None => None,
+    }
+}
+
+// The same, where that lease did not come back.
+fn leased_at(events: &[Event], returned: &HashSet<u64>, place: usize) -> Option<u64>
+    requires { (l : ℕ) → contains nat_eq returned.now l ≡ list_any (is_return_of l) events.now }
+    ensures { (r : ℕ) → option_map_or (λ q. q == r) result false ≡ is_out_of events.now r place }
+{
+    let resource = leased_there(events, place)?;
+    if returned.contains(&(place as u64)) {
+        return None;
+    }
+    Some(resource)
+}
+
 // How many leases of each resource are out; one of which none is has no entry.
-#[tactic(auto, unfolding(rx_event::specs::Resources::leases_of), unfolding(rx_event::specs::Resources::is_out))]
+#[tactic(auto, unfolding(rx_event::specs::Resources::leases_of))]
 fn leases_in(alloc: Global, events: &[Event]) -> Result<HashMap<u64, u64>, AllocError>
     ensures { IfOk result (λ m. (r : ℕ) → unwrap_or (get nat_eq m r) 0 ≡ leases_of events.now r) }
 {
     let returned = returned_in(alloc, events)?;
     let mut counts = HashMap::new(alloc);
     for place in 0..events.len() {
-        if let Event::Lease(resource) = events[place] {
-            if !returned.contains(&(place as u64)) {
-                *counts.entry(resource)?.or_insert(0u64) += 1;
-            }
+        if let Some(resource) = leased_at(events, &returned, place) {
+            *counts.entry(resource)?.or_insert(0u64) += 1;
         }
     }
     Ok(counts)

@@ -11,11 +11,11 @@ use Rattle.rx_event.specs.declared.event.Place.{Place}
 use Rattle.rx_event.specs.declared.event.Place.TheVariants.{Root, Source, Inner, Notifier}
 use Rattle.rx_event.specs.declared.event.Kind.{Kind}
 use Rattle.rx_event.specs.declared.event.Kind.TheVariants.{Leaf, Pass, Flat, Switch, Until, Sub}
-use Rattle.rx_event.specs.Calls.{Call, Opening, OpeningUsing, Holding, Applying, Removing, Emitting, Ending, Aborting, Declining, Failing, Disposing, Publishing, Connecting, Disconnecting}
+use Rattle.rx_event.specs.Calls.{Call, Opening, OpeningUsing, Holding, Applying, Removing, Leasing, GivingBack, Emitting, Ending, Aborting, Declining, Failing, Disposing, Publishing, Connecting, Disconnecting}
 use Rattle.rx_register.specs.Claims.{IsReady}
 use Rattle.rx_agenda.specs.declared.answer.Cause.TheVariants.{NoName, NameTaken, NoStock}
 use Rattle.rx_agenda.specs.Bindings.{Binding, bound, is_unbound}
-use Rattle.rx_scenario.specs.Scenario.{Name, Site, root, source, inner, notifier, Sort, leaf, pass, flat, switch, until, sub, Command, using, open_node, hold, apply, remove, next, end, abort, decline, fail, dispose, make_hub, connect, disconnect, drain}
+use Rattle.rx_scenario.specs.Scenario.{Name, Site, root, source, inner, notifier, Sort, leaf, pass, flat, switch, until, sub, Command, using, open_node, hold, apply, remove, lease, give_back, next, end, abort, decline, fail, dispose, make_hub, connect, disconnect, drain}
 use Rattle.rx_script.specs.Stage.{Ware, Stage, is_unbound_site, is_unbound_hub, is_empty, takes_name, own_cause, place_at, kind_at, front, call_of, after}
 
 -- what is called ---------------------------------------------------------------------------------------------------------------------
@@ -49,6 +49,8 @@ call_ready s (open_node name site sort) call called = open_ready s.history (plac
 call_ready s (hold node res) call called = hold_ready s.history (bound s.nodes node) (front s) call called
 call_ready s (apply res word) call called = of_number (IsReady s.history) Applying (λ n. tt) (bound s.resources res) call called
 call_ready s (remove res) call called = of_number (IsReady s.history) Removing (λ n. tt) (bound s.resources res) call called
+call_ready s (lease res name) call called = of_number (IsReady s.history) Leasing (λ n. tt) (bound s.resources res) call called
+call_ready s (give_back name) call called = of_number (IsReady s.history) GivingBack (λ n. tt) (bound s.leases name) call called
 call_ready s (next node value) call called = of_number (IsReady s.history) (λ n. Emitting n value) (λ n. tt) (bound s.nodes node) call called
 call_ready s (end node t) call called = of_number (IsReady s.history) (λ n. Ending n t) (λ n. tt) (bound s.nodes node) call called
 call_ready s (abort node code) call called = of_number (IsReady s.history) (λ n. Aborting n code) (λ n. tt) (bound s.nodes node) call called
@@ -127,6 +129,10 @@ not_called s (hold node res) own uncalled =
     absurd (hold_called (bound s.nodes node) (front s) parts.0 (stock_called s.stock parts.1) uncalled)
 not_called s (apply res word) own uncalled = absurd (named_called Applying s.resources res own uncalled)
 not_called s (remove res) own uncalled = absurd (named_called Removing s.resources res own uncalled)
+not_called s (lease res name) own uncalled =
+    let parts = no_cause_of_own (is_unbound s.resources res) (takes_name s (lease res name)) false own in
+    absurd (bound_called Leasing (bound s.resources res) parts.0 uncalled)
+not_called s (give_back name) own uncalled = absurd (named_called GivingBack s.leases name own uncalled)
 not_called s (next node value) own uncalled = absurd (named_called (λ n. Emitting n value) s.nodes node own uncalled)
 not_called s (end node t) own uncalled = absurd (named_called (λ n. Ending n t) s.nodes node own uncalled)
 not_called s (abort node code) own uncalled = absurd (named_called (λ n. Aborting n code) s.nodes node own uncalled)
@@ -148,6 +154,8 @@ history-after s (open_node name site sort) k = refl
 history-after s (hold node res) k = refl
 history-after s (apply res word) k = refl
 history-after s (remove res) k = refl
+history-after s (lease res name) k = refl
+history-after s (give_back name) k = refl
 history-after s (next node value) k = refl
 history-after s (end node t) k = refl
 history-after s (abort node code) k = refl

@@ -13,7 +13,7 @@ use Rattle.rx_event.specs.Forced.{IsSettled}
 use Rattle.rx_event.specs.Allowed.{taken}
 use Rattle.rx_event.specs.Lawful.{allowed, MayFollow, IsLawful, stays}
 use Rattle.rx_event.specs.Refusals.{first_cause}
-use Rattle.rx_event.specs.Calls.{Call, Opening, OpeningUsing, Holding, Applying, Removing, Emitting, Ending, Aborting, Declining, Failing, Disposing, Publishing, Connecting, Disconnecting, Taking, outside_of, IsStepOf}
+use Rattle.rx_event.specs.Calls.{Call, Opening, OpeningUsing, Holding, Applying, Removing, Leasing, GivingBack, Emitting, Ending, Aborting, Declining, Failing, Disposing, Publishing, Connecting, Disconnecting, Taking, outside_of, IsStepOf}
 use Rattle.rx_event.specs.Canonical.{IsFirstStep, nothing_yet}
 use Rattle.rx_event.proofs.Laws.Lists.{first_passes}
 use Rattle.rx_event.proofs.Laws.Lawful.{IsLawful-push}
@@ -44,10 +44,12 @@ roomy_cause h limit fresh (Opening place kind) room Full = none_over h limit (ad
 roomy_cause h limit fresh (OpeningUsing place tag) room Full = none_over h limit (added_by h (OpeningUsing place tag)) room
 roomy_cause h limit fresh (Holding n tag) room Full = none_over h limit (added_by h (Holding n tag)) room
 roomy_cause h limit fresh (Applying q) room Full = none_over h limit (added_by h (Applying q)) room
+roomy_cause h limit fresh (Leasing q) room Full = none_over h limit (added_by h (Leasing q)) room
 roomy_cause h limit fresh (Emitting l v) room Full = none_over h limit (added_by h (Emitting l v)) room
 roomy_cause h limit fresh (Publishing mode) room Full = none_over h limit (added_by h (Publishing mode)) room
 roomy_cause h limit fresh (Connecting g) room Full = none_over h limit (added_by h (Connecting g)) room
 roomy_cause h limit fresh (Removing q) room Full = refl
+roomy_cause h limit fresh (GivingBack l) room Full = refl
 roomy_cause h limit fresh (Ending l t) room Full = refl
 roomy_cause h limit fresh (Aborting n code) room Full = refl
 roomy_cause h limit fresh (Declining f) room Full = refl

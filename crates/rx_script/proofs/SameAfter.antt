@@ -9,17 +9,17 @@ use Rattle.rx_event.specs.declared.event.Place.{Place}
 use Rattle.rx_event.specs.declared.event.Kind.{Kind}
 use Rattle.rx_event.specs.declared.event.Kind.TheVariants.{Pass}
 use Rattle.rx_event.specs.declared.event.Event.{Event}
-use Rattle.rx_event.specs.declared.event.Event.TheVariants.{Open, Hub, Connect, Accept}
-use Rattle.rx_event.specs.Events.{makes_node, makes_hub, makes_resource}
+use Rattle.rx_event.specs.declared.event.Event.TheVariants.{Open, Hub, Connect, Accept, Lease}
+use Rattle.rx_event.specs.Events.{makes_node, makes_hub, makes_resource, makes_lease}
 use Rattle.rx_event.specs.Tree.{at}
 use Rattle.rx_event.specs.Forced.{IsSettled}
 use Rattle.rx_event.specs.Lawful.{IsForcedOn, stays, more, IsStep}
-use Rattle.rx_event.specs.Calls.{Call, Opening, OpeningUsing, Holding, Publishing, Connecting, IsStepOf}
+use Rattle.rx_event.specs.Calls.{Call, Opening, OpeningUsing, Holding, Leasing, Publishing, Connecting, IsStepOf}
 use Rattle.rx_event.specs.Renumbered.{event_by, is_named, AreSameBy, AreSameSince}
 use Rattle.rx_event.proofs.Laws.Places.{slice_get-append, slice_get_last, at_within}
 use Rattle.rx_book.specs.Answers.{makes_connection, connection_made}
 use Rattle.rx_agenda.specs.Bindings.{Binding, bound, with_binding}
-use Rattle.rx_scenario.specs.Scenario.{Name, Command, using, open_node, hold, apply, remove, next, end, abort, decline, fail, dispose, make_hub, connect, disconnect, drain}
+use Rattle.rx_scenario.specs.Scenario.{Name, Command, using, open_node, hold, apply, remove, lease, give_back, next, end, abort, decline, fail, dispose, make_hub, connect, disconnect, drain}
 use Rattle.rx_script.specs.Stage.{Ware, Stage, connection_name, place_at, kind_at, front, call_of, with_connection, after}
 use Rattle.rx_script.proofs.Renaming.{renamed, AllNumbers, all_numbers, renamed-same, with_binding-renamed, with_binding-all}
 use Rattle.rx_script.proofs.SameStages.{AreSameStages}
@@ -91,10 +91,12 @@ module _ (r s q t : ℕ → ℕ) (x y : Stage) (k j : List Event) (a : AreSameSt
     nodes = kept_names makes_node x.nodes y.nodes a.nodes a.nodes_made;
     hubs = kept_names makes_hub x.hubs y.hubs a.hubs a.hubs_made;
     resources = kept_names makes_resource x.resources y.resources a.resources a.resources_made;
+    leases = kept_names makes_lease x.leases y.leases a.leases a.leases_made;
     stock = a.stock;
     nodes_made = kept_made makes_node x.nodes a.nodes_made;
     hubs_made = kept_made makes_hub x.hubs a.hubs_made;
     resources_made = kept_made makes_resource x.resources a.resources_made;
+    leases_made = kept_made makes_lease x.leases a.leases_made;
   }
 
 -- one more name ----------------------------------------------------------------------------------------------------------------------
@@ -109,10 +111,12 @@ module _ (q t : ℕ → ℕ) (x y : Stage) (a : AreSameStages q t x y) where
     nodes = with_binding-renamed q x.nodes y.nodes name n m a.nodes number;
     hubs = a.hubs;
     resources = a.resources;
+    leases = a.leases;
     stock = a.stock;
     nodes_made = with_binding-all (λ i. at makes_node x.history i ≡ true) x.nodes name n a.nodes_made made;
     hubs_made = a.hubs_made;
     resources_made = a.resources_made;
+    leases_made = a.leases_made;
   }
 
   with_hub : (name : Name) (n m : ℕ) → at makes_hub x.history n ≡ true → q n ≡ m
@@ -124,10 +128,12 @@ module _ (q t : ℕ → ℕ) (x y : Stage) (a : AreSameStages q t x y) where
     nodes = a.nodes;
     hubs = with_binding-renamed q x.hubs y.hubs name n m a.hubs number;
     resources = a.resources;
+    leases = a.leases;
     stock = a.stock;
     nodes_made = a.nodes_made;
     hubs_made = with_binding-all (λ i. at makes_hub x.history i ≡ true) x.hubs name n a.hubs_made made;
     resources_made = a.resources_made;
+    leases_made = a.leases_made;
   }
 
   -- of a resource, which the stock loses
@@ -141,10 +147,29 @@ module _ (q t : ℕ → ℕ) (x y : Stage) (a : AreSameStages q t x y) where
     nodes = a.nodes;
     hubs = a.hubs;
     resources = with_binding-renamed q x.resources y.resources name n m a.resources number;
+    leases = a.leases;
     stock = ap (λ (l : List Ware). drop 1 l) a.stock;
     nodes_made = a.nodes_made;
     hubs_made = a.hubs_made;
     resources_made = with_binding-all (λ i. at makes_resource x.history i ≡ true) x.resources name n a.resources_made made;
+    leases_made = a.leases_made;
+  }
+
+  with_lease : (name : Name) (n m : ℕ) → at makes_lease x.history n ≡ true → q n ≡ m
+      → AreSameStages q t (record x { leases = with_binding x.leases name n }) (record y { leases = with_binding y.leases name m })
+  with_lease name n m made number = record {
+    histories = a.histories;
+    settled = a.settled;
+    settled_there = a.settled_there;
+    nodes = a.nodes;
+    hubs = a.hubs;
+    resources = a.resources;
+    leases = with_binding-renamed q x.leases y.leases name n m a.leases number;
+    stock = a.stock;
+    nodes_made = a.nodes_made;
+    hubs_made = a.hubs_made;
+    resources_made = a.resources_made;
+    leases_made = with_binding-all (λ i. at makes_lease x.history i ≡ true) x.leases name n a.leases_made made;
   }
 
   with_connection-same : (o : Option Name) (c d : Option ℕ) → d ≡ option_map q c → ((n : ℕ) → c ≡ Some n → at makes_node x.history n ≡ true)
@@ -282,6 +307,10 @@ hold_call None w call called = absurd (none-some call called)
 hold_call (Some n) None call called = absurd (none-some call called)
 hold_call (Some n) (Some w) call called = (n, w.tag, same_Some (Holding n w.tag) call called)
 
+lease_call : (o : Option ℕ) (call : Call) → option_map Leasing o ≡ Some call → (q : ℕ) × (Leasing q ≡ call)
+lease_call None call called = absurd (none-some call called)
+lease_call (Some q) call called = (q, same_Some (Leasing q) call called)
+
 connect_call : (o : Option ℕ) (call : Call) → option_map Connecting o ≡ Some call → (g : ℕ) × (Connecting g ≡ call)
 connect_call None call called = absurd (none-some call called)
 connect_call (Some g) call called = (g, same_Some (Connecting g) call called)
@@ -358,6 +387,16 @@ module _ (r s : ℕ → ℕ) (x y : Stage) (k j : List Event) (a : AreSameStages
       handed : slice_get k (length x.history) ≡ Some (Accept w.0 w.1)
       handed = new_event x.history k [] (Accept w.0 w.1) (subst (λ (z : Call). IsStepOf nothing_kept x.history z k) (sym w.2) step)
 
+  after_lease : (name : Name) → (resource : ℕ) × (Leasing resource ≡ call)
+      → AreSameStages since.reads since.reads_back (record X { leases = with_binding x.leases name (length x.history) })
+      (record Y { leases = with_binding y.leases name (length y.history) })
+  after_lease name w =
+      with_lease since.reads since.reads_back X Y base name (length x.history) (length y.history) (one_there (Lease w.0) makes_lease refl given)
+      (next_number (Lease w.0) refl given)
+    where
+      given : slice_get k (length x.history) ≡ Some (Lease w.0)
+      given = new_event x.history k [] (Lease w.0) (subst (λ (z : Call). IsStepOf nothing_kept x.history z k) (sym w.1) step)
+
   after_connect : (connection : Option Name) → (hub : ℕ) × (Connecting hub ≡ call)
       → AreSameStages since.reads since.reads_back (record X { nodes = with_connection x.nodes connection (Some (length x.history)) })
       (record Y { nodes = with_connection y.nodes connection (Some (length y.history)) })
@@ -375,6 +414,8 @@ module _ (r s : ℕ → ℕ) (x y : Stage) (k j : List Event) (a : AreSameStages
   after_same (hold node res) called = after_hold res (hold_call (bound x.nodes node) (front x) call called)
   after_same (apply res word) called = base
   after_same (remove res) called = base
+  after_same (lease res name) called = after_lease name (lease_call (bound x.resources res) call called)
+  after_same (give_back name) called = base
   after_same (next node value) called = base
   after_same (end node t) called = base
   after_same (abort node code) called = base

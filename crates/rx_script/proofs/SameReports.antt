@@ -88,6 +88,7 @@ module _ (r s : ℕ → ℕ) (h c : List Event) (a : AreSameBy nothing_kept r s 
     tag = unwrap_or (tag_same n made i) 0;
     uses = a.shown.used n made i;
     whereabouts = cond (a.shown.held n made i) Held (cond (a.shown.taken n made i) Taken Waiting);
+    leases = a.shown.leases n made i;
   }
 
   pub res_lines_same : (bindings : List Binding) → AllNumbers (λ n. at makes_resource h n ≡ true) bindings

@@ -11,15 +11,15 @@ use Rattle.rx_event.specs.declared.event.Place.{Place}
 use Rattle.rx_event.specs.declared.event.Place.TheVariants.{Root, Source, Inner, Notifier}
 use Rattle.rx_event.specs.declared.event.Kind.{Kind}
 use Rattle.rx_event.specs.declared.event.Kind.TheVariants.{Leaf, Pass, Flat, Switch, Until, Sub}
-use Rattle.rx_event.specs.Events.{makes_node, makes_hub, makes_resource}
+use Rattle.rx_event.specs.Events.{makes_node, makes_hub, makes_resource, makes_lease}
 use Rattle.rx_event.specs.Tree.{at}
 use Rattle.rx_event.specs.Forced.{IsSettled}
-use Rattle.rx_event.specs.Calls.{Call, Opening, OpeningUsing, Holding, Applying, Removing, Emitting, Ending, Aborting, Declining, Failing, Disposing, Publishing, Connecting, Disconnecting}
+use Rattle.rx_event.specs.Calls.{Call, Opening, OpeningUsing, Holding, Applying, Removing, Leasing, GivingBack, Emitting, Ending, Aborting, Declining, Failing, Disposing, Publishing, Connecting, Disconnecting}
 use Rattle.rx_event.specs.Renumbered.{place_by, kind_by, call_by, AreSameBy}
 use Rattle.rx_register.proofs.Laws.SameCauses.{NamesPlace, NamesKind, NamesKnown}
 use Rattle.rx_agenda.specs.declared.answer.Cause.TheVariants.{NoName, NameTaken, NoStock}
 use Rattle.rx_agenda.specs.Bindings.{Binding, bound, is_unbound, is_bound}
-use Rattle.rx_scenario.specs.Scenario.{Name, Site, root, source, inner, notifier, Sort, leaf, pass, flat, switch, until, sub, Command, using, open_node, hold, apply, remove, next, end, abort, decline, fail, dispose, make_hub, connect, disconnect, drain}
+use Rattle.rx_scenario.specs.Scenario.{Name, Site, root, source, inner, notifier, Sort, leaf, pass, flat, switch, until, sub, Command, using, open_node, hold, apply, remove, lease, give_back, next, end, abort, decline, fail, dispose, make_hub, connect, disconnect, drain}
 use Rattle.rx_script.specs.Stage.{Ware, Stage, is_unbound_site, is_unbound_hub, lacks_name, connection_name, takes_name, is_empty, lacks_stock, own_cause, place_at, kind_at, front, call_of}
 use Rattle.rx_script.proofs.Renaming.{renamed, AllNumbers, bound-same, is_bound-same, is_unbound-same, bound-holds}
 
@@ -30,11 +30,13 @@ pub record AreSameStages (r s : ℕ → ℕ) (x y : Stage) : Type 0 where
   pub nodes : y.nodes ≡ map (renamed r) x.nodes
   pub hubs : y.hubs ≡ map (renamed r) x.hubs
   pub resources : y.resources ≡ map (renamed r) x.resources
+  pub leases : y.leases ≡ map (renamed r) x.leases
   pub stock : y.stock ≡ x.stock
   -- each name stands for what it has to
   pub nodes_made : AllNumbers (λ n. at makes_node x.history n ≡ true) x.nodes
   pub hubs_made : AllNumbers (λ n. at makes_hub x.history n ≡ true) x.hubs
   pub resources_made : AllNumbers (λ n. at makes_resource x.history n ≡ true) x.resources
+  pub leases_made : AllNumbers (λ n. at makes_lease x.history n ≡ true) x.leases
 
 module _ (r s : ℕ → ℕ) (x y : Stage) (a : AreSameStages r s x y) where
   -- the causes of the scenario's own ---------------------------------------------------------------------------------------------
@@ -47,6 +49,9 @@ module _ (r s : ℕ → ℕ) (x y : Stage) (a : AreSameStages r s x y) where
 
   no_resource : (name : Name) → is_unbound y.resources name ≡ is_unbound x.resources name
   no_resource name = is_unbound-same r x.resources y.resources name a.resources
+
+  no_lease : (name : Name) → is_unbound y.leases name ≡ is_unbound x.leases name
+  no_lease name = is_unbound-same r x.leases y.leases name a.leases
 
   a_node : (name : Name) → is_bound y.nodes name ≡ is_bound x.nodes name
   a_node name = is_bound-same r x.nodes y.nodes name a.nodes
@@ -67,6 +72,8 @@ module _ (r s : ℕ → ℕ) (x y : Stage) (a : AreSameStages r s x y) where
   lacks_same (hold node res) = no_node node
   lacks_same (apply res word) = no_resource res
   lacks_same (remove res) = no_resource res
+  lacks_same (lease res name) = no_resource res
+  lacks_same (give_back name) = no_lease name
   lacks_same (next node value) = no_node node
   lacks_same (end node t) = no_node node
   lacks_same (abort node code) = no_node node
@@ -91,6 +98,7 @@ module _ (r s : ℕ → ℕ) (x y : Stage) (a : AreSameStages r s x y) where
   takes_same (using name site res) = λ i. a_node name i || is_bound-same r x.resources y.resources res a.resources i
   takes_same (open_node name site sort) = λ i. a_node name i || beside_same name (connection_name sort) i
   takes_same (hold node res) = is_bound-same r x.resources y.resources res a.resources
+  takes_same (lease res name) = is_bound-same r x.leases y.leases name a.leases
   takes_same (make_hub name mode) = is_bound-same r x.hubs y.hubs name a.hubs
   takes_same (connect hub name) = given_same name
   takes_same _ = refl
@@ -171,6 +179,8 @@ module _ (r s : ℕ → ℕ) (x y : Stage) (a : AreSameStages r s x y) where
       ∙ hold_moved (bound x.nodes node) (front x)
   call_same (apply res word) = resource_call Applying (λ n. refl) res
   call_same (remove res) = resource_call Removing (λ n. refl) res
+  call_same (lease res name) = resource_call Leasing (λ n. refl) res
+  call_same (give_back name) = number_same GivingBack (call_by r) (λ n. refl) x.leases y.leases name a.leases
   call_same (next node value) = node_call (λ n. Emitting n value) (λ n. refl) node
   call_same (end node t) = node_call (λ n. Ending n t) (λ n. refl) node
   call_same (abort node code) = node_call (λ n. Aborting n code) (λ n. refl) node
@@ -257,6 +267,9 @@ module _ (r s : ℕ → ℕ) (x y : Stage) (a : AreSameStages r s x y) where
       hold_known (bound x.nodes node) (front x) call (λ n found. bound-holds (λ m. at makes_node x.history m ≡ true) x.nodes node n a.nodes_made found) called
   call_known (apply res word) call called = by_resource Applying (λ n made. made) res call called
   call_known (remove res) call called = by_resource Removing (λ n made. made) res call called
+  call_known (lease res name) call called = by_resource Leasing (λ n made. made) res call called
+  call_known (give_back name) call called =
+      by_number GivingBack (λ n. at makes_lease x.history n ≡ true) (λ n made. made) x.leases a.leases_made name call called
   call_known (next node value) call called = by_node (λ n. Emitting n value) (λ n made. made) node call called
   call_known (end node t) call called = by_node (λ n. Ending n t) (λ n made. made) node call called
   call_known (abort node code) call called = by_node (λ n. Aborting n code) (λ n made. made) node call called

@@ -188,10 +188,12 @@ begun_alike stock = record {
   nodes = refl;
   hubs = refl;
   resources = refl;
+  leases = refl;
   stock = refl;
   nodes_made = tt;
   hubs_made = tt;
   resources_made = tt;
+  leases_made = tt;
 }
 
 -- the canonical course, with the same answers, and where it ends

@@ -25,7 +25,8 @@ pub record Ware : Type 0 where
 abbrev pub ware_of : {T : Type 0} → Ghosts T → T → Ware
 ware_of g x = record { tag = g.tag_of x; is_fresh = is_fresh_in g x }
 
--- what has happened, what the names of nodes, of hubs, of resources and of leases stand for, in order of binding, and what is left of the stock
+-- what has happened, what the names of nodes, of hubs, of resources and of leases stand for, in order of binding, and what is left
+-- of the stock
 pub record Stage : Type 0 where
   pub history : List Event
   pub nodes : List Binding
@@ -76,8 +77,7 @@ abbrev pub connection_name : Sort → Option Name
 connection_name (sub hub connection) = connection
 connection_name _ = None
 
--- it would bind a name that is bound, or one name twice; nodes, hubs, resources and leases have a space of names
--- each
+-- it would bind a name that is bound, or one name twice; nodes, hubs, resources and leases have a space of names each
 abbrev pub takes_name : Stage → Command → Bool
 takes_name s (using name site res) = is_bound s.nodes name || is_bound s.resources res
 takes_name s (open_node name site sort) = is_bound s.nodes name || option_map_or (λ c. is_bound s.nodes c || bytes_eq name c) (connection_name sort) false
@@ -181,7 +181,8 @@ with_connection bindings (Some name) (Some number) = with_binding bindings name 
 with_connection bindings _ _ = bindings
 
 -- after an accepted step that took the history to k: a node or a hub is numbered by the place of the event that made it, a
--- resource by the place of its acceptance, and a lease by the place where it was given out. The connection of a subscriber's hub is named where the history has made one
+-- resource by the place of its acceptance, and a lease by the place where it was given out. The connection of a subscriber's hub is
+-- named where the history has made one
 abbrev pub after : Stage → Command → List Event → Stage
 after s (using name site res) k = record s { history = k; nodes = with_binding s.nodes name (length s.history); resources = with_binding s.resources res (length s.history + 1); stock = drop 1 s.stock }
 after s (open_node name site sort) k = record s { history = k; nodes = with_connection (with_binding s.nodes name (length s.history)) (connection_name sort) (connection_made s.history k) }

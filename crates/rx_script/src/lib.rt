@@ -7,11 +7,11 @@
 //!
 //! # Vocabulary
 //!
-//! - A step goes by names: it binds names to the nodes that it opens, the hubs that it makes and the
-//!   resources that it hands in, which are taken from the **stock**, first to last. Nodes, hubs and
-//!   resources have a space of names each. A **connection** is a node; it is named where a step gives a
-//!   name for it and makes it. A step that is **refused** changes nothing and binds nothing, and its
-//!   resource goes back to the front of the stock.
+//! - A step goes by names: it binds names to the nodes that it opens, the hubs that it makes, the
+//!   resources that it hands in, which are taken from the **stock**, first to last, and the leases that it
+//!   is given. Nodes, hubs, resources and leases have a space of names each. A **connection** is a node; it
+//!   is named where a step gives a name for it and makes it. A step that is **refused** changes nothing and
+//!   binds nothing, and its resource goes back to the front of the stock.
 //! - Steps come in virtual time (`rx_time`): each at the time that it waits for, those of one time in the
 //!   order in which they were scheduled. The one that is due begins a **turn**, in which the steps that
 //!   follow it without a delay come behind each other, and the next turn begins when this one is over.
@@ -23,7 +23,8 @@
 //!   that `rx_report` defines; what a run makes of its input is said in `Running`.
 //! - A [`Watched`] reader or writer notes whether the device behind it failed, so that the contract of
 //!   [`run`] can say whose fault a fault is (`rx_device`).
-//! - To **close** a book is to dispose of all that is open, and to take and release all that waits then.
+//! - To **close** a book is to give back all leases, to dispose of all that is open, and to take and release
+//!   all that waits then.
 //!
 //! # Promised, and not
 //!
@@ -35,7 +36,7 @@
 //!   **canonical course**, of which a scenario with a stock has just one: it has no limit of events,
 //!   what is forced comes in one order in it, and it drains by rising number. So no report shows an order
 //!   that the code chose ([`courses_are_reported_alike`]).
-//! - [`close`] leaves nothing open, held or waiting, and takes no memory.
+//! - [`close`] leaves nothing open, held or waiting, and no lease out, and takes no memory.
 //! - `run` closes its book in every outcome and before the first byte is written; that it does so where
 //!   it answers an error is tested and not proved. So it is that `Memory` is given only where memory
 //!   was really refused, and that the faults of a report are those that the resources answered: proved

@@ -9,7 +9,7 @@ use Rattle.rx_event.specs.declared.event.Kind.TheVariants.{Pass}
 use Rattle.rx_event.specs.declared.event.Event.{Event}
 use Rattle.rx_event.specs.declared.event.Event.TheVariants.{Open, Accept, Close, Take}
 use Rattle.rx_event.specs.Tree.{parent, ancestors, is_shut, is_open}
-use Rattle.rx_event.specs.Resources.{is_held, is_taken, is_waiting}
+use Rattle.rx_event.specs.Resources.{is_owned, leases_of, is_held, is_taken, is_waiting}
 use Rattle.rx_event.specs.Climb.{most_visits, climb, stops}
 use Rattle.rx_event.specs.Moments.{projections, owed, is_fired, moments}
 use Rattle.rx_event.specs.Allowed.{most_nodes}
@@ -78,7 +78,7 @@ to_four = plain_step three true (Disposing 2) to_three.lawful to_three.settled t
 
 -- by rising number, and by falling
 rising : Drains nothing_kept four (four ++ Take 1 ∷ Take 3 ∷ [])
-unfolding first_forced source_end child_terminal source_completed open_children is_fired owed projections moments stops climb most_visits is_held is_taken is_waiting is_open is_shut ancestors parent
+unfolding first_forced source_end child_terminal source_completed open_children is_fired owed projections moments stops climb most_visits is_owned leases_of is_held is_taken is_waiting is_open is_shut ancestors parent
 rising =
     let first : IsStepOf nothing_kept four (Taking 1) (four ++ Take 1 ∷ []) = plain_step four true (Taking 1) to_four.lawful to_four.settled refl refl refl in
     let second : IsStepOf nothing_kept (four ++ Take 1 ∷ []) (Taking 3) (four ++ Take 1 ∷ Take 3 ∷ []) = plain_step (four ++ Take 1 ∷ []) true
@@ -86,7 +86,7 @@ rising =
     record { takes = next_taken (next_taken none_taken first) second; none_waits = refl }
 
 falling : Drains nothing_kept four (four ++ Take 3 ∷ Take 1 ∷ [])
-unfolding first_forced source_end child_terminal source_completed open_children is_fired owed projections moments stops climb most_visits is_held is_taken is_waiting is_open is_shut ancestors parent
+unfolding first_forced source_end child_terminal source_completed open_children is_fired owed projections moments stops climb most_visits is_owned leases_of is_held is_taken is_waiting is_open is_shut ancestors parent
 falling =
     let first : IsStepOf nothing_kept four (Taking 3) (four ++ Take 3 ∷ []) = plain_step four true (Taking 3) to_four.lawful to_four.settled refl refl refl in
     let second : IsStepOf nothing_kept (four ++ Take 3 ∷ []) (Taking 1) (four ++ Take 3 ∷ Take 1 ∷ []) = plain_step (four ++ Take 3 ∷ []) true
@@ -101,6 +101,7 @@ at_four = record {
   nodes = record { name = a; number = 0 } ∷ record { name = b; number = 2 } ∷ [];
   hubs = [];
   resources = record { name = a; number = 1 } ∷ record { name = b; number = 3 } ∷ [];
+  leases = [];
   stock = [];
 }
 

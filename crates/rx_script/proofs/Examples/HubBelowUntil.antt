@@ -10,7 +10,7 @@ use Rattle.rx_event.specs.declared.event.Mode.TheVariants.{Auto}
 use Rattle.rx_event.specs.declared.event.Event.{Event}
 use Rattle.rx_event.specs.declared.event.Event.TheVariants.{Open, Hub, Connect, Item, End, Close}
 use Rattle.rx_event.specs.Notes.{notes}
-use Rattle.rx_event.specs.Resources.{is_held, is_waiting}
+use Rattle.rx_event.specs.Resources.{is_owned, is_held, is_waiting}
 use Rattle.std.specs.Fmt.{digits}
 use Rattle.rx_event.specs.Tree.{parent, ancestors, is_shut, is_open}
 use Rattle.rx_event.specs.Climb.{most_visits, visits, climb, stops}
@@ -132,6 +132,7 @@ stage k = record {
       ∷ record { name = l; number = 5 } ∷ [];
   hubs = record { name = h; number = 0 } ∷ [];
   resources = [];
+  leases = [];
   stock = [];
 }
 
@@ -167,10 +168,10 @@ end_course events =
 -- and this is its report
 pub item_report : report (course fired) 0
     ≡ codes "node u closed: next=9 completed\ntotals nodes=5 open=0 accepted=0 held=0 waiting=0 taken=0\nclosed 0 faults 0\n"
-unfolding report unclosed_report refused_line node_line note_text totals_line closed_line notes shown digits is_held is_waiting is_open is_shut ancestors parent stops climb most_visits moments projections owed
+unfolding report unclosed_report refused_line node_line note_text totals_line closed_line notes shown digits is_owned is_held is_waiting is_open is_shut ancestors parent stops climb most_visits moments projections owed
 item_report = refl
 
 pub end_report : report (course ended) 0
     ≡ codes "node u closed: completed\ntotals nodes=5 open=0 accepted=0 held=0 waiting=0 taken=0\nclosed 0 faults 0\n"
-unfolding report unclosed_report refused_line node_line note_text totals_line closed_line notes shown digits is_held is_waiting is_open is_shut ancestors parent stops climb most_visits moments projections owed
+unfolding report unclosed_report refused_line node_line note_text totals_line closed_line notes shown digits is_owned is_held is_waiting is_open is_shut ancestors parent stops climb most_visits moments projections owed
 end_report = refl

@@ -162,6 +162,7 @@ at_leaf = record {
       ∷ record { name = l; number = 5 } ∷ [];
   hubs = record { name = g; number = 0 } ∷ [];
   resources = [];
+  leases = [];
   stock = [];
 }
 
@@ -184,6 +185,7 @@ last_stage k number = record {
       ∷ record { name = l; number = 5 } ∷ record { name = x; number = number } ∷ [];
   hubs = record { name = g; number = 0 } ∷ [];
   resources = [];
+  leases = [];
   stock = [];
 }
 

@@ -10,7 +10,7 @@ use Rattle.rx_event.specs.declared.event.Event.{Event}
 use Rattle.rx_event.specs.declared.event.Event.TheVariants.{Open, Hub, Connect, Item, Close}
 use Rattle.rx_event.specs.declared.refusal.Refusal.TheVariants.{Gone}
 use Rattle.rx_event.specs.Notes.{notes}
-use Rattle.rx_event.specs.Resources.{is_held, is_waiting}
+use Rattle.rx_event.specs.Resources.{is_owned, is_held, is_waiting}
 use Rattle.std.specs.Fmt.{digits}
 use Rattle.rx_event.specs.Tree.{parent, ancestors, is_shut, is_open}
 use Rattle.rx_event.specs.Climb.{most_visits, visits, climb, stops}
@@ -101,6 +101,7 @@ last_stage = record {
   nodes = record { name = s; number = 1 } ∷ record { name = c; number = 2 } ∷ record { name = l; number = 3 } ∷ [];
   hubs = record { name = h; number = 0 } ∷ [];
   resources = [];
+  leases = [];
   stock = [];
 }
 
@@ -122,5 +123,5 @@ time_course events =
 
 pub time_report : report course 0
     ≡ codes "refused 5 Gone\nnode s closed: next=-1\ntotals nodes=3 open=0 accepted=0 held=0 waiting=0 taken=0\nclosed 0 faults 0\n"
-unfolding report unclosed_report refused_line node_line note_text totals_line closed_line notes shown digits is_held is_waiting is_open is_shut ancestors parent stops climb most_visits moments projections owed
+unfolding report unclosed_report refused_line node_line note_text totals_line closed_line notes shown digits is_owned is_held is_waiting is_open is_shut ancestors parent stops climb most_visits moments projections owed
 time_report = refl
