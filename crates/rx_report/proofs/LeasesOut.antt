@@ -24,16 +24,6 @@ and_yes false = refl
 
 -- one place ----------------------------------------------------------------------------------------
 
-leases_nothing : (e : Event) (r : ℕ) → leased_of e ≡ None → is_lease_of r e ≡ false
-leases_nothing (Lease q) r none = absurd (none-some q (sym none))
-leases_nothing _ r none = refl
-
-pub none_given : (h : List Event) (l r : ℕ) → option_and_then leased_of (slice_get h l) ≡ None → false ≡ is_out_of h r l
-none_given h l r none = by_event (slice_get h l) none where
-  by_event : (o : Option Event) → option_and_then leased_of o ≡ None → false ≡ (option_map_or (is_lease_of r) o false && is_out h l)
-  by_event None none = refl
-  by_event (Some e) none = sym (ap (λ (b : Bool). b && is_out h l) (leases_nothing e r none))
-
 not_out : (h : List Event) (l : ℕ) → list_any (is_return_of l) h ≡ true → is_out h l ≡ false
 unfolding is_out
 not_out h l back = ap (λ (b : Bool). at makes_lease h l && not b) back ∙ and_no (at makes_lease h l)

@@ -2,7 +2,7 @@ use Rattle.std.proofs.Common.{◌≡◌, true, false, Some, slice_get, sym, ◌�
 use Rattle.std.specs.List.{list_any}
 use Rattle.std.specs.Option.{option_and_then}
 use Rattle.rx_event.specs.Events.{leased_of, is_return_of}
-use Rattle.rx_report.proofs.LeasesOut.{none_given, came_back, still_out}
+use Rattle.rx_report.proofs.LeasesOut.{came_back, still_out}
 use Rattle.rx_report.proofs.tallies.leased_at.Goals as goal
 
 pub returns-then-contains : goal.returns-then-contains
