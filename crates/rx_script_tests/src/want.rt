@@ -22,7 +22,8 @@ const RUNS: usize = 1564;
 
 // Each resource hears a word at the next step after the one that hands it in. Most steps are handed to
 // the agenda only once all three have heard theirs, and that takes more memory than the reading does.
-const SCENARIO: &str = "{\"steps\":[{\"do\":\"using\",\"name\":\"a\",\"place\":\"root\",\"res\":\"r\",\"then\":[
+const SCENARIO: &str =
+    "{\"steps\":[{\"do\":\"using\",\"name\":\"a\",\"place\":\"root\",\"res\":\"r\",\"then\":[
     {\"do\":\"apply\",\"res\":\"r\",\"word\":8},
     {\"do\":\"hold\",\"node\":\"a\",\"res\":\"s\"},
     {\"do\":\"apply\",\"res\":\"s\",\"word\":9},
