@@ -141,28 +141,44 @@ fn is_refused_first(alloc: Global, made: Made) -> Result<bool, Fail> {
 }
 
 #[test]
-fn an_opening_that_is_refused_memory_changes_nothing_and_is_done_where_there_is_some(
+fn an_opening_at_a_root_that_is_refused_memory_changes_nothing(
     rt: HostRuntime,
 ) -> Result<(), Fail> {
-    for made in [Made::Open, Made::OpenUsing, Made::OpenBelow] {
+    for made in [Made::Open, Made::OpenUsing] {
         assert!(rt; is_refused_first(rt.alloc(), made)?, "{made:?}");
     }
     Ok(())
 }
 
 #[test]
-fn a_call_on_a_node_or_a_resource_that_is_refused_memory_changes_nothing(
+fn an_opening_below_or_a_resource_that_is_refused_memory_changes_nothing(
     rt: HostRuntime,
 ) -> Result<(), Fail> {
-    for made in [Made::Hold, Made::Apply, Made::Lease, Made::Next] {
+    for made in [Made::OpenBelow, Made::Hold] {
         assert!(rt; is_refused_first(rt.alloc(), made)?, "{made:?}");
     }
     Ok(())
 }
 
 #[test]
-fn a_call_on_hubs_that_is_refused_memory_changes_nothing(rt: HostRuntime) -> Result<(), Fail> {
-    for made in [Made::Hub, Made::Connect, Made::Subscribe] {
+fn a_use_or_a_lease_that_is_refused_memory_changes_nothing(rt: HostRuntime) -> Result<(), Fail> {
+    for made in [Made::Apply, Made::Lease] {
+        assert!(rt; is_refused_first(rt.alloc(), made)?, "{made:?}");
+    }
+    Ok(())
+}
+
+#[test]
+fn an_item_or_a_hub_that_is_refused_memory_changes_nothing(rt: HostRuntime) -> Result<(), Fail> {
+    for made in [Made::Next, Made::Hub] {
+        assert!(rt; is_refused_first(rt.alloc(), made)?, "{made:?}");
+    }
+    Ok(())
+}
+
+#[test]
+fn a_connection_that_is_refused_memory_changes_nothing(rt: HostRuntime) -> Result<(), Fail> {
+    for made in [Made::Connect, Made::Subscribe] {
         assert!(rt; is_refused_first(rt.alloc(), made)?, "{made:?}");
     }
     Ok(())
