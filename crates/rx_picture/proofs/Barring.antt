@@ -9,11 +9,11 @@ use Rattle.rx_event.specs.declared.event.Event.{Event}
 use Rattle.rx_event.specs.declared.event.Event.TheVariants.{Accept}
 use Rattle.rx_event.specs.Events.{makes_resource, node_of_accept, is_remove_of, is_take_of}
 use Rattle.rx_event.specs.Tree.{at, is_open}
-use Rattle.rx_event.specs.Resources.{is_held, is_taken}
+use Rattle.rx_event.specs.Resources.{is_owned, is_taken}
 use Rattle.rx_event.proofs.Laws.Openness.{is_open_past}
-use Rattle.rx_event.proofs.Laws.Resources.{is_held_past, is_taken_past}
+use Rattle.rx_event.proofs.Laws.Resources.{is_owned_past, is_taken_past}
 use Rattle.rx_picture.specs.Rows.{Spans, Begins, IsBar}
-use Rattle.rx_picture.specs.Tables.{IsTurn, AreLines, held_end, held_start, was_removed, was_taken}
+use Rattle.rx_picture.specs.Tables.{IsTurn, AreLines, owned_end, owned_start, was_removed, was_taken}
 use Rattle.rx_picture.proofs.Prefixes.{past_prefix, get_prefix, at_prefix}
 use Rattle.rx_picture.proofs.Turning.{turn_within}
 use Rattle.rx_picture.proofs.Lining.{cut_either, cut_alone, neither, and_not}
@@ -35,14 +35,14 @@ bar_cut node u gone r k l = by_place (cases_lt node k) where
       ∙ ap (λ (x : Bool). true && not x) (cut_either u gone (max node r) k (omega arith)))
   by_place (inr m) = and_left _ _ (and_left _ _ (le-ltb node k m)) ∙ sym (and_left _ _ (le-ltb (max node r) k (omega arith)))
 
-start_after : (ends : List ℕ) (node r : ℕ) → r ≤ held_start ends node r
+start_after : (ends : List ℕ) (node r : ℕ) → r ≤ owned_start ends node r
 start_after ends node r = by_test (nat_lt node (length ends)) where
   by_test : (b : Bool) → r ≤ cond b (max node r) r
   by_test true = omega arith
   by_test false = omega arith
 
 bar_within : (h : List Event) (r node gone : ℕ) (ends : List ℕ) → r < length h → AreLines h (length h) ends → (node < length h) ⊎ (length h ≤ node) →
-    max (held_end ends node gone) (held_start ends node r) ≤ length h
+    max (owned_end ends node gone) (owned_start ends node r) ≤ length h
 bar_within h r node gone ends inside lines (inl l) =
     let size = lines.size in
     let most = lines.within node l in
@@ -52,18 +52,18 @@ bar_within h r node gone ends inside lines (inr l) =
     rw (le-ltb node (length ends) (omega arith)) (omega arith)
 
 module _ (h : List Event) (r node : ℕ) (accepted : option_and_then node_of_accept (slice_get h r) ≡ Some node) where
-  held_prefix : (gone k : ℕ) → IsTurn h (was_removed r) (length h) (length h) gone → r < k → k ≤ length h → is_held (take k h) r ≡ (is_open (take k h) node && not (nat_lt gone k))
-  unfolding is_held
-  held_prefix gone k removed l m =
+  owned_prefix : (gone k : ℕ) → IsTurn h (was_removed r) (length h) (length h) gone → r < k → k ≤ length h → is_owned (take k h) r ≡ (is_open (take k h) node && not (nat_lt gone k))
+  unfolding is_owned
+  owned_prefix gone k removed l m =
       ap (λ (o : Option Event). option_map_or (is_open (take k h)) (option_and_then node_of_accept o) false && not (list_any (is_remove_of r) (take k h))) (get_prefix h k r l m)
       ∙ ap (λ (o : Option ℕ). option_map_or (is_open (take k h)) o false && not (list_any (is_remove_of r) (take k h))) accepted
       ∙ ap (λ (x : Bool). is_open (take k h) node && not x) (removed.turns k m)
 
-  bar_held : (gone : ℕ) (ends : List ℕ) → IsTurn h (was_removed r) (length h) (length h) gone → AreLines h (length h) ends →
-      Spans h (λ k. is_held k r) (held_start ends node r) (max (held_end ends node gone) (held_start ends node r))
-  bar_held gone ends removed lines k m = by_place (cases_lt r k) where
+  bar_owned : (gone : ℕ) (ends : List ℕ) → IsTurn h (was_removed r) (length h) (length h) gone → AreLines h (length h) ends →
+      Spans h (λ k. is_owned k r) (owned_start ends node r) (max (owned_end ends node gone) (owned_start ends node r))
+  bar_owned gone ends removed lines k m = by_place (cases_lt r k) where
     by_node : r < k → (node < length h) ⊎ (length h ≤ node) →
-        (is_open (take k h) node && not (nat_lt gone k)) ≡ (nat_lt (held_start ends node r) k && not (nat_lt (max (held_end ends node gone) (held_start ends node r)) k))
+        (is_open (take k h) node && not (nat_lt gone k)) ≡ (nat_lt (owned_start ends node r) k && not (nat_lt (max (owned_end ends node gone) (owned_start ends node r)) k))
     by_node l (inl inside) =
         let size = lines.size in
         ap (λ (x : Bool). x && not (nat_lt gone k)) (lines.spans node inside k m) ∙ bar_cut node (get_or ends node 0) gone r k l
@@ -77,9 +77,9 @@ module _ (h : List Event) (r node : ℕ) (accepted : option_and_then node_of_acc
         (le-ltb node (length ends) (omega arith))
         ∙ ap (λ (j : ℕ). nat_lt r k && not (nat_lt j k)) none ∙ and_not (nat_lt r k))
 
-    by_place : (r < k) ⊎ (k ≤ r) → is_held (take k h) r ≡ (nat_lt (held_start ends node r) k && not (nat_lt (max (held_end ends node gone) (held_start ends node r)) k))
-    by_place (inl l) = held_prefix gone k removed l m ∙ by_node l (cases_lt node (length h))
-    by_place (inr l) = let later = start_after ends node r in is_held_past (take k h) r (past_prefix h k r l m) ∙ sym (and_left _ _ (le-ltb (held_start ends node r) k (omega arith)))
+    by_place : (r < k) ⊎ (k ≤ r) → is_owned (take k h) r ≡ (nat_lt (owned_start ends node r) k && not (nat_lt (max (owned_end ends node gone) (owned_start ends node r)) k))
+    by_place (inl l) = owned_prefix gone k removed l m ∙ by_node l (cases_lt node (length h))
+    by_place (inr l) = let later = start_after ends node r in is_owned_past (take k h) r (past_prefix h k r l m) ∙ sym (and_left _ _ (le-ltb (owned_start ends node r) k (omega arith)))
 
   taken_prefix : (out k : ℕ) → IsTurn h (was_taken r) (length h) (length h) out → r < k → k ≤ length h → is_taken (take k h) r ≡ nat_lt out k
   unfolding is_taken
@@ -93,12 +93,12 @@ module _ (h : List Event) (r node : ℕ) (accepted : option_and_then node_of_acc
     by_place (inr l) = is_taken_past (take k h) r (past_prefix h k r l m) ∙ sym (le-ltb (max out r) k (omega arith))
 
   pub bar_is : (gone out : ℕ) (ends : List ℕ) → r < length h → IsTurn h (was_removed r) (length h) (length h) gone → IsTurn h (was_taken r) (length h) (length h) out → AreLines h (length h) ends →
-      IsBar h r (held_start ends node r) (max (held_end ends node gone) (held_start ends node r)) (max out r)
+      IsBar h r (owned_start ends node r) (max (owned_end ends node gone) (owned_start ends node r)) (max out r)
   bar_is gone out ends inside removed taken lines = record {
     accepted = start_after ends node r;
     in_order = omega arith;
-    held_within = bar_within h r node gone ends inside lines (cases_lt node (length h));
-    held = bar_held gone ends removed lines;
+    owned_within = bar_within h r node gone ends inside lines (cases_lt node (length h));
+    owned = bar_owned gone ends removed lines;
     accepted_before = omega arith;
     taken_within = let most = turn_within h (was_taken r) out taken in omega arith;
     takes = bar_taken out taken;

@@ -4,8 +4,12 @@ mod Turning
 mod Shutting
 mod Lining
 mod Barring
+mod Loans
 mod Listing
 mod Choosing
 mod Leveling
 mod Leaving
 mod Placing
+mod Climbing
+mod Telling
+mod Pointing

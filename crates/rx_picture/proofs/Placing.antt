@@ -1,16 +1,17 @@
 -- Marks that say a test choose what the test chooses, and stand where it stands.
-use Rattle.std.proofs.Common.{◌≡◌, ℕ, zero, suc, ◌+◌, ◌<◌, ◌≤◌, Bool, true, false, cond, List, [], ◌∷◌, ◌++◌, length, filter, replicate, get_or, refl, sym, ap, ◌∙◌, arith, inl, inr, ◌⊎◌, nat_lt}
+use Rattle.std.proofs.Common.{◌≡◌, ℕ, zero, suc, ◌+◌, ◌<◌, ◌≤◌, Bool, true, false, cond, List, [], ◌∷◌, ◌++◌, length, filter, replicate, get_or, Option, Some, None, refl, sym, ap, ◌∙◌, arith, inl, inr, ◌⊎◌, nat_lt, slice_get}
 use Rattle.std.proofs.Math.Bool.{not, ◌&&◌}
 use Rattle.std.specs.List.{range_with_len}
-use Rattle.std.proofs.lemmas.Bool.{cases_lt}
+use Rattle.std.specs.Option.{option_map_or}
+use Rattle.std.proofs.lemmas.Bool.{cases_lt, lt-ltb, le-ltb, and_left}
 use Rattle.std.proofs.lemmas.List.{length_push, length-replicate, get_or-replicate}
 use Rattle.rx_event.specs.declared.event.Event.{Event}
 use Rattle.rx_event.specs.Tree.{at}
 use Rattle.rx_event.proofs.Laws.Sums.{sum_by-same}
 use Rattle.rx_picture.specs.declared.row.Row.{Row}
 use Rattle.rx_picture.specs.Choice.{bit, count_below, leads, follows, rank, is_chosen, marked, AreMarks}
-use Rattle.rx_picture.specs.Rows.{AreRows, is_drawn, is_left}
-use Rattle.rx_picture.specs.Drawn.{is_shown, is_placed, AreColumns}
+use Rattle.rx_picture.specs.Rows.{AreRows, has_row, is_drawn, lane_of}
+use Rattle.rx_picture.specs.Drawn.{is_shown, is_placed, is_rowed, is_rowed_by, AreColumns}
 use Rattle.rx_picture.proofs.Lining.{get_old, get_new}
 
 -- the same numbers pass below the bound
@@ -48,15 +49,49 @@ marks_chosen firsts amongs chosen first among limit size tied_first tied_among t
       each = λ n l. here.each n l ∙ chosen_same (marked firsts) first (marked amongs) among limit size (λ k m. tied_first.each k m) (λ k m. tied_among.each k m) n l;
     }
 
-pub marks_all : (size : ℕ) → AreMarks (replicate size true) size (λ n. true)
-marks_all size = record { size = length-replicate size true; each = λ n l. get_or-replicate size n true false l }
+pub marks_all : (size : ℕ) → AreMarks (replicate size true) size (λ n. nat_lt n size)
+marks_all size = record { size = length-replicate size true; each = λ n l. get_or-replicate size n true false l ∙ sym (lt-ltb n size l) }
 
 pub rows_same : (h : List Event) (shown : List Bool) (test : ℕ → Bool) (rows : List Row) → AreMarks shown (length h) test → AreRows h (marked shown) rows → AreRows h test rows
 rows_same h shown test rows tied told = record {
-  numbers = told.numbers ∙ filter_same (λ n. at is_drawn h n && marked shown n) (λ n. at is_drawn h n && test n) 0 (length h)
-      (λ k l. ap (λ (x : Bool). at is_drawn h k && x) (tied.each k (omega arith)));
+  numbers = told.numbers ∙ filter_same (λ n. at has_row h n && marked shown n) (λ n. at has_row h n && test n) 0 (length h)
+      (λ k l. ap (λ (x : Bool). at has_row h k && x) (tied.each k (omega arith)));
   each = told.each;
 }
+
+-- the marks of lanes, past their end too
+marked_past : (marks : List Bool) (n : ℕ) → length marks ≤ n → marked marks n ≡ false
+marked_past [] n l = refl
+marked_past (m ∷ marks) zero l = absurd (omega arith)
+marked_past (m ∷ marks) (suc n) l = marked_past marks n (omega arith)
+
+drawn_past : (h : List Event) (n : ℕ) → length h ≤ n → at is_drawn h n ≡ false
+drawn_past [] n l = refl
+drawn_past (e ∷ h) zero l = absurd (omega arith)
+drawn_past (e ∷ h) (suc n) l = drawn_past h n (omega arith)
+
+pub shown_anywhere : (h : List Event) (shown : List Bool) → AreMarks shown (length h) (is_shown h) → (n : ℕ) → marked shown n ≡ is_shown h n
+shown_anywhere h shown tied n = by_place (cases_lt n (length h)) where
+  by_place : (n < length h) ⊎ (length h ≤ n) → marked shown n ≡ is_shown h n
+  by_place (inl l) = tied.each n l
+  by_place (inr l) = let size = tied.size in marked_past shown n (omega arith) ∙ sym (and_left _ _ (drawn_past h n l))
+
+pub placed_anywhere : (h : List Event) (placed : List Bool) → AreMarks placed (length h) (is_placed h) → (n : ℕ) → marked placed n ≡ is_placed h n
+placed_anywhere h placed tied n = by_place (cases_lt n (length h)) where
+  by_place : (n < length h) ⊎ (length h ≤ n) → marked placed n ≡ is_placed h n
+  by_place (inl l) = tied.each n l
+  by_place (inr l) = let size = tied.size in marked_past placed n (omega arith) ∙ sym (and_left _ _ (le-ltb n (length h) l))
+
+-- a row is shown where the marks show its lane
+pub rowed_same : (h : List Event) (shown rowed : List Bool) → AreMarks shown (length h) (is_shown h) → AreMarks rowed (length h) (is_rowed_by (marked shown) h) →
+    AreMarks rowed (length h) (is_rowed h)
+rowed_same h shown rowed lanes told = record {
+  size = told.size;
+  each = λ n l. told.each n l ∙ by_event n (slice_get h n);
+} where
+  by_event : (n : ℕ) (o : Option Event) → option_map_or (λ e. marked shown (lane_of n e)) o false ≡ option_map_or (λ e. is_shown h (lane_of n e)) o false
+  by_event n None = refl
+  by_event n (Some e) = shown_anywhere h shown lanes (lane_of n e)
 
 pub columns_same : (shown : List Bool) (size : ℕ) (test : ℕ → Bool) (columns : List ℕ) → AreMarks shown size test → AreColumns (marked shown) (length shown) columns → AreColumns test size columns
 columns_same shown size test columns tied told =

@@ -7,9 +7,9 @@ use Rattle.std.proofs.lemmas.Bool.{cases_Bool, cases_lt, cases_eq, lt-ltb, le-lt
 use Rattle.std.proofs.lemmas.List.{get_or-set_same, get_or-set_other, length-set, get_or-replicate, length-replicate}
 use Rattle.std.proofs.lemmas.List.Folds.{list_any-append}
 use Rattle.rx_event.specs.declared.event.Event.{Event}
-use Rattle.rx_event.specs.declared.event.Event.TheVariants.{Remove, Take}
-use Rattle.rx_event.specs.Events.{removed_of, taken_of, is_remove_of, is_take_of}
-use Rattle.rx_picture.specs.Tables.{is_key, IsTurn, AreTurns, noted, was_removed, was_taken}
+use Rattle.rx_event.specs.declared.event.Event.TheVariants.{Remove, Return, Take}
+use Rattle.rx_event.specs.Events.{removed_of, returned_of, taken_of, is_remove_of, is_return_of, is_take_of}
+use Rattle.rx_picture.specs.Tables.{is_key, IsTurn, AreTurns, noted, was_removed, was_returned, was_taken}
 use Rattle.rx_picture.proofs.Prefixes.{take_next, some_event}
 
 -- one test ----------------------------------------------------------------------------------------
@@ -145,6 +145,10 @@ removes : (e : Event) (n : ℕ) → is_key (removed_of e) n ≡ is_remove_of n e
 removes (Remove r) n = refl
 removes _ n = refl
 
+returned : (e : Event) (n : ℕ) → is_key (returned_of e) n ≡ is_return_of n e
+returned (Return l) n = refl
+returned _ n = refl
+
 takes : (e : Event) (n : ℕ) → is_key (taken_of e) n ≡ is_take_of n e
 takes (Take r) n = refl
 takes _ n = refl
@@ -164,3 +168,11 @@ taken_step h b table inside tied =
     let at_b : slice_get h b ≡ Some e = (some_event h b inside).1 in
     turns_step h was_taken b table (option_and_then taken_of (slice_get h b)) (λ n. is_take_of n e) inside (λ n. any_next (is_take_of n) h b e at_b)
     (λ n was. ap (λ (o : Option Event). is_key (option_and_then taken_of o) n) at_b ∙ takes e n) tied
+
+pub returned_step : (h : List Event) (b : ℕ) (table : List ℕ) → b < length h → AreTurns h was_returned b table →
+    AreTurns h was_returned (b + 1) (noted table (option_and_then returned_of (slice_get h b)) b)
+returned_step h b table inside tied =
+    let e = (some_event h b inside).0 in
+    let at_b : slice_get h b ≡ Some e = (some_event h b inside).1 in
+    turns_step h was_returned b table (option_and_then returned_of (slice_get h b)) (λ n. is_return_of n e) inside (λ n. any_next (is_return_of n) h b e at_b)
+    (λ n was. ap (λ (o : Option Event). is_key (option_and_then returned_of o) n) at_b ∙ returned e n) tied

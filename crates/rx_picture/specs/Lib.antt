@@ -2,6 +2,5 @@ pub mod Rows
 pub mod Choice
 pub mod Levels
 pub mod Tables
+pub mod Told
 pub mod Drawn
-pub mod Svg
-pub mod Lanes

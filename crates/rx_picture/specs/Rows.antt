@@ -4,14 +4,14 @@ use Rattle.std.specs.Prelude.{◌≡◌, ℕ, ◌≤◌, Bool, ◌&&◌, ◌||�
 use Rattle.std.proofs.Math.Bool.{not}
 use Rattle.std.specs.List.{AllByRecursion}
 use Rattle.rx_event.specs.declared.event.Event.{Event}
-use Rattle.rx_event.specs.declared.event.Event.TheVariants.{End}
-use Rattle.rx_event.specs.Events.{makes_node, makes_hub, makes_resource}
+use Rattle.rx_event.specs.declared.event.Event.TheVariants.{End, Lease}
+use Rattle.rx_event.specs.Events.{makes_node, makes_hub, makes_resource, makes_lease}
 use Rattle.rx_event.specs.Tree.{at, places, is_open}
-use Rattle.rx_event.specs.Resources.{is_held, is_taken}
+use Rattle.rx_event.specs.Resources.{is_owned, is_out, is_taken}
 use Rattle.rx_picture.specs.declared.row.Ending.{Ending}
 use Rattle.rx_picture.specs.declared.row.Ending.TheVariants.{Lasting, Ended, Disposed}
 use Rattle.rx_picture.specs.declared.row.Shape.{Shape}
-use Rattle.rx_picture.specs.declared.row.Shape.TheVariants.{Node, Hub, Resource}
+use Rattle.rx_picture.specs.declared.row.Shape.TheVariants.{Node, Hub, Resource, Loan}
 use Rattle.rx_picture.specs.declared.row.Row.{Row}
 
 -- prefixes ----------------------------------------------------------------------------------------
@@ -41,36 +41,54 @@ pub record IsLine (h : List Event) (n until : ℕ) (ending : Ending) : Type 0 wh
 
 -- resources ---------------------------------------------------------------------------------------
 
--- the bar of resource r: held in just these prefixes, and taken in just those after the event that hands it out. In the
--- others after its acceptance it waits
-pub record IsBar (h : List Event) (r held_after held_until taken : ℕ) : Type 0 where
-  pub accepted : r ≤ held_after
-  pub in_order : held_after ≤ held_until
-  pub held_within : held_until ≤ length h
-  pub held : Spans h (λ k. is_held k r) held_after held_until
+-- the bar of resource r: its node owns it in just these prefixes, and it is taken in just those after the event that hands
+-- it out. In the others after its acceptance it waits, but where a lease holds it
+pub record IsBar (h : List Event) (r owned_after owned_until taken : ℕ) : Type 0 where
+  pub accepted : r ≤ owned_after
+  pub in_order : owned_after ≤ owned_until
+  pub owned_within : owned_until ≤ length h
+  pub owned : Spans h (λ k. is_owned k r) owned_after owned_until
   pub accepted_before : r ≤ taken
   pub taken_within : taken ≤ length h
   pub takes : Begins h (λ k. is_taken k r) taken
 
+-- leases ------------------------------------------------------------------------------------------
+
+-- lease l is out in just these prefixes
+pub record IsLoan (h : List Event) (l until : ℕ) : Type 0 where
+  pub begun : l ≤ until
+  pub within : until ≤ length h
+  pub out : Spans h (λ k. is_out k l) l until
+
 -- rows --------------------------------------------------------------------------------------------
 
--- the event makes something that has a row
+-- the event makes something that has a lane
 abbrev pub is_drawn : Event → Bool
 is_drawn e = makes_node e || makes_hub e || makes_resource e
+
+-- a lease has a row too, which lies in the lane of its resource
+abbrev pub has_row : Event → Bool
+has_row e = is_drawn e || makes_lease e
+
+-- the number in whose lane the row lies of what the event at place n made
+abbrev pub lane_of : ℕ → Event → ℕ
+lane_of n (Lease r) = r
+lane_of n _ = n
 
 abbrev pub IsShape : List Event → ℕ → Shape → Type 0
 IsShape h n (Node until ending) = IsTrue (at makes_node h n) × IsLine h n until ending
 IsShape h n Hub = IsTrue (at makes_hub h n)
-IsShape h n (Resource held_after held_until taken) = IsTrue (at makes_resource h n) × IsBar h n held_after held_until taken
+IsShape h n (Resource owned_after owned_until taken) = IsTrue (at makes_resource h n) × IsBar h n owned_after owned_until taken
+IsShape h n (Loan resource until) = (slice_get h n ≡ Some (Lease resource)) × IsLoan h n until
 
 -- the row is that of what its event made
 pub record IsRow (h : List Event) (row : Row) : Type 0 where
   pub made : slice_get h row.number ≡ Some row.made
   pub shape : IsShape h row.number row.shape
 
--- one row for each node, hub and resource that is shown, by rising number
+-- one row for each node, hub, resource and lease that is shown, by rising number
 pub record AreRows (h : List Event) (shown : ℕ → Bool) (rows : List Row) : Type 0 where
-  pub numbers : map (λ row. row.number) rows ≡ filter (λ n. at is_drawn h n && shown n) (places h)
+  pub numbers : map (λ row. row.number) rows ≡ filter (λ n. at has_row h n && shown n) (places h)
   pub each : AllByRecursion (IsRow h) rows
 
 -- what leaks: an open node, or a resource that was never handed out, which is held or waits

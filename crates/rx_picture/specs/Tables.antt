@@ -6,9 +6,9 @@ use Rattle.std.specs.List.{list_any}
 use Rattle.std.specs.Option.{option_and_then, option_map_or}
 use Rattle.rx_event.specs.declared.event.Event.{Event}
 use Rattle.rx_event.specs.declared.event.Event.TheVariants.{End, Close}
-use Rattle.rx_event.specs.Events.{inner_named, is_switch, is_inner_of, is_remove_of, is_take_of}
+use Rattle.rx_event.specs.Events.{inner_named, is_switch, is_inner_of, is_remove_of, is_return_of, is_take_of}
 use Rattle.rx_event.specs.Tree.{at, if_less, is_shut, is_open, shuts}
-use Rattle.rx_picture.specs.Rows.{Spans, IsRow, is_drawn}
+use Rattle.rx_picture.specs.Rows.{Spans, IsRow}
 use Rattle.rx_picture.specs.declared.row.Row.{Row}
 use Rattle.rx_picture.specs.declared.tables.Tables.{Tables}
 
@@ -37,6 +37,9 @@ was_removed r h = list_any (is_remove_of r) h
 
 abbrev pub was_taken : ℕ → List Event → Bool
 was_taken r h = list_any (is_take_of r) h
+
+abbrev pub was_returned : ℕ → List Event → Bool
+was_returned l h = list_any (is_return_of l) h
 
 abbrev pub was_shut : ℕ → List Event → Bool
 was_shut n h = is_shut h n
@@ -91,16 +94,17 @@ pub record AreLines (h : List Event) (bound : ℕ) (table : List ℕ) : Type 0 w
 -- the tables of a whole history
 pub record AreTables (h : List Event) (tables : Tables) : Type 0 where
   pub removed : AreTurns h was_removed (length h) tables.removed.items
+  pub returned : AreTurns h was_returned (length h) tables.returned.items
   pub taken : AreTurns h was_taken (length h) tables.taken.items
   pub ends : AreLines h (length h) tables.ends.items
 
--- after which place a resource of the node is held: the later of the two, where there is such a node
-abbrev pub held_start : List ℕ → ℕ → ℕ → ℕ
-held_start ends node r = if nat_lt node (length ends) then max node r else r
+-- after which place a resource of the node is owned: the later of the two, where there is such a node
+abbrev pub owned_start : List ℕ → ℕ → ℕ → ℕ
+owned_start ends node r = if nat_lt node (length ends) then max node r else r
 
--- after which place a resource of the node is held no more, where it is removed at the other
-abbrev pub held_end : List ℕ → ℕ → ℕ → ℕ
-held_end ends node removed = if nat_lt node (length ends) then min (slice_index_or ends node 0) removed else 0
+-- after which place a resource of the node is owned no more, where it is removed at the other
+abbrev pub owned_end : List ℕ → ℕ → ℕ → ℕ
+owned_end ends node removed = if nat_lt node (length ends) then min (slice_index_or ends node 0) removed else 0
 
 -- the row of what the event at the place made, which is shown
 pub record IsShownAt (h : List Event) (shown : ℕ → Bool) (n : ℕ) (row : Row) : Type 0 where

@@ -34,6 +34,17 @@ fn follows(first: &[bool], among: &[bool], n: usize) -> bool
     is_marked(among, n) && !is_marked(first, n)
 }
 
+/// How many are marked.
+pub fn count_marks(marks: &[bool]) -> usize
+    ensures { result ≡ count_below (marked marks.now) (length marks.now) }
+{
+    let mut count = 0;
+    for n in 0..marks.len() {
+        count += one_if(is_marked(marks, n));
+    }
+    count
+}
+
 /// How many lead.
 fn count_leads(first: &[bool], among: &[bool]) -> usize
     ensures { result ≡ count_below (leads (marked first.now) (marked among.now)) (length among.now) }

@@ -1,9 +1,9 @@
-//! The place at which each resource is removed, and at which it is taken.
+//! The place at which each resource is removed and taken, and at which each lease is returned.
 
 ghost use Rattle.std.specs.Prelude.{◌≡◌, IfOk, length, replicate, slice_get, slice_index_or};
 ghost use Rattle.std.specs.Option.{option_and_then};
-ghost use Rattle.rx_event.specs.Events.{removed_of, taken_of};
-ghost use Rattle.rx_picture.specs.Tables.{AreTurns, noted, was_removed, was_taken};
+ghost use Rattle.rx_event.specs.Events.{removed_of, returned_of, taken_of};
+ghost use Rattle.rx_picture.specs.Tables.{AreTurns, noted, was_removed, was_returned, was_taken};
 
 use rx_event::Event;
 use std::alloc::{AllocError, Global};
@@ -46,6 +46,16 @@ fn removed_at(events: &[Event], place: usize) -> Option<u64>
     }
 }
 
+/// The lease that the event at the place returns.
+fn returned_at(events: &[Event], place: usize) -> Option<u64>
+    ensures { result ≡ option_and_then returned_of (slice_get events.now place) }
+{
+    match events.get(place).copied() {
+        Some(event) => event.returned(),
+        None => None,
+    }
+}
+
 /// The resource that the event at the place hands out.
 fn taken_at(events: &[Event], place: usize) -> Option<u64>
     ensures { result ≡ option_and_then taken_of (slice_get events.now place) }
@@ -64,6 +74,18 @@ pub fn removals(alloc: Global, events: &[Event]) -> Result<Vec<usize>, AllocErro
     let mut table = filled(alloc, events.len(), events.len())?;
     for place in 0..events.len() {
         let key = removed_at(events, place);
+        note(&mut table, key, place);
+    }
+    Ok(table)
+}
+
+/// By lease: the place of the first event that returns it, and the number of events where none does.
+pub fn returns(alloc: Global, events: &[Event]) -> Result<Vec<usize>, AllocError>
+    ensures { IfOk result (λ v. AreTurns events.now was_returned (length events.now) v.items) }
+{
+    let mut table = filled(alloc, events.len(), events.len())?;
+    for place in 0..events.len() {
+        let key = returned_at(events, place);
         note(&mut table, key, place);
     }
     Ok(table)

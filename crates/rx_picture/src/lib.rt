@@ -19,18 +19,20 @@
 #![tactic(auto)]
 
 mod choice;
+mod climb;
 mod columns;
 mod drawing;
 mod firsts;
+mod lanes;
 mod levels;
 mod lines;
+mod marbles;
+mod points;
 mod row;
 mod rows;
 mod shut;
-mod svg;
-mod svg_text;
 mod tables;
 
 pub use drawing::{Drawing, draw};
+pub use points::Point;
 pub use row::{Ending, Row, Shape};
-pub use svg::picture;

@@ -1,4 +1,4 @@
-//! What is drawn of one node, hub or resource.
+//! What is drawn of one node, hub, resource or lease.
 
 use rx_event::{Event, Terminal};
 
@@ -25,16 +25,24 @@ pub enum Shape {
     },
     /// A hub, which nothing ends.
     Hub,
-    /// A resource, which is held after the event at `held_after` and before the one at `held_until`,
-    /// and handed out by the one at `taken`. Between them, and until it is taken, it waits.
+    /// A resource, which its node owns after the event at `owned_after` and before the one at
+    /// `owned_until`, and which the one at `taken` hands out. Between them, and until it is taken, it
+    /// waits, but where a lease of it is out.
     Resource {
-        held_after: u64,
-        held_until: u64,
+        owned_after: u64,
+        owned_until: u64,
         taken: u64,
+    },
+    /// A lease of this resource, which is out after the event that gave it and before the one at
+    /// `until`.
+    Loan {
+        resource: u64,
+        until: u64,
     },
 }
 
-/// What is drawn of one node, hub or resource.
+/// What is drawn of one node, hub, resource or lease. The row of a lease lies in the lane of its
+/// resource, every other in a lane of its own.
 #[derive(Clone, Copy)]
 pub struct Row {
     /// Its number, which is the place of the event that made it.

@@ -7,7 +7,7 @@ ghost use Rattle.rx_picture.specs.Rows.{is_drawn, is_left};
 ghost use Rattle.rx_picture.specs.Choice.{AreMarks};
 ghost use Rattle.rx_picture.specs.Tables.{AreTables, AreTurns, AreLines, was_taken};
 
-use crate::firsts::{removals, takings, value_at};
+use crate::firsts::{removals, returns, takings, value_at};
 use crate::lines::line_ends;
 use crate::shut::shuttings;
 use rx_event::Event;
@@ -18,6 +18,8 @@ use std::alloc::{AllocError, Global};
 pub struct Tables {
     /// Where the resource is removed.
     pub removed: Vec<usize>,
+    /// Where the lease is returned.
+    pub returned: Vec<usize>,
     /// Where the resource is handed out.
     pub taken: Vec<usize>,
     /// Where the node is closed.
@@ -31,9 +33,11 @@ pub fn tables_of(alloc: Global, events: &[Event]) -> Result<Tables, AllocError>
     let shut = shuttings(alloc, events)?;
     let ends = line_ends(alloc, events, &shut)?;
     let removed = removals(alloc, events)?;
+    let returned = returns(alloc, events)?;
     let taken = takings(alloc, events)?;
     Ok(Tables {
         removed,
+        returned,
         taken,
         ends,
     })

@@ -12,7 +12,7 @@ use Rattle.rx_event.specs.Kept.{Kept, shown}
 use Rattle.rx_event.specs.declared.event.Place.{Place}
 use Rattle.rx_event.specs.declared.event.Kind.TheVariants.{Sub}
 use Rattle.rx_event.specs.declared.event.Event.{Event}
-use Rattle.rx_event.specs.declared.event.Event.TheVariants.{Open, Hub, Connect, Accept, Use, Remove, Item, Decline, End, Close, Take}
+use Rattle.rx_event.specs.declared.event.Event.TheVariants.{Open, Hub, Connect, Accept, Use, Remove, Lease, Return, Item, Decline, End, Close, Take}
 use Rattle.rx_event.specs.Events.{is_auto_hub, is_connect_of, is_subscriber_of, hub_subscribed}
 use Rattle.rx_event.specs.Tree.{at, places, is_open, open_subscribers}
 use Rattle.rx_event.specs.Forced.{cut, left, due, SourceEnded, IsDue, IsConnectDue}
@@ -167,6 +167,8 @@ waited_or_now base h e law next g d = by_test (is_subscriber_of g e) refl where
   by_event (Accept n tag) may out w = waited_before base h (Accept n tag) g refl out (auto_before base h (Accept n tag) g law out w) w
   by_event (Use r) may out w = waited_before base h (Use r) g refl out (auto_before base h (Use r) g law out w) w
   by_event (Remove r) may out w = waited_before base h (Remove r) g refl out (auto_before base h (Remove r) g law out w) w
+  by_event (Lease r) may out w = waited_before base h (Lease r) g refl out (auto_before base h (Lease r) g law out w) w
+  by_event (Return l) may out w = waited_before base h (Return l) g refl out (auto_before base h (Return l) g law out w) w
   by_event (Item l v) may out w = waited_before base h (Item l v) g refl out (auto_before base h (Item l v) g law out w) w
   by_event (Decline f) may out w = waited_before base h (Decline f) g refl out (auto_before base h (Decline f) g law out w) w
   by_event (Take r) may out w = waited_before base h (Take r) g refl out (auto_before base h (Take r) g law out w) w

@@ -29,3 +29,9 @@ loop-n-preserved c =
           (marks_more c.loop-n.chosen.items c.loop-n.n (is_chosen first among c.args.limit (length c.args.among.now)) c.shows-mark.result was.marks
           (c.shows-mark.ensures ∙ rw (was.leading, was.following, c.count_leads-leading.ensures) refl));
     }
+
+pub returns-in_err-push-clause-few : goal.returns-in_err-push-clause-few
+returns-in_err-push-clause-few c = few_chosen (marked c.args.first.now) (marked c.args.among.now) c.args.limit (length c.args.among.now)
+
+pub returns-clause-few : goal.returns-clause-few
+returns-clause-few c = few_chosen (marked c.args.first.now) (marked c.args.among.now) c.args.limit (length c.args.among.now)

@@ -1,0 +1,5 @@
+pub mod Parts
+pub mod Label
+pub mod Stroke
+pub mod Lane
+pub mod Page
