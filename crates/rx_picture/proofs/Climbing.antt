@@ -60,3 +60,18 @@ limit_is = refl
 pub climb_is : (past : List Event) (leaf : ℕ) → climb past leaf ≡ visited (suc most_visits) past (leaf ∷ [])
 unfolding climb
 climb_is past leaf = refl
+
+-- the same, as the loop has it
+pub climb_ended : (past : List Event) (leaf step : ℕ) (visits todo : List ℕ) → todo ≡ [] → ClimbsOn most_visits past leaf step visits todo → visits ≡ climb past leaf
+climb_ended past leaf step visits todo none on = climb_ends most_visits past leaf step visits (rw none at on) ∙ sym (climb_is past leaf)
+
+pub climb_stopped : (past : List Event) (leaf step : ℕ) (visits todo : List ℕ) → 1048577 ≤ step → ClimbsOn most_visits past leaf step visits todo → visits ≡ climb past leaf
+climb_stopped past leaf step visits todo whole on =
+    let limit = limit_is in
+    climb_stops most_visits past leaf step visits todo (omega arith) on ∙ sym (climb_is past leaf)
+
+pub climb_popped : (past : List Event) (leaf step n : ℕ) (visits todo rest more : List ℕ) → step < 1048577 → todo ≡ rest ++ n ∷ [] →
+    more ≡ rest ++ reverse (onward past n) → ClimbsOn most_visits past leaf step visits todo → ClimbsOn most_visits past leaf (step + 1) (visits ++ n ∷ []) more
+climb_popped past leaf step n visits todo rest more l was next on =
+    let limit = limit_is in
+    climb_goes_on most_visits past leaf step n visits todo rest more (omega arith) was next on

@@ -13,3 +13,4 @@ mod Placing
 mod Climbing
 mod Telling
 mod Pointing
+mod Drawings

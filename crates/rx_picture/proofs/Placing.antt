@@ -18,7 +18,7 @@ use Rattle.rx_picture.proofs.Lining.{get_old, get_new}
 abbrev pub Agree : ℕ → (ℕ → Bool) → (ℕ → Bool) → Type 0
 Agree bound p q = (k : ℕ) → k < bound → p k ≡ q k
 
-count_same : (p q : ℕ → Bool) (n : ℕ) → Agree n p q → count_below p n ≡ count_below q n
+pub count_same : (p q : ℕ → Bool) (n : ℕ) → Agree n p q → count_below p n ≡ count_below q n
 count_same p q n same = sum_by-same (λ k. bit (q k)) (λ k. bit (p k)) n (λ k l. ap bit (same k l))
 
 filter_same : (p q : ℕ → Bool) (a n : ℕ) → ((k : ℕ) → k < a + n → p k ≡ q k) → filter p (range_with_len a n) ≡ filter q (range_with_len a n)

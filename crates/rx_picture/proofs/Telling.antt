@@ -1,5 +1,5 @@
 -- The notes of a prefix, so far as they are shown, and what one more event tells.
-use Rattle.std.proofs.Common.{◌≡◌, ℕ, zero, suc, ◌+◌, ◌<◌, Bool, true, false, cond, List, [], ◌∷◌, ◌++◌, length, take, filter, Option, Some, None, refl, sym, ap, ◌∙◌, arith, inl, inr, ◌⊎◌, slice_get, append-nil, ℤ}
+use Rattle.std.proofs.Common.{◌≡◌, ℕ, zero, suc, ◌+◌, ◌<◌, ◌≤◌, Bool, true, false, cond, List, [], ◌∷◌, ◌++◌, length, take, filter, Option, Some, None, refl, sym, ap, ◌∙◌, arith, inl, inr, ◌⊎◌, slice_get, append-nil, ℤ}
 use Rattle.std.proofs.Math.Bool.{◌&&◌}
 use Rattle.std.proofs.Math.Seq.{take-length}
 use Rattle.std.specs.List.{AllByRecursion, filter_map, flat_map, cons_option}
@@ -121,3 +121,11 @@ module _ (lane place : ℕ → Bool) (h : List Event) (n : ℕ) (within : n < le
 
 pub marbles_whole : (lane place : ℕ → Bool) (h : List Event) (n : ℕ) (shown : List Mail) → n ≡ length h → shown ≡ marbles lane place (take n h) → shown ≡ marbles lane place h
 marbles_whole lane place h n shown whole same = same ∙ ap (λ (k : ℕ). marbles lane place (take k h)) whole ∙ ap (marbles lane place) (take-length h)
+
+pub visits_whole : (old new : List Mail) (f : ℕ → List Mail) (ns : List ℕ) (i : ℕ) → length ns ≤ i → new ≡ old ++ flat_map f (take i ns) → new ≡ old ++ flat_map f ns
+visits_whole old new f ns i whole is = is ∙ ap (λ (ks : List ℕ). old ++ flat_map f ks) (take_all ns i whole) where
+  take_all : (ns : List ℕ) (i : ℕ) → length ns ≤ i → take i ns ≡ ns
+  take_all [] zero l = refl
+  take_all [] (suc i) l = refl
+  take_all (n ∷ ns) zero l = absurd (omega arith)
+  take_all (n ∷ ns) (suc i) l = ap (λ (ks : List ℕ). n ∷ ks) (take_all ns i (omega arith))

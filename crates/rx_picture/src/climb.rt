@@ -164,6 +164,12 @@ fn push_onward(
 }
 
 /// The nodes that an item of the leaf visits, in order, each as often as it is reached.
+#[tactic(auto, using(
+    crate::proofs::Climbing::climb_begins,
+    crate::proofs::Climbing::climb_ended,
+    crate::proofs::Climbing::climb_stopped,
+    crate::proofs::Climbing::climb_popped
+))]
 pub fn climb(
     alloc: Global,
     past: &[Event],

@@ -64,7 +64,8 @@ fn shown_marks(
     ensures { IfOk result (λ v. AreMarks v.items (length events.now) (is_shown events.now)) }
 {
     let left = left_marks(alloc, events, tables)?;
-    choose(alloc, &left, drawn, MOST_LANES)
+    let chosen = choose(alloc, &left, drawn, MOST_LANES)?;
+    Ok(chosen)
 }
 
 /// Marks the places that are shown.
@@ -73,7 +74,8 @@ fn placed_marks(alloc: Global, events: &[Event], shown: &[bool]) -> Result<Vec<b
     ensures { IfOk result (λ v. AreMarks v.items (length events.now) (is_placed events.now)) }
 {
     let every = all_marks(alloc, events.len())?;
-    choose(alloc, shown, &every, MOST_PLACES)
+    let chosen = choose(alloc, shown, &every, MOST_PLACES)?;
+    Ok(chosen)
 }
 
 /// What is drawn of the events, which need not be lawful. The error comes where memory is refused.
@@ -91,9 +93,10 @@ pub fn draw(alloc: Global, events: &[Event]) -> Result<Drawing, AllocError>
     let lanes = columns_of(alloc, &shown)?;
     let columns = columns_of(alloc, &placed)?;
     let levels = levels_of(alloc, events)?;
+    let all = count_marks(&drawn);
     Ok(Drawing {
         rows,
-        all: count_marks(&drawn),
+        all,
         marbles,
         points,
         lanes,

@@ -59,6 +59,7 @@ fn is_root_at(past: &[Event], n: u64) -> bool
 }
 
 /// Puts what an item tells behind the marbles.
+#[tactic(auto, using(crate::proofs::Telling::item_told))]
 fn push_item(
     alloc: Global,
     marbles: &mut Vec<Mail>,
@@ -111,6 +112,13 @@ fn push_told(
 }
 
 /// What was told, in order, so far as the lane and the place are marked.
+#[tactic(auto, using(
+    crate::proofs::Climbing::ends_of_prefix,
+    crate::proofs::Telling::marbles_none,
+    crate::proofs::Telling::marbles_more,
+    crate::proofs::Telling::marbles_skip,
+    crate::proofs::Telling::marbles_whole
+))]
 pub fn marbles_of(
     alloc: Global,
     events: &[Event],

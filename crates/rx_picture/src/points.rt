@@ -18,6 +18,12 @@ pub struct Point {
 }
 
 /// The places that are marked, by rising number, each with its event.
+#[tactic(auto, using(
+    crate::proofs::Pointing::points_none,
+    crate::proofs::Pointing::points_more,
+    crate::proofs::Pointing::points_skip,
+    crate::proofs::Pointing::points_whole
+))]
 pub fn points_of(alloc: Global, events: &[Event], places: &[bool]) -> Result<Vec<Point>, AllocError>
     ensures { IfOk result (λ v. ArePoints events.now (marked places.now) v.items) }
 {
