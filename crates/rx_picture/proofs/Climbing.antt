@@ -2,7 +2,7 @@
 use Rattle.std.proofs.Common.{◌≡◌, ℕ, zero, suc, ◌+◌, ◌-◌, ◌<◌, ◌≤◌, Bool, true, false, List, [], ◌∷◌, ◌++◌, length, take, get_or, reverse, Option, Some, None, refl, sym, ap, ◌∙◌, arith, nat_lt, append-nil}
 use Rattle.std.proofs.Math.Bool.{not, ◌&&◌}
 use Rattle.std.proofs.lemmas.Bool.{lt-ltb}
-use Rattle.std.proofs.lemmas.List.{reverse-append, reverse-reverse, append-assoc, length-take-le}
+use Rattle.std.proofs.lemmas.List.{reverse-append, reverse-reverse, append_assoc, length-take-le}
 use Rattle.rx_event.specs.declared.event.Event.{Event}
 use Rattle.rx_event.specs.Tree.{is_open}
 use Rattle.rx_event.specs.Climb.{visited, onward, most_visits, climb}
@@ -23,7 +23,7 @@ abbrev pub ClimbsOn : ℕ → List Event → ℕ → ℕ → List ℕ → List �
 ClimbsOn most past leaf step visits todo = visits ++ visited (suc most - step) past (reverse todo) ≡ visited (suc most) past (leaf ∷ [])
 
 pub climb_begins : (most : ℕ) (past : List Event) (leaf : ℕ) → ClimbsOn most past leaf 0 [] (leaf ∷ [])
-climb_begins most past leaf = refl
+climb_begins most past leaf = let none : suc most - 0 ≡ suc most = omega arith in ap (λ (left : ℕ). visited left past (leaf ∷ [])) none
 
 visited_none : (left : ℕ) (past : List Event) → visited left past [] ≡ []
 visited_none zero past = refl
@@ -46,7 +46,7 @@ climb_goes_on most past leaf step n visits todo rest more l was next on =
     ap reverse next ∙ reverse-append rest (reverse (onward past n)) ∙ ap (λ (ns : List ℕ). ns ++ reverse rest) (reverse-reverse (onward past n)) in
     let left : suc most - step ≡ suc (most - step) = omega arith in
     let less : suc most - (step + 1) ≡ most - step = omega arith in
-    append-assoc visits (n ∷ []) (visited (suc most - (step + 1)) past (reverse more))
+    append_assoc visits (n ∷ []) (visited (suc most - (step + 1)) past (reverse more))
     ∙ ap (λ (j : ℕ). visits ++ n ∷ visited j past (reverse more)) less
     ∙ ap (λ (ns : List ℕ). visits ++ n ∷ visited (most - step) past ns) then
     ∙ ap (λ (ns : List ℕ). visits ++ visited (suc (most - step)) past ns) (sym first)

@@ -3,7 +3,7 @@ use Rattle.std.proofs.Common.{◌≡◌, ℕ, zero, suc, ◌+◌, ◌<◌, ◌�
 use Rattle.std.proofs.Math.Bool.{◌&&◌}
 use Rattle.std.proofs.Math.Seq.{take-length}
 use Rattle.std.specs.List.{AllByRecursion, filter_map, flat_map, cons_option}
-use Rattle.std.specs.Option.{option_and_then, option_to_list}
+use Rattle.std.specs.Option.{option_and_then, option_map_or, option_to_list}
 use Rattle.std.proofs.lemmas.Bool.{cases_Bool}
 use Rattle.std.proofs.lemmas.List.{length-take-le}
 use Rattle.std.proofs.lemmas.List.Elements.{filter-append}
@@ -14,9 +14,10 @@ use Rattle.rx_event.specs.declared.event.Event.TheVariants.{Open, Hub, Connect, 
 use Rattle.rx_event.specs.Events.{is_root}
 use Rattle.rx_event.specs.Tree.{at}
 use Rattle.rx_event.specs.Climb.{Stop, Delivery, Projection, Firing, stop_at, stops, climb}
+use Rattle.rx_event.specs.Moments.{moments}
 use Rattle.rx_event.specs.Notes.{notes, mail_of, told}
 use Rattle.rx_event.proofs.Laws.Counts.{notes-push}
-use Rattle.rx_picture.specs.Told.{is_marble, marbles, told_at}
+use Rattle.rx_picture.specs.Told.{is_marble, mail_told, marbles, told_at}
 use Rattle.rx_picture.proofs.Prefixes.{some_event, take_next}
 
 -- an item -----------------------------------------------------------------------------------------
@@ -89,7 +90,7 @@ module _ (lane place : ℕ → Bool) (n : ℕ) where
 -- one event more ----------------------------------------------------------------------------------
 
 pub marbles_none : (lane place : ℕ → Bool) (h : List Event) → [] ≡ marbles lane place (take 0 h)
-unfolding notes
+unfolding notes, moments
 marbles_none lane place h = refl
 
 module _ (lane place : ℕ → Bool) (h : List Event) (n : ℕ) (within : n < length h) where
@@ -105,10 +106,13 @@ module _ (lane place : ℕ → Bool) (h : List Event) (n : ℕ) (within : n < le
       let all : StandAt (length (take n h)) (mail_of (take n h) e) = mail_place (take n h) e in
       rw size at all
 
-  pub marbles_more : (e : Event) (shown : List Mail) → slice_get h n ≡ Some e → place n ≡ true → shown ≡ marbles lane place (take n h) →
-      shown ++ filter (λ m. lane m.to) (mail_of (take n h) e) ≡ marbles lane place (take (n + 1) h)
-  marbles_more e shown at_n here same =
-      ap (λ (ms : List Mail). ms ++ filter (λ m. lane m.to) (mail_of (take n h) e)) same
+  pub marbles_more : (shown : List Mail) → place n ≡ true → shown ≡ marbles lane place (take n h) →
+      shown ++ mail_told lane h n ≡ marbles lane place (take (n + 1) h)
+  marbles_more shown here same =
+      let e = (some_event h n within).0 in
+      let at_n : slice_get h n ≡ Some e = (some_event h n within).1 in
+      ap (λ (o : Option Event). shown ++ filter (λ m. lane m.to) (option_map_or (mail_of (take n h)) o [])) at_n
+      ∙ ap (λ (ms : List Mail). ms ++ filter (λ m. lane m.to) (mail_of (take n h) e)) same
       ∙ ap (λ (ms : List Mail). marbles lane place (take n h) ++ ms) (sym (all_placed lane place n here (mail_of (take n h) e) (stands e)))
       ∙ sym (marbles_next e at_n)
 

@@ -27,10 +27,18 @@ fn is_merging_at(past: &[Event], f: u64) -> bool
     }
 }
 
+/// What a leaf emits.
+#[derive(Clone, Copy)]
+pub struct Emitted {
+    /// The item.
+    pub value: i64,
+}
+
 /// What an item says that arrives at node `n`, if it stops there and tells somebody.
-pub fn mail_at(past: &[Event], n: u64, value: i64) -> Option<Mail>
-    ensures { result ≡ option_and_then (told (length past.now) value) (stop_at past.now n) }
+pub fn mail_at(past: &[Event], n: u64, item: Emitted) -> Option<Mail>
+    ensures { result ≡ option_and_then (told (length past.now) item.value) (stop_at past.now n) }
 {
+    let value = item.value;
     let place = past.len() as u64;
     match past.get(n as usize).copied() {
         Some(Event::Open { place: Place::Root, .. }) => Some(Mail {

@@ -1,6 +1,6 @@
 //! What observers were told, so far as it is shown.
 
-ghost use Rattle.std.specs.Prelude.{◌≡◌, ◌&&◌, ◌++◌, IfOk, OnOk, filter, length, flat_map};
+ghost use Rattle.std.specs.Prelude.{◌≡◌, ◌<◌, ◌++◌, IfOk, OnOk, filter, length, flat_map};
 ghost use Rattle.std.specs.Option.{option_to_list};
 ghost use Rattle.rx_event.specs.Events.{is_root};
 ghost use Rattle.rx_event.specs.Tree.{at};
@@ -8,10 +8,10 @@ ghost use Rattle.rx_event.specs.declared.event.Event.TheVariants.{Item, End};
 ghost use Rattle.rx_event.specs.Notes.{mail_of};
 ghost use Rattle.rx_picture.specs.Choice.{marked};
 ghost use Rattle.rx_picture.specs.Tables.{AreLines};
-ghost use Rattle.rx_picture.specs.Told.{AreEndsOf, marbles, told_at};
+ghost use Rattle.rx_picture.specs.Told.{AreEndsOf, mail_told, marbles, told_at};
 
 use crate::choice::is_marked;
-use crate::climb::{climb, mail_at};
+use crate::climb::{Emitted, climb, mail_at};
 use rx_event::{Event, Mail, Terminal};
 use rx_note::Note;
 use std::alloc::{AllocError, Global};
@@ -36,14 +36,14 @@ fn push_visits(
     marbles: &mut Vec<Mail>,
     lanes: &[bool],
     past: &[Event],
-    value: i64,
+    item: Emitted,
     visits: &[u64],
 ) -> Result<(), AllocError>
     ensures { OnOk result (marbles.new.items ≡ marbles.old.items
-        ++ flat_map (told_at (marked lanes.now) past.now value) visits.now) }
+        ++ flat_map (told_at (marked lanes.now) past.now item.value) visits.now) }
 {
     for n in visits {
-        push_mail(marbles, lanes, mail_at(past, *n, value))?;
+        push_mail(marbles, lanes, mail_at(past, *n, item))?;
     }
     Ok(())
 }
@@ -74,7 +74,7 @@ fn push_item(
         ++ filter (λ m. marked lanes.now m.to) (mail_of past.now (Item leaf value))) }
 {
     let visits = climb(alloc, past, ends, leaf)?;
-    push_visits(marbles, lanes, past, value, visits.as_slice())
+    push_visits(marbles, lanes, past, Emitted { value }, visits.as_slice())
 }
 
 /// What the end of node `n` tells, if anything.
@@ -111,14 +111,28 @@ fn push_told(
     }
 }
 
+/// Puts what the event at the place tells behind the marbles.
+#[tactic(auto, using(crate::proofs::Climbing::ends_of_prefix))]
+fn push_told_at(
+    alloc: Global,
+    marbles: &mut Vec<Mail>,
+    lanes: &[bool],
+    events: &[Event],
+    ends: &[usize],
+    place: usize,
+) -> Result<(), AllocError>
+    requires lines { AreLines events.now (length events.now) ends.now }
+    requires within { place < length events.now }
+    ensures { OnOk result (marbles.new.items ≡ marbles.old.items ++ mail_told (marked lanes.now) events.now place) }
+{
+    match events.get(place).copied() {
+        Some(event) => push_told(alloc, marbles, lanes, &events[..place], ends, event),
+        None => Ok(()),
+    }
+}
+
 /// What was told, in order, so far as the lane and the place are marked.
-#[tactic(auto, using(
-    crate::proofs::Climbing::ends_of_prefix,
-    crate::proofs::Telling::marbles_none,
-    crate::proofs::Telling::marbles_more,
-    crate::proofs::Telling::marbles_skip,
-    crate::proofs::Telling::marbles_whole
-))]
+#[tactic(auto, using(crate::proofs::Telling::marbles_whole))]
 pub fn marbles_of(
     alloc: Global,
     events: &[Event],
@@ -132,7 +146,7 @@ pub fn marbles_of(
     let mut marbles = Vec::new(alloc);
     for place in 0..events.len() {
         if is_marked(places, place) {
-            push_told(alloc, &mut marbles, lanes, &events[..place], ends, events[place])?;
+            push_told_at(alloc, &mut marbles, lanes, events, ends, place)?;
         }
     }
     Ok(marbles)
