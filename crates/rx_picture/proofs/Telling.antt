@@ -90,7 +90,7 @@ module _ (lane place : ℕ → Bool) (n : ℕ) where
 -- one event more ----------------------------------------------------------------------------------
 
 pub marbles_none : (lane place : ℕ → Bool) (h : List Event) → [] ≡ marbles lane place (take 0 h)
-unfolding notes, moments
+unfolding notes moments
 marbles_none lane place h = refl
 
 module _ (lane place : ℕ → Bool) (h : List Event) (n : ℕ) (within : n < length h) where
