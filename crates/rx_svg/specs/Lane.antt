@@ -38,10 +38,12 @@ steps_of d n _ = min (slice_index_or d.levels.items n 0) 8
 -- a row -------------------------------------------------------------------------------------------
 
 -- what a lane shows
-unfoldable pub label_text : ℕ → ℕ → ℕ → Event → List ℕ
-label_text x y n made =
+unfoldable pub label_front : ℕ → ℕ → ℕ → List ℕ
+label_front x y n =
     text_of (words (codes "<text x=\"") ∷ number x ∷ words (codes "\" y=\"") ∷ number y ∷ words (codes "\" dy=\"4\">") ∷ number n ∷ [])
-    ++ event_text made ++ codes "</text>\n"
+
+unfoldable pub label_text : ℕ → ℕ → ℕ → Event → List ℕ
+label_text x y n made = label_front x y n ++ event_text made ++ codes "</text>\n"
 
 -- a bar for completed, a cross for an error with its code, an open ring for a disposal, nothing where it is still open
 abbrev pub ending_text : ℕ → ℕ → ℕ → Ending → List ℕ

@@ -12,20 +12,25 @@ use Rattle.rx_svg.specs.Label.{event_text, note_text}
 unfoldable pub until_text : ℕ → ℕ → List ℕ
 until_text until end = if until == end then codes " on" else text_of (words (codes ", until event ") ∷ number until ∷ [])
 
--- a line between two places
-unfoldable pub line_text : List ℕ → List ℕ → ℕ → ℕ → ℕ → ℕ → ℕ → ℕ → List ℕ
-line_text class title from to y after until end =
+-- a line between two places: its front, and the whole
+unfoldable pub line_front : List ℕ → List ℕ → ℕ → ℕ → ℕ → ℕ → List ℕ
+line_front class title from to y after =
     text_of (words (codes "<path class=\"") ∷ words class ∷ words (codes "\" d=\"M") ∷ number from ∷ words (codes " ") ∷ number y
     ∷ words (codes "H") ∷ number to ∷ words (codes "\"><title>") ∷ words title ∷ words (codes " from event ") ∷ number after ∷ [])
-    ++ until_text until end ++ codes "</title></path>\n"
+
+unfoldable pub line_text : List ℕ → List ℕ → ℕ → ℕ → ℕ → ℕ → ℕ → ℕ → List ℕ
+line_text class title from to y after until end = line_front class title from to y after ++ until_text until end ++ codes "</title></path>\n"
 
 -- a bar between two places, so high above its middle and so high in all
-unfoldable pub bar_text : List ℕ → List ℕ → List ℕ → List ℕ → ℕ → ℕ → ℕ → ℕ → ℕ → ℕ → List ℕ
-bar_text class title above height from to y after until end =
+unfoldable pub bar_front : List ℕ → List ℕ → List ℕ → List ℕ → ℕ → ℕ → ℕ → ℕ → List ℕ
+bar_front class title above height from to y after =
     text_of (words (codes "<path class=\"") ∷ words class ∷ words (codes "\" d=\"M") ∷ number from ∷ words (codes " ") ∷ number y
     ∷ words (codes "m0 -") ∷ words above ∷ words (codes "H") ∷ number to ∷ words (codes "v") ∷ words height ∷ words (codes "H") ∷ number from
     ∷ words (codes "z\"><title>") ∷ words title ∷ words (codes " from event ") ∷ number after ∷ [])
-    ++ until_text until end ++ codes "</title></path>\n"
+
+unfoldable pub bar_text : List ℕ → List ℕ → List ℕ → List ℕ → ℕ → ℕ → ℕ → ℕ → ℕ → ℕ → List ℕ
+bar_text class title above height from to y after until end =
+    bar_front class title above height from to y after ++ until_text until end ++ codes "</title></path>\n"
 
 -- marks -------------------------------------------------------------------------------------------
 
@@ -84,21 +89,32 @@ value_text x y (Next value) = above_text x y value
 value_text x y (Project value) = above_text x y value
 value_text x y (End t) = []
 
-unfoldable pub marble_text : ℕ → ℕ → ℕ → ℕ → Note → List ℕ
-marble_text x y at to note =
-    text_of (words (codes "<path class=\"marble\" d=\"M") ∷ number x ∷ words (codes " ") ∷ number y ∷ words (marble_shape note)
+unfoldable pub marble_front : ℕ → ℕ → ℕ → List ℕ → List ℕ
+marble_front x y to shape =
+    text_of (words (codes "<path class=\"marble\" d=\"M") ∷ number x ∷ words (codes " ") ∷ number y ∷ words shape
     ∷ words (codes "\"><title>") ∷ number to ∷ words (codes " was told") ∷ [])
-    ++ note_text note ++ text_of (words (codes " by event ") ∷ number at ∷ words (codes "</title></path>\n") ∷ []) ++ value_text x y note
+
+unfoldable pub by_text : ℕ → List ℕ
+by_text at = text_of (words (codes " by event ") ∷ number at ∷ words (codes "</title></path>\n") ∷ [])
+
+unfoldable pub marble_text : ℕ → ℕ → ℕ → ℕ → Note → List ℕ
+marble_text x y at to note = marble_front x y to (marble_shape note) ++ note_text note ++ by_text at ++ value_text x y note
 
 -- places ------------------------------------------------------------------------------------------
 
 -- the column of a place, so high, and its number above it
-unfoldable pub column_text : ℕ → ℕ → ℕ → Event → List ℕ
-column_text x height place event =
+unfoldable pub column_front : ℕ → ℕ → ℕ → List ℕ
+column_front x height place =
     text_of (words (codes "<path class=\"place\" d=\"M") ∷ number x ∷ words (codes " 28m-10 0h20v") ∷ number height
-    ∷ words (codes "h-20z\"><title>") ∷ number place ∷ words (codes ":") ∷ []) ++ event_text event
-    ++ text_of (words (codes "</title></path>\n<text class=\"axis\" x=\"") ∷ number x ∷ words (codes "\" y=\"20\">") ∷ number place
+    ∷ words (codes "h-20z\"><title>") ∷ number place ∷ words (codes ":") ∷ [])
+
+unfoldable pub axis_text : ℕ → ℕ → List ℕ
+axis_text x place =
+    text_of (words (codes "</title></path>\n<text class=\"axis\" x=\"") ∷ number x ∷ words (codes "\" y=\"20\">") ∷ number place
     ∷ words (codes "</text>\n") ∷ [])
+
+unfoldable pub column_text : ℕ → ℕ → ℕ → Event → List ℕ
+column_text x height place event = column_front x height place ++ event_text event ++ axis_text x place
 
 -- the line through all lanes at the place whose event may not stand there
 unfoldable pub broken_text : ℕ → ℕ → ℕ → List ℕ

@@ -2,7 +2,7 @@
 
 ghost use Rattle.std.specs.Prelude.{◌≡◌, ◌++◌, ◌≤◌, ◌*◌, string_bytes, OnOk, slice_index_or};
 ghost use Rattle.rx_picture.specs.Rows.{lane_of};
-ghost use Rattle.rx_svg.specs.Lane.{x_of, y_of, has_lane, steps_of, label_text, ending_text, life_text, stretch_text, owned_text, loan_text, wait_text, release_text, shape_text, name_text, row_text, use_text, tick_text, told_text};
+ghost use Rattle.rx_svg.specs.Lane.{x_of, y_of, has_lane, steps_of, label_front, label_text, ending_text, life_text, stretch_text, owned_text, loan_text, wait_text, release_text, shape_text, name_text, row_text, use_text, tick_text, told_text};
 
 use crate::labels::push_event;
 use crate::pieces::{Piece, push_pieces};
@@ -54,10 +54,10 @@ fn steps_of(drawing: &Drawing, n: u64, made: Event) -> u64
     }
 }
 
-/// What a lane shows.
-#[tactic(auto, unfolding(crate::specs::Lane::label_text, crate::specs::Parts::text_of))]
-fn push_label(text: &mut String, x: u64, y: u64, n: u64, made: Event) -> Result<(), AllocError>
-    ensures { OnOk result (string_bytes text.new ≡ string_bytes text.old ++ label_text x y n made) }
+/// The front of what a lane shows, up to what was made.
+#[tactic(auto, unfolding(crate::specs::Lane::label_front, crate::specs::Parts::text_of))]
+fn push_label_front(text: &mut String, x: u64, y: u64, n: u64) -> Result<(), AllocError>
+    ensures { OnOk result (string_bytes text.new ≡ string_bytes text.old ++ label_front x y n) }
 {
     push_pieces(
         text,
@@ -69,7 +69,15 @@ fn push_label(text: &mut String, x: u64, y: u64, n: u64, made: Event) -> Result<
             Piece::Words("\" dy=\"4\">"),
             Piece::Number(n),
         ],
-    )?;
+    )
+}
+
+/// What a lane shows.
+#[tactic(auto, unfolding(crate::specs::Lane::label_text))]
+fn push_label(text: &mut String, x: u64, y: u64, n: u64, made: Event) -> Result<(), AllocError>
+    ensures { OnOk result (string_bytes text.new ≡ string_bytes text.old ++ label_text x y n made) }
+{
+    push_label_front(text, x, y, n)?;
     push_event(text, made)?;
     text.push_str("</text>\n")
 }

@@ -1,7 +1,7 @@
 //! The elements of a picture, each written behind a text.
 
 ghost use Rattle.std.specs.Prelude.{◌≡◌, ◌++◌, string_bytes, OnOk};
-ghost use Rattle.rx_svg.specs.Stroke.{until_text, line_text, bar_text, mark_text, code_text, leak_text, marble_shape, above_text, value_text, marble_text, column_text, broken_text};
+ghost use Rattle.rx_svg.specs.Stroke.{until_text, line_front, line_text, bar_front, bar_text, mark_text, code_text, leak_text, marble_shape, above_text, value_text, marble_front, by_text, marble_text, column_front, axis_text, column_text, broken_text};
 
 use crate::labels::{push_event, push_note};
 use crate::pieces::{Piece, push_pieces};
@@ -25,9 +25,9 @@ fn push_until(
     push_pieces(text, &[Piece::Words(", until event "), Piece::Number(until)])
 }
 
-/// A line between two places.
-#[tactic(auto, unfolding(crate::specs::Stroke::line_text, crate::specs::Parts::text_of))]
-pub fn push_line(
+/// The front of a line, up to where it goes.
+#[tactic(auto, unfolding(crate::specs::Stroke::line_front, crate::specs::Parts::text_of))]
+fn push_line_front(
     text: &mut String,
     class: &'static str,
     title: &'static str,
@@ -35,11 +35,8 @@ pub fn push_line(
     to: u64,
     y: u64,
     after: u64,
-    until: u64,
-    end: u64,
 ) -> Result<(), AllocError>
-    ensures { OnOk result (string_bytes text.new ≡ string_bytes text.old
-        ++ line_text class.now title.now from to y after until end) }
+    ensures { OnOk result (string_bytes text.new ≡ string_bytes text.old ++ line_front class.now title.now from to y after) }
 {
     push_pieces(
         text,
@@ -57,14 +54,33 @@ pub fn push_line(
             Piece::Words(" from event "),
             Piece::Number(after),
         ],
-    )?;
+    )
+}
+
+/// A line between two places.
+#[tactic(auto, unfolding(crate::specs::Stroke::line_text))]
+pub fn push_line(
+    text: &mut String,
+    class: &'static str,
+    title: &'static str,
+    from: u64,
+    to: u64,
+    y: u64,
+    after: u64,
+    until: u64,
+    end: u64,
+) -> Result<(), AllocError>
+    ensures { OnOk result (string_bytes text.new ≡ string_bytes text.old
+        ++ line_text class.now title.now from to y after until end) }
+{
+    push_line_front(text, class, title, from, to, y, after)?;
     push_until(text, until, end)?;
     text.push_str("</title></path>\n")
 }
 
-/// A bar between two places, so high above its middle and so high in all.
-#[tactic(auto, unfolding(crate::specs::Stroke::bar_text, crate::specs::Parts::text_of))]
-pub fn push_bar(
+/// The front of a bar, up to where it goes.
+#[tactic(auto, unfolding(crate::specs::Stroke::bar_front, crate::specs::Parts::text_of))]
+fn push_bar_front(
     text: &mut String,
     class: &'static str,
     title: &'static str,
@@ -74,11 +90,8 @@ pub fn push_bar(
     to: u64,
     y: u64,
     after: u64,
-    until: u64,
-    end: u64,
 ) -> Result<(), AllocError>
-    ensures { OnOk result (string_bytes text.new ≡ string_bytes text.old
-        ++ bar_text class.now title.now above.now height.now from to y after until end) }
+    ensures { OnOk result (string_bytes text.new ≡ string_bytes text.old ++ bar_front class.now title.now above.now height.now from to y after) }
 {
     push_pieces(
         text,
@@ -102,7 +115,28 @@ pub fn push_bar(
             Piece::Words(" from event "),
             Piece::Number(after),
         ],
-    )?;
+    )
+}
+
+/// A bar between two places, so high above its middle and so high in all.
+#[tactic(auto, unfolding(crate::specs::Stroke::bar_text))]
+pub fn push_bar(
+    text: &mut String,
+    class: &'static str,
+    title: &'static str,
+    above: &'static str,
+    height: &'static str,
+    from: u64,
+    to: u64,
+    y: u64,
+    after: u64,
+    until: u64,
+    end: u64,
+) -> Result<(), AllocError>
+    ensures { OnOk result (string_bytes text.new ≡ string_bytes text.old
+        ++ bar_text class.now title.now above.now height.now from to y after until end) }
+{
+    push_bar_front(text, class, title, above, height, from, to, y, after)?;
     push_until(text, until, end)?;
     text.push_str("</title></path>\n")
 }
@@ -228,20 +262,17 @@ fn push_value(text: &mut String, x: u64, y: u64, note: Note) -> Result<(), Alloc
     }
 }
 
-/// What a node was told by an event.
-#[tactic(auto, unfolding(crate::specs::Stroke::marble_text, crate::specs::Parts::text_of))]
-pub fn push_marble(
+/// The front of a marble, up to what was told.
+#[tactic(auto, unfolding(crate::specs::Stroke::marble_front, crate::specs::Parts::text_of))]
+fn push_marble_front(
     text: &mut String,
     x: u64,
     y: u64,
-    at: u64,
     to: u64,
-    note: Note,
+    shape: &'static str,
 ) -> Result<(), AllocError>
-    ensures { OnOk result (string_bytes text.new ≡ string_bytes text.old
-        ++ marble_text x y at to note) }
+    ensures { OnOk result (string_bytes text.new ≡ string_bytes text.old ++ marble_front x y to shape.now) }
 {
-    let shape = marble_shape(note);
     push_pieces(
         text,
         &[
@@ -254,8 +285,14 @@ pub fn push_marble(
             Piece::Number(to),
             Piece::Words(" was told"),
         ],
-    )?;
-    push_note(text, note)?;
+    )
+}
+
+/// The event of a marble.
+#[tactic(auto, unfolding(crate::specs::Stroke::by_text, crate::specs::Parts::text_of))]
+fn push_by(text: &mut String, at: u64) -> Result<(), AllocError>
+    ensures { OnOk result (string_bytes text.new ≡ string_bytes text.old ++ by_text at) }
+{
     push_pieces(
         text,
         &[
@@ -263,21 +300,38 @@ pub fn push_marble(
             Piece::Number(at),
             Piece::Words("</title></path>\n"),
         ],
-    )?;
+    )
+}
+
+/// What a node was told by an event.
+#[tactic(auto, unfolding(crate::specs::Stroke::marble_text))]
+pub fn push_marble(
+    text: &mut String,
+    x: u64,
+    y: u64,
+    at: u64,
+    to: u64,
+    note: Note,
+) -> Result<(), AllocError>
+    ensures { OnOk result (string_bytes text.new ≡ string_bytes text.old
+        ++ marble_text x y at to note) }
+{
+    let shape = marble_shape(note);
+    push_marble_front(text, x, y, to, shape)?;
+    push_note(text, note)?;
+    push_by(text, at)?;
     push_value(text, x, y, note)
 }
 
-/// The column of a place, so high, and its number above it.
-#[tactic(auto, unfolding(crate::specs::Stroke::column_text, crate::specs::Parts::text_of))]
-pub fn push_column(
+/// The front of a column, up to its event.
+#[tactic(auto, unfolding(crate::specs::Stroke::column_front, crate::specs::Parts::text_of))]
+fn push_column_front(
     text: &mut String,
     x: u64,
     height: u64,
     place: u64,
-    event: Event,
 ) -> Result<(), AllocError>
-    ensures { OnOk result (string_bytes text.new ≡ string_bytes text.old
-        ++ column_text x height place event) }
+    ensures { OnOk result (string_bytes text.new ≡ string_bytes text.old ++ column_front x height place) }
 {
     push_pieces(
         text,
@@ -290,8 +344,14 @@ pub fn push_column(
             Piece::Number(place),
             Piece::Words(":"),
         ],
-    )?;
-    push_event(text, event)?;
+    )
+}
+
+/// The number of a column.
+#[tactic(auto, unfolding(crate::specs::Stroke::axis_text, crate::specs::Parts::text_of))]
+fn push_axis(text: &mut String, x: u64, place: u64) -> Result<(), AllocError>
+    ensures { OnOk result (string_bytes text.new ≡ string_bytes text.old ++ axis_text x place) }
+{
     push_pieces(
         text,
         &[
@@ -302,6 +362,23 @@ pub fn push_column(
             Piece::Words("</text>\n"),
         ],
     )
+}
+
+/// The column of a place, so high, and its number above it.
+#[tactic(auto, unfolding(crate::specs::Stroke::column_text))]
+pub fn push_column(
+    text: &mut String,
+    x: u64,
+    height: u64,
+    place: u64,
+    event: Event,
+) -> Result<(), AllocError>
+    ensures { OnOk result (string_bytes text.new ≡ string_bytes text.old
+        ++ column_text x height place event) }
+{
+    push_column_front(text, x, height, place)?;
+    push_event(text, event)?;
+    push_axis(text, x, place)
 }
 
 /// The line through all lanes at the place whose event may not stand there.
