@@ -104,10 +104,6 @@ not_waiting h r m = rw m refl
 
 -- order of hubs ----------------------------------------------------------------------------------------
 
-and_true : (b : Bool) → (b && true) ≡ b
-and_true true = refl
-and_true false = refl
-
 pub order_above : (h : List Event) (g a p : ℕ) → parent h a ≡ Some p → connects_later h g a ≡ true → is_in_order_at h g a ≡ is_in_order_at h g p
 unfolding is_in_order_at
 order_above h g a p above later = rw (ancestors_step h a, above, later) refl

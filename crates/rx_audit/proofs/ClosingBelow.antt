@@ -20,7 +20,7 @@ use Rattle.rx_event.proofs.Laws.Parents.{parent-lt}
 use Rattle.rx_event.proofs.Laws.Openness.{parent_open, is_open_step, is_open_within}
 use Rattle.rx_audit.specs.Tables.{IsMarked, mark_count}
 use Rattle.rx_audit.specs.Rules.{stays_open}
-use Rattle.rx_audit.specs.Latest.{last_below, keyed, IsNoted, IsClosingBelow, inner_named_at, ShutsNone, IsShutAlone}
+use Rattle.rx_audit.specs.Latest.{last_below, keyed, IsNoted, IsClosingBelow, AreClosed, inner_named_at, ShutsNone, IsShutAlone}
 use Rattle.rx_audit.proofs.Latest.{last_none, last_holds, key_is, is_key_of}
 use Rattle.rx_audit.proofs.StaysOpen.{stays_closed, shut_closed, below_closed, below_open, top_open}
 
@@ -43,7 +43,7 @@ count_set ms n b l unmarked =
     omega arith
 
 -- a mark that was taken away, and the others
-cleared : (ms : List Bool) (c n : ℕ) → get_or (set ms c false) n false ≡ true → (n ≢ c) × (get_or ms n false ≡ true)
+pub cleared : (ms : List Bool) (c n : ℕ) → get_or (set ms c false) n false ≡ true → (n ≢ c) × (get_or ms n false ≡ true)
 cleared ms c n e = by_order (cases_order n c) where
   other : (n ≡ c → ⊥) → (n ≢ c) × (get_or ms n false ≡ true)
   other ne = (ne, sym (get_or-set_other ms c n false false ne) ∙ e)
@@ -68,7 +68,7 @@ cleared ms c n e = by_order (cases_order n c) where
   by_order (inr (inr l)) = other (omega arith)
 
 -- where a mark is gone, it was this one's or gone before
-uncleared : (ms : List Bool) (c n : ℕ) → get_or (set ms c false) n false ≡ false → (n ≡ c) ⊎ (get_or ms n false ≡ false)
+pub uncleared : (ms : List Bool) (c n : ℕ) → get_or (set ms c false) n false ≡ false → (n ≡ c) ⊎ (get_or ms n false ≡ false)
 uncleared ms c n e = by_order (cases_order n c) where
   by_order : (n ≡ c) ⊎ ((n < c) ⊎ (c < n)) → (n ≡ c) ⊎ (get_or ms n false ≡ false)
   by_order (inl same) = inl same
@@ -78,7 +78,7 @@ uncleared ms c n e = by_order (cases_order n c) where
 gone_is : (ms : List Bool) (c : ℕ) → get_or ms c false ≡ true → get_or (set ms c false) c false ≡ false
 gone_is ms c y = get_or-set_same ms c false false (within_marks ms c y)
 
-stays_gone : (ms : List Bool) (c n : ℕ) → get_or ms n false ≡ false → get_or (set ms c false) n false ≡ false
+pub stays_gone : (ms : List Bool) (c n : ℕ) → get_or ms n false ≡ false → get_or (set ms c false) n false ≡ false
 stays_gone ms c n e = by_mark (cases_Bool (get_or (set ms c false) n false)) where
   by_mark : (get_or (set ms c false) n false ≡ true) ⊎ (get_or (set ms c false) n false ≡ false) → get_or (set ms c false) n false ≡ false
   by_mark (inl y) = absurd (both_ways (get_or ms n false) e (cleared ms c n y).1)
@@ -465,3 +465,38 @@ alone_number h n o = record {
 
 pub none_number : (h : List Event) (n : ℕ) → is_open h n ≡ false → ShutsNone h (λ k. n == k)
 none_number h n closed k o = not_true (n == k) (λ same. both_ways (is_open h k) (ap (is_open h) (sym (eqb-true n k same)) ∙ closed) o)
+
+-- what is listed in the end ---------------------------------------------------------------------------
+
+pub noted_first : (h : List Event) (ms : List Bool) (top : ℕ) → IsMarked ms (is_open h) → (n : ℕ) → is_open h n ≡ true → get_or (set ms top false) n false ≡ false
+    → IsNoted 0 (top ∷ []) n
+noted_first h ms top tied n o gone = by_place (uncleared ms top n gone) where
+  by_place : (n ≡ top) ⊎ (get_or ms n false ≡ false) → IsNoted 0 (top ∷ []) n
+  by_place (inl same) = record { at = 0; after = omega arith; within = omega arith; is = sym same }
+  by_place (inr before) = absurd (both_ways (get_or ms n false) before (tied n ∙ o))
+
+pub noted_on : (h : List Event) (p : ℕ) (old new : List Bool) (before after : List ℕ)
+    → ((n : ℕ) → is_open h n ≡ true → get_or old n false ≡ false → IsNoted 0 before n) → IsClosingBelow h p 0 old new before after
+    → (n : ℕ) → is_open h n ≡ true → get_or new n false ≡ false → IsNoted 0 after n
+noted_on h p old new before after so_far w n o gone = by_mark (cases_Bool (get_or old n false)) where
+  by_mark : (get_or old n false ≡ true) ⊎ (get_or old n false ≡ false) → IsNoted 0 after n
+  by_mark (inl y) = let m = w.noted n y gone in record { at = m.at; after = omega arith; within = m.within; is = m.is }
+  by_mark (inr z) =
+      let m = so_far n o z in
+      let a = m.within in
+      let l = w.longer in
+      record { at = m.at; after = omega arith; within = omega arith; is = w.same m.at m.within ∙ m.is }
+
+pub closed_listed : (h : List Event) (e : Event) (marks : List Bool) (todo : List ℕ) → IsMarked marks (stays_open h e)
+    → ((n : ℕ) → is_open h n ≡ true → get_or marks n false ≡ false → IsNoted 0 todo n)
+    → ((k : ℕ) → k < length todo → get_or marks (get_or todo k 0) false ≡ false) → AreClosed h e todo
+closed_listed h e marks todo now noted gone = record {
+  noted = λ n o stays. noted n o (now n ∙ stays);
+  gone = λ k l. sym (now (get_or todo k 0)) ∙ gone k l;
+}
+
+pub none_listed : (h : List Event) (e : Event) (marks : List Bool) → IsMarked marks (is_open h) → IsMarked marks (stays_open h e) → AreClosed h e []
+none_listed h e marks tied now = record {
+  noted = λ n o stays. absurd (both_ways (stays_open h e n) stays (sym (now n) ∙ tied n ∙ o));
+  gone = λ k l. absurd (omega arith);
+}

@@ -80,7 +80,7 @@ flow_ends h leaf i log total l s = record {
 
 -- one entry more
 pub flow_step : (h : List Event) (leaf i : ℕ) (log new : List Visit) (total : ℕ) (v : Visit) (next : List ℕ) → i < length log
-    → v ≡ get_or log i v → next ≡ onward h v.node → take (i + 1) new ≡ take (i + 1) log
+    → v ≡ get_or log i v → ((number : ℕ → ℕ) → sum_by number next ≡ sum_by number (onward h v.node)) → take (i + 1) new ≡ take (i + 1) log
     → ((number : ℕ → ℕ) → sum_by (times number) (drop (i + 1) new) ≡ sum_by (times number) (drop (i + 1) log) + v.count * sum_by number next)
     → IsOften new → length log ≤ length new → total + v.count * length next ≤ 1048576
     → IsFlowing h leaf i log total → IsFlowing h leaf (i + 1) new (total + v.count * length next)
@@ -97,7 +97,7 @@ flow_step h leaf i log new total v next l is is_next kept more often grows few s
     followed f = ap (sum_by (times f)) kept ∙ followed_entry f log i v l is
 
     grown : (d : ℕ) (number : ℕ → ℕ) → v.count * flow (suc d) h number v.node ≡ v.count * number v.node + v.count * sum_by (flow d h number) next
-    grown d number = rw is_next (omega arith)
+    grown d number = rw (is_next (flow d h number)) (omega arith)
 
     upper : (number : ℕ → ℕ) (d : ℕ) → flow d h number leaf ≤ sum_by (times number) (take (i + 1) new) + sum_by (times (flow d h number)) (drop (i + 1) new)
     upper number d =
@@ -132,7 +132,7 @@ flow_step h leaf i log new total v next l is is_next kept more often grows few s
 
 -- too many visits
 pub flow_over : (h : List Event) (leaf i : ℕ) (log : List Visit) (total : ℕ) (v : Visit) (next : List ℕ) → i < length log → v ≡ get_or log i v
-    → next ≡ onward h v.node → 1048576 < total + v.count * length next → IsFlowing h leaf i log total → 1048576 < visits h leaf
+    → ((number : ℕ → ℕ) → sum_by number next ≡ sum_by number (onward h v.node)) → 1048576 < total + v.count * length next → IsFlowing h leaf i log total → 1048576 < visits h leaf
 unfolding visits climb most_visits
 flow_over h leaf i log total v next l is is_next many s = rw (visits_many 1048577 (2 + i) h (leaf ∷ []) enough) (omega arith) where
   one : ℕ → ℕ
@@ -154,7 +154,7 @@ flow_over h leaf i log total v next l is is_next many s = rw (visits_many 104857
       let t = s.total in
       let e = sum_by-mono (λ n. 1) (flow 1 h (λ n. 1)) at_least (onward h v.node) in
       let f = count_all (onward h v.node) in
-      let g : length next ≡ length (onward h v.node) = ap length is_next in
+      let g : length next ≡ length (onward h v.node) = sym (count_all next) ∙ is_next (λ n. 1) ∙ count_all (onward h v.node) in
       let two : 1 + length next ≤ flow 2 h (λ n. 1) v.node = omega arith in
       let m = mul-le-mul_left v.count two in
       let z = sum_by-cons (flow (2 + i) h (λ n. 1)) leaf [] in

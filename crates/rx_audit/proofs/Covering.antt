@@ -1,7 +1,7 @@
 -- The list of the nodes that may have to end.
 use Rattle.std.proofs.Common.{◌≡◌, ℕ, ◌<◌, Bool, true, false, List, [], ◌∷◌, ◌++◌, length, take, Option, Some, None, refl, sym, ap, ◌∙◌, arith, inl, inr, ◌⊎◌, slice_get, length-append}
 use Rattle.std.proofs.Math.Bool.{◌&&◌}
-use Rattle.std.proofs.lemmas.Bool.{cases_Bool, cases_order, both_ways, false≢true, and_parts}
+use Rattle.std.proofs.lemmas.Bool.{cases_order, both_ways, false≢true, and_parts}
 use Rattle.std.proofs.lemmas.Option.{none-some, same_Some}
 use Rattle.std.specs.List.{list_any}
 use Rattle.std.specs.Option.{option_map, option_map_or}
@@ -11,7 +11,6 @@ use Rattle.rx_note.specs.declared.note.Terminal.{Terminal}
 use Rattle.rx_event.specs.declared.event.Event.{Event}
 use Rattle.rx_event.specs.declared.event.Event.TheVariants.{End}
 use Rattle.rx_event.specs.declared.marks.Marks.{Marks}
-use Rattle.rx_event.specs.Events.{makes_hub}
 use Rattle.std.proofs.Common.{cond, nat_lt, zero-add, ◌+◌}
 use Rattle.std.proofs.Math.Bool.{◌||◌}
 use Rattle.std.specs.List.{count_by}
@@ -20,14 +19,12 @@ use Rattle.std.proofs.lemmas.List.Sums.{sum_by-cons}
 use Rattle.rx_event.specs.Tree.{is_open, has_open_child, is_open_child_of, places}
 use Rattle.rx_event.specs.Marks.{open_children}
 use Rattle.rx_event.specs.Marks.{marks_of, terminal_due, due_at}
-use Rattle.rx_event.specs.Forced.{IsSettled}
 use Rattle.rx_event.specs.Lawful.{IsLawful, MayFollow}
 use Rattle.rx_event.proofs.Laws.Openness.{is_open_within}
 use Rattle.rx_event.proofs.Laws.OneEnd.{open_old}
 use Rattle.rx_event.proofs.Laws.Places.{slice_get-append, slice_get_last}
 use Rattle.rx_event.proofs.Laws.Stands.{event_at}
 use Rattle.rx_event.proofs.Laws.MarksTouched.{quiet_new}
-use Rattle.rx_event.proofs.Laws.MarksDue.{settled_hubless, forced_hubless}
 use Rattle.rx_audit.specs.Latest.{IsNoted}
 use Rattle.rx_audit.specs.Marking.{IsUntouched, touched_by, due_made, node_due, IsCovered}
 use Rattle.rx_audit.proofs.ClosingBelow.{noted_more, noted_last}
@@ -53,13 +50,13 @@ unfolding node_due
 due_parts h n y = and_parts (is_open h n) (option_map_or (due_made h n) (slice_get h n) false) y
 
 -- the terminal that is due, and the event
-some_due : (made : Event) (m : Marks) (n : ℕ) → is_some (terminal_due made m) ≡ true → (t : Terminal) × (due_at made m n ≡ Some (End n t))
+pub some_due : (made : Event) (m : Marks) (n : ℕ) → is_some (terminal_due made m) ≡ true → (t : Terminal) × (due_at made m n ≡ Some (End n t))
 some_due made m n = by_terminal (terminal_due made m) where
   by_terminal : (o : Option Terminal) → is_some o ≡ true → (t : Terminal) × (option_map (λ t. End n t) o ≡ Some (End n t))
   by_terminal None some = absurd (false≢true some)
   by_terminal (Some t) some = (t, refl)
 
-none_is_due : (made : Event) (m : Marks) (n : ℕ) → is_some (terminal_due made m) ≡ false → due_at made m n ≡ None
+pub none_is_due : (made : Event) (m : Marks) (n : ℕ) → is_some (terminal_due made m) ≡ false → due_at made m n ≡ None
 none_is_due made m n = by_terminal (terminal_due made m) where
   by_terminal : (o : Option Terminal) → is_some o ≡ false → option_map (λ t. End n t) o ≡ None
   by_terminal None none = refl
@@ -70,22 +67,6 @@ quiet_is made m n = by_terminal (terminal_due made m) where
   by_terminal : (o : Option Terminal) → option_map (λ t. End n t) o ≡ None → is_some o ≡ false
   by_terminal None none = refl
   by_terminal (Some t) none = absurd (none-some (End n t) (sym none))
-
--- a node that has to end leaves the history unsettled
-pub due_unsettled : (h : List Event) (n : ℕ) → list_any makes_hub h ≡ false → node_due h n ≡ true → IsSettled nothing_kept h → ⊥
-due_unsettled h n hubless y settled =
-    let parts = due_parts h n y in
-    let made = event_at h n (is_open_within h n parts.0) in
-    let found = some_due made.0 (marks_of nothing_kept h n) n (sym (due_made_at h n made.0 parts.0 made.1) ∙ y) in
-    settled.none (End n found.0) (forced_hubless nothing_kept h hubless n made.0 (End n found.0) parts.0 made.1 found.1)
-
--- where none is listed, it is settled
-pub none_settled : (h : List Event) → IsLawful nothing_kept h → list_any makes_hub h ≡ false → ((n : ℕ) → node_due h n ≡ true → ⊥) → IsSettled nothing_kept h
-none_settled h law hubless none = settled_hubless nothing_kept h law hubless (λ n made o is. by_test n made o is (cases_Bool (due_made h n made))) where
-  by_test : (n : ℕ) (made : Event) → is_open h n ≡ true → slice_get h n ≡ Some made → (due_made h n made ≡ true) ⊎ (due_made h n made ≡ false)
-      → due_at made (marks_of nothing_kept h n) n ≡ None
-  by_test n made o is (inl y) = absurd (none n (due_made_at h n made o is ∙ y))
-  by_test n made o is (inr z) = none_is_due made (marks_of nothing_kept h n) n z
 
 pub noted_none : (xs : List ℕ) (n k : ℕ) → k ≡ 0 → IsNoted 0 (take k xs) n → ⊥
 noted_none xs n k zero_of w = let l = w.within in let none : length (take k xs) ≡ 0 = rw zero_of refl in omega arith

@@ -4,7 +4,7 @@ use Rattle.std.proofs.Common.{◌∷◌, Option, Some, None, refl, sym, ap, ◌�
 use Rattle.std.proofs.Math.Bool.{not, ◌&&◌, ◌||◌}
 use Rattle.std.specs.List.{list_any, range_with_len, filter}
 use Rattle.std.specs.Option.{option_map_or, option_and_then}
-use Rattle.std.proofs.lemmas.Bool.{cases_Bool, and_parts, or_parts, eqb-true, eq-eqb, false≢true}
+use Rattle.std.proofs.lemmas.Bool.{cases_Bool, or_parts, eqb-true, eq-eqb, false≢true}
 use Rattle.std.proofs.lemmas.Option.{same_Some, none-some, option_and_then_some}
 use Rattle.std.proofs.lemmas.Map.Keys.{any_passes_from_place}
 use Rattle.rx_note.specs.declared.note.Terminal.{Terminal}
@@ -12,12 +12,12 @@ use Rattle.rx_note.specs.declared.note.Terminal.TheVariants.{Completed, Error}
 use Rattle.rx_event.specs.declared.event.Kind.TheVariants.{Leaf, Pass, Flat, Switch, Until, Sub}
 use Rattle.rx_event.specs.declared.event.Event.{Event}
 use Rattle.rx_event.specs.declared.event.Event.TheVariants.{Open, Hub, Connect, Accept, Use, Remove, Lease, Return, Item, Decline, End, Close, Take}
-use Rattle.rx_event.specs.Events.{is_subscriber_of, is_connect_of, ended_of, failed_of, completed_of, hub_subscribed, hub_connected}
-use Rattle.rx_event.specs.Tree.{at, places, parent, is_open}
-use Rattle.rx_event.specs.Forced.{Has, ChildEnded, SourceEnded}
+use Rattle.rx_event.specs.Events.{is_subscriber_of, is_connect_of, hub_subscribed, hub_connected}
+use Rattle.rx_event.specs.Tree.{at, places, is_open}
+use Rattle.rx_event.specs.Forced.{SourceEnded}
 use Rattle.rx_event.specs.Sames.{same_terminal}
-use Rattle.rx_audit.specs.Rules.{is_key, has_ended, has_failed, has_completed, hub_subscribed_at, hub_connected_at}
-use Rattle.rx_audit.specs.Rules.{joins, ends_source, ends_source_so, is_cut, is_cut_so, ends_child_so, fails_child, open_subscribed, open_connected, has_key}
+use Rattle.rx_audit.specs.Rules.{is_key, hub_subscribed_at, hub_connected_at}
+use Rattle.rx_audit.specs.Rules.{joins, ends_source, is_cut, open_subscribed, open_connected, has_key}
 
 -- tests ----------------------------------------------------------------------------------------------
 
@@ -86,9 +86,6 @@ find_after q (suc k) [] e = absurd (false≢true e)
 find_after q (suc k) (x ∷ h) e = let f = find_after q k h e in
     record { place = suc f.place; event = f.event; after = (let a = f.after in omega arith); found = f.found; holds = f.holds }
 
-pub find : (q : Event → Bool) (h : List Event) → list_any q h ≡ true → Found q 0 h
-find q h e = find_first q h e
-
 pub any_after : (q : Event → Bool) (k i : ℕ) (h : List Event) (e : Event) → k ≤ i → slice_get h i ≡ Some e → q e ≡ true → list_any q (drop k h) ≡ true
 any_after q zero i h e l at_i holds = any_passes_from_place q h i e at_i holds
 any_after q (suc k) i [] e l at_i holds = absurd (none-some e at_i)
@@ -112,133 +109,6 @@ pub find_number : (q : ℕ → Bool) (n : ℕ) → list_any q (range_with_len 0 
 find_number q n e = let f = find_from q 0 n e in record { number = f.number; within = (let w = f.within in omega arith); holds = f.holds }
 
 -- ends -----------------------------------------------------------------------------------------------
-
-ended_is : (e : Event) (k : ℕ) → ended_of e ≡ Some k → (t : Terminal) × (e ≡ End k t)
-ended_is (End n t) k s = (t, ap (λ m. End m t) (same_Some n k s))
-ended_is (Open place kind) k s = cc
-ended_is (Hub mode) k s = cc
-ended_is (Connect g) k s = cc
-ended_is (Accept m tag) k s = cc
-ended_is (Use r) k s = cc
-ended_is (Remove r) k s = cc
-ended_is (Lease r) k s = cc
-ended_is (Return r) k s = cc
-ended_is (Item m v) k s = cc
-ended_is (Decline f) k s = cc
-ended_is (Close m) k s = cc
-ended_is (Take r) k s = cc
-
-failed_is : (e : Event) (k : ℕ) → failed_of e ≡ Some k → (c : ℕ) × (e ≡ End k (Error c))
-failed_is (End n (Error c)) k s = (c, ap (λ m. End m (Error c)) (same_Some n k s))
-failed_is (End n Completed) k s = cc
-failed_is (Open place kind) k s = cc
-failed_is (Hub mode) k s = cc
-failed_is (Connect g) k s = cc
-failed_is (Accept m tag) k s = cc
-failed_is (Use r) k s = cc
-failed_is (Remove r) k s = cc
-failed_is (Lease r) k s = cc
-failed_is (Return r) k s = cc
-failed_is (Item m v) k s = cc
-failed_is (Decline f) k s = cc
-failed_is (Close m) k s = cc
-failed_is (Take r) k s = cc
-
-completed_is : (e : Event) (k : ℕ) → completed_of e ≡ Some k → e ≡ End k Completed
-completed_is (End n Completed) k s = ap (λ m. End m Completed) (same_Some n k s)
-completed_is (End n (Error c)) k s = cc
-completed_is (Open place kind) k s = cc
-completed_is (Hub mode) k s = cc
-completed_is (Connect g) k s = cc
-completed_is (Accept m tag) k s = cc
-completed_is (Use r) k s = cc
-completed_is (Remove r) k s = cc
-completed_is (Lease r) k s = cc
-completed_is (Return r) k s = cc
-completed_is (Item m v) k s = cc
-completed_is (Decline f) k s = cc
-completed_is (Close m) k s = cc
-completed_is (Take r) k s = cc
-
-pub has_of : (h : List Event) (e f : Event) (i : ℕ) → slice_get h i ≡ Some e → e ≡ f → Has h f
-has_of h e f i at_i same = record { place = i; found = at_i ∙ ap (λ x. Some x) same }
-
-pub ended_has : (h : List Event) (k : ℕ) → has_ended h k ≡ true → (t : Terminal) × Has h (End k t)
-ended_has h k e =
-    let f = find (λ x. is_key (ended_of x) k) h e in
-    let w = ended_is f.event k (key_is (ended_of f.event) k f.holds) in
-    (w.0, has_of h f.event (End k w.0) f.place f.found w.1)
-
-pub has_ended_of : (h : List Event) (k : ℕ) (t : Terminal) → Has h (End k t) → has_ended h k ≡ true
-has_ended_of h k t s = any_passes_from_place (λ x. is_key (ended_of x) k) h s.place (End k t) s.found (eq-eqb k k refl)
-
-pub failed_has : (h : List Event) (k : ℕ) → has_failed h k ≡ true → (c : ℕ) × Has h (End k (Error c))
-failed_has h k e =
-    let f = find (λ x. is_key (failed_of x) k) h e in
-    let w = failed_is f.event k (key_is (failed_of f.event) k f.holds) in
-    (w.0, has_of h f.event (End k (Error w.0)) f.place f.found w.1)
-
-pub has_failed_of : (h : List Event) (k c : ℕ) → Has h (End k (Error c)) → has_failed h k ≡ true
-has_failed_of h k c s = any_passes_from_place (λ x. is_key (failed_of x) k) h s.place (End k (Error c)) s.found (eq-eqb k k refl)
-
-pub completed_has : (h : List Event) (k : ℕ) → has_completed h k ≡ true → Has h (End k Completed)
-completed_has h k e =
-    let f = find (λ x. is_key (completed_of x) k) h e in
-    has_of h f.event (End k Completed) f.place f.found (completed_is f.event k (key_is (completed_of f.event) k f.holds))
-
-pub has_completed_of : (h : List Event) (k : ℕ) → Has h (End k Completed) → has_completed h k ≡ true
-has_completed_of h k s = any_passes_from_place (λ x. is_key (completed_of x) k) h s.place (End k Completed) s.found (eq-eqb k k refl)
-
--- children -------------------------------------------------------------------------------------------
-
-child_at : (h : List Event) (p : ℕ) (t : Terminal) (i : ℕ) (e : Event) → slice_get h i ≡ Some e → ends_child_so h p t e ≡ true → ChildEnded h p t
-child_at h p t i (End c u) at_i holds =
-    let w = and_parts (is_key (parent h c) p) (same_terminal u t) holds in
-    record { child = c; below = key_is (parent h c) p w.0; ended = has_of h (End c u) (End c t) i at_i (ap (λ v. End c v) (terminal_is u t w.1)) }
-child_at h p t i (Open place kind) at_i holds = absurd (false≢true holds)
-child_at h p t i (Hub mode) at_i holds = absurd (false≢true holds)
-child_at h p t i (Connect g) at_i holds = absurd (false≢true holds)
-child_at h p t i (Accept m tag) at_i holds = absurd (false≢true holds)
-child_at h p t i (Use r) at_i holds = absurd (false≢true holds)
-child_at h p t i (Remove r) at_i holds = absurd (false≢true holds)
-child_at h p t i (Lease r) at_i holds = absurd (false≢true holds)
-child_at h p t i (Return r) at_i holds = absurd (false≢true holds)
-child_at h p t i (Item m v) at_i holds = absurd (false≢true holds)
-child_at h p t i (Decline f) at_i holds = absurd (false≢true holds)
-child_at h p t i (Close m) at_i holds = absurd (false≢true holds)
-child_at h p t i (Take r) at_i holds = absurd (false≢true holds)
-
-pub child_ended : (h : List Event) (p : ℕ) (t : Terminal) → list_any (ends_child_so h p t) h ≡ true → ChildEnded h p t
-child_ended h p t e = let f = find (ends_child_so h p t) h e in child_at h p t f.place f.event f.found f.holds
-
-pub child_ended_of : (h : List Event) (p : ℕ) (t : Terminal) → ChildEnded h p t → list_any (ends_child_so h p t) h ≡ true
-child_ended_of h p t d =
-    any_passes_from_place (ends_child_so h p t) h d.ended.place (End d.child t) d.ended.found
-    (both (is_key (parent h d.child) p) (same_terminal t t) (is_key_of (parent h d.child) p d.below) (terminal_self t))
-
-pub child_failed_of : (h : List Event) (p c : ℕ) → ChildEnded h p (Error c) → list_any (fails_child h p) h ≡ true
-child_failed_of h p c d = any_passes_from_place (fails_child h p) h d.ended.place (End d.child (Error c)) d.ended.found (is_key_of (parent h d.child) p d.below)
-
-failed_at : (h : List Event) (p i : ℕ) (e : Event) → slice_get h i ≡ Some e → fails_child h p e ≡ true → (c : ℕ) × ChildEnded h p (Error c)
-failed_at h p i (End c (Error code)) at_i holds = (code, record { child = c; below = key_is (parent h c) p holds; ended = record { place = i; found = at_i } })
-failed_at h p i (End c Completed) at_i holds = absurd (false≢true holds)
-failed_at h p i (Open place kind) at_i holds = absurd (false≢true holds)
-failed_at h p i (Hub mode) at_i holds = absurd (false≢true holds)
-failed_at h p i (Connect g) at_i holds = absurd (false≢true holds)
-failed_at h p i (Accept m tag) at_i holds = absurd (false≢true holds)
-failed_at h p i (Use r) at_i holds = absurd (false≢true holds)
-failed_at h p i (Remove r) at_i holds = absurd (false≢true holds)
-failed_at h p i (Lease r) at_i holds = absurd (false≢true holds)
-failed_at h p i (Return r) at_i holds = absurd (false≢true holds)
-failed_at h p i (Item m v) at_i holds = absurd (false≢true holds)
-failed_at h p i (Decline f) at_i holds = absurd (false≢true holds)
-failed_at h p i (Close m) at_i holds = absurd (false≢true holds)
-failed_at h p i (Take r) at_i holds = absurd (false≢true holds)
-
-pub child_failed : (h : List Event) (p : ℕ) → list_any (fails_child h p) h ≡ true → (c : ℕ) × ChildEnded h p (Error c)
-child_failed h p e = let f = find (fails_child h p) h e in failed_at h p f.place f.event f.found f.holds
-
--- hubs -----------------------------------------------------------------------------------------------
 
 subscribed_is : (e : Event) (g : ℕ) → hub_subscribed e ≡ Some g → is_subscriber_of g e ≡ true
 subscribed_is (Open place (Sub k)) g s = eq-eqb k g (same_Some k g s)
@@ -355,51 +225,24 @@ joined (Some g) p e = (g, (refl, key_is p g e))
 joins_of : (o p : Option ℕ) (g : ℕ) → o ≡ Some g → p ≡ Some g → joins o p ≡ true
 joins_of o p g e f = rw (e, f) (eq-eqb g g refl)
 
-source_at : (h : List Event) (s : ℕ) (t : Terminal) (i : ℕ) (e : Event) → s < i → slice_get h i ≡ Some e → ends_source_so h s t e ≡ true → SourceEnded h s t
-source_at h s t i (End c u) l at_i holds =
-    let w = and_parts (joins (hub_subscribed_at h s) (hub_connected_at h c)) (same_terminal u t) holds in
-    let j = joined (hub_subscribed_at h s) (hub_connected_at h c) w.0 in
-    record {
-      hub = j.0;
-      connection = c;
-      place = i;
-      subscribes = subscriber_at h s j.0 j.1.0;
-      connects = connection_at h c j.0 j.1.1;
-      later = l;
-      ended = at_i ∙ ap (λ v. Some (End c v)) (terminal_is u t w.1);
-    }
-source_at h s t i (Open place kind) l at_i holds = absurd (false≢true holds)
-source_at h s t i (Hub mode) l at_i holds = absurd (false≢true holds)
-source_at h s t i (Connect g) l at_i holds = absurd (false≢true holds)
-source_at h s t i (Accept m tag) l at_i holds = absurd (false≢true holds)
-source_at h s t i (Use r) l at_i holds = absurd (false≢true holds)
-source_at h s t i (Remove r) l at_i holds = absurd (false≢true holds)
-source_at h s t i (Lease r) l at_i holds = absurd (false≢true holds)
-source_at h s t i (Return r) l at_i holds = absurd (false≢true holds)
-source_at h s t i (Item m v) l at_i holds = absurd (false≢true holds)
-source_at h s t i (Decline f) l at_i holds = absurd (false≢true holds)
-source_at h s t i (Close m) l at_i holds = absurd (false≢true holds)
-source_at h s t i (Take r) l at_i holds = absurd (false≢true holds)
-
-pub source_ended : (h : List Event) (s : ℕ) (t : Terminal) → is_cut_so h s t ≡ true → SourceEnded h s t
-unfolding is_cut_so
-source_ended h s t e = let f = find_after (ends_source_so h s t) (suc s) h e in source_at h s t f.place f.event f.after f.found f.holds
-
-pub source_ended_of : (h : List Event) (s : ℕ) (t : Terminal) → SourceEnded h s t → is_cut_so h s t ≡ true
-unfolding is_cut_so
-source_ended_of h s t d =
-    any_after (ends_source_so h s t) (suc s) d.place h (End d.connection t) d.later d.ended
-    (both (joins (hub_subscribed_at h s) (hub_connected_at h d.connection)) (same_terminal t t)
-    (joins_of (hub_subscribed_at h s) (hub_connected_at h d.connection) d.hub
-    (at_subscriber h s d.hub d.subscribes) (at_connection h d.connection d.hub d.connects)) (terminal_self t))
-
 no_join : {C : Type 0} (o : Option ℕ) → joins o None ≡ true → C
 no_join None e = absurd (false≢true e)
 no_join (Some g) e = absurd (false≢true e)
 
 cut_at : (h : List Event) (s i : ℕ) (e : Event) → s < i → slice_get h i ≡ Some e → ends_source h s e ≡ true → (t : Terminal) × SourceEnded h s t
 cut_at h s i (End c u) l at_i holds =
-    (u, source_at h s u i (End c u) l at_i (both (joins (hub_subscribed_at h s) (hub_connected_at h c)) (same_terminal u u) holds (terminal_self u)))
+    let j = joined (hub_subscribed_at h s) (hub_connected_at h c) holds in (
+      u,
+      record {
+        hub = j.0;
+        connection = c;
+        place = i;
+        subscribes = subscriber_at h s j.0 j.1.0;
+        connects = connection_at h c j.0 j.1.1;
+        later = l;
+        ended = at_i;
+      },
+    )
 cut_at h s i (Open place kind) l at_i holds = no_join (hub_subscribed_at h s) holds
 cut_at h s i (Hub mode) l at_i holds = no_join (hub_subscribed_at h s) holds
 cut_at h s i (Connect g) l at_i holds = no_join (hub_subscribed_at h s) holds

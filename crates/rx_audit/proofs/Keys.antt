@@ -1,14 +1,11 @@
 -- Marks and counts by a key.
 use Rattle.std.proofs.Common.{◌≡◌, ℕ, zero, suc, ◌+◌, ◌-◌, ◌<◌, ◌≤◌, Bool, true, false, List, [], ◌∷◌, length, Option, Some, None}
-use Rattle.std.proofs.Common.{refl, sym, ap, ◌∙◌, arith, ◌==◌, ◌≢◌, get_or, set, get_or-set_other, get_or-set_same, ◌⊎◌, inl, inr, cond, take}
+use Rattle.std.proofs.Common.{refl, sym, arith, ◌==◌, ◌≢◌, get_or, set, get_or-set_other, get_or-set_same, ◌⊎◌, inl, inr, cond}
 use Rattle.std.proofs.Common.{add-zero}
 use Rattle.std.proofs.Math.Bool.{◌||◌}
 use Rattle.std.proofs.Math.ListN.{length-set}
 use Rattle.std.proofs.lemmas.Bool.{cases_order, eq-eqb, ne_eqb}
-use Rattle.std.specs.List.{list_any}
-use Rattle.rx_audit.specs.declared.reach.Visit.{Visit}
-use Rattle.std.proofs.lemmas.List.Folds.{list_any_more}
-use Rattle.rx_audit.specs.Tables.{marks_with, counts_with, counts_less, IsTold}
+use Rattle.rx_audit.specs.Tables.{marks_with, counts_with, counts_less}
 use Rattle.rx_audit.specs.Rules.{is_key}
 
 or_false : (b : Bool) → (b || false) ≡ b
@@ -23,10 +20,6 @@ pub length-marks_with : (ms : List Bool) (k : Option ℕ) → length (marks_with
 length-marks_with ms None = refl
 length-marks_with ms (Some r) = simp length-set
 
-pub length-counts_with : (cs : List ℕ) (k : Option ℕ) → length (counts_with cs k) ≡ length cs
-length-counts_with cs None = refl
-length-counts_with cs (Some r) = simp length-set
-
 -- the mark of n after one key more
 pub marks_with_at : (ms : List Bool) (k : Option ℕ) (n : ℕ) → n < length ms → get_or (marks_with ms k) n false ≡ (get_or ms n false || is_key k n)
 marks_with_at ms None n l = sym (or_false (get_or ms n false))
@@ -39,6 +32,12 @@ marks_with_at ms (Some r) n l = by_order (cases_order r n) where
   by_order (inr (inl m)) = other (λ e. omega arith)
   by_order (inr (inr m)) = other (λ e. omega arith)
 
+-- counts --------------------------------------------------------------------------------------------
+
+pub length-counts_with : (cs : List ℕ) (k : Option ℕ) → length (counts_with cs k) ≡ length cs
+length-counts_with cs None = refl
+length-counts_with cs (Some r) = simp length-set
+
 -- the count of n after one key more
 pub counts_with_at : (cs : List ℕ) (k : Option ℕ) (n : ℕ) → n < length cs → get_or (counts_with cs k) n 0 ≡ get_or cs n 0 + cond (is_key k n) 1 0
 counts_with_at cs None n l = sym (add-zero (get_or cs n 0))
@@ -50,20 +49,6 @@ counts_with_at cs (Some r) n l = by_order (cases_order r n) where
   by_order (inl same) = rw (eq-eqb r n same, same) (rw get_or-set_same refl)
   by_order (inr (inl m)) = other (λ e. omega arith)
   by_order (inr (inr m)) = other (λ e. omega arith)
-
-or_assoc : (a b c : Bool) → ((a || b) || c) ≡ (a || (b || c))
-or_assoc true b c = refl
-or_assoc false b c = refl
-
--- one visit more
-pub told_more : (old ms : List Bool) (has : ℕ → ℕ → Bool) (log : List Visit) (i : ℕ) (v : Visit) (key : Option ℕ)
-    → i < length log → v ≡ get_or log i v → length ms ≡ length old → ((k : ℕ) → has v.node k ≡ is_key key k)
-    → IsTold old ms has (take i log) → IsTold old (marks_with ms key) has (take (i + 1) log)
-told_more old ms has log i v key l e same keyed told k m =
-    marks_with_at ms key k (omega arith) ∙ ap (λ b. b || is_key key k) (told k m) ∙ or_assoc (get_or old k false)
-    (list_any (λ v. has v.node k) (take i log)) (is_key key k) ∙ ap (λ b. get_or old k false || b)
-    (sym (list_any_more (λ (v : Visit). has v.node k) log i v l
-    ∙ ap (λ b. list_any (λ v. has v.node k) (take i log) || b) (ap (λ (u : Visit). has u.node k) (sym e) ∙ keyed k)))
 
 pub counts_few : (cs : List ℕ) (k : Option ℕ) (n : ℕ) → get_or (counts_with cs k) n 0 ≤ get_or cs n 0 + 1
 counts_few cs None n = omega arith

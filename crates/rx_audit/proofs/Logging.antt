@@ -26,12 +26,6 @@ entry_more (x ∷ log) zero (suc at) more v l is number =
 entry_more (x ∷ log) (suc k) zero more v l is number = absurd (omega arith)
 entry_more (x ∷ log) (suc k) (suc at) more v l is number = entry_more log k at more v (omega arith) is number
 
-pub entry_kept : (log : List Visit) (k at : ℕ) (v : Visit) → k ≤ at → take k (set log at v) ≡ take k log
-entry_kept [] k at v l = refl
-entry_kept (x ∷ log) zero at v l = refl
-entry_kept (x ∷ log) (suc k) zero v l = absurd (omega arith)
-entry_kept (x ∷ log) (suc k) (suc at) v l = ap (λ (xs : List Visit). x ∷ xs) (entry_kept log k at v (omega arith))
-
 -- an entry is no more than all together
 pub entry_within : (log : List Visit) (k at : ℕ) (v : Visit) → k ≤ at → slice_get log at ≡ Some v → v.count ≤ sum_by (times (λ n. 1)) (drop k log)
 entry_within [] k at v l is = absurd (none-some v is)

@@ -313,6 +313,12 @@ pub open_fits : (h : List Event) (place : Place) (kind : Kind) → IsAllowed not
 unfolding most_nodes
 open_fits h place kind (opened f o few fits) = fits
 
+pub open_free : (h : List Event) (place : Place) (kind : Kind) → open_allowed h place kind ≡ true → IsFree nothing_kept h place
+unfolding open_allowed
+open_free h place kind e =
+    let a = and_parts (is_free h place && is_hubbed h place kind) (nat_lt (length (open_nodes h)) 1048576) e in
+    free h place (and_parts (is_free h place) (is_hubbed h place kind) a.0).0
+
 -- as many nodes are open as are marked
 marks_counted : (f : ℕ → Bool) (ms : List Bool) (m from : ℕ) → m ≤ length ms → ((n k : ℕ) → k ≡ from + n → get_or ms n false ≡ f k)
     → ((k : ℕ) → from + m ≤ k → f k ≡ false) → mark_count ms ≡ count_by f (range_with_len from m)

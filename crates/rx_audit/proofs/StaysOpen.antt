@@ -56,7 +56,7 @@ pub top_open : (h : List Event) (e : Event) (n : ℕ) → parent h n ≡ None �
 top_open h e n below s = stays_open_step h e n ∙ rw (below, s) (and_true _ ∙ and_true (is_open h n))
 
 -- an older node is open after the event where it stays open
-is_open_older : (h : List Event) (e : Event) (n : ℕ) → n < length h → is_open (h ++ e ∷ []) n ≡ stays_open h e n
+pub is_open_older : (h : List Event) (e : Event) (n : ℕ) → n < length h → is_open (h ++ e ∷ []) n ≡ stays_open h e n
 unfolding stays_open
 is_open_older h e n l = is_open-push h e n l
 

@@ -1,5 +1,5 @@
 -- What callers may do, as tests that compute.
-use Rattle.std.specs.Prelude.{ℕ, Bool, true, false, ◌&&◌, ◌||◌, List, length, nat_lt, nat_le}
+use Rattle.std.specs.Prelude.{ℕ, ◌+◌, ◌==◌, Bool, true, false, ◌&&◌, ◌||◌, List, length, nat_lt, nat_le}
 use Rattle.std.proofs.Math.Bool.{not}
 use Rattle.std.specs.List.{list_any, list_all}
 use Rattle.std.specs.Option.{option_map_or}
@@ -8,10 +8,10 @@ use Rattle.rx_note.specs.declared.note.Terminal.TheVariants.{Completed, Error}
 use Rattle.rx_event.specs.declared.event.Place.{Place}
 use Rattle.rx_event.specs.declared.event.Place.TheVariants.{Root, Source, Inner, Notifier}
 use Rattle.rx_event.specs.declared.event.Kind.{Kind}
-use Rattle.rx_event.specs.declared.event.Kind.TheVariants.{Sub}
+use Rattle.rx_event.specs.declared.event.Kind.TheVariants.{Pass, Sub}
 use Rattle.rx_event.specs.declared.event.Event.{Event}
 use Rattle.rx_event.specs.declared.event.Event.TheVariants.{Open, Hub, Connect, Accept, Use, Remove, Lease, Return, Item, Decline, End, Close, Take}
-use Rattle.rx_event.specs.Events.{makes_hub, has_source, is_leaf, is_merging, is_until, is_root, is_manual_hub, is_source_of, is_notifier_of}
+use Rattle.rx_event.specs.Events.{makes_hub, has_source, is_leaf, is_merging, is_until, is_root, is_manual_hub, is_auto_hub, hub_subscribed, is_source_of, is_notifier_of}
 use Rattle.rx_event.specs.Tree.{at, hubs, is_open, open_nodes, ancestors, has_open_child}
 use Rattle.rx_event.specs.Resources.{is_owned, is_out, is_held, is_waiting}
 use Rattle.rx_event.specs.Climb.{visits}
@@ -80,3 +80,20 @@ item_allowed h l = is_open h l && at is_leaf h l && nat_le (visits h l) 1048576
 
 unfoldable pub open_allowed : List Event → Place → Kind → Bool
 open_allowed h place kind = is_free h place && is_hubbed h place kind && nat_lt (length (open_nodes h)) 1048576
+
+-- the event's subscriber, which may be opened, has to be given a connection
+abbrev pub needs_connection : List Event → Event → Bool
+needs_connection h e = option_map_or (λ g. at is_auto_hub h g && not (has_key (open_connected h) h g)) (hub_subscribed e) false
+
+unfoldable pub leaves_room : List Event → Event → Bool
+leaves_room h e = nat_le (length (open_nodes h)) 1048574 || not (needs_connection h e)
+
+-- the event opens a mirroring node of one source (Using)
+abbrev pub opens_pass : Event → Bool
+opens_pass (Open place Pass) = true
+opens_pass _ = false
+
+-- the event accepts a resource at the node that was opened last, which is a mirroring one
+abbrev pub opened_with : List Event → Event → Bool
+opened_with h (Accept n tag) = at opens_pass h n && (length h == n + 1) && is_open h n
+opened_with h _ = false

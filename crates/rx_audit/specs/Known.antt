@@ -2,16 +2,9 @@
 use Rattle.std.specs.Prelude.{◌≤◌, List, length}
 use Rattle.rx_event.specs.declared.event.Event.{Event}
 use Rattle.rx_audit.specs.declared.found.Found.{Found}
-use Rattle.rx_audit.specs.declared.survey.Survey.{Survey}
 use Rattle.rx_audit.specs.Found.{IsFound}
-use Rattle.rx_audit.specs.Survey.{IsSurvey}
 
 -- what was found, with room for each event
 pub record IsFoundHere (h : List Event) (found : Found) : Type 0 where
   pub room : length h ≤ length found.live.items
   pub is : IsFound h (length found.live.items) found
-
--- the survey, with room for each event
-pub record IsSurveyed (h : List Event) (survey : Survey) : Type 0 where
-  pub room : length h ≤ length survey.parents.items
-  pub is : IsSurvey h (length survey.parents.items) survey

@@ -6,7 +6,7 @@ use Rattle.rx_event.specs.Events.{inner_named}
 use Rattle.rx_event.specs.Tree.{parent, is_open}
 use Rattle.rx_audit.specs.declared.children.Children.{Children}
 use Rattle.rx_audit.specs.Tables.{mark_count}
-use Rattle.rx_audit.specs.Rules.{is_key}
+use Rattle.rx_audit.specs.Rules.{is_key, stays_open}
 
 -- one more than the last number below the bound that passes the test
 abbrev pub last_below : (ℕ → Bool) → ℕ → ℕ
@@ -52,6 +52,11 @@ pub record IsNoted (from : ℕ) (todo : List ℕ) (n : ℕ) : Type 0 where
   pub after : from ≤ at
   pub within : at < length todo
   pub is : slice_index_or todo at 0 ≡ n
+
+-- the list has each node that the event closes, and nothing that stays open
+pub record AreClosed (h : List Event) (e : Event) (closed : List ℕ) : Type 0 where
+  pub noted : (n : ℕ) → is_open h n ≡ true → stays_open h e n ≡ false → IsNoted 0 closed n
+  pub gone : (k : ℕ) → k < length closed → stays_open h e (slice_index_or closed k 0) ≡ false
 
 -- marks of children of p were taken away, of all from the bound on, and each that was is noted at the end of the list
 pub record IsClosingBelow (h : List Event) (p bound : ℕ) (old new : List Bool) (before after : List ℕ) : Type 0 where

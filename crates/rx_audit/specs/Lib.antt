@@ -1,12 +1,13 @@
 pub mod Tables
 pub mod Rules
 pub mod Found
-pub mod Survey
 pub mod Known
 pub mod Allowing
 pub mod Verdict
 pub mod Flow
-pub mod Chain
+pub mod Listed
+pub mod HubTables
 pub mod Latest
 pub mod Marking
-pub mod Hubless
+pub mod DueList
+pub mod Standing

@@ -90,3 +90,7 @@ pub record IsVisited (h : List Event) (log : List Visit) (old new : List Marks) 
   pub marks : (n : ℕ) → n < length old → slice_index_or new n blank_marks ≡ visited_marks h log n (slice_index_or old n blank_marks)
   pub noted : (n : ℕ) → list_any (λ v. is_key (fired_key h v.node) n) log ≡ true → IsNoted 0 after n
   pub kept : (n : ℕ) → IsNoted 0 before n → IsNoted 0 after n
+
+-- node n is open and has to end so, by its marks
+unfoldable pub forced_end : List Event → ℕ → Terminal → Bool
+forced_end h n t = is_open h n && option_map_or (λ made. ends_so made (marks_of nothing_kept h n) t) (slice_get h n) false

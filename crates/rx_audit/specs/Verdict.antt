@@ -1,15 +1,11 @@
 -- What the audit says of a list of events.
-use Rattle.std.specs.Prelude.{◌≡◌, ℕ, ◌+◌, Bool, true, false, ◌&&◌, ◌==◌, Some, List, take, length, slice_get}
+use Rattle.std.specs.Prelude.{◌≡◌, ℕ, Some, List, take, slice_get}
 use Rattle.rx_event.specs.Kept.{nothing_kept}
-use Rattle.rx_event.specs.declared.event.Kind.TheVariants.{Pass}
 use Rattle.rx_event.specs.declared.event.Event.{Event}
-use Rattle.rx_event.specs.declared.event.Event.TheVariants.{Open, Accept}
-use Rattle.rx_event.specs.Tree.{at, is_open, open_nodes}
+use Rattle.rx_event.specs.Tree.{open_nodes}
 use Rattle.rx_event.specs.Resources.{held_resources, waiting_resources}
 use Rattle.rx_event.specs.Forced.{IsSettled}
 use Rattle.rx_event.specs.Lawful.{IsLawful, MayFollow}
-use Rattle.rx_audit.specs.declared.found.Found.{Found}
-use Rattle.rx_audit.specs.Known.{IsFoundHere}
 use Rattle.rx_audit.specs.declared.verdict.Verdict.{Verdict}
 use Rattle.rx_audit.specs.declared.verdict.Verdict.TheVariants.{Lawful, Unlawful, Unsettled}
 
@@ -39,18 +35,3 @@ abbrev pub IsVerdict : List Event → Verdict → Type 0
 IsVerdict h (Lawful live held waiting) = IsFoundLawful h live.items held.items waiting.items
 IsVerdict h (Unlawful place) = IsFoundUnlawful h place
 IsVerdict h Unsettled = IsFoundUnsettled h
-
--- the event opens a mirroring node of one source (Using)
-abbrev pub opens_pass : Event → Bool
-opens_pass (Open place Pass) = true
-opens_pass _ = false
-
--- the event accepts a resource at the node that was opened last, which is a mirroring one
-abbrev pub opened_with : List Event → Event → Bool
-opened_with h (Accept n tag) = at opens_pass h n && (length h == n + 1) && is_open h n
-opened_with h _ = false
-
--- the events are lawful, and this was found of all of them
-pub record IsAllFound (h : List Event) (found : Found) : Type 0 where
-  pub lawful : IsLawful nothing_kept h
-  pub is : IsFoundHere h found

@@ -1,26 +1,30 @@
 //! What callers may do.
 
-ghost use Rattle.std.specs.Prelude.{◌≡◌, ◌<◌, ◌≤◌, ◌&&◌, ◌||◌, IfOk, false, true, Some, None, nat_lt, length, slice_get};
+ghost use Rattle.std.specs.Prelude.{◌≡◌, ◌<◌, ◌&&◌, ◌||◌, IfOk, false, true, Some, None, nat_lt, length, slice_get};
 ghost use Rattle.std.specs.Option.{option_and_then};
 ghost use Rattle.std.proofs.Math.Bool.{not};
-ghost use Rattle.rx_event.specs.Events.{is_leaf, makes_resource, makes_lease, node_of_accept};
-ghost use Rattle.rx_event.specs.Tree.{at, is_open, open_nodes, hubs, has_open_child};
+ghost use Rattle.std.specs.List.{list_any};
+ghost use Rattle.rx_event.specs.Events.{has_source, is_leaf, is_merging, is_notifier_of, is_source_of, is_until, makes_lease, makes_resource, node_of_accept};
+ghost use Rattle.rx_event.specs.Tree.{at, is_open, open_nodes, has_open_child};
 ghost use Rattle.rx_event.specs.Resources.{is_owned, is_out, is_leased, is_held, is_waiting};
-ghost use Rattle.rx_audit.specs.Known.{IsFoundHere, IsSurveyed};
+ghost use Rattle.rx_audit.specs.Known.{IsFoundHere};
+ghost use Rattle.rx_audit.specs.Standing.{IsKnown};
 ghost use Rattle.rx_audit.specs.Marking.{IsKept};
-ghost use Rattle.rx_audit.specs.Survey.{AreHubsNamed, IsSized};
-ghost use Rattle.rx_audit.specs.Rules.{was_removed, was_taken};
+ghost use Rattle.rx_audit.specs.Listed.{AreLinked, AreOpenListed};
+ghost use Rattle.rx_audit.specs.Rules.{is_owing, was_removed, was_taken};
 ghost use Rattle.rx_audit.specs.Allowing.{connects_later, is_in_order_at, is_in_order, is_hubbed, is_free};
 ghost use Rattle.rx_audit.specs.Allowing.{failure_allowed, end_allowed, close_allowed, connect_allowed};
 ghost use Rattle.rx_audit.specs.Allowing.{decline_allowed, allowed_simply, item_allowed, open_allowed};
 
+use crate::advance::Nodes;
 use crate::event_tests::at;
+use crate::forced::is_connected;
 use crate::found::{self, Found};
 use crate::marks::is_marked;
 use crate::nodes::marks_at;
 use crate::openness::parent_of;
 use crate::reach::reached;
-use crate::survey::{self, Survey, hub_connected_at, look};
+use crate::subscribers::{Subscribers, hub_connected_at};
 use rx_event::{Event, Kind, Marks, Place, Terminal};
 use std::alloc::{AllocError, Global};
 
@@ -45,15 +49,6 @@ fn has_room(past: &[Event], found: &Found) -> bool
     ensures { result ≡ nat_lt (length (open_nodes past.now)) 1048576 }
 {
     open_count(past, found) < MOST_NODES
-}
-
-/// How many hubs there are.
-fn hub_count(past: &[Event]) -> usize
-    ensures { result ≡ length (hubs past.now) }
-{
-    (0..past.len() as u64)
-        .filter(|k| at(Event::makes_hub, past, *k))
-        .count()
 }
 
 /// Whether node `a` is no connection of hub `g` or of an earlier one.
@@ -103,27 +98,92 @@ fn is_hubbed(past: &[Event], place: Place, kind: Kind) -> bool
     }
 }
 
-/// Whether a node may be opened at the place.
-fn is_free(past: &[Event], found: &Found, place: Place) -> bool
+/// Whether node `n` is open.
+fn is_open_node(past: &[Event], found: &Found, n: u64) -> bool
     requires { IsFoundHere past.now found.now }
+    ensures { result ≡ is_open past.now n }
+{
+    let _ = past;
+    is_marked(found.live.as_slice(), n)
+}
+
+/// Whether a source was ever opened below node `p`, which is open.
+fn was_sourced(past: &[Event], marks: &Vec<Marks>, p: u64) -> bool
+    requires kept { IsKept past.now marks.now.items }
+    requires here { is_open past.now p ≡ true }
+    ensures { result ≡ list_any (is_source_of p) past.now }
+{
+    let _ = past;
+    marks_at(marks, p).source_opened
+}
+
+/// Whether a notifier was ever opened below node `p`, which is open.
+fn was_notified(past: &[Event], marks: &Vec<Marks>, p: u64) -> bool
+    requires kept { IsKept past.now marks.now.items }
+    requires here { is_open past.now p ≡ true }
+    ensures { result ≡ list_any (is_notifier_of p) past.now }
+{
+    let _ = past;
+    marks_at(marks, p).notifier_opened
+}
+
+/// Whether something is owed at node `f`, which is open.
+fn is_owing(past: &[Event], marks: &Vec<Marks>, f: u64) -> bool
+    requires kept { IsKept past.now marks.now.items }
+    requires here { is_open past.now f ≡ true }
+    ensures { result ≡ is_owing past.now f }
+{
+    let _ = past;
+    marks_at(marks, f).owed > 0
+}
+
+/// Whether a source may be opened below node `p`.
+fn is_source_free(past: &[Event], found: &Found, marks: &Vec<Marks>, p: u64) -> bool
+    requires found { IsFoundHere past.now found.now }
+    requires kept { IsKept past.now marks.now.items }
+    ensures { result ≡ (is_open past.now p && at has_source past.now p && not (list_any (is_source_of p) past.now)) }
+{
+    if !is_open_node(past, found, p) {
+        return false;
+    }
+    at(Event::has_source, past, p) && !was_sourced(past, marks, p)
+}
+
+/// Whether a notifier may be opened below node `p`.
+fn is_notifier_free(past: &[Event], found: &Found, marks: &Vec<Marks>, p: u64) -> bool
+    requires found { IsFoundHere past.now found.now }
+    requires kept { IsKept past.now marks.now.items }
+    ensures { result ≡ (is_open past.now p && at is_until past.now p && not (list_any (is_notifier_of p) past.now)) }
+{
+    if !is_open_node(past, found, p) {
+        return false;
+    }
+    at(Event::is_until, past, p) && !was_notified(past, marks, p)
+}
+
+/// Whether node `f` is an open FlatMap or Switch that owes something.
+fn owes_inner(past: &[Event], found: &Found, marks: &Vec<Marks>, f: u64) -> bool
+    requires found { IsFoundHere past.now found.now }
+    requires kept { IsKept past.now marks.now.items }
+    ensures { result ≡ (is_open past.now f && at is_merging past.now f && is_owing past.now f) }
+{
+    if !is_open_node(past, found, f) {
+        return false;
+    }
+    at(Event::is_merging, past, f) && is_owing(past, marks, f)
+}
+
+/// Whether a node may be opened at the place.
+fn is_free(past: &[Event], found: &Found, marks: &Vec<Marks>, place: Place) -> bool
+    requires found { IsFoundHere past.now found.now }
+    requires kept { IsKept past.now marks.now.items }
     ensures { result ≡ is_free past.now place }
 {
-    let live = found.live.as_slice();
     match place {
         Place::Root => true,
-        Place::Source(p) => {
-            is_marked(live, p)
-                && at(Event::has_source, past, p)
-                && !found::was_sourced(past, found, p)
-        }
-        Place::Inner(p) => {
-            is_marked(live, p) && at(Event::is_merging, past, p) && found::is_owing(past, found, p)
-        }
-        Place::Notifier(p) => {
-            is_marked(live, p)
-                && at(Event::is_until, past, p)
-                && !found::was_notified(past, found, p)
-        }
+        Place::Source(p) => is_source_free(past, found, marks, p),
+        Place::Inner(p) => owes_inner(past, found, marks, p),
+        Place::Notifier(p) => is_notifier_free(past, found, marks, p),
     }
 }
 
@@ -224,31 +284,6 @@ pub fn is_waiting(past: &[Event], found: &Found, r: u64) -> bool
     is_left_over(past, found, r)
 }
 
-/// Whether a caller may end node `n`, which is open, with an error, though it is no leaf.
-fn failure_allowed(past: &[Event], found: &Found, survey: &Survey, n: u64) -> bool
-    requires found { IsFoundHere past.now found.now }
-    requires survey { IsSurveyed past.now survey.now }
-    ensures { result ≡ failure_allowed past.now n }
-{
-    at(Event::has_source, past, n) && !survey::has_open_child(past, survey, n)
-        || at(Event::is_merging, past, n) && found::is_owing(past, found, n)
-}
-
-/// Whether a caller may end node `n` so.
-#[tactic(auto, unfolding(crate::specs::Allowing::end_allowed))]
-fn end_allowed(past: &[Event], found: &Found, survey: &Survey, n: u64, terminal: Terminal) -> bool
-    requires found { IsFoundHere past.now found.now }
-    requires survey { IsSurveyed past.now survey.now }
-    ensures { result ≡ end_allowed past.now n terminal }
-{
-    is_marked(found.live.as_slice(), n)
-        && (at(Event::is_leaf, past, n)
-            || match terminal {
-                Terminal::Completed => false,
-                Terminal::Error(_) => failure_allowed(past, found, survey, n),
-            })
-}
-
 /// Whether a caller may close node `n`.
 #[tactic(auto, unfolding(crate::specs::Allowing::close_allowed))]
 fn close_allowed(past: &[Event], found: &Found, n: u64) -> bool
@@ -263,55 +298,25 @@ fn close_allowed(past: &[Event], found: &Found, n: u64) -> bool
             })
 }
 
-/// Whether a caller's event that opens nothing and is no item may come next. The nodes are surveyed
-/// where that is asked.
-pub fn is_allowed_simply(past: &[Event], found: &Found, survey: &mut Survey, event: Event) -> bool
-    requires named { AreHubsNamed past.now }
+/// Whether a caller's event that opens nothing and is no item may come next.
+pub fn is_allowed_simply(past: &[Event], found: &Found, nodes: &Nodes, event: Event) -> bool
     requires found { IsFoundHere past.now found.now }
-    requires sized { IsSized (length survey.old.parents.items) survey.old }
-    requires room { length past.now ≤ length survey.old.parents.items }
-    ensures answer { result ≡ allowed_simply past.now event }
-    ensures sized { IsSized (length survey.old.parents.items) survey.new }
+    requires known { IsKnown past.now found.now.live.items nodes.now }
+    ensures { result ≡ allowed_simply past.now event }
 {
     match event {
         Event::Open { .. } | Event::Item(_, _) => false,
-        Event::Hub(_) => hub_count(past) < MOST_HUBS,
-        Event::Connect(g) => {
-            look(past, found.live.as_slice(), survey);
-            connect_allowed(past, found, survey, g)
-        }
+        Event::Hub(_) => nodes.hubs.count < MOST_HUBS,
+        Event::Connect(g) => connect_allowed(past, found, nodes, g),
         Event::Accept(n, _) => is_marked(found.live.as_slice(), n),
         Event::Use(r) => is_held(past, found, r),
         Event::Remove(r) | Event::Lease(r) => is_owned(past, found, r),
         Event::Return(l) => is_out(past, found, l),
-        Event::Decline(f) => decline_allowed(past, found, f),
-        Event::End(n, t) => end_allowed_here(past, found, survey, n, t),
+        Event::Decline(f) => decline_allowed(past, found, &nodes.marks, f),
+        Event::End(n, t) => end_allowed(past, found, &nodes.marks, n, t),
         Event::Close(n) => close_allowed(past, found, n),
         Event::Take(r) => is_waiting(past, found, r),
     }
-}
-
-/// Whether a caller may end node `n` so. The nodes are surveyed where an operator is to fail.
-#[tactic(auto, unfolding(crate::specs::Allowing::end_allowed))]
-fn end_allowed_here(
-    past: &[Event],
-    found: &Found,
-    survey: &mut Survey,
-    n: u64,
-    terminal: Terminal,
-) -> bool
-    requires named { AreHubsNamed past.now }
-    requires found { IsFoundHere past.now found.now }
-    requires sized { IsSized (length survey.old.parents.items) survey.old }
-    requires room { length past.now ≤ length survey.old.parents.items }
-    ensures answer { result ≡ end_allowed past.now n terminal }
-    ensures sized { IsSized (length survey.old.parents.items) survey.new }
-{
-    if is_open_leaf(past, found, n) {
-        return true;
-    }
-    look(past, found.live.as_slice(), survey);
-    end_allowed(past, found, survey, n, terminal)
 }
 
 /// Whether node `n`, which is open, has an open child, by what it remembers.
@@ -325,28 +330,18 @@ fn has_child(past: &[Event], marks: &Vec<Marks>, n: u64) -> bool
 }
 
 /// Whether a caller may end node `n`, which is open, with an error, though it is no leaf.
-fn failure_allowed_by_marks(past: &[Event], found: &Found, marks: &Vec<Marks>, n: u64) -> bool
-    requires found { IsFoundHere past.now found.now }
+fn failure_allowed(past: &[Event], marks: &Vec<Marks>, n: u64) -> bool
     requires kept { IsKept past.now marks.now.items }
     requires here { is_open past.now n ≡ true }
     ensures { result ≡ failure_allowed past.now n }
 {
     at(Event::has_source, past, n) && !has_child(past, marks, n)
-        || at(Event::is_merging, past, n) && found::is_owing(past, found, n)
+        || at(Event::is_merging, past, n) && is_owing(past, marks, n)
 }
 
-/// Whether node `n` is open.
-fn is_open_node(past: &[Event], found: &Found, n: u64) -> bool
-    requires { IsFoundHere past.now found.now }
-    ensures { result ≡ is_open past.now n }
-{
-    let _ = past;
-    is_marked(found.live.as_slice(), n)
-}
-
-/// Whether a caller may end node `n` so, by what the nodes remember.
+/// Whether a caller may end node `n` so.
 #[tactic(auto, unfolding(crate::specs::Allowing::end_allowed))]
-pub fn end_allowed_by_marks(
+fn end_allowed(
     past: &[Event],
     found: &Found,
     marks: &Vec<Marks>,
@@ -365,31 +360,30 @@ pub fn end_allowed_by_marks(
     }
     match terminal {
         Terminal::Completed => false,
-        Terminal::Error(_) => failure_allowed_by_marks(past, found, marks, n),
+        Terminal::Error(_) => failure_allowed(past, marks, n),
     }
 }
 
 /// Whether a caller may connect hub `g`.
 #[tactic(auto, unfolding(crate::specs::Allowing::connect_allowed))]
-fn connect_allowed(past: &[Event], found: &Found, survey: &Survey, g: u64) -> bool
+fn connect_allowed(past: &[Event], found: &Found, nodes: &Nodes, g: u64) -> bool
     requires found { IsFoundHere past.now found.now }
-    requires survey { IsSurveyed past.now survey.now }
+    requires known { IsKnown past.now found.now.live.items nodes.now }
     ensures { result ≡ connect_allowed past.now g }
 {
     at(Event::is_manual_hub, past, g)
-        && !survey::is_connected(past, survey, g)
+        && !is_connected(past, found.live.as_slice(), nodes, g)
         && has_room(past, found)
 }
 
 /// Whether a caller may decline an item that was projected to `f`.
 #[tactic(auto, unfolding(crate::specs::Allowing::decline_allowed))]
-fn decline_allowed(past: &[Event], found: &Found, f: u64) -> bool
-    requires { IsFoundHere past.now found.now }
+fn decline_allowed(past: &[Event], found: &Found, marks: &Vec<Marks>, f: u64) -> bool
+    requires found { IsFoundHere past.now found.now }
+    requires kept { IsKept past.now marks.now.items }
     ensures { result ≡ decline_allowed past.now f }
 {
-    is_marked(found.live.as_slice(), f)
-        && at(Event::is_merging, past, f)
-        && found::is_owing(past, found, f)
+    owes_inner(past, found, marks, f)
 }
 
 /// Whether a caller may emit an item of leaf `l`.
@@ -397,15 +391,19 @@ pub fn is_item_allowed(
     alloc: Global,
     past: &[Event],
     found: &Found,
+    subs: &Subscribers,
+    entries: &mut Vec<usize>,
     l: u64,
 ) -> Result<bool, AllocError>
-    requires { IsFoundHere past.now found.now }
+    requires found { IsFoundHere past.now found.now }
+    requires linked { AreLinked past.now (length subs.now.listed.items) subs.now }
+    requires listed { AreOpenListed past.now subs.now }
     ensures { IfOk result (λ b. b ≡ item_allowed past.now l) }
 {
     if !is_open_leaf(past, found, l) {
         return Ok(false);
     }
-    let log = reached(alloc, past, found.live.as_slice(), l)?;
+    let log = reached(alloc, past, subs, entries, l)?;
     Ok(log.is_some())
 }
 
@@ -419,9 +417,16 @@ fn is_open_leaf(past: &[Event], found: &Found, l: u64) -> bool
 
 /// Whether a caller may open a node there, as far as connections that this forces do not matter.
 #[tactic(auto, unfolding(crate::specs::Allowing::open_allowed))]
-pub fn is_open_allowed(past: &[Event], found: &Found, place: Place, kind: Kind) -> bool
-    requires { IsFoundHere past.now found.now }
+pub fn is_open_allowed(
+    past: &[Event],
+    found: &Found,
+    marks: &Vec<Marks>,
+    place: Place,
+    kind: Kind,
+) -> bool
+    requires found { IsFoundHere past.now found.now }
+    requires kept { IsKept past.now marks.now.items }
     ensures { result ≡ open_allowed past.now place kind }
 {
-    is_free(past, found, place) && is_hubbed(past, place, kind) && has_room(past, found)
+    is_free(past, found, marks, place) && is_hubbed(past, place, kind) && has_room(past, found)
 }

@@ -21,7 +21,7 @@ pub struct Children {
 }
 
 /// A list of so many zeros.
-fn zeros(alloc: Global, size: usize) -> Result<Vec<usize>, AllocError>
+pub fn zeros(alloc: Global, size: usize) -> Result<Vec<usize>, AllocError>
     ensures { IfOk result (λ v. v.items ≡ replicate size 0) }
 {
     Ok(vec![in alloc; 0; size]?)
@@ -39,7 +39,7 @@ pub fn no_children(alloc: Global, size: usize) -> Result<Children, AllocError>
 }
 
 /// Writes the value at the place of the key, if there is a key and the list has it.
-fn put(table: &mut Vec<usize>, key: Option<u64>, value: usize)
+pub fn put(table: &mut Vec<usize>, key: Option<u64>, value: usize)
     ensures { table.new.items ≡ table_with table.old.items key value }
 {
     if let Some(p) = key {
@@ -51,7 +51,7 @@ fn put(table: &mut Vec<usize>, key: Option<u64>, value: usize)
 }
 
 /// The value at this place of the list.
-fn value_at(table: &Vec<usize>, p: u64) -> usize
+pub fn value_at(table: &Vec<usize>, p: u64) -> usize
     ensures { result ≡ slice_index_or table.now.items p 0 }
 {
     let p = p as usize;

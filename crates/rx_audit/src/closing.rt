@@ -1,15 +1,15 @@
 //! What an event closes, found by going down from the node that it takes away, over nothing else.
 
-ghost use Rattle.std.specs.Prelude.{◌≡◌, ℕ, ◌+◌, ◌<◌, ◌≤◌, true, false, Some, [], ◌∷◌, ◌++◌, OnOk, IfOk, MatchOption, if◌then◌else◌, length, ◌==◌};
+ghost use Rattle.std.specs.Prelude.{◌≡◌, ℕ, ◌+◌, ◌<◌, ◌≤◌, true, false, Some, [], ◌∷◌, ◌++◌, OnOk, IfOk, MatchOption, length, ◌==◌};
 ghost use Rattle.rx_event.specs.Events.{is_switch};
 ghost use Rattle.rx_event.specs.Tree.{at, is_open, shuts, is_switched_inner};
-ghost use Rattle.rx_audit.specs.Latest.{AreChildren, IsClosingBelow, ShutsNone, IsShutAlone};
+ghost use Rattle.rx_audit.specs.Latest.{AreChildren, IsClosingBelow, AreClosed, ShutsNone, IsShutAlone};
 ghost use Rattle.rx_audit.specs.Tables.{IsMarked, mark_count};
 ghost use Rattle.rx_audit.specs.Rules.{stays_open};
 
 use crate::children::Children;
 use crate::event_tests::at;
-use crate::marks::is_marked;
+use crate::marks::{is_marked, one_if};
 use crate::openness::opens;
 use rx_event::{Event, Place};
 use std::alloc::AllocError;
@@ -41,7 +41,7 @@ fn close_children(
 }
 
 /// Takes away the mark of the one node that the event itself takes away, and of all below it, and
-/// answers how many had one. Each is listed once, and its children are gone over once.
+/// answers how many had one. `todo` lists each of them once, and its children are gone over once.
 fn close_from(
     past: &[Event],
     event: Event,
@@ -59,6 +59,7 @@ fn close_from(
     requires shut { shuts past.now top event ≡ true }
     requires alone { (n : ℕ) → is_open past.now n ≡ true → shuts past.now n event ≡ true → n ≡ top }
     ensures closed { OnOk result (IsMarked marks.new (stays_open past.now event)) }
+    ensures listed { OnOk result (AreClosed past.now event todo.new.items) }
     ensures count { IfOk result (λ closed. mark_count marks.new + closed ≡ mark_count marks.old) }
     ensures len { length marks.new ≡ length marks.old }
 {
@@ -139,8 +140,8 @@ pub fn shut_top(past: &[Event], event: Event, children: &Children, marks: &[bool
     }
 }
 
-/// Takes away the mark of the node that the event takes away, and of all below it, and answers how
-/// many had one.
+/// Takes away the mark of the node that the event takes away, and of all below it, which `todo` then
+/// lists, and answers how many had one.
 fn close_shut(
     past: &[Event],
     event: Event,
@@ -153,23 +154,20 @@ fn close_shut(
     requires marks { length past.now ≤ length marks.old }
     requires tied { IsMarked marks.old (is_open past.now) }
     ensures closed { OnOk result (IsMarked marks.new (stays_open past.now event)) }
+    ensures listed { OnOk result (AreClosed past.now event todo.new.items) }
     ensures count { IfOk result (λ closed. mark_count marks.new + closed ≡ mark_count marks.old) }
     ensures len { length marks.new ≡ length marks.old }
 {
     match shut_top(past, event, children, marks) {
         Some(top) => close_from(past, event, children, marks, todo, top),
-        None => Ok(0),
+        None => {
+            todo.clear();
+            Ok(0)
+        }
     }
 }
 
-/// One, where that is so, and none else.
-fn one_if(so: bool) -> usize
-    ensures { result ≡ if so then 1 else 0 }
-{
-    if so { 1 } else { 0 }
-}
-
-/// The marks of the open nodes, and their number, with one event more.
+/// The marks of the open nodes, and their number, with one event more; `todo` lists what it closes.
 pub fn mark_open(
     past: &[Event],
     event: Event,
@@ -184,6 +182,7 @@ pub fn mark_open(
     requires tied { IsMarked marks.old (is_open past.now) }
     requires count { count.old ≡ mark_count marks.old }
     ensures marked { OnOk result (IsMarked marks.new (is_open (past.now ++ event ∷ []))) }
+    ensures listed { OnOk result (AreClosed past.now event todo.new.items) }
     ensures count { OnOk result (count.new ≡ mark_count marks.new) }
     ensures len { length marks.new ≡ length marks.old }
 {

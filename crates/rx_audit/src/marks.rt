@@ -1,7 +1,7 @@
 //! Lists of marks and of counts, by number.
 
-ghost use Rattle.std.specs.Prelude.{◌≡◌, ℕ, ◌+◌, ◌<◌, ◌^◌, false, true, Some, length, slice_index_or, replicate};
-ghost use Rattle.rx_audit.specs.Tables.{marks_with, counts_with, counts_less, counts_plus};
+ghost use Rattle.std.specs.Prelude.{◌≡◌, ℕ, ◌+◌, ◌<◌, ◌^◌, false, if◌then◌else◌, slice_index_or};
+ghost use Rattle.rx_audit.specs.Tables.{marks_with, counts_with, counts_less};
 
 /// Whether the mark of number `n` is set.
 pub fn is_marked(marks: &[bool], n: u64) -> bool
@@ -23,15 +23,8 @@ pub fn mark(marks: &mut [bool], key: Option<u64>)
     }
 }
 
-/// Takes all marks away.
-pub fn clear(marks: &mut [bool])
-    ensures { marks.new ≡ replicate (length marks.old) false }
-{
-    marks.fill(false);
-}
-
 /// The count of number `n`.
-pub fn count_of(counts: &[u128], n: u64) -> u128
+pub fn count_of(counts: &[usize], n: u64) -> usize
     ensures { result ≡ slice_index_or counts.now n 0 }
 {
     let n = n as usize;
@@ -39,8 +32,8 @@ pub fn count_of(counts: &[u128], n: u64) -> u128
 }
 
 /// Makes the count of the number one more, if there is a number and the list has it.
-pub fn count(counts: &mut [u128], key: Option<u64>)
-    requires { (n : ℕ) → slice_index_or counts.old n 0 + 1 < 2 ^ 128 }
+pub fn count(counts: &mut [usize], key: Option<u64>)
+    requires { (n : ℕ) → slice_index_or counts.old n 0 + 1 < 2 ^ 64 }
     ensures { counts.new ≡ counts_with counts.old key }
 {
     if let Some(n) = key {
@@ -52,7 +45,7 @@ pub fn count(counts: &mut [u128], key: Option<u64>)
 }
 
 /// Makes the count of the number one less, if there is a number and the list has it and it is not 0.
-pub fn count_less(counts: &mut [u128], key: Option<u64>)
+pub fn count_less(counts: &mut [usize], key: Option<u64>)
     ensures { counts.new ≡ counts_less counts.old key }
 {
     if let Some(n) = key {
@@ -63,15 +56,9 @@ pub fn count_less(counts: &mut [u128], key: Option<u64>)
     }
 }
 
-/// Makes the count of the number so many more, if there is a number and the list has it.
-pub fn count_more(counts: &mut [u128], key: Option<u64>, by: u64)
-    requires { (n : ℕ) → slice_index_or counts.old n 0 + by < 2 ^ 128 }
-    ensures { counts.new ≡ counts_plus counts.old key by }
+/// One, where that is so, and none else.
+pub fn one_if(so: bool) -> usize
+    ensures { result ≡ if so then 1 else 0 }
 {
-    if let Some(n) = key {
-        let n = n as usize;
-        if n < counts.len() {
-            counts[n] += u128::from(by);
-        }
-    }
+    if so { 1 } else { 0 }
 }

@@ -4,17 +4,12 @@
 //! more than the nodes on them.
 
 ghost use Rattle.std.specs.Prelude.{◌≡◌, ℕ, ◌+◌, ◌*◌, ◌^◌, ◌<◌, ◌≤◌, Some, None, IfOk, OnOk, MatchOption, length, take, drop, sum_by};
-ghost use Rattle.rx_event.specs.Tree.{is_open};
 ghost use Rattle.rx_event.specs.Climb.{onward, visits};
-ghost use Rattle.rx_audit.specs.Tables.{IsMarked};
-ghost use Rattle.std.specs.Option.{ForSome};
-ghost use Rattle.rx_audit.specs.Chain.{IsChained};
+ghost use Rattle.rx_audit.specs.Listed.{AreLinked, AreOpenListed};
 ghost use Rattle.rx_audit.specs.Flow.{times, IsOften, IsReached};
 
 use crate::climb::{MOST_VISITS, onward};
-use crate::openness::parent_of;
-use crate::subscribers::{Subscribers, chain_subscribers};
-use crate::survey::hub_connected_at;
+use crate::subscribers::Subscribers;
 use rx_event::Event;
 use std::alloc::{AllocError, Global};
 
@@ -27,16 +22,15 @@ pub struct Visit {
     pub count: u64,
 }
 
-/// Where in the log the last entry of a node may be.
-fn entry_of(entries: &[usize], node: u64) -> usize {
+/// Where in the log the last entry of a node may be. What stands there from items before does no
+/// harm, since the entry itself is looked at.
+fn entry_of(entries: &Vec<usize>, node: u64) -> usize {
     let n = node as usize;
     if n < entries.len() { entries[n] } else { 0 }
 }
 
 /// Remembers where in the log the last entry of a node is.
-fn note_entry(entries: &mut [usize], node: u64, at: usize)
-    ensures { length entries.new ≡ length entries.old }
-{
+fn note_entry(entries: &mut Vec<usize>, node: u64, at: usize) {
     let n = node as usize;
     if n < entries.len() {
         entries[n] = at;
@@ -47,7 +41,7 @@ fn note_entry(entries: &mut [usize], node: u64, at: usize)
 /// followed yet, else to a new one.
 fn reach(
     log: &mut Vec<Visit>,
-    entries: &mut [usize],
+    entries: &mut Vec<usize>,
     followed: usize,
     node: u64,
     count: u64,
@@ -75,7 +69,7 @@ fn reach(
 /// Reaches each of these nodes so often.
 fn spread(
     log: &mut Vec<Visit>,
-    entries: &mut [usize],
+    entries: &mut Vec<usize>,
     followed: usize,
     next: &[u64],
     count: u64,
@@ -96,49 +90,16 @@ fn spread(
     Ok(())
 }
 
-/// The lists that lead to the subscribers of each hub, where an item of this leaf reaches a
-/// connection. Whether there are any decides how the visits are found, and never what they are.
-fn chain_from(
-    alloc: Global,
-    past: &[Event],
-    live: &[bool],
-    leaf: u64,
-) -> Result<Option<Subscribers>, AllocError>
-    requires { IsMarked live.now (is_open past.now) }
-    ensures { IfOk result (λ o. ForSome o (IsChained past.now)) }
-{
-    let mut n = leaf;
-    for _step in 0..past.len() {
-        if hub_connected_at(past, n).is_some() {
-            return Ok(Some(chain_subscribers(alloc, past, live)?));
-        }
-        match parent_of(past, n as usize) {
-            Some(above) => n = above,
-            None => return Ok(None),
-        }
-    }
-    Ok(None)
-}
-
-/// Room to remember the entries of so many nodes, where a connection is reached. Where none is, each
-/// node is reached once, and there is nothing to remember.
-fn new_entries(
-    alloc: Global,
-    lists: Option<&Subscribers>,
-    size: usize,
-) -> Result<Vec<usize>, AllocError> {
-    let size = if lists.is_some() { size } else { 0 };
-    Ok(vec![in alloc; 0; size]?)
-}
-
 /// How often an item of this leaf reaches each node; `None` where it makes more visits than it may.
 pub fn reached(
     alloc: Global,
     past: &[Event],
-    live: &[bool],
+    subs: &Subscribers,
+    entries: &mut Vec<usize>,
     leaf: u64,
 ) -> Result<Option<Vec<Visit>>, AllocError>
-    requires { IsMarked live.now (is_open past.now) }
+    requires linked { AreLinked past.now (length subs.now.listed.items) subs.now }
+    requires listed { AreOpenListed past.now subs.now }
     ensures { IfOk result
         (λ o. MatchOption o (1048576 < visits past.now leaf) (λ log. IsReached past.now leaf log.items)) }
 {
@@ -148,27 +109,18 @@ pub fn reached(
     };
     let mut log = vec![in alloc; first]?;
     let mut total: u64 = 1;
-    let chain = chain_from(alloc, past, live, leaf)?;
-    let lists = chain.as_ref();
-    let mut entries = new_entries(alloc, lists, past.len())?;
     for i in 0..MOST_VISITS {
         if i >= log.len() {
             return Ok(Some(log));
         }
         let visit = log[i];
-        let next = onward(alloc, past, live, lists, visit.node)?;
+        let next = onward(alloc, past, subs, visit.node)?;
         let more = u128::from(visit.count) * next.len() as u128;
         if more > u128::from(1_048_576 - total) {
             return Ok(None);
         }
         total += more as u64;
-        spread(
-            &mut log,
-            entries.as_mut_slice(),
-            i,
-            next.as_slice(),
-            visit.count,
-        )?;
+        spread(&mut log, entries, i, next.as_slice(), visit.count)?;
     }
     Ok(Some(log))
 }

@@ -1,71 +1,190 @@
 //! The open subscribers of each hub, one after another.
 
-ghost use Rattle.std.specs.Prelude.{◌≡◌, ◌<◌, IfOk, length, replicate};
-ghost use Rattle.rx_event.specs.Tree.{is_open, open_subscribers};
-ghost use Rattle.rx_audit.specs.Tables.{IsMarked};
-ghost use Rattle.rx_audit.specs.Chain.{IsChained};
+ghost use Rattle.std.specs.Prelude.{◌≡◌, ℕ, ◌+◌, ◌<◌, true, false, Some, None, [], ◌∷◌, ◌++◌, IfOk, length, slice_index_or, slice_set, sum_by};
+ghost use Rattle.rx_event.specs.Events.{is_subscriber_of};
+ghost use Rattle.rx_event.specs.Tree.{open_subscribers};
+ghost use Rattle.rx_audit.specs.Latest.{table_with};
+ghost use Rattle.rx_audit.specs.Rules.{hub_subscribed_at, hub_connected_at};
+ghost use Rattle.rx_audit.specs.Listed.{number_of, hub_if_last, listed_hub, AreLinked, AreOpenListed, AreLetGo};
 
-use crate::survey::open_subscribed;
+use crate::children::{put, value_at, zeros};
+use crate::found::unmarked;
+use crate::marks::is_marked;
 use rx_event::Event;
 use std::alloc::{AllocError, Global};
 
-/// Lists that lead from a hub to its first open subscriber, and from each to the next one. The
-/// number of events stands where there is none.
+/// Lists by number that lead over the open subscribers of each hub: from a hub to its last one, and
+/// from each to the one before it and to the one after it. Each says one more than the number, and 0
+/// where there is none.
 #[derive(Drop)]
 pub struct Subscribers {
-    /// By hub: its first open subscriber.
-    pub first: Vec<u64>,
-    /// By open subscriber: the next one of its hub.
-    pub after: Vec<u64>,
+    /// By node: it is an open subscriber.
+    pub listed: Vec<bool>,
+    /// By hub: its last open subscriber.
+    pub last: Vec<usize>,
+    /// By open subscriber: the one of its hub before it.
+    pub before: Vec<usize>,
+    /// By open subscriber: the one of its hub after it.
+    pub after: Vec<usize>,
 }
 
-/// A list of so many times this number.
-fn repeated(alloc: Global, number: u64, size: usize) -> Result<Vec<u64>, AllocError>
-    ensures { IfOk result (λ v. v.items ≡ replicate size number) }
+/// The hub that node `k` subscribes to.
+pub fn hub_subscribed_at(past: &[Event], k: u64) -> Option<u64>
+    ensures { result ≡ hub_subscribed_at past.now k }
 {
-    Ok(vec![in alloc; number; size]?)
-}
-
-/// The open subscribers of each hub that the events have.
-pub fn chain_subscribers(
-    alloc: Global,
-    past: &[Event],
-    live: &[bool],
-) -> Result<Subscribers, AllocError>
-    requires { IsMarked live.now (is_open past.now) }
-    ensures { IfOk result (IsChained past.now) }
-{
-    let none = past.len() as u64;
-    let mut first = repeated(alloc, none, past.len())?;
-    let mut after = repeated(alloc, none, past.len())?;
-    for k in (0..past.len()).rev() {
-        if let Some(g) = open_subscribed(past, live, k as u64) {
-            let g = g as usize;
-            if g < past.len() {
-                after[k] = first[g];
-                first[g] = k as u64;
-            }
-        }
+    match past.get(k as usize).copied() {
+        Some(event) => event.subscribes_to(),
+        None => None,
     }
-    Ok(Subscribers { first, after })
 }
 
-/// The open subscribers of hub `g`, by rising number.
-pub fn chained(
+/// The hub that node `k` connects.
+pub fn hub_connected_at(past: &[Event], k: u64) -> Option<u64>
+    ensures { result ≡ hub_connected_at past.now k }
+{
+    match past.get(k as usize).copied() {
+        Some(event) => event.connects(),
+        None => None,
+    }
+}
+
+/// There are no subscribers, with room for this many events.
+pub fn no_subscribers(alloc: Global, size: usize) -> Result<Subscribers, AllocError>
+    ensures { IfOk result (AreLinked [] size) }
+{
+    Ok(Subscribers {
+        listed: unmarked(alloc, size)?,
+        last: zeros(alloc, size)?,
+        before: zeros(alloc, size)?,
+        after: zeros(alloc, size)?,
+    })
+}
+
+/// The number that a word leads to.
+pub fn number_of(word: usize) -> Option<u64>
+    ensures { result ≡ number_of word }
+{
+    if word == 0 {
+        None
+    } else {
+        Some((word - 1) as u64)
+    }
+}
+
+/// The hub, where the word leads nowhere.
+fn hub_if_last(word: usize, g: u64) -> Option<u64>
+    ensures { result ≡ hub_if_last word g }
+{
+    if word == 0 { Some(g) } else { None }
+}
+
+/// Writes the mark of number `n`, if the list has it.
+fn put_mark(marks: &mut Vec<bool>, n: u64, value: bool)
+    ensures { marks.new.items ≡ slice_set marks.old.items n value }
+{
+    let n = n as usize;
+    if n < marks.len() {
+        marks[n] = value;
+    }
+}
+
+/// The hub of node `s`, where `s` is on its list.
+fn listed_hub(past: &[Event], subs: &Subscribers, s: u64) -> Option<u64>
+    ensures { result ≡ listed_hub past.now subs.now.listed.items s }
+{
+    if is_marked(subs.listed.as_slice(), s) {
+        hub_subscribed_at(past, s)
+    } else {
+        None
+    }
+}
+
+/// Joins the neighbours of `s` on the list of hub `g`.
+fn join_neighbours(subs: &mut Subscribers, g: u64, s: u64)
+    ensures last { subs.new.last.items ≡ table_with subs.old.last.items (hub_if_last (slice_index_or subs.old.after.items s 0) g) (slice_index_or subs.old.before.items s 0) }
+    ensures before { subs.new.before.items ≡ table_with subs.old.before.items (number_of (slice_index_or subs.old.after.items s 0)) (slice_index_or subs.old.before.items s 0) }
+    ensures after { subs.new.after.items ≡ table_with subs.old.after.items (number_of (slice_index_or subs.old.before.items s 0)) (slice_index_or subs.old.after.items s 0) }
+    ensures listed { subs.new.listed.items ≡ subs.old.listed.items }
+{
+    let below = value_at(&subs.before, s);
+    let above = value_at(&subs.after, s);
+    put(&mut subs.last, hub_if_last(above, g), below);
+    put(&mut subs.before, number_of(above), below);
+    put(&mut subs.after, number_of(below), above);
+}
+
+/// Takes node `s` off the list of its hub, if it is on one.
+fn unlist(past: &[Event], subs: &mut Subscribers, s: u64)
+    requires { AreLinked past.now (length subs.old.listed.items) subs.old }
+    ensures linked { AreLinked past.now (length subs.old.listed.items) subs.new }
+    ensures listed { subs.new.listed.items ≡ slice_set subs.old.listed.items s false }
+{
+    if let Some(g) = listed_hub(past, subs, s) {
+        join_neighbours(subs, g, s);
+    }
+    put_mark(&mut subs.listed, s, false);
+}
+
+/// Takes these nodes off the lists of their hubs.
+pub fn let_go(past: &[Event], closed: &[usize], subs: &mut Subscribers)
+    requires { AreLinked past.now (length subs.old.listed.items) subs.old }
+    ensures linked { AreLinked past.now (length subs.old.listed.items) subs.new }
+    ensures listed { AreLetGo subs.old.listed.items subs.new.listed.items closed.now (length closed.now) }
+{
+    for s in closed {
+        unlist(past, subs, *s as u64);
+    }
+}
+
+/// Puts node `n` on the list of hub `g`, as the last.
+fn put_last(subs: &mut Subscribers, g: u64, n: usize)
+    requires { n + 1 < 18446744073709551616 }
+    ensures last { subs.new.last.items ≡ table_with subs.old.last.items (Some g) (n + 1) }
+    ensures before { subs.new.before.items ≡ table_with subs.old.before.items (Some n) (slice_index_or subs.old.last.items g 0) }
+    ensures after { subs.new.after.items ≡ table_with (table_with subs.old.after.items (Some n) 0) (number_of (slice_index_or subs.old.last.items g 0)) (n + 1) }
+    ensures listed { subs.new.listed.items ≡ slice_set subs.old.listed.items n true }
+{
+    let below = value_at(&subs.last, g);
+    put(&mut subs.last, Some(g), n + 1);
+    put(&mut subs.before, Some(n as u64), below);
+    put(&mut subs.after, Some(n as u64), 0);
+    put(&mut subs.after, number_of(below), n + 1);
+    put_mark(&mut subs.listed, n as u64, true);
+}
+
+/// Puts the node that the event makes on the list of the hub that it subscribes to, if it does.
+pub fn list_new(past: &[Event], event: Event, subs: &mut Subscribers)
+    requires linked { AreLinked past.now (length subs.old.listed.items) subs.old }
+    requires room { length past.now < length subs.old.listed.items }
+    requires hubbed { (g : ℕ) → is_subscriber_of g event ≡ true → g < length subs.old.listed.items }
+    ensures linked { AreLinked (past.now ++ event ∷ []) (length subs.old.listed.items) subs.new }
+    ensures others { (k : ℕ) → k < length past.now → slice_index_or subs.new.listed.items k false ≡ slice_index_or subs.old.listed.items k false }
+    ensures new { (g : ℕ) → is_subscriber_of g event ≡ true → slice_index_or subs.new.listed.items (length past.now) false ≡ true }
+{
+    let n = past.len();
+    if let Some(g) = event.subscribes_to() {
+        put_last(subs, g, n);
+    }
+}
+
+/// The open subscribers of hub `g`, from the last to the first.
+pub fn subscribers_of(
     alloc: Global,
     past: &[Event],
-    chain: &Subscribers,
+    subs: &Subscribers,
     g: u64,
 ) -> Result<Vec<u64>, AllocError>
-    requires chain { IsChained past.now chain.now }
-    requires within { g < length past.now }
-    ensures { IfOk result (λ v. v.items ≡ open_subscribers past.now g) }
+    requires linked { AreLinked past.now (length subs.now.listed.items) subs.now }
+    requires listed { AreOpenListed past.now subs.now }
+    ensures { IfOk result (λ v. (number : ℕ → ℕ) → sum_by number v.items ≡ sum_by number (open_subscribers past.now g)) }
 {
+    let _ = past;
     let mut found = Vec::new(alloc);
-    let mut s = chain.first[g as usize];
-    while s < past.len() as u64 {
+    let mut next = value_at(&subs.last, g);
+    while next > 0 {
+        let s = (next - 1) as u64;
         found.push(s)?;
-        s = chain.after[s as usize];
+        next = value_at(&subs.before, s);
     }
     Ok(found)
 }

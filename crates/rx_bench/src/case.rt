@@ -3,6 +3,8 @@
 ghost use Rattle.std.specs.Prelude.{◌≤◌};
 ghost use Rattle.rx_bench.specs.Cases.{most_of};
 
+use rx_shapes::{SHAPES, Shape};
+
 /// What can be measured. The operations of each are in the crate's head.
 #[derive(Clone, Copy)]
 pub enum Case {
@@ -26,10 +28,32 @@ pub enum Case {
     Share,
     /// Resources at one node of a book.
     Hold,
+    /// Leases that come and go at resources of a book.
+    Lease,
     /// A scenario in JSON, run over memory.
     Scenario,
+    /// The audit of a history of a shape.
+    Audit(Shape),
     /// Threads at one desk.
     Storm,
+}
+
+/// The word that asks for the audit of a history of this shape.
+fn audit_name(shape: Shape) -> &'static str {
+    match shape {
+        Shape::Roots => "audit-roots",
+        Shape::Items => "audit-items",
+        Shape::Cycle => "audit-cycle",
+        Shape::Chain => "audit-chain",
+        Shape::Resources => "audit-resources",
+        Shape::Flat => "audit-flat",
+        Shape::Switch => "audit-switch",
+        Shape::Until => "audit-until",
+        Shape::Subscribers => "audit-subscribers",
+        Shape::HubEnd => "audit-hub-end",
+        Shape::Hubs => "audit-hubs",
+        Shape::HubItems => "audit-hub-items",
+    }
 }
 
 impl Case {
@@ -46,7 +70,9 @@ impl Case {
             Case::Inner => "inner",
             Case::Share => "share",
             Case::Hold => "hold",
+            Case::Lease => "lease",
             Case::Scenario => "scenario",
+            Case::Audit(shape) => audit_name(shape),
             Case::Storm => "storm",
         }
     }
@@ -57,7 +83,9 @@ impl Case {
     {
         match self {
             Case::Timeline | Case::Trampoline | Case::Cycle | Case::Items => 10_000_000,
-            Case::Sorted | Case::Crowd | Case::Inner | Case::Share | Case::Hold => 1_000_000,
+            Case::Sorted | Case::Crowd | Case::Inner | Case::Share | Case::Hold | Case::Lease =>
+                1_000_000,
+            Case::Audit(_) => 1_000_000,
             Case::Chain => 100_000,
             Case::Scenario => 65_536,
             Case::Storm => 10_000,
@@ -65,8 +93,8 @@ impl Case {
     }
 }
 
-/// All of them.
-static CASES: [Case; 12] = [
+/// All of them but the audits.
+static CASES: [Case; 13] = [
     Case::Timeline,
     Case::Trampoline,
     Case::Sorted,
@@ -77,6 +105,7 @@ static CASES: [Case; 12] = [
     Case::Inner,
     Case::Share,
     Case::Hold,
+    Case::Lease,
     Case::Scenario,
     Case::Storm,
 ];
@@ -86,6 +115,11 @@ pub fn case_named(word: &str) -> Option<Case> {
     for &case in &CASES {
         if case.name() == word {
             return Some(case);
+        }
+    }
+    for &shape in &SHAPES {
+        if audit_name(shape) == word {
+            return Some(Case::Audit(shape));
         }
     }
     None

@@ -19,7 +19,9 @@
 //! | `inner` | a FlatMap with N inners below it; then N times an item projected, its inner opened and ended; then the disposal of the root | N: each inner that comes and goes |
 //! | `share` | one RefCount hub: N observers subscribe to it one after another, a leaf is opened at the source of its connection, an item emitted there and each observer's note taken, and they leave, the oldest first; then the same again, the newest first | 2N: each observer, which subscribes, is told the item and leaves |
 //! | `hold` | N resources held at one node, every second one removed, the disposal of the root, each resource taken and released | N: each resource |
+//! | `lease` | N resources held at one node; each is leased, used and given back, one after another; the disposal of the root, each resource taken and released | N: each lease that comes and goes |
 //! | `scenario` | the first N steps of this cycle, as a JSON text that is run by `rx_script` and reported: a Using root with one resource, a leaf at its source, two items, the end of the leaf or in each second cycle the disposal of the root, a drain. The text and the resources are made before the time begins | N: each step |
+//! | `audit-SHAPE` | the audit of a lawful history of N events of one of twelve shapes: `roots`, `items`, `cycle`, `chain`, `resources`, `flat`, `switch`, `until`, `subscribers`, `hub-end`, `hubs`, `hub-items`; N is at least 40. The history is made before the time begins | N: each event |
 //! | `storm` | a storm of 64 sources, 16 workers and N items of each source, with its start, its end and its figures | 64N: each item |
 //!
 //! The exit status is 0 where the case was run and what it did is written, 1 where memory, a call,
@@ -39,6 +41,7 @@
 #![tactic(auto)]
 
 mod agenda;
+mod audit;
 mod calls;
 mod case;
 mod chain;
@@ -48,6 +51,7 @@ mod done;
 mod hold;
 mod inner;
 mod items;
+mod lease;
 mod measure;
 mod order;
 mod program;

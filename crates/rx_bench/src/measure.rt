@@ -5,6 +5,7 @@ ghost use Rattle.std.specs.Duration.{as_nanos};
 ghost use Rattle.rx_bench.specs.Cases.{operations_of};
 
 use crate::agenda::run_orders;
+use crate::audit::{events_of, run_audit};
 use crate::case::Case;
 use crate::chain::run_chain;
 use crate::crowd::run_crowd;
@@ -13,6 +14,7 @@ use crate::done::{Done, Halt};
 use crate::hold::run_hold;
 use crate::inner::run_inner;
 use crate::items::run_items;
+use crate::lease::run_lease;
 use crate::scenario::{Scenario, run_scenario};
 use crate::share::run_share;
 use crate::sorted::SortedList;
@@ -20,6 +22,7 @@ use crate::storm::run_storm;
 use crate::times::{RUNS, Summary, summarize};
 use crate::words::Request;
 use rx_book::Book;
+use rx_event::Event;
 use rx_resource::Sample;
 use rx_time::{Timeline, Trampoline};
 use std::alloc::Global;
@@ -42,16 +45,18 @@ fn run_on_book(alloc: Global, request: Request) -> Result<Done, Halt>
         Case::Inner => run_inner(&mut book, size),
         Case::Share => run_share(alloc, &mut book, size),
         Case::Hold => run_hold(alloc, &mut book, size),
+        Case::Lease => run_lease(alloc, &mut book, size),
         _ => Err(Halt::Refused),
     }
 }
 
-/// Runs a case once, of which the scenario is made before.
+/// Runs a case once, of which the scenario, or the history, is made before.
 pub fn run<T: Threads + Wait + Sync>(
     rt: &T,
     alloc: Global,
     request: Request,
     scenario: Scenario,
+    events: &[Event],
 ) -> Result<Done, Halt>
     ensures { IfOk result (λ done. done.operations ≡ operations_of request.case request.size) }
 {
@@ -60,6 +65,7 @@ pub fn run<T: Threads + Wait + Sync>(
         Case::Trampoline => run_orders::<Trampoline<u64>>(alloc, request.size),
         Case::Sorted => run_orders::<SortedList>(alloc, request.size),
         Case::Scenario => run_scenario(alloc, scenario, request.size),
+        Case::Audit(_) => run_audit(alloc, events, request.size),
         Case::Storm => run_storm(rt, alloc, request.size),
         _ => run_on_book(alloc, request),
     }
@@ -75,7 +81,7 @@ fn tenths_each(took: Duration, operations: u64) -> u64
 }
 
 /// Runs a case once by this clock, and answers what it did and what an operation took. The making of
-/// a scenario is not timed.
+/// a scenario or a history is not timed.
 fn time_run<T: Threads + Wait + Sync, C: Clock>(
     rt: &T,
     clock: &C,
@@ -85,10 +91,11 @@ fn time_run<T: Threads + Wait + Sync, C: Clock>(
     ensures { IfOk result (λ r. r.0.operations ≡ operations_of request.case request.size) }
 {
     let scenario = Scenario::of(alloc, request)?;
+    let events = events_of(alloc, request)?;
     let Ok(start) = Instant::now(clock) else {
         return Err(Halt::Clock);
     };
-    let done = run(rt, alloc, request, scenario)?;
+    let done = run(rt, alloc, request, scenario, events.as_slice())?;
     match start.elapsed(clock) {
         Ok(took) => Ok((done, tenths_each(took, done.operations))),
         Err(_) => Err(Halt::Clock),

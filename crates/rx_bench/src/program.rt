@@ -1,5 +1,6 @@
 //! The program over any streams and clock.
 
+use crate::audit::events_of;
 use crate::case::Case;
 use crate::done::{Done, Halt};
 use crate::measure::{measure, run};
@@ -7,6 +8,7 @@ use crate::reading::request;
 use crate::scenario::Scenario;
 use crate::times::{RUNS, Summary};
 use crate::words::{Fault, Request};
+use rx_shapes::{LEAST, SHAPES};
 use std::alloc::Global;
 use std::convert::AsStr;
 use std::io;
@@ -84,8 +86,8 @@ fn bench<T: Threads + Wait + Sync, C: Clock, O: Write, E: Write>(
     Ok(())
 }
 
-/// Each case at a small size.
-static SMALL: [(Case, u64); 13] = [
+/// Each case but the audits at a small size.
+static SMALL: [(Case, u64); 14] = [
     (Case::Timeline, 1),
     (Case::Timeline, 2),
     (Case::Sorted, 2),
@@ -100,6 +102,8 @@ static SMALL: [(Case, u64); 13] = [
     // The resources 1 and 3 are removed, and then 0 and 2 are closed with their node. The first that waits is
     // handed out first: 1, 3, 0, 2, whose mark is ((2 * 31 + 4) * 31 + 1) * 31 + 3.
     (Case::Hold, 4),
+    // The numbers of the resources, 1 to 4.
+    (Case::Lease, 4),
     (Case::Scenario, 12),
     // The mark of the figures: 64 accepted, taken and released, 128 notes, 448 events.
     (Case::Storm, 1),
@@ -110,6 +114,23 @@ fn are_all<S: AsStr>(words: &[S]) -> bool {
     words.len() == 2 && words[1].as_str() == "all"
 }
 
+/// Runs a case once, and writes what was done.
+fn run_small<T: Threads + Wait + Sync, O: Write>(
+    rt: &T,
+    alloc: Global,
+    case: Case,
+    size: u64,
+    output: &mut O,
+) -> Result<(), Halt> {
+    let Some(request) = Request::of(case, size) else {
+        return Err(Halt::Refused);
+    };
+    let scenario = Scenario::of(alloc, request)?;
+    let events = events_of(alloc, request)?;
+    let done = run(rt, alloc, request, scenario, events.as_slice())?;
+    write_done(output, request, done)
+}
+
 /// Runs each case once at a small size, and writes what was done.
 fn run_all<T: Threads + Wait + Sync, O: Write>(
     rt: &T,
@@ -117,12 +138,10 @@ fn run_all<T: Threads + Wait + Sync, O: Write>(
     output: &mut O,
 ) -> Result<(), Halt> {
     for &(case, size) in &SMALL {
-        let Some(request) = Request::of(case, size) else {
-            return Err(Halt::Refused);
-        };
-        let scenario = Scenario::of(alloc, request)?;
-        let done = run(rt, alloc, request, scenario)?;
-        write_done(output, request, done)?;
+        run_small(rt, alloc, case, size, output)?;
+    }
+    for &shape in &SHAPES {
+        run_small(rt, alloc, Case::Audit(shape), LEAST, output)?;
     }
     Ok(())
 }

@@ -114,13 +114,16 @@ forced_out : (base : Kept) → {h k : List Event} → IsForcedOn base h k → (l
 forced_out base stays l out = out
 forced_out base (more {h} {k} {e} before is_forced) l out = forced_out base before l (out_before k e (forced_no_lease e (forced_kind base is_forced)) l out)
 
-pub step_out : (base : Kept) → {h k : List Event} (call : Call) → IsStepOf base h call k → list_all lends_none (outside_of h call) ≡ true →
+step_out : (base : Kept) → {h k : List Event} (call : Call) → IsStepOf base h call k → list_all lends_none (outside_of h call) ≡ true →
     (l : ℕ) → is_out k l ≡ true → is_out h l ≡ true
 step_out base {h} {k} call step none l out = out_before_all h (outside_of h call) none l (forced_out base step.forced l out)
 
 takes_out : (base : Kept) → {h k : List Event} → Takes base h k → (l : ℕ) → is_out k l ≡ true → is_out h l ≡ true
 takes_out base none_taken l out = out
 takes_out base (next_taken {m} {k} {r} before step) l out = takes_out base before l (step_out base (Taking r) step refl l out)
+
+pub disposed_out : (base : Kept) → {h k : List Event} (n : ℕ) → IsStepOf base h (Disposing n) k → (l : ℕ) → is_out k l ≡ true → is_out h l ≡ true
+disposed_out base n step = step_out base (Disposing n) step refl
 
 closings_lend_none : (cs : List ℕ) → list_all lends_none (map (λ c. Close c) cs) ≡ true
 closings_lend_none [] = refl

@@ -51,6 +51,8 @@ impl<R: Resource> Book<R> {
     /// Gives back all leases that are out. It takes no memory.
     fn return_leases(&mut self)
         ensures base { self.new.base ≡ self.old.base }
+        ensures limit { self.new.limit ≡ self.old.limit }
+        ensures given { self.new.given ≡ self.old.given }
         ensures none_out { (l : ℕ) → is_out self.new.history l ≡ false }
         ensures accepted { accepted_count self.new.base self.new.history ≡ accepted_count self.old.base self.old.history }
         ensures taken { taken_count self.new.base self.new.history ≡ taken_count self.old.base self.old.history }

@@ -14,6 +14,7 @@ pub(super) enum Asking {
     OpenUsing(At),
     Hold(Key),
     Apply(ResKey),
+    Lease(ResKey),
     Next(Key),
     Hub,
     // By hand, the hub of this number.
@@ -46,6 +47,10 @@ pub(super) fn ask(book: &mut Probe<Sample>, asking: Asking) -> Outcome {
             Err(back) => given_back(back),
         },
         Asking::Apply(res) => match book.apply(res, 1) {
+            Ok(_) => Outcome::Done(None),
+            Err(why) => refused(why),
+        },
+        Asking::Lease(res) => match book.lease(res) {
             Ok(_) => Outcome::Done(None),
             Err(why) => refused(why),
         },
@@ -84,13 +89,14 @@ fn given_back(back: Back) -> Outcome {
     }
 }
 
-// What is seen of a book before and after a call: its counts, how many nodes are open, its first root, and
-// whether that which the call names is there.
+// What is seen of a book before and after a call: its counts, how many nodes are open, its first root, how
+// many leases are out, and whether that which the call names is there.
 #[derive(Clone, Copy, PartialEq, Eq)]
 pub(super) struct Sight {
     totals: Totals,
     open: u64,
     root: Option<Key>,
+    leases: u64,
     is_there: bool,
 }
 
@@ -99,6 +105,7 @@ pub(super) fn sight_of(book: &Probe<Sample>, asking: Asking) -> Sight {
         totals: book.totals(),
         open: book.open_count(),
         root: book.open_root(),
+        leases: book.leases(),
         is_there: is_there(book, asking),
     }
 }
@@ -110,7 +117,7 @@ fn is_there(book: &Probe<Sample>, asking: Asking) -> bool {
             At::Source(node) | At::Inner(node) | At::Notifier(node) => book.is_open(node),
         },
         Asking::Hold(node) | Asking::Next(node) => book.is_open(node),
-        Asking::Apply(res) => book.is_held(res),
+        Asking::Apply(res) | Asking::Lease(res) => book.is_held(res),
         Asking::Hub | Asking::Connect(_) | Asking::Subscribe(_) => true,
     }
 }

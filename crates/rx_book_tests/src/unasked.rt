@@ -43,6 +43,7 @@ fn is_filled(alloc: Global, book: &mut Probe<Sample>, leaf: Key) -> Result<bool,
     for asking in [
         Asking::Open(At::Root),
         Asking::Hold(leaf),
+        Asking::Lease(res),
         Asking::Hub,
         Asking::Next(leaf),
         Asking::Apply(res),

@@ -81,6 +81,7 @@ enum Made {
     OpenBelow,
     Hold,
     Apply,
+    Lease,
     Next,
     Hub,
     Connect,
@@ -103,6 +104,7 @@ fn first_of(scene: &Scene, made: Made) -> Asking {
         Made::OpenBelow => Asking::Open(At::Source(scene.root)),
         Made::Hold => Asking::Hold(scene.root),
         Made::Apply => Asking::Apply(scene.res),
+        Made::Lease => Asking::Lease(scene.res),
         Made::Next => Asking::Next(scene.leaf),
         Made::Hub => Asking::Hub,
         Made::Connect => Asking::Connect(scene.manual),
@@ -129,7 +131,8 @@ fn releases_all(book: &mut Probe<Sample>) -> bool {
     book.close().released == accepted && book.totals().taken == accepted
 }
 
-// Whether such calls in a new book are refused more than twice in all, and each is done in the end.
+// Whether such calls in a new book are refused more than twice in all, change nothing then, and are each
+// done in the end.
 fn is_refused_first(alloc: Global, made: Made) -> Result<bool, Fail> {
     let mut scene = new_scene(alloc)?;
     let first = first_of(&scene, made);
@@ -138,20 +141,28 @@ fn is_refused_first(alloc: Global, made: Made) -> Result<bool, Fail> {
 }
 
 #[test]
-fn a_call_that_is_refused_memory_changes_nothing_and_is_done_where_there_is_some(
+fn an_opening_that_is_refused_memory_changes_nothing_and_is_done_where_there_is_some(
     rt: HostRuntime,
 ) -> Result<(), Fail> {
-    for made in [
-        Made::Open,
-        Made::OpenUsing,
-        Made::OpenBelow,
-        Made::Hold,
-        Made::Apply,
-        Made::Next,
-        Made::Hub,
-        Made::Connect,
-        Made::Subscribe,
-    ] {
+    for made in [Made::Open, Made::OpenUsing, Made::OpenBelow] {
+        assert!(rt; is_refused_first(rt.alloc(), made)?, "{made:?}");
+    }
+    Ok(())
+}
+
+#[test]
+fn a_call_on_a_node_or_a_resource_that_is_refused_memory_changes_nothing(
+    rt: HostRuntime,
+) -> Result<(), Fail> {
+    for made in [Made::Hold, Made::Apply, Made::Lease, Made::Next] {
+        assert!(rt; is_refused_first(rt.alloc(), made)?, "{made:?}");
+    }
+    Ok(())
+}
+
+#[test]
+fn a_call_on_hubs_that_is_refused_memory_changes_nothing(rt: HostRuntime) -> Result<(), Fail> {
+    for made in [Made::Hub, Made::Connect, Made::Subscribe] {
         assert!(rt; is_refused_first(rt.alloc(), made)?, "{made:?}");
     }
     Ok(())

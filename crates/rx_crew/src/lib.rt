@@ -8,7 +8,9 @@
 //!
 //! - The [`Floor`] is what lies behind the lock: the book, the totals of the ledgers, and whether the
 //!   desk is shut. It has the book's calls by the same names, but for those that release; of hubs too,
-//!   the published observables that threads share (Publish, Connect and RefCount, at reactivex.io).
+//!   the published observables that threads share (Publish, Connect and RefCount, at reactivex.io), and
+//!   of leases, which one thread may take out and another give back (RefCountDisposable of
+//!   System.Reactive).
 //! - `Counting` of `specs/` says what a call counts, `Verdicts` what [`finish`] answers.
 //!
 //! # Promised, and not
@@ -19,7 +21,7 @@
 //!   leaves the shut flag, and changes the caller's seat by one count or by nothing.
 //! - `finish` answers `Ok` exactly where the shares are the totals and each receipt's event stands at
 //!   its place, else the first that differs; with all parts only a receipt can differ. Where nothing
-//!   is open or waiting then, all that was accepted was taken.
+//!   is open or waiting then, and no lease is out, all that was accepted was taken.
 //! - Not promised: how long a thread waits for the lock, which of several gets it, and what other
 //!   threads did between two holds of it.
 #![tactic(auto)]

@@ -11,7 +11,8 @@ pub fn run(rt: &impl Print, book: &mut Book<File>) -> Result<(), Stopped> {
     merge(rt, book)?;
     latest(rt, book)?;
     until(rt, book)?;
-    carry(rt, book)
+    carry(rt, book)?;
+    lend(rt, book)
 }
 
 /// Subscribes with a file, passes one item and the end on, tells the observer and releases the file; then
@@ -99,6 +100,22 @@ fn carry(rt: &impl Print, book: &mut Book<File>) -> Result<(), Stopped> {
     }
     book.dispose(quotes)?;
     Ok(())
+}
+
+/// Lends a subscription's connection to a request that outlives it: the connection stays until the request
+/// gives its lease back (a dependent of RefCountDisposable).
+fn lend(rt: &impl Print, book: &mut Book<File>) -> Result<(), Stopped> {
+    let page = book.open_using(At::Root, File::open(15))?;
+    let request = book.lease(page.res)?;
+    book.dispose(page.key)?;
+    tell(rt, book)?;
+    let answer = book.apply(page.res, 3)?;
+    println!(rt;
+        "file 15 answers {answer}, with {} lease out",
+        book.leases()
+    )?;
+    book.give_back(request)?;
+    tell(rt, book)
 }
 
 /// The text that a note brings; None where it is no item, or no text has its number.

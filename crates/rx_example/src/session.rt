@@ -6,12 +6,14 @@ ghost use Rattle.rx_event.specs.Totals.{accepted_count, taken_count, held_count,
 use crate::file::File;
 use rx_book::{Book, Closed};
 
-/// Empties the book: afterwards nothing is open, held or waiting, and each file that it ever accepted was
-/// handed out for its release. Answers how many files this call released, and with how many faults.
+/// Empties the book: afterwards nothing is open, held or waiting, no lease is out, and each file that it ever
+/// accepted was handed out for its release. Answers how many files this call released, and with how many
+/// faults.
 pub fn finish(book: &mut Book<File>) -> Closed
     ensures none_open { book.new.keys ≡ [] }
     ensures none_held { book.new.held ≡ [] }
     ensures none_waits { book.new.waiting ≡ [] }
+    ensures none_out { book.new.lease_keys ≡ [] }
     ensures all_taken { taken_count book.new.base book.new.history ≡ accepted_count book.old.base book.old.history }
     ensures released { result.released ≡ held_count book.old.history + waiting_count book.old.history }
 {

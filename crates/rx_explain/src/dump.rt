@@ -9,7 +9,7 @@ use std::alloc::Global;
 /// What an event is.
 const EVENT: Wanted = Wanted::Word(EVENTS);
 
-/// The number of a node, a hub or a resource, or a tag.
+/// The number of a node, a hub, a resource or a lease, or a tag.
 const NUMBER: Wanted = Wanted::Number(0, u64::MAX);
 
 /// An error's code.
@@ -87,7 +87,7 @@ fn event_fault(alloc: Global, event: &Value) -> Walk {
         "accept" => elements_fault(alloc, event, &[EVENT, NUMBER, NUMBER]),
         "item" => elements_fault(alloc, event, &[EVENT, NUMBER, Wanted::Item]),
         "end" => end_fault(alloc, event),
-        "connect" | "use" | "remove" | "decline" | "close" | "take" => {
+        "connect" | "use" | "remove" | "lease" | "return" | "decline" | "close" | "take" => {
             elements_fault(alloc, event, &[EVENT, NUMBER])
         }
         _ => elements_fault(alloc, event, &[EVENT]),

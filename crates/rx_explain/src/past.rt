@@ -1,6 +1,9 @@
 //! A settled history, and what is open, held and waiting at its end.
 
+use crate::walk::Stop;
 use rx_event::{Event, Place};
+use std::alloc::Global;
+use std::collections::HashSet;
 
 /// A settled history, with the numbers of the open nodes and of the resources that are held and that
 /// wait, as the audit found them.
@@ -68,4 +71,33 @@ pub fn place_of(events: &[Event], wanted: Event) -> Option<usize> {
         }
     }
     None
+}
+
+/// The last event that gave a lease of this resource back.
+pub fn last_return_of(events: &[Event], resource: u64) -> Option<usize> {
+    let mut last = None;
+    for (place, event) in events.iter().enumerate() {
+        if let Event::Return(lease) = event {
+            if event_at(events, *lease) == Some(Event::Lease(resource)) {
+                last = Some(place);
+            }
+        }
+    }
+    last
+}
+
+/// The first lease of this resource that is out.
+pub fn lease_out(alloc: Global, events: &[Event], resource: u64) -> Result<Option<usize>, Stop> {
+    let mut returned = HashSet::new(alloc);
+    for event in events {
+        if let Event::Return(lease) = event {
+            let _is_new = returned.insert(*lease)?;
+        }
+    }
+    for (place, event) in events.iter().enumerate() {
+        if *event == Event::Lease(resource) && !returned.contains(&(place as u64)) {
+            return Ok(Some(place));
+        }
+    }
+    Ok(None)
 }

@@ -1,11 +1,11 @@
 //! Which rule an event breaks that comes after a settled history.
 
 use crate::forced::may_follow;
-use crate::past::{Past, end_of, event_at, opening_at, place_of};
+use crate::past::{Past, end_of, event_at, last_return_of, lease_out, opening_at, place_of};
 use crate::walk::{Walk, tell};
 use rx_event::{Event, Kind, Place};
 use rx_note::Terminal;
-use std::alloc::Global;
+use std::alloc::{AllocError, Global};
 
 /// How many nodes may be open.
 const MOST_NODES: usize = 1_048_576;
@@ -136,23 +136,55 @@ fn gone_resource(alloc: Global, past: Past<'_>, resource: u64) -> Walk {
     }
 }
 
-// Why a resource is not held.
+// That the last lease of a resource was given back, as the end of a sentence; nothing where it had none.
+fn no_lease_left(alloc: Global, past: Past<'_>, resource: u64) -> Result<String, AllocError> {
+    match last_return_of(past.events, resource) {
+        Some(end) => format!(in alloc; ", and its last lease was given back, by event {end}"),
+        None => Ok(String::new(alloc)),
+    }
+}
+
+// Why the node of a resource does not own it.
+fn unowned(alloc: Global, past: Past<'_>, resource: u64) -> Result<String, AllocError> {
+    match place_of(past.events, Event::Remove(resource)) {
+        Some(removal) => format!(in alloc; "event {removal} removed it"),
+        None => String::from_str(alloc, "its node is closed"),
+    }
+}
+
+// Why a resource is not held, or is held by leases alone.
 fn held_rule(alloc: Global, past: Past<'_>, resource: u64) -> Walk {
     gone_resource(alloc, past, resource)?;
-    match place_of(past.events, Event::Remove(resource)) {
-        Some(removal) => tell(format!(in alloc;
-            "resource {resource} is not held: event {removal} removed it"
-        )),
-        None => tell(format!(in alloc; "resource {resource} is not held: its node is closed")),
+    let reason = unowned(alloc, past, resource)?;
+    if past.held.contains(&resource) {
+        return tell(format!(in alloc; "leases alone hold resource {resource}: {reason}"));
+    }
+    let ending = no_lease_left(alloc, past, resource)?;
+    tell(format!(in alloc; "resource {resource} is not held: {reason}{ending}"))
+}
+
+// Why a lease is not out.
+fn return_rule(alloc: Global, past: Past<'_>, lease: u64) -> Walk {
+    if !event_at(past.events, lease).is_some_and(Event::makes_lease) {
+        return tell(format!(in alloc; "there is no lease {lease}"));
+    }
+    match place_of(past.events, Event::Return(lease)) {
+        Some(end) => tell(format!(in alloc; "lease {lease} was given back, by event {end}")),
+        None => Ok(()),
     }
 }
 
 // Why a resource does not wait to be handed out.
 fn take_rule(alloc: Global, past: Past<'_>, resource: u64) -> Walk {
     gone_resource(alloc, past, resource)?;
-    tell(format!(in alloc;
-        "resource {resource} is still held: it waits once it is removed or its node is closed"
-    ))
+    match lease_out(alloc, past.events, resource)? {
+        Some(lease) => tell(format!(in alloc;
+            "resource {resource} is still held: lease {lease} of it is out"
+        )),
+        None => tell(format!(in alloc;
+            "resource {resource} is still held: it waits once it is removed or its node is closed"
+        )),
+    }
 }
 
 // Why a leaf may not emit.
@@ -213,7 +245,10 @@ pub fn broken_rule(alloc: Global, past: Past<'_>, event: Event) -> Walk {
         Event::Hub(_) => say(alloc, "there are 1024 hubs already"),
         Event::Connect(hub) => connect_rule(alloc, past, hub),
         Event::Accept(node, _) => not_open(alloc, past, node),
-        Event::Use(resource) | Event::Remove(resource) => held_rule(alloc, past, resource),
+        Event::Use(resource) | Event::Remove(resource) | Event::Lease(resource) => {
+            held_rule(alloc, past, resource)
+        }
+        Event::Return(lease) => return_rule(alloc, past, lease),
         Event::Item(leaf, _) => item_rule(alloc, past, leaf),
         Event::Decline(node) => decline_rule(alloc, past, node),
         Event::End(node, terminal) => end_rule(alloc, past, node, terminal),

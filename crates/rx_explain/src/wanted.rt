@@ -7,7 +7,7 @@ use std::alloc::{AllocError, Global};
 /// What is expected of a value.
 #[derive(Clone, Copy)]
 pub enum Wanted {
-    /// A name of a node, a hub, a resource or a step.
+    /// A name of a node, a hub, a resource, a lease or a step.
     Name,
     /// A whole number from the one to the other.
     Number(u64, u64),

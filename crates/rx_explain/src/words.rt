@@ -2,7 +2,7 @@
 
 /// What a step may do.
 pub const COMMANDS: &str =
-    "using, open, hold, apply, remove, next, end, abort, decline, fail, dispose, hub, connect, disconnect, drain, cancel";
+    "using, open, hold, apply, remove, lease, return, next, end, abort, decline, fail, dispose, hub, connect, disconnect, drain, cancel";
 
 /// The members that every step may have.
 pub const OF_STEPS: &str = "do, label, at, after, then";
@@ -23,7 +23,8 @@ pub const MODES: &str = "auto, manual";
 pub const ENDS: &str = "completed, error";
 
 /// What an event of a dump is.
-pub const EVENTS: &str = "open, hub, connect, accept, use, remove, item, decline, end, close, take";
+pub const EVENTS: &str =
+    "open, hub, connect, accept, use, remove, lease, return, item, decline, end, close, take";
 
 /// The members of a command, beside those that every step may have.
 pub fn members_of(command: &str) -> &'static str {
@@ -33,6 +34,8 @@ pub fn members_of(command: &str) -> &'static str {
         "hold" => "node, res",
         "apply" => "res, word",
         "remove" => "res",
+        "lease" => "res, name",
+        "return" => "lease",
         "next" => "node, value",
         "end" | "abort" | "fail" => "node, error",
         "decline" | "dispose" => "node",

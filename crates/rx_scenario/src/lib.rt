@@ -5,8 +5,8 @@
 //! - A [`Scenario`] is a list of [`Step`]s, how many events the book may have, and when time ends. A
 //!   step waits in virtual time for the moment that it names; what it does is its [`Action`], which is a
 //!   [`Command`] of the book but for the one that takes a waiting step off; and it may be followed by
-//!   other steps. A command goes by the names that earlier ones gave to nodes, hubs and resources; a
-//!   [`Site`] is where a node is opened, and a [`Sort`] is what it does.
+//!   other steps. A command goes by the names that earlier ones gave to nodes, hubs, resources and
+//!   leases; a [`Site`] is where a node is opened, and a [`Sort`] is what it does.
 //! - Contracts see names as their bytes (`specs/Scenario.antt`). Which JSON values are scenarios, and
 //!   which scenario, is defined in `specs/Reading.antt`; [`scenario_of`] decides it.
 //!
@@ -14,9 +14,9 @@
 //!
 //! - [`scenario_of`] gives the scenario that a value is, and `Shape` where it is none, exactly. That
 //!   `Memory` is given only where memory was refused is tested above.
-//! - There are the commands `using`, `open`, `hold`, `apply`, `remove`, `next`, `end`, `abort`,
-//!   `decline`, `fail`, `dispose`, `hub`, `connect`, `disconnect`, `drain` and `cancel`, at every place,
-//!   for every kind of node. Anything else is `Shape`.
+//! - There are the commands `using`, `open`, `hold`, `apply`, `remove`, `lease`, `return`, `next`,
+//!   `end`, `abort`, `decline`, `fail`, `dispose`, `hub`, `connect`, `disconnect`, `drain` and `cancel`,
+//!   at every place, for every kind of node. Anything else is `Shape`.
 #![tactic(auto)]
 
 mod reading;

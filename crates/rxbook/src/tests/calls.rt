@@ -235,6 +235,9 @@ The exit status is
   4  in want of memory
   5  where the verdict is another, or a storm does not agree with its book
 
+What is wrong with an input that is answered by 3 or 5, and where, another program says in a sentence:
+  ./rxbook explain < FILE
+
 docs/FORMATS.md tells of scenario, report, dump, verdict and statuses.
 ";
 
@@ -251,7 +254,8 @@ A scenario is one JSON object, with its steps, of at most 16777216 bytes; as in
   rxbook run < first-run.json
 
 The exit status is 0 where it is done, 1 where the input or the output failed, 3 where the input is no
-scenario, 4 in want of memory. docs/FORMATS.md tells of scenario, report and dump.
+scenario, 4 in want of memory. What is wrong with a scenario, ./rxbook explain says. docs/FORMATS.md tells
+of scenario, report and dump.
 ";
 
 const AUDIT_HELP: &str = "\
@@ -266,7 +270,8 @@ A dump is one JSON array of events, oldest first, of at most 16777216 bytes; as 
   rxbook audit < dispose-twice.dump
 
 The exit status is 0 where the verdict is lawful and 5 where it is another, 1 where the input or the
-output failed, 3 where the input is no dump, 4 in want of memory. docs/FORMATS.md tells of dump and verdict.
+output failed, 3 where the input is no dump, 4 in want of memory. What is wrong with a dump, ./rxbook explain
+says. docs/FORMATS.md tells of dump and verdict.
 ";
 
 const STORM_HELP: &str = "\

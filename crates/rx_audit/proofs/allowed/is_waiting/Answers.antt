@@ -1,7 +1,6 @@
 use Rattle.std.proofs.Common.{sym}
 use Rattle.rx_event.specs.Events.{makes_resource}
 use Rattle.rx_event.proofs.Laws.Places.{at_within}
-use Rattle.rx_audit.proofs.Surveying.{}
 use Rattle.rx_audit.proofs.Allowing.{waiting_at, not_waiting}
 use Rattle.rx_audit.proofs.allowed.is_waiting.Goals as goal
 

@@ -1,4 +1,6 @@
-use Rattle.std.proofs.Common.{◌≡◌, ◌+◌, ◌-◌, length}
+use Rattle.std.proofs.Common.{◌≡◌, ℕ, ◌+◌, ◌-◌, true, false, length, get_or}
+use Rattle.rx_event.specs.Tree.{is_open}
+use Rattle.rx_audit.specs.Latest.{IsNoted}
 use Rattle.rx_audit.specs.Tables.{mark_count}
 use Rattle.rx_audit.proofs.ClosingBelow.{IsPassing}
 use Rattle.rx_audit.proofs.closing.close_from.Given as goal
@@ -6,6 +8,7 @@ use Rattle.rx_audit.proofs.closing.close_from.Given as goal
 abbrev pub invariant-loop-i : goal.invariant-loop-i
 invariant-loop-i l = record {
   passing : IsPassing l.past l.fn.event l.i l.marks l.todo.items;
+  noted : (n : ℕ) → is_open l.past n ≡ true → get_or l.marks n false ≡ false → IsNoted 0 l.todo.items n;
   balance : mark_count l.marks + length l.todo.items ≡ mark_count l.initial.marks + 1;
 }
 

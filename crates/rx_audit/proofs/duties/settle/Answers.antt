@@ -1,18 +1,37 @@
 use Rattle.std.proofs.Common.{sym, arith, refl}
 use Rattle.std.proofs.lemmas.Bool.{false≢true}
-use Rattle.rx_audit.proofs.Covering.{due_unsettled, none_settled, noted_none}
+use Rattle.rx_audit.proofs.Covering.{noted_none}
+use Rattle.rx_audit.proofs.Due.{no_connect_due}
+use Rattle.rx_audit.proofs.Following.{known_due}
+use Rattle.rx_audit.proofs.DueLists.{acts_unsettled, none_acts_settled, waits_unsettled}
 use Rattle.rx_audit.proofs.duties.settle.Goals as goal
 
-pub returns-then-node_due-clause-answer : goal.returns-then-node_due-clause-answer
-returns-then-node_due-clause-answer c = (
+pub returns-then-any_connect_due-clause-answer : goal.returns-then-any_connect_due-clause-answer
+returns-then-any_connect_due-clause-answer c = (
+  λ no_so. absurd (false≢true no_so),
+  λ settled. absurd (waits_unsettled c.args.past.now (sym c.if-any_connect_due.ensures) settled),
+)
+
+pub returns-then-acts-clause-answer : goal.returns-then-acts-clause-answer
+returns-then-acts-clause-answer c = (
   λ no_so. absurd (false≢true no_so),
   λ settled. absurd
-      (due_unsettled c.args.past.now c.index-n.result.now c.requires.hubless (sym c.if-node_due.ensures) settled),
+      (acts_unsettled c.args.past.now c.index-n.result.now (no_connect_due c.args.past.now (sym c.if-any_connect_due.ensures)) (sym c.if-acts.ensures) settled),
 )
 
 pub returns-clause-answer : goal.returns-clause-answer
 returns-clause-answer c = (
-  λ yes_so. none_settled c.args.past.now c.requires.lawful c.requires.hubless
-      (λ n y. noted_none c.loop-left.due.items n c.loop-left.left (omega arith) (c.loop-left.invariant.covered n y)),
+  λ yes_so. none_acts_settled c.args.past.now (no_connect_due c.args.past.now (sym c.if-any_connect_due.ensures))
+      (λ n y. noted_none c.loop-left.nodes.due.items n c.loop-left.left (omega arith) (c.loop-left.invariant.covered n y)),
   λ settled. refl,
 )
+
+pub returns-then-acts-clause-known : goal.returns-then-acts-clause-known
+returns-then-acts-clause-known c =
+    known_due c.args.past.now c.args.live.now c.loop-left.nodes _ c.loop-left.invariant.known refl refl refl refl
+    (λ n y. rw c.keep_first.ensures (c.loop-left.invariant.covered n y))
+
+pub returns-clause-known : goal.returns-clause-known
+returns-clause-known c =
+    known_due c.args.past.now c.args.live.now c.loop-left.nodes _ c.loop-left.invariant.known refl refl refl refl
+    (λ n y. absurd (noted_none c.loop-left.nodes.due.items n c.loop-left.left (omega arith) (c.loop-left.invariant.covered n y)))

@@ -1,5 +1,4 @@
-use Rattle.std.proofs.Common.{ap, ◌∙◌, length}
-use Rattle.rx_audit.specs.Tables.{IsTally, counts_with, counts_less}
+use Rattle.std.proofs.Common.{length, arith}
 use Rattle.rx_audit.proofs.Lending.{leases_found, leases_long, leases_few}
 use Rattle.rx_audit.proofs.found.find_leases.Goals as goal
 
@@ -17,3 +16,6 @@ pub returns-clause-few : goal.returns-clause-few
 returns-clause-few c =
     rw (c.count_less.ensures, c.count.ensures)
     (leases_few c.args.leases.now c.leased.result c.given_back.result (length c.args.past.now) c.requires.few)
+
+pub count-requires : goal.count-requires
+count-requires c = λ n. let few = c.requires.few n in let room = c.requires.room in omega arith

@@ -1,6 +1,6 @@
 use Rattle.std.proofs.Common.{false, length, arith, refl, sym, ap, ◌∙◌}
 use Rattle.std.proofs.lemmas.List.{length-replicate}
-use Rattle.rx_audit.proofs.Finding.{no_table, none_marked, no_tally, nothing_fired, nothing_projected, nothing_leased, nothing_live}
+use Rattle.rx_audit.proofs.Finding.{no_table, none_marked, no_tally, nothing_leased, nothing_live}
 use Rattle.rx_audit.proofs.found.nothing_found.Goals as goal
 
 pub returns : goal.returns
@@ -8,31 +8,13 @@ returns c = record {
   live = rw c.in_ok-unmarked.ensures (no_table c.args.size _ nothing_live);
   live_size = ap length c.in_ok-unmarked.ensures ∙ length-replicate c.args.size false;
   live_count = rw c.in_ok-unmarked.ensures (none_marked c.args.size);
-  ended = rw c.in_ok-unmarked-2.ensures (λ n l. no_table c.args.size (λ n. false) (λ n. refl) n);
-  ended_size = ap length c.in_ok-unmarked-2.ensures ∙ length-replicate c.args.size false;
-  failed = rw c.in_ok-unmarked-3.ensures (λ n l. no_table c.args.size (λ n. false) (λ n. refl) n);
-  failed_size = ap length c.in_ok-unmarked-3.ensures ∙ length-replicate c.args.size false;
-  completed = rw c.in_ok-unmarked-4.ensures (λ n l. no_table c.args.size (λ n. false) (λ n. refl) n);
-  completed_size = ap length c.in_ok-unmarked-4.ensures ∙ length-replicate c.args.size false;
-  removed = rw c.in_ok-unmarked-5.ensures (λ n l. no_table c.args.size (λ n. false) (λ n. refl) n);
-  removed_size = ap length c.in_ok-unmarked-5.ensures ∙ length-replicate c.args.size false;
-  returned = rw c.in_ok-unmarked-6.ensures (λ n l. no_table c.args.size (λ n. false) (λ n. refl) n);
-  returned_size = ap length c.in_ok-unmarked-6.ensures ∙ length-replicate c.args.size false;
-  leases = rw c.in_ok-uncounted.ensures (λ n l. no_tally c.args.size n ∙ sym (nothing_leased n));
-  leases_size = ap length c.in_ok-uncounted.ensures ∙ length-replicate c.args.size 0;
-  leases_few = rw c.in_ok-uncounted.ensures (λ n. let e = no_tally c.args.size n in omega arith);
-  taken = rw c.in_ok-unmarked-7.ensures (λ n l. no_table c.args.size (λ n. false) (λ n. refl) n);
-  taken_size = ap length c.in_ok-unmarked-7.ensures ∙ length-replicate c.args.size false;
-  fired = rw c.in_ok-unmarked-8.ensures (λ n l. no_table c.args.size _ nothing_fired n);
-  fired_size = ap length c.in_ok-unmarked-8.ensures ∙ length-replicate c.args.size false;
-  projected = rw c.in_ok-uncounted-2.ensures (λ n l. no_tally c.args.size n ∙ sym (nothing_projected n));
-  projected_size = ap length c.in_ok-uncounted-2.ensures ∙ length-replicate c.args.size 0;
-  projected_few = rw c.in_ok-uncounted-2.ensures (λ n. let e = no_tally c.args.size n in omega arith);
-  paid = rw c.in_ok-uncounted-3.ensures (λ n l. no_tally c.args.size n);
-  paid_size = ap length c.in_ok-uncounted-3.ensures ∙ length-replicate c.args.size 0;
-  paid_few = rw c.in_ok-uncounted-3.ensures (λ n. let e = no_tally c.args.size n in omega arith);
-  sourced = rw c.in_ok-unmarked-9.ensures (λ n l. no_table c.args.size (λ n. false) (λ n. refl) n);
-  sourced_size = ap length c.in_ok-unmarked-9.ensures ∙ length-replicate c.args.size false;
-  notified = rw c.in_ok-unmarked-10.ensures (λ n l. no_table c.args.size (λ n. false) (λ n. refl) n);
-  notified_size = ap length c.in_ok-unmarked-10.ensures ∙ length-replicate c.args.size false;
+  removed = rw c.in_ok-unmarked-2.ensures (λ n l. no_table c.args.size (λ n. false) (λ n. refl) n);
+  removed_size = ap length c.in_ok-unmarked-2.ensures ∙ length-replicate c.args.size false;
+  returned = rw c.in_ok-unmarked-3.ensures (λ n l. no_table c.args.size (λ n. false) (λ n. refl) n);
+  returned_size = ap length c.in_ok-unmarked-3.ensures ∙ length-replicate c.args.size false;
+  leases = rw c.in_ok-zeros.ensures (λ n l. no_tally c.args.size n ∙ sym (nothing_leased n));
+  leases_size = ap length c.in_ok-zeros.ensures ∙ length-replicate c.args.size 0;
+  leases_few = rw c.in_ok-zeros.ensures (λ n. let e = no_tally c.args.size n in omega arith);
+  taken = rw c.in_ok-unmarked-4.ensures (λ n l. no_table c.args.size (λ n. false) (λ n. refl) n);
+  taken_size = ap length c.in_ok-unmarked-4.ensures ∙ length-replicate c.args.size false;
 }

@@ -1,5 +1,4 @@
-use Rattle.std.proofs.Common.{◌≡◌, ℕ, ◌+◌, ◌*◌, ◌≤◌, List, drop, length, refl, sym, ap, ◌∙◌, arith}
-use Rattle.std.specs.Option.{option_copied}
+use Rattle.std.proofs.Common.{◌≡◌, ℕ, ◌+◌, ◌*◌, ◌≤◌, List, drop, length, refl, ap, ◌∙◌, arith}
 use Rattle.std.specs.List.{sum_by}
 use Rattle.rx_audit.specs.Flow.{times}
 use Rattle.rx_audit.proofs.Logging.{read_at}
@@ -56,6 +55,3 @@ loop-i-preserved c =
     rw product (flow_step c.args.past.now c.args.leaf i log c.spread.new.log.items c.loop-i.total v next.items
     (omega arith) c.index-visit.ensures c.in_ok-next.ensures c.in_ok-spread.ensures.kept
     more c.in_ok-spread.ensures.often c.in_ok-spread.ensures.grows few inv)
-
-pub onward-requires-clause-chain : goal.onward-requires-clause-chain
-onward-requires-clause-chain c = λ x e. c.in_ok-chain.ensures x.now (sym c.as_ref-lists.ensures.value ∙ ap option_copied e)

@@ -1,10 +1,8 @@
-use Rattle.std.proofs.Common.{◌≡◌, true, length, take}
+use Rattle.std.proofs.Common.{length, take}
 use Rattle.rx_event.specs.Kept.{nothing_kept}
-use Rattle.rx_event.specs.Forced.{IsSettled}
 use Rattle.rx_event.specs.Lawful.{IsLawful}
 use Rattle.rx_audit.specs.Found.{IsFound}
-use Rattle.rx_audit.specs.Hubless.{IsFollowed}
-use Rattle.rx_audit.specs.Survey.{IsSized}
+use Rattle.rx_audit.specs.Standing.{IsFollowed}
 use Rattle.rx_audit.proofs.verdict.first_unlawful.Given as goal
 
 abbrev pub invariant-loop-i : goal.invariant-loop-i
@@ -12,6 +10,4 @@ invariant-loop-i l = record {
   lawful : IsLawful nothing_kept (take l.i l.events);
   found : IsFound (take l.i l.events) (length l.events) l.found;
   followed : IsFollowed (take l.i l.events) (length l.events) l.nodes;
-  sized : IsSized (length l.events) l.survey;
-  settled : l.known ≡ true → IsSettled nothing_kept (take l.i l.events);
 }

@@ -1,9 +1,11 @@
-use Rattle.std.proofs.Common.{sym}
-use Rattle.rx_audit.proofs.Judging.{forced_answer, unsettled_answer}
+use Rattle.std.proofs.lemmas.Bool.{both_ways}
+use Rattle.rx_audit.proofs.Judging.{forced_follows, unforced_follows}
 use Rattle.rx_audit.proofs.verdict.may_follow_unsettled.Goals as goal
 
 pub returns-then-is_forced : goal.returns-then-is_forced
-returns-then-is_forced c = forced_answer c.args.past.now c.args.event (sym c.if-is_forced.ensures)
+returns-then-is_forced c = forced_follows c.args.past.now c.args.event (c.is_forced.ensures.0 c.if-is_forced.true)
 
 pub returns : goal.returns
-returns c = unsettled_answer c.args.past.now c.args.event c.is_opened_with.result (sym c.if-is_forced.ensures) c.requires.unsettled c.is_opened_with.ensures
+returns c =
+    unforced_follows c.args.past.now c.args.event c.is_opened_with.result
+    (λ f. both_ways c.is_forced.result c.if-is_forced.false (c.is_forced.ensures.1 f)) c.requires.unsettled c.is_opened_with.ensures

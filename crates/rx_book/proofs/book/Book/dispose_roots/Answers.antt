@@ -1,7 +1,7 @@
 use Rattle.std.proofs.Common.{refl, ap, ◌∙◌, arith}
 use Rattle.rx_event.specs.Kept.{Kept}
 use Rattle.rx_event.specs.Totals.{accepted_count, taken_count}
-use Rattle.rx_book.proofs.Closings.{step_out, disposed_taken, disposed_accepted, root_found, root_missing, disposable, less_room}
+use Rattle.rx_book.proofs.Closings.{disposed_out, disposed_taken, disposed_accepted, root_found, root_missing, disposable, less_room}
 use Rattle.rx_book.proofs.book.Book.dispose_roots.Goals as goal
 
 pub loop-root-smaller : goal.loop-root-smaller
@@ -13,7 +13,7 @@ loop-root-preserved g c = record {
   base = c.in-Ok.ensures.accepted.base ∙ c.loop-root.invariant.base;
   limit = c.in-Ok.ensures.accepted.limit ∙ c.loop-root.invariant.limit;
   given = c.in-Ok.ensures.accepted.given ∙ c.loop-root.invariant.given;
-  out = λ l found. c.loop-root.invariant.out l (step_out _ _ c.in-Ok.ensures.accepted.step refl l found);
+  out = λ l found. c.loop-root.invariant.out l (disposed_out _ c.in-Some.root.number c.in-Ok.ensures.accepted.step l found);
   accepted = ap (λ (b : Kept). accepted_count b c.dispose.new.self.history) c.in-Ok.ensures.accepted.base ∙ disposed_accepted _ _ _ _ c.in-Ok.ensures.accepted.step ∙ c.loop-root.invariant.accepted;
   taken = ap (λ (b : Kept). taken_count b c.dispose.new.self.history) c.in-Ok.ensures.accepted.base ∙ disposed_taken _ _ _ _ c.in-Ok.ensures.accepted.step ∙ c.loop-root.invariant.taken;
 }

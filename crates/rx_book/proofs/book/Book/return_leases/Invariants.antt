@@ -8,6 +8,8 @@ abbrev pub invariant-loop-lease : goal.invariant-loop-lease
 invariant-loop-lease g l = record {
   kept : IsPromised l.self;
   base : l.self.base ≡ l.initial.self.base;
+  limit : l.self.limit ≡ l.initial.self.limit;
+  given : l.self.given ≡ l.initial.self.given;
   accepted : accepted_count l.self.base l.self.history ≡ accepted_count l.initial.self.base l.initial.self.history;
   taken : taken_count l.self.base l.self.history ≡ taken_count l.initial.self.base l.initial.self.history;
 }

@@ -1,0 +1,268 @@
+-- What has to end or to close after one more event is on the list.
+use Rattle.std.proofs.Common.{◌≡◌, ℕ, zero, suc, ◌+◌, ◌-◌, ◌<◌, ◌≤◌, Bool, true, false, List, [], ◌∷◌, ◌++◌, length, Some, None, refl, sym, ap, ◌∙◌, arith, inl, inr, ◌⊎◌, get_or, slice_get}
+use Rattle.std.proofs.Math.Bool.{◌&&◌, ◌||◌}
+use Rattle.std.specs.Option.{option_and_then, option_map_or}
+use Rattle.std.proofs.lemmas.Bool.{cases_order, both_ways, false≢true, and_parts, eq-eqb}
+use Rattle.std.proofs.lemmas.Option.{slice_get_within, same_Some, none-some}
+use Rattle.rx_note.specs.declared.note.Terminal.{Terminal}
+use Rattle.rx_event.specs.Kept.{nothing_kept}
+use Rattle.rx_event.specs.declared.event.Event.{Event}
+use Rattle.rx_event.specs.declared.event.Event.TheVariants.{Connect, End, Close}
+use Rattle.rx_event.specs.Events.{is_subscriber_of, is_connect_of}
+use Rattle.rx_event.specs.Tree.{at, is_open}
+use Rattle.rx_event.specs.Marks.{marks_of}
+use Rattle.rx_event.specs.Forced.{connecting, cut, left, due, IsDue, IsConnected, IsSettled, SourceEnded}
+use Rattle.rx_event.specs.Lawful.{IsLawful, MayFollow}
+use Rattle.rx_event.specs.Claims.Connections.{EndsSource, HowLeft, left_before, subscriber_gone, connected_now}
+use Rattle.rx_event.proofs.Laws.Openness.{is_open_within}
+use Rattle.rx_event.proofs.Laws.Places.{at_within}
+use Rattle.rx_event.proofs.Laws.Stands.{event_at}
+use Rattle.rx_event.proofs.Laws.Hubs.{subscriber_hub}
+use Rattle.rx_event.proofs.Laws.OneEnd.{open_old}
+use Rattle.rx_event.proofs.Laws.MarksDue.{due_at_forced, settled_by_marks}
+use Rattle.rx_event.proofs.Laws.Connections.{last_connection, source_ended_or_now, left_or_now}
+use Rattle.rx_audit.specs.declared.hubs.Hubs.{Hubs}
+use Rattle.rx_audit.specs.Latest.{keyed, IsNoted, AreClosed, last_below}
+use Rattle.rx_audit.specs.Marking.{node_due, due_made, IsCovered}
+use Rattle.rx_audit.specs.HubTables.{AreHubs}
+use Rattle.rx_audit.specs.declared.subscribers.Subscribers.{Subscribers}
+use Rattle.rx_audit.specs.Listed.{on_list, AreLinked, AreOpenListed, number_of}
+use Rattle.rx_audit.proofs.ClosingBelow.{noted_more, noted_last}
+use Rattle.rx_audit.specs.DueList.{IsLostNoted, acts, Keeps, HasAll, HasCut, HasLeft, HasEnded, HasLost, lost_connection}
+use Rattle.rx_audit.specs.Rules.{hub_connected_at, is_cut, close_due, any_connect_due, hub_subscribed_at, hub_ended}
+use Rattle.rx_audit.proofs.Latest.{last_none, key_is, is_key_of}
+use Rattle.rx_audit.proofs.Neighbours.{last_unique}
+use Rattle.rx_audit.proofs.StaysOpen.{is_open_older}
+use Rattle.rx_audit.proofs.Deciding.{not_true, cut_ended, is_cut_of, at_subscriber, connection_at, at_connection}
+use Rattle.rx_audit.proofs.Due.{some_connect_due, close_is_due, close_due_of}
+use Rattle.rx_audit.proofs.Covering.{due_parts, due_made_at, some_due, none_is_due}
+
+due_close_open : {h : List Event} {c : ℕ} → IsDue nothing_kept h (Close c) → is_open h c ≡ true
+due_close_open (left o at_c a n) = o
+
+-- subscribers that the event cuts off -----------------------------------------------------------------
+
+pub cut_after : (h : List Event) (e : Event) (before after : List ℕ) → IsLawful nothing_kept h → MayFollow nothing_kept h e → HasCut h before → Keeps before after
+    → HasEnded h e after → HasCut (h ++ e ∷ []) after
+cut_after h e before after law next so_far keeps ended n alive is = by_reason found.0 (source_ended_or_now nothing_kept h e law next n found.0 found.1) where
+  found : (t : Terminal) × SourceEnded (h ++ e ∷ []) n t
+  found = cut_ended (h ++ e ∷ []) n is
+
+  was_open : (l : n < length h) → is_open h n ≡ true
+  was_open l = open_old h e n l alive
+
+  by_reason : (t : Terminal) → SourceEnded h n t ⊎ EndsSource h e n t → IsNoted 0 after n
+  by_reason t (inl x) =
+      let within = slice_get_within h x.place _ x.ended in
+      let after_it = x.later in
+      keeps n (so_far n (was_open (omega arith)) (is_cut_of h n t x))
+  by_reason t (inr x) =
+      let l : n < length h = subscribed_within x.hub x.subscribes in
+      ended x.hub n (rw x.ends (at_connection h x.connection x.hub x.connects)) x.subscribes (was_open l)
+    where
+      subscribed_within : (g : ℕ) → at (is_subscriber_of g) h n ≡ true → n < length h
+      subscribed_within g y = at_within (is_subscriber_of g) h n y
+
+-- connections that nobody uses any more ---------------------------------------------------------------
+
+-- the word of the hub leads to its open connection
+open_word : (h : List Event) → IsLawful nothing_kept h → (size g c : ℕ) (known : Hubs) → AreHubs h size known → g < size → slice_get h c ≡ Some (Connect g) → is_open h c ≡ true
+    → get_or known.connection.items g 0 ≡ suc c
+open_word h law size g c known w inside made alive =
+    let room = w.connection_size in
+    w.connection g (omega arith) ∙ last_unique (keyed (hub_connected_at h) g) (length h) (suc c) (is_open_within h c alive) later here
+  where
+    connects : (k : ℕ) → slice_get h k ≡ Some (Connect g) → at (is_connect_of g) h k ≡ true
+    connects k at_k = ap (λ o. option_map_or (is_connect_of g) o false) at_k ∙ eq-eqb g g refl
+
+    later : (j : ℕ) → suc c ≤ j → j < length h → keyed (hub_connected_at h) g j ≡ false
+    later j l m = not_true _ (λ y.
+        let le = last_connection nothing_kept h law g c j (connects c made) alive (connects j (connection_at h j g (is_key_of (hub_connected_at h j) g y))) in
+        absurd (omega arith))
+
+    here : (j : ℕ) → suc c ≡ suc j → keyed (hub_connected_at h) g j ≡ true
+    here j e = let same : j ≡ c = omega arith in ap (keyed (hub_connected_at h) g) same ∙ key_is (hub_connected_at h c) g (at_connection h c g made)
+
+pub left_after : (h : List Event) (e : Event) (size : ℕ) (known : Hubs) (closed before after : List ℕ) → IsLawful nothing_kept h → MayFollow nothing_kept h e
+    → AreHubs h size known → length h ≤ size → AreClosed h e closed → HasLeft h before → Keeps before after → HasLost h closed known.connection.items after
+    → IsNoted 0 after (length h) → HasLeft (h ++ e ∷ []) after
+left_after h e size known closed before after law next w room closing so_far keeps lost new c is = by_reason (left_or_now nothing_kept h e law next c d) where
+  d : IsDue nothing_kept (h ++ e ∷ []) (Close c)
+  d = close_is_due (h ++ e ∷ []) c is
+
+  by_reason : HowLeft nothing_kept h e c → IsNoted 0 after c
+  by_reason (left_before was) = keeps c (so_far c (close_due_of h c was))
+  by_reason (connected_now g now same) = rw same new
+  by_reason (subscriber_gone g s made subscribes was gone) =
+      let inside : g < length h = subscriber_hub nothing_kept h law g s subscribes in
+      let old : c < length h = slice_get_within h c (Connect g) made in
+      let alive : is_open h c ≡ true = open_old h e c old (due_close_open d) in
+      let noted = closing.noted s was (sym (is_open_older h e s (is_open_within h s was)) ∙ gone) in
+      lost s g c noted (at_subscriber h s g subscribes) (open_word h law size g c known w (omega arith) made alive)
+
+-- settled or not ----------------------------------------------------------------------------------------
+
+acts_parts : (h : List Event) (n : ℕ) → acts h n ≡ true → (node_due h n ≡ true) ⊎ (((is_open h n ≡ true) × (is_cut h n ≡ true)) ⊎ (close_due h n ≡ true))
+unfolding acts
+acts_parts h n y = by_test (node_due h n) (is_open h n) (is_cut h n) (close_due h n) y where
+  by_test : (a o c d : Bool) → (a || (o && c) || d) ≡ true → (a ≡ true) ⊎ (((o ≡ true) × (c ≡ true)) ⊎ (d ≡ true))
+  by_test true o c d y = inl refl
+  by_test false true true d y = inr (inl (refl, refl))
+  by_test false true false d y = inr (inr y)
+  by_test false false c d y = inr (inr y)
+
+pub acts_noted : (h : List Event) (list : List ℕ) → ((n : ℕ) → node_due h n ≡ true → IsNoted 0 list n) → HasCut h list → HasLeft h list → (n : ℕ) → acts h n ≡ true → IsNoted 0 list n
+acts_noted h list marked cut_off unused n y = by_case (acts_parts h n y) where
+  by_case : (node_due h n ≡ true) ⊎ (((is_open h n ≡ true) × (is_cut h n ≡ true)) ⊎ (close_due h n ≡ true)) → IsNoted 0 list n
+  by_case (inl m) = marked n m
+  by_case (inr (inl c)) = cut_off n c.0 c.1
+  by_case (inr (inr l)) = unused n l
+
+-- a hub that waits does
+pub waits_unsettled : (h : List Event) → any_connect_due h ≡ true → IsSettled nothing_kept h → ⊥
+waits_unsettled h y settled = let d = some_connect_due h y in settled.none (Connect d.0) (connecting d.1)
+
+pub acts_open : (h : List Event) (n : ℕ) → acts h n ≡ true → is_open h n ≡ true
+acts_open h n y = by_case (acts_parts h n y) where
+  by_case : (node_due h n ≡ true) ⊎ (((is_open h n ≡ true) × (is_cut h n ≡ true)) ⊎ (close_due h n ≡ true)) → is_open h n ≡ true
+  by_case (inl m) = (due_parts h n m).0
+  by_case (inr (inl c)) = c.0
+  by_case (inr (inr l)) = due_close_open (close_is_due h n l)
+
+-- where no hub waits, such a node leaves the history unsettled
+pub acts_unsettled : (h : List Event) (n : ℕ) → IsConnected h → acts h n ≡ true → IsSettled nothing_kept h → ⊥
+acts_unsettled h n whole y settled = by_case (acts_parts h n y) where
+  by_case : (node_due h n ≡ true) ⊎ (((is_open h n ≡ true) × (is_cut h n ≡ true)) ⊎ (close_due h n ≡ true)) → ⊥
+  by_case (inl m) =
+      let parts = due_parts h n m in
+      let made = event_at h n (is_open_within h n parts.0) in
+      let found = some_due made.0 (marks_of nothing_kept h n) n (sym (due_made_at h n made.0 parts.0 made.1) ∙ m) in
+      settled.none (End n found.0) (due_at_forced nothing_kept h n made.0 (End n found.0) whole parts.0 made.1 found.1)
+  by_case (inr (inl c)) = let ended = cut_ended h n c.1 in settled.none (End n ended.0) (due whole (cut c.0 ended.1))
+  by_case (inr (inr l)) = settled.none (Close n) (due whole (close_is_due h n l))
+
+yes_first : (a b c d : Bool) → a ≡ true → (a || (b && c) || d) ≡ true
+yes_first true b c d y = refl
+yes_first false b c d y = absurd (false≢true y)
+
+yes_second : (a b c d : Bool) → b ≡ true → c ≡ true → (a || (b && c) || d) ≡ true
+yes_second true b c d y z = refl
+yes_second false true true d y z = refl
+yes_second false false c d y z = absurd (false≢true y)
+yes_second false true false d y z = absurd (false≢true z)
+
+yes_third : (a b c d : Bool) → d ≡ true → (a || (b && c) || d) ≡ true
+yes_third true b c d y = refl
+yes_third false true true d y = refl
+yes_third false true false d y = y
+yes_third false false c d y = y
+
+acts_by_marks : (h : List Event) (n : ℕ) → node_due h n ≡ true → acts h n ≡ true
+unfolding acts
+acts_by_marks h n y = yes_first (node_due h n) (is_open h n) (is_cut h n) (close_due h n) y
+
+acts_by_cut : (h : List Event) (n : ℕ) → is_open h n ≡ true → is_cut h n ≡ true → acts h n ≡ true
+unfolding acts
+acts_by_cut h n o y = yes_second (node_due h n) (is_open h n) (is_cut h n) (close_due h n) o y
+
+acts_by_closing : (h : List Event) (n : ℕ) → close_due h n ≡ true → acts h n ≡ true
+unfolding acts
+acts_by_closing h n y = yes_third (node_due h n) (is_open h n) (is_cut h n) (close_due h n) y
+
+-- where there is none, it is settled
+pub none_acts_settled : (h : List Event) → IsConnected h → ((n : ℕ) → acts h n ≡ true → ⊥) → IsSettled nothing_kept h
+none_acts_settled h whole none = settled_by_marks nothing_kept h whole
+    (λ n t o ended. none n (acts_by_cut h n o (is_cut_of h n t ended)))
+    (λ c d. none c (acts_by_closing h c (close_due_of h c d)))
+    (λ n made o is. none_is_due made (marks_of nothing_kept h n) n (not_true (due_made h n made) (λ y. none n (acts_by_marks h n (due_made_at h n made o is ∙ y)))))
+
+-- the list has all, so it has each part
+pub marks_noted : (h : List Event) (list : List ℕ) → HasAll h list → IsCovered h list
+marks_noted h list all n y = all n (acts_by_marks h n y)
+
+pub cut_noted : (h : List Event) (list : List ℕ) → HasAll h list → HasCut h list
+cut_noted h list all n o y = all n (acts_by_cut h n o y)
+
+pub left_noted : (h : List Event) (list : List ℕ) → HasAll h list → HasLeft h list
+left_noted h list all c y = all c (acts_by_closing h c y)
+
+-- what is noted, one more at a time
+pub keeps_more : (list : List ℕ) (p : ℕ) → Keeps list (list ++ p ∷ [])
+keeps_more list p n w = noted_more 0 list p n w
+
+pub keeps_on : (a b c : List ℕ) → Keeps a b → Keeps b c → Keeps a c
+keeps_on a b c one other n w = other n (one n w)
+
+pub lost_keeps : (h : List Event) (s : ℕ) (connection before after : List ℕ) → IsLostNoted h s connection before → Keeps before after
+    → IsLostNoted h s connection after
+lost_keeps h s connection before after so_far keeps g c hub word = keeps c (so_far g c hub word)
+
+pub lost_one : (h : List Event) (s p : ℕ) (connection list : List ℕ) → lost_connection h connection s ≡ Some p → IsLostNoted h s connection (list ++ p ∷ [])
+lost_one h s p connection list found g c hub word =
+    let at_c : p ≡ c = same_Some p c (sym found ∙ ap (option_and_then (λ k. number_of (get_or connection k 0))) hub ∙ ap number_of word) in
+    rw (sym at_c) (noted_last 0 list p (omega arith))
+
+pub lost_none : (h : List Event) (s : ℕ) (connection list : List ℕ) → lost_connection h connection s ≡ None → IsLostNoted h s connection list
+lost_none h s connection list none g c hub word =
+    absurd (none-some c (sym none ∙ ap (option_and_then (λ k. number_of (get_or connection k 0))) hub ∙ ap number_of word))
+
+any_default : (xs : List ℕ) (i d e : ℕ) → i < length xs → get_or xs i d ≡ get_or xs i e
+any_default [] i d e l = absurd (omega arith)
+any_default (x ∷ xs) zero d e l = refl
+any_default (x ∷ xs) (suc i) d e l = any_default xs i d e (omega arith)
+
+pub lost_more : (h : List Event) (closed connection before after : List ℕ) (i d : ℕ) → i < length closed
+    → ((k : ℕ) → k < i → IsLostNoted h (get_or closed k 0) connection before) → Keeps before after → IsLostNoted h (get_or closed i d) connection after
+    → (k : ℕ) → k < i + 1 → IsLostNoted h (get_or closed k 0) connection after
+lost_more h closed connection before after i d within so_far keeps last k l = by_order (cases_order k i) where
+  by_order : (k ≡ i) ⊎ ((k < i) ⊎ (i < k)) → IsLostNoted h (get_or closed k 0) connection after
+  by_order (inl same) = λ g c hub word. last g c (ap (hub_subscribed_at h) (any_default closed i d 0 within ∙ ap (λ j. get_or closed j 0) (sym same)) ∙ hub) word
+  by_order (inr (inl m)) = lost_keeps h (get_or closed k 0) connection before after (so_far k m) keeps
+  by_order (inr (inr m)) = absurd (omega arith)
+
+pub lost_all : (h : List Event) (closed connection list : List ℕ) (i : ℕ) → length closed ≤ i
+    → ((k : ℕ) → k < i → IsLostNoted h (get_or closed k 0) connection list) → HasLost h closed connection list
+lost_all h closed connection list i over each s g c noted hub word =
+    let w = noted.within in
+    each noted.at (omega arith) g c (ap (hub_subscribed_at h) noted.is ∙ hub) word
+
+-- the subscribers of a hub, from the last down
+module _ (h : List Event) (size : ℕ) (s : Subscribers) (g : ℕ) (w : AreLinked h size s) where
+  pub noted_starts : (next : ℕ) (list : List ℕ) → next ≡ get_or s.last.items g 0 → (k : ℕ) → on_list h s.listed.items g k ≡ true → next ≤ k → IsNoted 0 list k
+  noted_starts next list is k y l =
+      let top : next ≡ last_below (on_list h s.listed.items g) (length h) = is ∙ (w.rows g).top in
+      let within : k < length h = at_within (is_subscriber_of g) h k (and_parts (at (is_subscriber_of g) h k) (get_or s.listed.items k false) y).0 in
+      absurd (both_ways _ (last_none (on_list h s.listed.items g) (length h) k (omega arith) within) y)
+
+  pub noted_down : (next word : ℕ) (list : List ℕ) → 0 < next → ((k : ℕ) → next ≡ suc k → on_list h s.listed.items g k ≡ true) → word ≡ get_or s.before.items (next - 1) 0
+      → ((k : ℕ) → on_list h s.listed.items g k ≡ true → next ≤ k → IsNoted 0 list k)
+      → (k : ℕ) → on_list h s.listed.items g k ≡ true → word ≤ k → IsNoted 0 (list ++ (next - 1) ∷ []) k
+  noted_down next word list some here is so_far k y l = by_order (cases_order k (next - 1)) where
+    by_order : (k ≡ next - 1) ⊎ ((k < next - 1) ⊎ (next - 1 < k)) → IsNoted 0 (list ++ (next - 1) ∷ []) k
+    by_order (inl same) = rw same (noted_last 0 list (next - 1) (omega arith))
+    by_order (inr (inr above)) = noted_more 0 list (next - 1) k (so_far k y (omega arith))
+    by_order (inr (inl below)) =
+        let down : word ≡ last_below (on_list h s.listed.items g) (next - 1) = is ∙ (w.rows g).down (next - 1) (here (next - 1) (omega arith)) in
+        absurd (both_ways _ (last_none (on_list h s.listed.items g) (next - 1) k (omega arith) below) y)
+
+-- so each open one of the hub whose connection the event ends
+pub ended_all : (h : List Event) (e : Event) (s : Subscribers) (list : List ℕ) → AreOpenListed h s → ((g : ℕ) → hub_ended h e ≡ Some g
+    → (k : ℕ) → on_list h s.listed.items g k ≡ true → IsNoted 0 list k) → HasEnded h e list
+ended_all h e s list listed all g k hub subscribes alive = all g hub k (rw (subscribes, listed g k subscribes) alive)
+
+pub ended_one : (h : List Event) (e : Event) (s : Subscribers) (g : ℕ) (list : List ℕ) → AreOpenListed h s → hub_ended h e ≡ Some g
+    → ((k : ℕ) → on_list h s.listed.items g k ≡ true → IsNoted 0 list k) → HasEnded h e list
+ended_one h e s g list listed hub all = ended_all h e s list listed (λ j named k on. all k (rw (same_Some g j (sym hub ∙ named)) on))
+
+pub ended_none : (h : List Event) (e : Event) (list : List ℕ) → hub_ended h e ≡ None → HasEnded h e list
+ended_none h e list none g s hub subscribes alive = absurd (none-some g (sym none ∙ hub))
+
+-- all that is noted of one event
+pub all_after : (h : List Event) (e : Event) (size : ℕ) (known : Hubs) (closed d0 d1 d2 d3 : List ℕ) → IsLawful nothing_kept h → MayFollow nothing_kept h e
+    → AreHubs h size known → length h ≤ size → AreClosed h e closed → HasAll h d0 → Keeps d0 d1 → IsCovered (h ++ e ∷ []) d1 → Keeps d1 d2 → HasEnded h e d2
+    → Keeps d2 d3 → HasLost h closed known.connection.items d3 → IsNoted 0 d3 (length h) → HasAll (h ++ e ∷ []) d3
+all_after h e size known closed d0 d1 d2 d3 law next w room closing all first marked second ended third lost new =
+    let later : Keeps d0 d3 = keeps_on d0 d1 d3 first (keeps_on d1 d2 d3 second third) in
+    acts_noted (h ++ e ∷ []) d3 (λ n y. keeps_on d1 d2 d3 second third n (marked n y))
+    (cut_after h e d0 d3 law next (cut_noted h d0 all) later (λ g s hub subscribes alive. third s (ended g s hub subscribes alive)))
+    (left_after h e size known closed d0 d3 law next w room closing (left_noted h d0 all) later lost new)

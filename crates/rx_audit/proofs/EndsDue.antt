@@ -1,0 +1,244 @@
+-- What operators must do, by marks and by the words of hubs.
+use Rattle.std.proofs.Common.{◌≡◌, ◌↔◌, ℕ, suc, ◌-◌, ◌<◌, ◌≤◌, Bool, true, false, List, length, Option, Some, None, refl, sym, ap, ◌∙◌, arith, inl, inr, ◌⊎◌, IsTrue, get_or, slice_get}
+use Rattle.std.proofs.Math.Bool.{not, ◌&&◌, ◌||◌}
+use Rattle.std.proofs.lemmas.Bool.{cases_Bool, cases_order, both_ways, false≢true, and_parts, ltb-true}
+use Rattle.std.proofs.lemmas.Option.{none-some, same_Some, slice_get_within}
+use Rattle.std.specs.Option.{option_and_then, option_map, option_map_or}
+use Rattle.rx_event.specs.Kept.{nothing_kept}
+use Rattle.rx_note.specs.declared.note.Terminal.{Terminal}
+use Rattle.rx_note.specs.declared.note.Terminal.TheVariants.{Completed}
+use Rattle.rx_event.specs.declared.event.Event.{Event}
+use Rattle.rx_event.specs.declared.event.Event.TheVariants.{Open, Hub, Connect, Accept, Use, Remove, Lease, Return, Item, Decline, End, Close, Take}
+use Rattle.rx_event.specs.declared.marks.Marks.{Marks}
+use Rattle.rx_event.specs.Tree.{is_open}
+use Rattle.rx_event.specs.Marks.{marks_of, terminal_due, due_at}
+use Rattle.rx_event.specs.Sames.{same_terminal}
+use Rattle.rx_event.specs.Forced.{connecting, due, cut, IsDue, IsForced, IsConnectDue, SourceEnded}
+use Rattle.rx_event.specs.Lawful.{IsLawful}
+use Rattle.rx_event.specs.Claims.Connections.{EndsConnection, EndsLast}
+use Rattle.rx_event.proofs.Laws.Openness.{is_open_within}
+use Rattle.rx_event.proofs.Laws.Lawful.{due_open}
+use Rattle.rx_event.proofs.Laws.Steps.{forced_kind}
+use Rattle.rx_event.proofs.Laws.Stands.{event_at}
+use Rattle.rx_event.proofs.Laws.Hubs.{subscriber_hub}
+use Rattle.rx_event.proofs.Laws.MarksDue.{due_at_due}
+use Rattle.rx_event.proofs.Laws.OneEnd.{due_by_marks_alone}
+use Rattle.rx_event.proofs.Laws.Connections.{cut_by_last}
+use Rattle.rx_audit.specs.declared.hubs.Hubs.{Hubs}
+use Rattle.rx_audit.specs.Latest.{last_below, keyed}
+use Rattle.rx_audit.specs.Marking.{IsUntouched, leaf_of, ends_so, forced_end}
+use Rattle.rx_audit.specs.HubTables.{AreHubs, terminal_of_word, ends_last_so, cut_so, ends_now, forced_now}
+use Rattle.rx_audit.specs.Rules.{hub_subscribed_at, hub_ended, hub_ended_at, is_cut, any_connect_due, close_due, connect_due}
+use Rattle.rx_audit.proofs.Latest.{last_holds, last_none, key_is, is_key_of}
+use Rattle.rx_audit.proofs.Deciding.{both, left, right, either, not_not, is_false, not_true, terminal_is, terminal_self, subscriber_at, connection_at, at_connection, is_cut_of}
+use Rattle.rx_audit.proofs.Due.{connect_is_due, connect_due_of, some_connect_due, any_connect_due_of, no_connect_due, close_is_due, close_due_of}
+use Rattle.rx_audit.proofs.HubWords.{cut_word, uncut}
+
+pub other_untouched : (h : List Event) (e : Event) → leaf_of e ≡ None → IsUntouched h e
+other_untouched h (Item leaf v) other n item = absurd (none-some leaf (sym other))
+other_untouched h (Open place kind) other n item = absurd (false≢true item)
+other_untouched h (Hub mode) other n item = absurd (false≢true item)
+other_untouched h (Connect g) other n item = absurd (false≢true item)
+other_untouched h (Accept m tag) other n item = absurd (false≢true item)
+other_untouched h (Use r) other n item = absurd (false≢true item)
+other_untouched h (Remove r) other n item = absurd (false≢true item)
+other_untouched h (Lease r) other n item = absurd (false≢true item)
+other_untouched h (Return r) other n item = absurd (false≢true item)
+other_untouched h (Decline f) other n item = absurd (false≢true item)
+other_untouched h (End m t) other n item = absurd (false≢true item)
+other_untouched h (Close c) other n item = absurd (false≢true item)
+other_untouched h (Take r) other n item = absurd (false≢true item)
+
+-- by marks ---------------------------------------------------------------------------------------------
+
+abbrev terminal_of : Event → Terminal
+terminal_of (End n t) = t
+terminal_of _ = Completed
+
+due_ends : (made : Event) (m : Marks) (n : ℕ) (t : Terminal) → ends_so made m t ≡ true → due_at made m n ≡ Some (End n t)
+due_ends made m n t = by_terminal (terminal_due made m) where
+  by_terminal : (o : Option Terminal) → option_map_or (λ u. same_terminal u t) o false ≡ true → option_map (λ u. End n u) o ≡ Some (End n t)
+  by_terminal None y = absurd (false≢true y)
+  by_terminal (Some u) y = ap (λ v. Some (End n v)) (terminal_is u t y)
+
+ends_due : (made : Event) (m : Marks) (n : ℕ) (t : Terminal) → due_at made m n ≡ Some (End n t) → ends_so made m t ≡ true
+ends_due made m n t = by_terminal (terminal_due made m) where
+  by_terminal : (o : Option Terminal) → option_map (λ u. End n u) o ≡ Some (End n t) → option_map_or (λ u. same_terminal u t) o false ≡ true
+  by_terminal None none = absurd (none-some (End n t) none)
+  by_terminal (Some u) same = ap (λ v. same_terminal v t) (ap terminal_of (same_Some (End n u) (End n t) same)) ∙ terminal_self t
+
+pub forced_closed : (h : List Event) (n : ℕ) (t : Terminal) → is_open h n ≡ false → forced_end h n t ≡ false
+unfolding forced_end
+forced_closed h n t closed = rw closed refl
+
+pub forced_nowhere : (h : List Event) (n : ℕ) (t : Terminal) → slice_get h n ≡ None → forced_end h n t ≡ false
+unfolding forced_end
+forced_nowhere h n t none = rw none (and_no (is_open h n)) where
+  and_no : (b : Bool) → (b && false) ≡ false
+  and_no true = refl
+  and_no false = refl
+
+pub forced_made : (h : List Event) (n : ℕ) (t : Terminal) (made : Event) → is_open h n ≡ true → slice_get h n ≡ Some made
+    → forced_end h n t ≡ ends_so made (marks_of nothing_kept h n) t
+unfolding forced_end
+forced_made h n t made o is = rw (o, is) refl
+
+forced_parts : (h : List Event) (n : ℕ) (t : Terminal) → forced_end h n t ≡ true → is_open h n ≡ true
+unfolding forced_end
+forced_parts h n t y = (and_parts (is_open h n) _ y).0
+
+-- cut off -----------------------------------------------------------------------------------------------
+
+-- the last end of a connection of g, by its word
+ended_last : (h : List Event) (g place : ℕ) → last_below (keyed (hub_ended_at h) g) (length h) ≡ suc place
+    → (t : Terminal) × EndsLast h g place t × (terminal_of_word h (suc place) ≡ Some t)
+ended_last h g place found = by_event (slice_get h place) refl (is_key_of (hub_ended_at h place) g (last_holds (keyed (hub_ended_at h) g) (length h) place found)) where
+  last : (i : ℕ) (u : Terminal) → EndsConnection h g i u → i ≤ place
+  last i u x = by_order (cases_order i place) where
+    holds : keyed (hub_ended_at h) g i ≡ true
+    holds = key_is (hub_ended_at h i) g (ap (option_and_then (hub_ended h)) x.ended ∙ at_connection h x.connection g x.connects)
+
+    by_order : (i ≡ place) ⊎ ((i < place) ⊎ (place < i)) → i ≤ place
+    by_order (inl same) = omega arith
+    by_order (inr (inl l)) = omega arith
+    by_order (inr (inr l)) = absurd (both_ways _ (last_none (keyed (hub_ended_at h) g) (length h) i (omega arith) (slice_get_within h i _ x.ended)) holds)
+
+  by_event : (o : Option Event) → slice_get h place ≡ o → option_and_then (hub_ended h) o ≡ Some g
+      → (t : Terminal) × EndsLast h g place t × (terminal_of_word h (suc place) ≡ Some t)
+  by_event None at_place named = absurd (none-some g named)
+  by_event (Some (End c t)) at_place named =
+      (t, record { ends = record { connection = c; connects = connection_at h c g named; ended = at_place }; last = last }, rw at_place refl)
+  by_event (Some _) at_place named = absurd (none-some g named)
+
+-- what the words say of a subscriber
+module _ (h : List Event) (law : IsLawful nothing_kept h) (size : ℕ) (known : Hubs) (w : AreHubs h size known) (room : length h ≤ size) where
+  cut_parts : (s : ℕ) (t : Terminal) → cut_so h known.ended.items s t ≡ true → (is_open h s ≡ true) × (is_cut h s ≡ true) × (ends_last_so h known.ended.items s t ≡ true)
+  unfolding cut_so
+  cut_parts s t y =
+      let a = and_parts (is_open h s && is_cut h s) (ends_last_so h known.ended.items s t) y in
+      let b = and_parts (is_open h s) (is_cut h s) a.0 in
+      (b.0, b.1, a.1)
+
+  by_word : (s : ℕ) → is_cut h s ≡ true → (g : ℕ) × (place : ℕ) × (hub_subscribed_at h s ≡ Some g) × (get_or known.ended.items g 0 ≡ suc place) × (s < place)
+      × (last_below (keyed (hub_ended_at h) g) (length h) ≡ suc place)
+  by_word s is = by_hub (hub_subscribed_at h s) refl where
+    by_hub : (o : Option ℕ) → hub_subscribed_at h s ≡ o → (g : ℕ) × (place : ℕ) × (hub_subscribed_at h s ≡ Some g) × (get_or known.ended.items g 0 ≡ suc place) × (s < place)
+        × (last_below (keyed (hub_ended_at h) g) (length h) ≡ suc place)
+    by_hub None hub = absurd (both_ways (is_cut h s) (sym (uncut h s hub)) is)
+    by_hub (Some g) hub =
+        let inside : g < length h = subscriber_hub nothing_kept h law g s (subscriber_at h s g hub) in
+        let size_is = w.ended_size in
+        let word : get_or known.ended.items g 0 ≡ last_below (keyed (hub_ended_at h) g) (length h) = w.ended g (omega arith) in
+        let past = ltb-true (suc s) (get_or known.ended.items g 0) (cut_word h s g (get_or known.ended.items g 0) hub word ∙ is) in
+        let some : get_or known.ended.items g 0 ≡ suc (get_or known.ended.items g 0 - 1) = omega arith in
+        (g, get_or known.ended.items g 0 - 1, hub, some, omega arith, sym word ∙ some)
+
+  last_so : (s g place : ℕ) (t u : Terminal) → hub_subscribed_at h s ≡ Some g → get_or known.ended.items g 0 ≡ suc place → terminal_of_word h (suc place) ≡ Some u
+      → ends_last_so h known.ended.items s t ≡ same_terminal u t
+  last_so s g place t u hub word ends =
+      ap (λ o. option_map_or (λ j. option_map_or (λ v. same_terminal v t) (terminal_of_word h (get_or known.ended.items j 0)) false) o false) hub
+      ∙ ap (λ k. option_map_or (λ v. same_terminal v t) (terminal_of_word h k) false) word
+      ∙ ap (λ o. option_map_or (λ v. same_terminal v t) o false) ends
+
+  pub cut_due : (s : ℕ) (t : Terminal) → cut_so h known.ended.items s t ≡ true → IsDue nothing_kept h (End s t)
+  cut_due s t y =
+      let p = cut_parts s t y in
+      let k = by_word s p.1 in
+      let e = ended_last h k.0 k.1 k.5 in
+      let same : e.0 ≡ t = terminal_is e.0 t (sym (last_so s k.0 k.1 t e.0 k.2 k.3 e.2) ∙ p.2) in
+      cut p.0 ((cut_by_last nothing_kept h law k.0 s k.1 e.0 t e.1 (subscriber_at h s k.0 k.2) p.0).1 (k.4, sym same))
+
+  unfold_cut : (s : ℕ) (t : Terminal) → is_open h s ≡ true → is_cut h s ≡ true → ends_last_so h known.ended.items s t ≡ true → cut_so h known.ended.items s t ≡ true
+  unfolding cut_so
+  unfold_cut s t o c e = both (is_open h s && is_cut h s) (ends_last_so h known.ended.items s t) (both (is_open h s) (is_cut h s) o c) e
+
+  pub cut_due_of : (s : ℕ) (t : Terminal) → is_open h s ≡ true → SourceEnded h s t → cut_so h known.ended.items s t ≡ true
+  cut_due_of s t o x =
+      let is : is_cut h s ≡ true = is_cut_of h s t x in
+      let k = by_word s is in
+      let e = ended_last h k.0 k.1 k.5 in
+      let q = (cut_by_last nothing_kept h law k.0 s k.1 e.0 t e.1 (subscriber_at h s k.0 k.2) o).0 x in
+      unfold_cut s t o is (last_so s k.0 k.1 t e.0 k.2 k.3 e.2 ∙ ap (λ v. same_terminal e.0 v) q.1 ∙ terminal_self e.0)
+
+  marks_due : (n : ℕ) (t : Terminal) → forced_end h n t ≡ true → IsDue nothing_kept h (End n t)
+  marks_due n t y =
+      let o = forced_parts h n t y in
+      let made = event_at h n (is_open_within h n o) in
+      due_at_due nothing_kept h n made.0 (End n t) o made.1 (due_ends made.0 (marks_of nothing_kept h n) n t (sym (forced_made h n t made.0 o made.1) ∙ y))
+
+  pub ends_due_now : (n : ℕ) (t : Terminal) → ends_now h known.ended.items n t ≡ true → IsDue nothing_kept h (End n t)
+  unfolding ends_now
+  ends_due_now n t y = by_case (either (forced_end h n t) (cut_so h known.ended.items n t) y) where
+    by_case : (forced_end h n t ≡ true) ⊎ (cut_so h known.ended.items n t ≡ true) → IsDue nothing_kept h (End n t)
+    by_case (inl m) = marks_due n t m
+    by_case (inr c) = cut_due n t c
+
+  pub ends_due_of : (n : ℕ) (t : Terminal) → IsDue nothing_kept h (End n t) → ends_now h known.ended.items n t ≡ true
+  unfolding ends_now
+  ends_due_of n t d = by_cut (cases_Bool (cut_so h known.ended.items n t)) where
+    o : is_open h n ≡ true
+    o = due_open nothing_kept d
+
+    by_cut : (cut_so h known.ended.items n t ≡ true) ⊎ (cut_so h known.ended.items n t ≡ false) → (forced_end h n t || cut_so h known.ended.items n t) ≡ true
+    by_cut (inl c) = right (forced_end h n t) (cut_so h known.ended.items n t) c
+    by_cut (inr c) =
+        let made = event_at h n (is_open_within h n o) in
+        left (forced_end h n t) (cut_so h known.ended.items n t)
+        (forced_made h n t made.0 o made.1 ∙ ends_due made.0 (marks_of nothing_kept h n) n t
+        (due_by_marks_alone nothing_kept h law n made.0 t o made.1 (λ x. both_ways _ c (cut_due_of n t o x)) d))
+
+  -- as one test of the event
+  pub forced_is : (e : Event) → forced_now h known.ended.items e ≡ true → IsForced nothing_kept h e
+  forced_is (Connect g) y = connecting (connect_is_due h g y)
+  forced_is (End n t) y =
+      let p = and_parts (not (any_connect_due h)) (ends_now h known.ended.items n t) y in
+      due (no_connect_due h (not_not (any_connect_due h) p.0)) (ends_due_now n t p.1)
+  forced_is (Close c) y =
+      let p = and_parts (not (any_connect_due h)) (close_due h c) y in
+      due (no_connect_due h (not_not (any_connect_due h) p.0)) (close_is_due h c p.1)
+  forced_is (Open place kind) y = absurd (false≢true y)
+  forced_is (Hub mode) y = absurd (false≢true y)
+  forced_is (Accept m tag) y = absurd (false≢true y)
+  forced_is (Use r) y = absurd (false≢true y)
+  forced_is (Remove r) y = absurd (false≢true y)
+  forced_is (Lease r) y = absurd (false≢true y)
+  forced_is (Return r) y = absurd (false≢true y)
+  forced_is (Item m v) y = absurd (false≢true y)
+  forced_is (Decline f) y = absurd (false≢true y)
+  forced_is (Take r) y = absurd (false≢true y)
+
+  none_waits : ((g : ℕ) → ¬ IsConnectDue h g) → not (any_connect_due h) ≡ true
+  none_waits none = is_false (any_connect_due h) (not_true (any_connect_due h) (λ y. let d = some_connect_due h y in none d.0 d.1))
+
+  pub forced_of : (e : Event) → IsForced nothing_kept h e → forced_now h known.ended.items e ≡ true
+  forced_of (Connect g) (connecting d) = connect_due_of h g d
+  forced_of (Connect g) (due n d) = elim d [ ]
+  forced_of (End n t) (due none d) = both (not (any_connect_due h)) (ends_now h known.ended.items n t) (none_waits none) (ends_due_of n t d)
+  forced_of (Close c) (due none d) = both (not (any_connect_due h)) (close_due h c) (none_waits none) (close_due_of h c d)
+  forced_of (Open place kind) f = absurd (false≢true (forced_kind nothing_kept f))
+  forced_of (Hub mode) f = absurd (false≢true (forced_kind nothing_kept f))
+  forced_of (Accept m tag) f = absurd (false≢true (forced_kind nothing_kept f))
+  forced_of (Use r) f = absurd (false≢true (forced_kind nothing_kept f))
+  forced_of (Remove r) f = absurd (false≢true (forced_kind nothing_kept f))
+  forced_of (Lease r) f = absurd (false≢true (forced_kind nothing_kept f))
+  forced_of (Return r) f = absurd (false≢true (forced_kind nothing_kept f))
+  forced_of (Item m v) f = absurd (false≢true (forced_kind nothing_kept f))
+  forced_of (Decline f) q = absurd (false≢true (forced_kind nothing_kept q))
+  forced_of (Take r) f = absurd (false≢true (forced_kind nothing_kept f))
+
+  pub forced_answer : (e : Event) (b : Bool) → b ≡ forced_now h known.ended.items e → (IsTrue b) ↔ IsForced nothing_kept h e
+  forced_answer e b is = (λ y. forced_is e (sym is ∙ y), λ f. is ∙ forced_of e f)
+
+-- the hub that may wait tells of all ----------------------------------------------------------------------
+
+pub some_waits : (h : List Event) (o : Option ℕ) (g : ℕ) (b : Bool) → ((k : ℕ) → IsConnectDue h k → o ≡ Some k) → o ≡ Some g → b ≡ connect_due h g → b ≡ any_connect_due h
+some_waits h o g b waits is same = by_due (cases_Bool (connect_due h g)) where
+  by_due : (connect_due h g ≡ true) ⊎ (connect_due h g ≡ false) → b ≡ any_connect_due h
+  by_due (inl y) = same ∙ y ∙ sym (any_connect_due_of h g (connect_is_due h g y))
+  by_due (inr z) = same ∙ z ∙ sym (not_true (any_connect_due h) (λ y.
+      let d = some_connect_due h y in
+      let at_g : d.0 ≡ g = same_Some d.0 g (sym (waits d.0 d.1) ∙ is) in
+      both_ways (connect_due h g) z (ap (connect_due h) (sym at_g) ∙ connect_due_of h d.0 d.1)))
+
+pub none_waits_at : (h : List Event) (o : Option ℕ) → ((k : ℕ) → IsConnectDue h k → o ≡ Some k) → o ≡ None → false ≡ any_connect_due h
+none_waits_at h o waits is = sym (not_true (any_connect_due h) (λ y. let d = some_connect_due h y in none-some d.0 (sym is ∙ waits d.0 d.1)))

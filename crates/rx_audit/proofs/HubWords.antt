@@ -1,0 +1,225 @@
+-- What the words of a hub tell: whether it has a connection, subscribers, one that waits, and who of them is cut.
+use Rattle.std.proofs.Common.{◌≡◌, ℕ, zero, suc, ◌-◌, ◌<◌, ◌≤◌, Bool, true, false, List, [], ◌∷◌, length, Option, Some, None, cond, refl, sym, ap, ◌∙◌, arith, inl, inr, ◌⊎◌, get_or, slice_get, drop, nat_lt}
+use Rattle.std.proofs.Math.Bool.{not, ◌&&◌, ◌||◌}
+use Rattle.std.specs.List.{list_any, range_with_len}
+use Rattle.std.specs.Option.{option_map_or, option_and_then}
+use Rattle.std.proofs.lemmas.Bool.{cases_Bool, cases_order, both_ways, false≢true, and_parts, lt-ltb, ltb-true, eq-eqb}
+use Rattle.std.proofs.lemmas.Option.{none-some, slice_get_within}
+use Rattle.rx_event.specs.Kept.{nothing_kept}
+use Rattle.rx_event.specs.declared.event.Event.{Event}
+use Rattle.rx_event.specs.Events.{is_subscriber_of, is_connect_of}
+use Rattle.rx_event.specs.Tree.{at, is_open}
+use Rattle.rx_event.specs.Lawful.{IsLawful}
+use Rattle.rx_event.proofs.Laws.Openness.{is_open_within}
+use Rattle.rx_event.proofs.Laws.Connections.{last_connection}
+use Rattle.rx_audit.specs.declared.subscribers.Subscribers.{Subscribers}
+use Rattle.rx_audit.specs.Tables.{IsMarked}
+use Rattle.rx_audit.specs.Latest.{last_below, keyed}
+use Rattle.rx_audit.specs.Listed.{on_list, AreLinked, AreOpenListed}
+use Rattle.rx_audit.specs.Rules.{is_key, joins, hub_connected_at, hub_subscribed_at, hub_ended, hub_ended_at, open_connected, open_subscribed, open_waiting, has_key, ends_source, is_cut}
+use Rattle.rx_audit.proofs.Latest.{last_le, last_holds, last_none, key_is, is_key_of}
+use Rattle.rx_audit.proofs.Surveying.{any_found}
+use Rattle.rx_audit.proofs.Deciding.{find_after, find_number, any_after, not_true, subscribed_key, subscriber_at, at_subscriber, connection_at}
+
+-- some number passes where the word of the last is none
+pub any_last : (p : ℕ → Bool) (k : ℕ) → list_any p (range_with_len 0 k) ≡ nat_lt 0 (last_below p k)
+any_last p k = by_word (last_below p k) refl where
+  by_word : (v : ℕ) → last_below p k ≡ v → list_any p (range_with_len 0 k) ≡ nat_lt 0 v
+  by_word zero e = not_true _ (λ y. let f = find_number p k y in both_ways (p f.number) (last_none p k f.number (omega arith) f.within) f.holds)
+  by_word (suc j) e = any_found p k j (let l = last_le p k in omega arith) (last_holds p k j e) ∙ sym (lt-ltb 0 (suc j) (omega arith))
+
+-- subscribers ---------------------------------------------------------------------------------------
+
+on_open : (h : List Event) (s : Subscribers) (g k : ℕ) → AreOpenListed h s → on_list h s.listed.items g k ≡ (at (is_subscriber_of g) h k && is_open h k)
+on_open h s g k listed = by_test (at (is_subscriber_of g) h k) refl where
+  by_test : (b : Bool) → at (is_subscriber_of g) h k ≡ b → (b && get_or s.listed.items k false) ≡ (b && is_open h k)
+  by_test true y = listed g k y
+  by_test false z = refl
+
+-- the hub has an open subscriber where its word leads to one
+pub subscribed_word : (h : List Event) (size : ℕ) (s : Subscribers) (g word : ℕ) → AreLinked h size s → AreOpenListed h s → word ≡ get_or s.last.items g 0
+    → nat_lt 0 word ≡ has_key (open_subscribed h) h g
+subscribed_word h size s g word w listed is =
+    ap (nat_lt 0) (is ∙ (w.rows g).top) ∙ sym (any_last (on_list h s.listed.items g) (length h))
+    ∙ any_same (on_list h s.listed.items g) (λ n. at (is_subscriber_of g) h n && is_open h n) (λ k. on_open h s g k listed) (range_with_len 0 (length h))
+    ∙ sym (subscribed_key h g)
+  where
+    any_same : (p q : ℕ → Bool) → ((k : ℕ) → p k ≡ q k) → (ks : List ℕ) → list_any p ks ≡ list_any q ks
+    any_same p q same [] = refl
+    any_same p q same (k ∷ ks) = (λ i. same k i || any_same p q same ks i)
+
+-- ends of connections -------------------------------------------------------------------------------
+
+-- s is cut where the word of its hub's last end leads past it
+pub cut_word : (h : List Event) (s g word : ℕ) → hub_subscribed_at h s ≡ Some g → word ≡ last_below (keyed (hub_ended_at h) g) (length h)
+    → nat_lt (suc s) word ≡ is_cut h s
+unfolding is_cut
+cut_word h s g word hub is = by_order (cases_order (suc s) word) where
+  ended_key : (k : ℕ) (e : Event) → slice_get h k ≡ Some e → keyed (hub_ended_at h) g k ≡ ends_source h s e
+  ended_key k e at_k = ap (λ o. is_key (option_and_then (hub_ended h) o) g) at_k ∙ sym (ap (λ o. joins o (hub_ended h e)) hub)
+
+  none : word ≤ suc s → nat_lt (suc s) word ≡ list_any (ends_source h s) (drop (suc s) h)
+  none l = not_true (nat_lt (suc s) word) (λ y. let m = ltb-true (suc s) word y in omega arith) ∙ sym (not_true _ (λ y.
+      let f = find_after (ends_source h s) (suc s) h y in
+      let after = f.after in
+      let within = slice_get_within h f.place f.event f.found in
+      both_ways _ (last_none (keyed (hub_ended_at h) g) (length h) f.place (omega arith) within) (ended_key f.place f.event f.found ∙ f.holds)))
+
+  by_order : (suc s ≡ word) ⊎ ((suc s < word) ⊎ (word < suc s)) → nat_lt (suc s) word ≡ list_any (ends_source h s) (drop (suc s) h)
+  by_order (inl same) = none (omega arith)
+  by_order (inr (inr l)) = none (omega arith)
+  by_order (inr (inl l)) =
+      let found : last_below (keyed (hub_ended_at h) g) (length h) ≡ suc (word - 1) = omega arith in
+      let holds = last_holds (keyed (hub_ended_at h) g) (length h) (word - 1) found in
+      let event = ended_event (word - 1) (is_key_of (hub_ended_at h (word - 1)) g holds) in
+      lt-ltb (suc s) word l ∙ sym (any_after (ends_source h s) (suc s) (word - 1) h event.0 (omega arith) event.1 (sym (ended_key (word - 1) event.0 event.1) ∙ holds))
+    where
+      ended_event : (k : ℕ) → hub_ended_at h k ≡ Some g → (e : Event) × (slice_get h k ≡ Some e)
+      ended_event k e = by_event (slice_get h k) refl e where
+        by_event : (o : Option Event) → slice_get h k ≡ o → option_and_then (hub_ended h) o ≡ Some g → (x : Event) × (slice_get h k ≡ Some x)
+        by_event None at_k named = absurd (none-some g named)
+        by_event (Some x) at_k named = (x, at_k)
+
+pub past_word : (s word : ℕ) → (nat_lt 0 word && nat_lt s (word - 1)) ≡ nat_lt (suc s) word
+past_word s word = by_order (cases_order (suc s) word) where
+  some : suc s < word → (nat_lt 0 word && nat_lt s (word - 1)) ≡ nat_lt (suc s) word
+  some l = rw (lt-ltb 0 word (omega arith), lt-ltb s (word - 1) (omega arith)) (sym (lt-ltb (suc s) word l))
+
+  none : word ≤ suc s → (nat_lt 0 word && nat_lt s (word - 1)) ≡ nat_lt (suc s) word
+  none l = not_true _ (λ y.
+      let p = and_parts (nat_lt 0 word) (nat_lt s (word - 1)) y in
+      let a = ltb-true 0 word p.0 in
+      let b = ltb-true s (word - 1) p.1 in
+      absurd (omega arith))
+      ∙ sym (not_true (nat_lt (suc s) word) (λ y. let a = ltb-true (suc s) word y in absurd (omega arith)))
+
+  by_order : (suc s ≡ word) ⊎ ((suc s < word) ⊎ (word < suc s)) → (nat_lt 0 word && nat_lt s (word - 1)) ≡ nat_lt (suc s) word
+  by_order (inl same) = none (omega arith)
+  by_order (inr (inl l)) = some l
+  by_order (inr (inr l)) = none (omega arith)
+
+-- what subscribes to no hub is not cut
+pub uncut : (h : List Event) (s : ℕ) → hub_subscribed_at h s ≡ None → false ≡ is_cut h s
+unfolding is_cut
+uncut h s none = sym (not_true _ (λ y. let f = find_after (ends_source h s) (suc s) h y in false≢true (sym (ap (λ o. joins o (hub_ended h f.event)) none) ∙ f.holds)))
+
+-- one that waits --------------------------------------------------------------------------------------
+
+-- the hub has an open subscriber that waits where its last one does
+pub waited_word : (h : List Event) (size : ℕ) (s : Subscribers) (g last ended : ℕ) → AreLinked h size s → AreOpenListed h s → last ≡ get_or s.last.items g 0
+    → ended ≡ last_below (keyed (hub_ended_at h) g) (length h) → (nat_lt 0 last && not (nat_lt last ended)) ≡ has_key (open_waiting h) h g
+waited_word h size s g last ended w listed is_last is_ended = by_word last refl where
+  top : last ≡ last_below (on_list h s.listed.items g) (length h)
+  top = is_last ∙ (w.rows g).top
+
+  -- what waits is on the list
+  waits : (k : ℕ) → is_key (open_waiting h k) g ≡ true → (is_cut h k ≡ false) × (on_list h s.listed.items g k ≡ true) × (hub_subscribed_at h k ≡ Some g)
+  waits k y = by_cut (cases_Bool (is_cut h k)) where
+    by_cut : (is_cut h k ≡ true) ⊎ (is_cut h k ≡ false) → (is_cut h k ≡ false) × (on_list h s.listed.items g k ≡ true) × (hub_subscribed_at h k ≡ Some g)
+    by_cut (inl c) = absurd (false≢true (sym (ap (λ b. is_key (cond b None (open_subscribed h k)) g) c) ∙ y))
+    by_cut (inr c) = by_open (cases_Bool (is_open h k)) where
+      key : is_key (open_subscribed h k) g ≡ true
+      key = sym (ap (λ b. is_key (cond b None (open_subscribed h k)) g) c) ∙ y
+
+      by_open : (is_open h k ≡ true) ⊎ (is_open h k ≡ false) → (is_cut h k ≡ false) × (on_list h s.listed.items g k ≡ true) × (hub_subscribed_at h k ≡ Some g)
+      by_open (inr o) = absurd (false≢true (sym (ap (λ b. is_key (cond b (hub_subscribed_at h k) None) g) o) ∙ key))
+      by_open (inl o) =
+          let hub : hub_subscribed_at h k ≡ Some g = is_key_of (hub_subscribed_at h k) g (sym (ap (λ b. is_key (cond b (hub_subscribed_at h k) None) g) o) ∙ key) in
+          (c, on_open h s g k listed ∙ rw (subscriber_at h k g hub, o) refl, hub)
+
+  none : (nat_lt 0 last && not (nat_lt last ended)) ≡ false → ((k : ℕ) → is_key (open_waiting h k) g ≡ true → ⊥)
+      → (nat_lt 0 last && not (nat_lt last ended)) ≡ has_key (open_waiting h) h g
+  none z refute = z ∙ sym (not_true (has_key (open_waiting h) h g) (λ y. let f = find_number (λ k. is_key (open_waiting h k) g) (length h) y in refute f.number f.holds))
+
+  by_word : (v : ℕ) → last ≡ v → (nat_lt 0 last && not (nat_lt last ended)) ≡ has_key (open_waiting h) h g
+  by_word zero e = none (rw e refl) (λ k y.
+      let m = waits k y in
+      let z : last_below (on_list h s.listed.items g) (length h) ≡ 0 = sym top ∙ e in
+      let within = is_open_within h k ((and_parts (at (is_subscriber_of g) h k) (is_open h k) (sym (on_open h s g k listed) ∙ m.1)).1) in
+      both_ways _ (last_none (on_list h s.listed.items g) (length h) k (omega arith) within) m.1)
+  by_word (suc j) e = by_order (cases_order last ended) where
+    here : on_list h s.listed.items g j ≡ true
+    here = last_holds (on_list h s.listed.items g) (length h) j (sym top ∙ e)
+
+    parts : (at (is_subscriber_of g) h j ≡ true) × (is_open h j ≡ true)
+    parts = and_parts (at (is_subscriber_of g) h j) (is_open h j) (sym (on_open h s g j listed) ∙ here)
+
+    hub : hub_subscribed_at h j ≡ Some g
+    hub = at_subscriber h j g parts.0
+
+    over : ended ≤ last → (nat_lt 0 last && not (nat_lt last ended)) ≡ has_key (open_waiting h) h g
+    over l =
+        let some : nat_lt 0 last ≡ true = lt-ltb 0 last (omega arith) in
+        let past : nat_lt last ended ≡ false = not_true (nat_lt last ended) (λ y. let m = ltb-true last ended y in omega arith) in
+        let whole : is_cut h j ≡ false = sym (cut_word h j g ended hub is_ended) ∙ ap (λ (v : ℕ). nat_lt v ended) (sym e) ∙ past in
+        let key : is_key (open_waiting h j) g ≡ true = rw (whole, parts.1, hub) (eq-eqb g g refl) in
+        rw (some, past) (sym (any_found (λ k. is_key (open_waiting h k) g) (length h) j (is_open_within h j parts.1) key))
+
+    by_order : (last ≡ ended) ⊎ ((last < ended) ⊎ (ended < last)) → (nat_lt 0 last && not (nat_lt last ended)) ≡ has_key (open_waiting h) h g
+    by_order (inl same) = over (omega arith)
+    by_order (inr (inr l)) = over (omega arith)
+    by_order (inr (inl l)) = none (rw (lt-ltb last ended l) (and_no (nat_lt 0 last))) (λ k y.
+        let m = waits k y in
+        let within = is_open_within h k ((and_parts (at (is_subscriber_of g) h k) (is_open h k) (sym (on_open h s g k listed) ∙ m.1)).1) in
+        let below : k < last = below_top k within m.1 in
+        both_ways (is_cut h k) m.0 (sym (cut_word h k g ended m.2 is_ended) ∙ lt-ltb (suc k) ended (omega arith)))
+      where
+        and_no : (b : Bool) → (b && false) ≡ false
+        and_no true = refl
+        and_no false = refl
+
+        below_top : (k : ℕ) → k < length h → on_list h s.listed.items g k ≡ true → k < last
+        below_top k within on = by_place (cases_order k last) where
+          none_here : last ≤ k → k < last
+          none_here m = let t = top in absurd (both_ways _ (last_none (on_list h s.listed.items g) (length h) k (omega arith) within) on)
+
+          by_place : (k ≡ last) ⊎ ((k < last) ⊎ (last < k)) → k < last
+          by_place (inl same) = none_here (omega arith)
+          by_place (inr (inl b)) = b
+          by_place (inr (inr b)) = none_here (omega arith)
+
+-- connections -----------------------------------------------------------------------------------------
+
+-- the hub has an open connection where its last one is open
+pub connected_word : (h : List Event) (live : List Bool) (g word : ℕ) → IsLawful nothing_kept h → IsMarked live (is_open h)
+    → word ≡ last_below (keyed (hub_connected_at h) g) (length h) → (nat_lt 0 word && get_or live (word - 1) false) ≡ has_key (open_connected h) h g
+connected_word h live g word law tied is = by_word word refl where
+  connects : (k : ℕ) → hub_connected_at h k ≡ Some g → at (is_connect_of g) h k ≡ true
+  connects k e = ap (λ o. option_map_or (is_connect_of g) o false) (connection_at h k g e) ∙ eq-eqb g g refl
+
+  -- an open connection
+  open_one : (k : ℕ) → is_key (open_connected h k) g ≡ true → (is_open h k ≡ true) × (hub_connected_at h k ≡ Some g)
+  open_one k y = by_open (cases_Bool (is_open h k)) where
+    by_open : (is_open h k ≡ true) ⊎ (is_open h k ≡ false) → (is_open h k ≡ true) × (hub_connected_at h k ≡ Some g)
+    by_open (inr o) = absurd (false≢true (sym (ap (λ b. is_key (cond b (hub_connected_at h k) None) g) o) ∙ y))
+    by_open (inl o) = (o, is_key_of (hub_connected_at h k) g (sym (ap (λ b. is_key (cond b (hub_connected_at h k) None) g) o) ∙ y))
+
+  none : ((k : ℕ) → is_key (open_connected h k) g ≡ true → ⊥) → has_key (open_connected h) h g ≡ false
+  none refute = not_true (has_key (open_connected h) h g) (λ y. let f = find_number (λ k. is_key (open_connected h k) g) (length h) y in refute f.number f.holds)
+
+  by_word : (v : ℕ) → word ≡ v → (nat_lt 0 word && get_or live (word - 1) false) ≡ has_key (open_connected h) h g
+  by_word zero e = rw e (sym (none (λ k y.
+      let m = open_one k y in
+      both_ways _ (last_none (keyed (hub_connected_at h) g) (length h) k (omega arith) (is_open_within h k m.0)) (key_is (hub_connected_at h k) g m.1))))
+  by_word (suc j) e =
+      let place : word - 1 ≡ j = omega arith in
+      rw (lt-ltb 0 word (omega arith), place, tied j) (by_open (cases_Bool (is_open h j)))
+    where
+      holds : hub_connected_at h j ≡ Some g
+      holds = is_key_of (hub_connected_at h j) g (last_holds (keyed (hub_connected_at h) g) (length h) j (sym is ∙ e))
+
+      by_open : (is_open h j ≡ true) ⊎ (is_open h j ≡ false) → is_open h j ≡ has_key (open_connected h) h g
+      by_open (inl o) =
+          let key : is_key (open_connected h j) g ≡ true = rw (o, holds) (eq-eqb g g refl) in
+          o ∙ sym (any_found (λ k. is_key (open_connected h k) g) (length h) j (is_open_within h j o) key)
+      by_open (inr o) = o ∙ sym (none (λ k y.
+          let m = open_one k y in
+          let le = last_connection nothing_kept h law g k j (connects k m.1) m.0 (connects j holds) in
+          both_ways (is_open h k) (same_closed k le m.0 m.1) m.0))
+        where
+          same_closed : (k : ℕ) → j ≤ k → is_open h k ≡ true → hub_connected_at h k ≡ Some g → is_open h k ≡ false
+          same_closed k le alive named = by_place (cases_order j k) where
+            by_place : (j ≡ k) ⊎ ((j < k) ⊎ (k < j)) → is_open h k ≡ false
+            by_place (inl same) = ap (is_open h) (sym same) ∙ o
+            by_place (inr (inr l)) = absurd (omega arith)
+            by_place (inr (inl l)) = absurd (both_ways _ (last_none (keyed (hub_connected_at h) g) (length h) k (omega arith) (is_open_within h k alive)) (key_is (hub_connected_at h k) g named))

@@ -1,0 +1,140 @@
+-- What is kept of the hubs, after one more event.
+use Rattle.std.proofs.Common.{◌≡◌, ℕ, zero, suc, ◌+◌, ◌<◌, ◌≤◌, Bool, true, false, List, [], ◌∷◌, ◌++◌, length, Option, Some, None, cond, refl, ap, ◌∙◌, arith, inl, inr, ◌⊎◌, get_or, slice_get, filter, replicate, length-append}
+use Rattle.std.proofs.lemmas.List.{length-replicate}
+use Rattle.std.specs.List.{range_with_len}
+use Rattle.std.specs.Option.{option_map_or, option_and_then, option_or}
+use Rattle.std.proofs.lemmas.Bool.{false≢true}
+use Rattle.std.proofs.lemmas.List.Elements.{filter-append}
+use Rattle.std.proofs.lemmas.Option.{none-some}
+use Rattle.rx_note.specs.declared.note.Terminal.{Terminal}
+use Rattle.rx_event.specs.Kept.{nothing_kept}
+use Rattle.rx_event.specs.declared.event.Event.{Event}
+use Rattle.rx_event.specs.declared.event.Event.TheVariants.{Open, Hub, Connect, Accept, Use, Remove, Lease, Return, Item, Decline, End, Close, Take}
+use Rattle.rx_event.specs.Events.{makes_hub, hub_connected, hub_subscribed}
+use Rattle.rx_event.specs.Tree.{at, places, hubs}
+use Rattle.rx_event.specs.Forced.{connecting, IsConnectDue, IsSettled}
+use Rattle.rx_event.specs.Lawful.{IsLawful, MayFollow}
+use Rattle.rx_event.proofs.Laws.Places.{slice_get-append, slice_get_last, at-append}
+use Rattle.rx_event.proofs.Laws.Openness.{is_open_within}
+use Rattle.rx_event.proofs.Laws.Lawful.{may_end, ended_after}
+use Rattle.rx_event.proofs.Laws.Calm.{opened_settled}
+use Rattle.rx_event.proofs.Laws.Sums.{places-push}
+use Rattle.rx_event.proofs.Laws.Connections.{waited_or_now}
+use Rattle.rx_audit.specs.declared.hubs.Hubs.{Hubs}
+use Rattle.rx_audit.specs.Latest.{table_with}
+use Rattle.rx_audit.specs.HubTables.{AreHubs}
+use Rattle.rx_audit.specs.Rules.{hub_connected_at, hub_ended, hub_ended_at}
+use Rattle.rx_audit.proofs.Latest.{latest_with, length-table_with, one_longer}
+
+-- connections ---------------------------------------------------------------------------------------
+
+pub connected_same : (h : List Event) (e : Event) (k : ℕ) → k < length h → hub_connected_at (h ++ e ∷ []) k ≡ hub_connected_at h k
+connected_same h e k l = ap (option_and_then hub_connected) (slice_get-append h (e ∷ []) k l)
+
+connected_last : (h : List Event) (e : Event) → hub_connected_at (h ++ e ∷ []) (length h) ≡ hub_connected e
+connected_last h e = ap (option_and_then hub_connected) (slice_get_last h e)
+
+-- ends of connections -------------------------------------------------------------------------------
+
+-- what an event ends that may stand there
+ended_same_event : (h : List Event) (e x : Event) → ((c : ℕ) (t : Terminal) → x ≡ End c t → c < length h) → hub_ended (h ++ e ∷ []) x ≡ hub_ended h x
+ended_same_event h e (End c t) older = connected_same h e c (older c t refl)
+ended_same_event h e (Open place kind) older = refl
+ended_same_event h e (Hub mode) older = refl
+ended_same_event h e (Connect g) older = refl
+ended_same_event h e (Accept n tag) older = refl
+ended_same_event h e (Use r) older = refl
+ended_same_event h e (Remove r) older = refl
+ended_same_event h e (Lease r) older = refl
+ended_same_event h e (Return r) older = refl
+ended_same_event h e (Item l v) older = refl
+ended_same_event h e (Decline f) older = refl
+ended_same_event h e (Close c) older = refl
+ended_same_event h e (Take r) older = refl
+
+ended_same : (h : List Event) (e : Event) → IsLawful nothing_kept h → (k : ℕ) → k < length h → hub_ended_at (h ++ e ∷ []) k ≡ hub_ended_at h k
+ended_same h e law k l = ap (option_and_then (hub_ended (h ++ e ∷ []))) (slice_get-append h (e ∷ []) k l) ∙ by_event (slice_get h k) refl where
+  by_event : (o : Option Event) → slice_get h k ≡ o → option_and_then (hub_ended (h ++ e ∷ [])) o ≡ option_and_then (hub_ended h) o
+  by_event None at_k = refl
+  by_event (Some x) at_k = ended_same_event h e x (λ c t is. let w = ended_after nothing_kept h law k c t (at_k ∙ ap (λ y. Some y) is) in omega arith)
+
+ended_last : (h : List Event) (e : Event) → MayFollow nothing_kept h e → hub_ended_at (h ++ e ∷ []) (length h) ≡ hub_ended h e
+ended_last h e next = ap (option_and_then (hub_ended (h ++ e ∷ []))) (slice_get_last h e) ∙
+    ended_same_event h e e (λ c t is. is_open_within h c (may_end nothing_kept (rw is at next)))
+
+-- how many --------------------------------------------------------------------------------------------
+
+filter_same : (p q : ℕ → Bool) (s n : ℕ) → ((k : ℕ) → k < s + n → p k ≡ q k) → filter p (range_with_len s n) ≡ filter q (range_with_len s n)
+filter_same p q s zero same = refl
+filter_same p q s (suc n) same =
+    let rest = filter_same p q (s + 1) n (λ k l. same k (omega arith)) in
+    (λ i. cond (same s (omega arith) i) (s ∷ rest i) (rest i))
+
+pub hub_count-push : (h : List Event) (e : Event) → length (hubs (h ++ e ∷ [])) ≡ length (hubs h) + cond (makes_hub e) 1 0
+hub_count-push h e = by_test (makes_hub e) refl where
+  before : filter (at makes_hub (h ++ e ∷ [])) (places h) ≡ hubs h
+  before = filter_same (at makes_hub (h ++ e ∷ [])) (at makes_hub h) 0 (length h) (λ k l. at-append makes_hub h (e ∷ []) k (omega arith))
+
+  last : at makes_hub (h ++ e ∷ []) (length h) ≡ makes_hub e
+  last = ap (λ o. option_map_or makes_hub o false) (slice_get_last h e)
+
+  split : (b : Bool) → makes_hub e ≡ b → hubs (h ++ e ∷ []) ≡ hubs h ++ cond b (length h ∷ []) []
+  split b is = ap (filter (at makes_hub (h ++ e ∷ []))) (places-push h e) ∙ filter-append (at makes_hub (h ++ e ∷ [])) (places h) (length h ∷ [])
+      ∙ (λ i. before i ++ cond ((last ∙ is) i) (length h ∷ []) [])
+
+  by_test : (b : Bool) → makes_hub e ≡ b → length (hubs (h ++ e ∷ [])) ≡ length (hubs h) + cond b 1 0
+  by_test true is = ap length (split true is) ∙ (let l = length-append (hubs h) (length h ∷ []) in omega arith)
+  by_test false is = ap length (split false is) ∙ (let l = length-append {A = ℕ} (hubs h) [] in omega arith)
+
+-- all together ------------------------------------------------------------------------------------------
+
+pub hubs_none : (size : ℕ) (s : Hubs) → s.connection.items ≡ replicate size 0 → s.ended.items ≡ replicate size 0 → s.count ≡ 0 → AreHubs [] size s
+hubs_none size s connection ended count = record {
+  connection = λ n l. ap (λ (ls : List ℕ). get_or ls n 0) connection ∙ zeros size n;
+  connection_size = ap length connection ∙ length-replicate size 0;
+  ended = λ n l. ap (λ (ls : List ℕ). get_or ls n 0) ended ∙ zeros size n;
+  ended_size = ap length ended ∙ length-replicate size 0;
+  waiting = λ g d. absurd (false≢true d.subscribes);
+  count = count;
+} where
+  zeros : (size g : ℕ) → ◌≡◌ {A = ℕ} (get_or (replicate size 0) g 0) 0
+  zeros zero g = refl
+  zeros (suc size) zero = refl
+  zeros (suc size) (suc g) = zeros size g
+
+pub hubs_more : (h : List Event) (e : Event) (size : ℕ) (old new : Hubs) → IsLawful nothing_kept h → MayFollow nothing_kept h e → AreHubs h size old
+    → new.connection.items ≡ table_with old.connection.items (hub_connected e) (suc (length h)) → new.ended.items ≡ table_with old.ended.items (hub_ended h e) (suc (length h))
+    → new.waiting ≡ option_or (hub_subscribed e) old.waiting → new.count ≡ old.count + cond (makes_hub e) 1 0 → AreHubs (h ++ e ∷ []) size new
+hubs_more h e size old new law next w connection ended waiting count = record {
+  connection = rw (connection, one_longer h e)
+      (latest_with old.connection.items (hub_connected_at h) (hub_connected_at (h ++ e ∷ [])) (length h) (hub_connected e) w.connection (connected_same h e) (connected_last h e));
+  connection_size = ap length connection ∙ length-table_with old.connection.items (hub_connected e) (suc (length h)) ∙ w.connection_size;
+  ended = rw (ended, one_longer h e)
+      (latest_with old.ended.items (hub_ended_at h) (hub_ended_at (h ++ e ∷ [])) (length h) (hub_ended h e) w.ended (ended_same h e law) (ended_last h e next));
+  ended_size = ap length ended ∙ length-table_with old.ended.items (hub_ended h e) (suc (length h)) ∙ w.ended_size;
+  waiting = λ g d. waiting ∙ by_reason g (waited_or_now nothing_kept h e law next g d);
+  count = let c = hub_count-push h e in let b = w.count in omega arith;
+} where
+  by_old : (g : ℕ) → IsConnectDue h g → (o : Option ℕ) → hub_subscribed e ≡ o → option_or o old.waiting ≡ Some g
+  by_old g d None is = w.waiting g d
+  by_old g d (Some k) is = absurd ((settled_before e next is).none (Connect g) (connecting d)) where
+    settled_before : (x : Event) → MayFollow nothing_kept h x → hub_subscribed x ≡ Some k → IsSettled nothing_kept h
+    settled_before (Open place kind) may named = opened_settled nothing_kept may
+    settled_before _ may named = absurd (none-some k named)
+
+  by_reason : (g : ℕ) → IsConnectDue h g ⊎ (hub_subscribed e ≡ Some g) → option_or (hub_subscribed e) old.waiting ≡ Some g
+  by_reason g (inl d) = by_old g d (hub_subscribed e) refl
+  by_reason g (inr now) = ap (λ o. option_or o old.waiting) now
+
+pub hub_count_few : (h : List Event) → length (hubs h) ≤ length h
+hub_count_few h = few (at makes_hub h) 0 (length h) where
+  few : (p : ℕ → Bool) (s n : ℕ) → length (filter p (range_with_len s n)) ≤ n
+  few p s zero = omega arith
+  few p s (suc n) = by_test (p s) (few p (s + 1) n) where
+    by_test : (b : Bool) → length (filter p (range_with_len (s + 1) n)) ≤ n → length (cond b (s ∷ filter p (range_with_len (s + 1) n)) (filter p (range_with_len (s + 1) n))) ≤ suc n
+    by_test true l = omega arith
+    by_test false l = omega arith
+
+pub one_at_most : (k : ℕ) (b : Bool) → k ≡ cond b 1 0 → k ≤ 1
+one_at_most k true is = omega arith
+one_at_most k false is = omega arith

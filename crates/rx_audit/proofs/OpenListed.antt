@@ -1,0 +1,96 @@
+-- Which subscribers are on the lists of their hubs after one more event.
+use Rattle.std.proofs.Common.{◌≡◌, ℕ, ◌+◌, ◌<◌, Bool, true, false, List, [], ◌∷◌, ◌++◌, length, Some, refl, sym, ap, subst, ◌∙◌, arith, inl, inr, ◌⊎◌, get_or, set}
+use Rattle.std.specs.Option.{option_map_or}
+use Rattle.std.proofs.lemmas.Bool.{cases_Bool, cases_order, both_ways, false≢true}
+use Rattle.rx_event.specs.Kept.{nothing_kept}
+use Rattle.rx_event.specs.declared.event.Kind.TheVariants.{Sub}
+use Rattle.rx_event.specs.declared.event.Event.{Event}
+use Rattle.rx_event.specs.declared.event.Event.TheVariants.{Open}
+use Rattle.rx_event.specs.Events.{is_subscriber_of, makes_hub}
+use Rattle.rx_event.specs.Tree.{at, is_open}
+use Rattle.std.proofs.lemmas.Option.{same_Some}
+use Rattle.rx_event.specs.Allowed.{IsHubbed}
+use Rattle.rx_event.specs.Lawful.{MayFollow}
+use Rattle.rx_event.proofs.Laws.Places.{at-append, at_within, slice_get_last}
+use Rattle.rx_event.proofs.Laws.Hubs.{may_subscribe, subscriber_found}
+use Rattle.rx_event.proofs.Laws.Totals.{is_open_new}
+use Rattle.rx_audit.specs.declared.subscribers.Subscribers.{Subscribers}
+use Rattle.rx_audit.specs.Latest.{IsNoted, AreClosed}
+use Rattle.rx_audit.specs.Listed.{AreOpenListed, AreLetGo}
+use Rattle.rx_audit.specs.Rules.{stays_open}
+use Rattle.rx_audit.proofs.ClosingBelow.{cleared, uncleared, stays_gone}
+use Rattle.rx_audit.proofs.StaysOpen.{is_open_older, stays_closed}
+use Rattle.rx_audit.proofs.SubscriberRows.{mark_gone}
+use Rattle.rx_audit.proofs.Latest.{one_longer}
+
+-- no number was let go
+pub let_go_none : (ms : List Bool) (closed : List ℕ) → AreLetGo ms ms closed 0
+let_go_none ms closed = record {
+  kept = λ n y. y;
+  gone = λ k l. absurd (omega arith);
+  noted = λ n y z. absurd (both_ways (get_or ms n false) z y);
+}
+
+-- one more is
+pub let_go_more : (first old new : List Bool) (closed : List ℕ) (i s : ℕ) → AreLetGo first old closed i → i < length closed → s ≡ get_or closed i 0
+    → new ≡ set old s false → AreLetGo first new closed (i + 1)
+let_go_more first old new closed i s w l is changed = record {
+  kept = λ n y. w.kept n (cleared old s n (sym (ap (λ (ms : List Bool). get_or ms n false) changed) ∙ y)).1;
+  gone = λ k m. ap (λ (ms : List Bool). get_or ms (get_or closed k 0) false) changed ∙ by_place k m (cases_order k i);
+  noted = λ n was gone. by_mark n was (uncleared old s n (sym (ap (λ (ms : List Bool). get_or ms n false) changed) ∙ gone));
+} where
+  by_place : (k : ℕ) → k < i + 1 → (k ≡ i) ⊎ ((k < i) ⊎ (i < k)) → get_or (set old s false) (get_or closed k 0) false ≡ false
+  by_place k m (inl same) = ap (λ n. get_or (set old s false) n false) (ap (λ j. get_or closed j 0) same ∙ sym is) ∙ mark_gone old s
+  by_place k m (inr (inl b)) = stays_gone old s (get_or closed k 0) (w.gone k b)
+  by_place k m (inr (inr b)) = absurd (omega arith)
+
+  by_mark : (n : ℕ) → get_or first n false ≡ true → (n ≡ s) ⊎ (get_or old n false ≡ false) → IsNoted 0 closed n
+  by_mark n was (inl same) = record { at = i; after = omega arith; within = l; is = sym is ∙ sym same }
+  by_mark n was (inr gone) = w.noted n was gone
+
+subscriber_opens : (g : ℕ) (e : Event) → is_subscriber_of g e ≡ true → (h : List Event) → MayFollow nothing_kept h e → is_open (h ++ e ∷ []) (length h) ≡ true
+subscriber_opens g (Open place kind) is h next = is_open_new nothing_kept h (Open place kind) next
+subscriber_opens g _ is h next = absurd (false≢true is)
+
+-- the hub of a new subscriber is older
+pub hub_older : (h : List Event) (e : Event) (g : ℕ) → MayFollow nothing_kept h e → is_subscriber_of g e ≡ true → g < length h
+hub_older h e g next is =
+    let found = subscriber_found g (Some e) is in
+    let may : MayFollow nothing_kept h (Open found.0 (Sub g)) = subst (λ (x : Event). MayFollow nothing_kept h x) (same_Some e (Open found.0 (Sub g)) found.1) next in
+    let hubbed : IsHubbed h found.0 (Sub g) = may_subscribe nothing_kept may in
+    at_within makes_hub h g hubbed.0
+
+pub open_listed_after : (h : List Event) (e : Event) (old mid new : Subscribers) (closed : List ℕ) → MayFollow nothing_kept h e → AreOpenListed h old
+    → AreClosed h e closed → AreLetGo old.listed.items mid.listed.items closed (length closed)
+    → ((k : ℕ) → k < length h → get_or new.listed.items k false ≡ get_or mid.listed.items k false)
+    → ((g : ℕ) → is_subscriber_of g e ≡ true → get_or new.listed.items (length h) false ≡ true) → AreOpenListed (h ++ e ∷ []) new
+open_listed_after h e old mid new closed next listed closing let_go others last g k subscribes = by_place (cases_order k (length h)) where
+  older : k < length h → get_or new.listed.items k false ≡ is_open (h ++ e ∷ []) k
+  older l = others k l ∙ by_open (cases_Bool (is_open h k)) ∙ sym (is_open_older h e k l) where
+    was : get_or old.listed.items k false ≡ is_open h k
+    was = listed g k (sym (at-append (is_subscriber_of g) h (e ∷ []) k l) ∙ subscribes)
+
+    by_mark : is_open h k ≡ true → (b : Bool) → get_or mid.listed.items k false ≡ b → b ≡ stays_open h e k
+    by_mark o true y = by_stay (cases_Bool (stays_open h e k)) where
+      by_stay : (stays_open h e k ≡ true) ⊎ (stays_open h e k ≡ false) → true ≡ stays_open h e k
+      by_stay (inl s) = sym s
+      by_stay (inr s) =
+          let m = closing.noted k o s in
+          absurd (both_ways (get_or mid.listed.items k false) (ap (λ n. get_or mid.listed.items n false) (sym m.is) ∙ let_go.gone m.at m.within) y)
+    by_mark o false z =
+        let m = let_go.noted k (was ∙ o) z in
+        sym (ap (stays_open h e) (sym m.is) ∙ closing.gone m.at m.within)
+
+    by_open : (is_open h k ≡ true) ⊎ (is_open h k ≡ false) → get_or mid.listed.items k false ≡ stays_open h e k
+    by_open (inl o) = by_mark o (get_or mid.listed.items k false) refl
+    by_open (inr o) = by_gone (cases_Bool (get_or mid.listed.items k false)) ∙ sym (stays_closed h e k o) where
+      by_gone : (get_or mid.listed.items k false ≡ true) ⊎ (get_or mid.listed.items k false ≡ false) → get_or mid.listed.items k false ≡ false
+      by_gone (inl y) = absurd (both_ways (is_open h k) o (sym was ∙ let_go.kept k y))
+      by_gone (inr z) = z
+
+  by_place : (k ≡ length h) ⊎ ((k < length h) ⊎ (length h < k)) → get_or new.listed.items k false ≡ is_open (h ++ e ∷ []) k
+  by_place (inr (inl l)) = older l
+  by_place (inl same) =
+      let new_one : is_subscriber_of g e ≡ true = sym (ap (λ o. option_map_or (is_subscriber_of g) o false) (slice_get_last h e)) ∙ sym (ap (at (is_subscriber_of g) (h ++ e ∷ [])) same) ∙ subscribes in
+      ap (λ n. get_or new.listed.items n false) same ∙ last g new_one ∙ sym (ap (is_open (h ++ e ∷ [])) same ∙ subscriber_opens g e new_one h next)
+  by_place (inr (inr l)) = absurd (let m = at_within (is_subscriber_of g) (h ++ e ∷ []) k subscribes in let n = one_longer h e in omega arith)

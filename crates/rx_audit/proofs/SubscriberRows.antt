@@ -1,0 +1,397 @@
+-- The lists of the subscribers of each hub: one taken off, and a new one.
+use Rattle.std.proofs.Common.{◌≡◌, ◌≢◌, ℕ, zero, suc, ◌+◌, ◌-◌, ◌<◌, ◌≤◌, Bool, true, false, List, [], ◌∷◌, ◌++◌, length, replicate, Some, None, cond, refl, sym, ap, ◌∙◌, arith, inl, inr, ◌⊎◌, get_or, set, get_or-set_other, get_or-set_same}
+use Rattle.std.proofs.Math.ListN.{length-set}
+use Rattle.std.proofs.lemmas.List.{length-replicate}
+use Rattle.std.proofs.Math.Bool.{◌&&◌}
+use Rattle.std.specs.List.{sum_by}
+use Rattle.std.proofs.lemmas.List.Sums.{sum_by_push, sum_by-cons}
+use Rattle.std.specs.Option.{option_map_or}
+use Rattle.std.proofs.lemmas.Bool.{cases_Bool, cases_order, both_ways, false≢true, and_parts, eq-eqb, ne_eqb}
+use Rattle.std.proofs.lemmas.Option.{none-some, slice_get_past}
+use Rattle.rx_event.specs.declared.event.Event.{Event}
+use Rattle.rx_event.specs.Events.{is_subscriber_of, hub_subscribed}
+use Rattle.rx_event.specs.Tree.{at, is_open, open_subscribers}
+use Rattle.rx_event.specs.Claims.Connections.{falling}
+use Rattle.rx_event.proofs.Laws.Places.{at-append, at_within, slice_get_last}
+use Rattle.rx_event.proofs.Laws.Connections.{one_hub, sum_by-falling}
+use Rattle.rx_audit.specs.declared.subscribers.Subscribers.{Subscribers}
+use Rattle.rx_audit.specs.Latest.{last_below, table_with}
+use Rattle.rx_audit.specs.Listed.{on_list, IsRow, number_of, hub_if_last, listed_hub, AreLinked, AreOpenListed}
+use Rattle.rx_audit.specs.Rules.{hub_subscribed_at}
+use Rattle.rx_audit.proofs.Latest.{last_le, last_holds, one_longer, length-table_with}
+use Rattle.rx_audit.proofs.ClosingBelow.{within_marks, cleared}
+use Rattle.rx_audit.proofs.Deciding.{not_true, same_subscribed, subscriber_at, at_subscriber}
+use Rattle.rx_audit.proofs.Neighbours.{row_less, row_more, row_apart}
+
+pub number_of_word : (word : ℕ) → word ≢ 0 → Some (word - 1) ≡ number_of word
+number_of_word zero some = absurd (some refl)
+number_of_word (suc n) some = let same : suc n - 1 ≡ n = omega arith in ap (λ (k : ℕ). Some k) same
+
+pub hub_of_word : (word g : ℕ) → word ≢ 0 → None ≡ hub_if_last word g
+hub_of_word zero g some = absurd (some refl)
+hub_of_word (suc n) g some = refl
+
+-- a mark that was taken away is gone
+pub mark_gone : (ms : List Bool) (c : ℕ) → get_or (set ms c false) c false ≡ false
+mark_gone ms c = not_true _ (λ y. (cleared ms c c y).0 refl)
+
+and_no : (a : Bool) → (a && false) ≡ false
+and_no true = refl
+and_no false = refl
+
+at_past : (q : Event → Bool) (h : List Event) (n : ℕ) → length h ≤ n → at q h n ≡ false
+at_past q h n l = ap (λ o. option_map_or q o false) (slice_get_past h n l)
+
+-- where a number on a list stands
+on_within : (h : List Event) (ms : List Bool) (g k : ℕ) → on_list h ms g k ≡ true → k < length h
+on_within h ms g k y = at_within (is_subscriber_of g) h k (and_parts _ _ y).0
+
+on_marked : (h : List Event) (ms : List Bool) (g k : ℕ) → on_list h ms g k ≡ true → k < length ms
+on_marked h ms g k y = within_marks ms k (and_parts (at (is_subscriber_of g) h k) (get_or ms k false) y).1
+
+-- on the list of one hub alone
+on_one : (h : List Event) (ms : List Bool) (g j k n : ℕ) → on_list h ms g k ≡ true → on_list h ms j n ≡ true → k ≡ n → g ≡ j
+on_one h ms g j k n one other same = one_hub h k g j (and_parts _ _ one).0 (ap (at (is_subscriber_of j) h) same ∙ (and_parts _ _ other).0)
+
+pub rows_none : (size : ℕ) (s : Subscribers) → s.listed.items ≡ replicate size false → s.last.items ≡ replicate size 0 → s.before.items ≡ replicate size 0
+    → s.after.items ≡ replicate size 0 → AreLinked [] size s
+rows_none size s listed last before after = record {
+  rows = λ g. record { top = ap (λ ls. get_or ls g 0) last ∙ zeros size g; down = λ k y. absurd (false≢true y); up = λ k y. absurd (false≢true y) };
+  hubbed = λ g k y. absurd (false≢true y);
+  listed_size = ap length listed ∙ length-replicate size false;
+  last_size = ap length last ∙ length-replicate size 0;
+  before_size = ap length before ∙ length-replicate size 0;
+  after_size = ap length after ∙ length-replicate size 0;
+} where
+  zeros : (size g : ℕ) → ◌≡◌ {A = ℕ} (get_or (replicate size 0) g 0) 0
+  zeros zero g = refl
+  zeros (suc size) zero = refl
+  zeros (suc size) (suc g) = zeros size g
+
+-- one that is taken off -----------------------------------------------------------------------------
+
+module _ (h : List Event) (size : ℕ) (old new : Subscribers) (w : AreLinked h size old) (s : ℕ) (is_listed : new.listed.items ≡ set old.listed.items s false) where
+  on_old : ℕ → ℕ → Bool
+  on_old = on_list h old.listed.items
+
+  on_other : (g k : ℕ) → k ≢ s → on_list h new.listed.items g k ≡ on_list h old.listed.items g k
+  on_other g k apart = ap (λ b. at (is_subscriber_of g) h k && b) (ap (λ (ms : List Bool). get_or ms k false) is_listed ∙ get_or-set_other old.listed.items s k false false apart)
+
+  on_gone : (g : ℕ) → on_list h new.listed.items g s ≡ false
+  on_gone g = ap (λ b. at (is_subscriber_of g) h s && b) (ap (λ (ms : List Bool). get_or ms s false) is_listed ∙ mark_gone old.listed.items s) ∙ and_no (at (is_subscriber_of g) h s)
+
+  on_was : (g k : ℕ) → on_list h new.listed.items g k ≡ true → on_list h old.listed.items g k ≡ true
+  on_was g k y = sym (on_other g k (λ same. both_ways _ (ap (on_list h new.listed.items g) same ∙ on_gone g) y)) ∙ y
+
+  size_same : length new.listed.items ≡ size
+  size_same = ap length is_listed ∙ length-set old.listed.items s false ∙ w.listed_size
+
+  on_same : (g : ℕ) → on_list h old.listed.items g s ≡ false → (k : ℕ) → on_list h new.listed.items g k ≡ on_list h old.listed.items g k
+  on_same g out k = by_order (cases_order k s) where
+    by_order : (k ≡ s) ⊎ ((k < s) ⊎ (s < k)) → on_list h new.listed.items g k ≡ on_list h old.listed.items g k
+    by_order (inl same) = ap (on_list h new.listed.items g) same ∙ on_gone g ∙ sym (ap (on_list h old.listed.items g) same ∙ out)
+    by_order (inr (inl l)) = on_other g k (omega arith)
+    by_order (inr (inr l)) = on_other g k (omega arith)
+
+-- which was on none
+pub rows_still : (h : List Event) (size : ℕ) (old new : Subscribers) (s : ℕ) → AreLinked h size old → listed_hub h old.listed.items s ≡ None
+    → new.listed.items ≡ set old.listed.items s false → new.last.items ≡ old.last.items → new.before.items ≡ old.before.items
+    → new.after.items ≡ old.after.items → AreLinked h size new
+rows_still h size old new s w none listed last before after = record {
+  rows = λ g. rw (last, before, after) (row_apart (on_list h old.listed.items g) (on_list h new.listed.items g) (length h) (length h) (get_or old.last.items g 0)
+      old.before.items old.after.items old.before.items old.after.items (on_same h size old new w s listed g (out g)) (omega arith)
+      (on_within h old.listed.items g) (λ k y. refl) (λ k y. refl) (w.rows g));
+  hubbed = λ g k y. w.hubbed g k (on_was h size old new w s listed g k y);
+  listed_size = size_same h size old new w s listed;
+  last_size = ap length last ∙ w.last_size;
+  before_size = ap length before ∙ w.before_size;
+  after_size = ap length after ∙ w.after_size;
+} where
+  out : (g : ℕ) → on_list h old.listed.items g s ≡ false
+  out g = not_true _ (λ y.
+      let p : (at (is_subscriber_of g) h s ≡ true) × (get_or old.listed.items s false ≡ true) = and_parts _ _ y in
+      let hub : listed_hub h old.listed.items s ≡ Some g = ap (λ b. cond b (hub_subscribed_at h s) None) p.1 ∙ at_subscriber h s g p.0 in
+      none-some g (sym none ∙ hub))
+
+-- or on that of g
+pub rows_less : (h : List Event) (size : ℕ) (old new : Subscribers) (g s : ℕ) → AreLinked h size old → listed_hub h old.listed.items s ≡ Some g
+    → new.listed.items ≡ set old.listed.items s false
+    → new.last.items ≡ table_with old.last.items (hub_if_last (get_or old.after.items s 0) g) (get_or old.before.items s 0)
+    → new.before.items ≡ table_with old.before.items (number_of (get_or old.after.items s 0)) (get_or old.before.items s 0)
+    → new.after.items ≡ table_with old.after.items (number_of (get_or old.before.items s 0)) (get_or old.after.items s 0) → AreLinked h size new
+rows_less h size old new g s w hub listed last before after = record {
+  rows = λ j. by_hub j (cases_order j g);
+  hubbed = λ j k y. w.hubbed j k (on_was h size old new w s listed j k y);
+  listed_size = size_same h size old new w s listed;
+  last_size = ap length last ∙ length-table_with old.last.items _ _ ∙ w.last_size;
+  before_size = ap length before ∙ length-table_with old.before.items _ _ ∙ w.before_size;
+  after_size = ap length after ∙ length-table_with old.after.items _ _ ∙ w.after_size;
+} where
+  here : on_list h old.listed.items g s ≡ true
+  here = by_mark (cases_Bool (get_or old.listed.items s false)) where
+    by_mark : (get_or old.listed.items s false ≡ true) ⊎ (get_or old.listed.items s false ≡ false) → on_list h old.listed.items g s ≡ true
+    by_mark (inl y) = rw (subscriber_at h s g (sym (ap (λ b. cond b (hub_subscribed_at h s) None) y) ∙ hub)) y
+    by_mark (inr z) = absurd (none-some g (sym (ap (λ b. cond b (hub_subscribed_at h s) None) z) ∙ hub))
+
+  row : IsRow (on_list h old.listed.items g) (length h) (get_or old.last.items g 0) old.before.items old.after.items
+  row = w.rows g
+
+  in_before : (j k : ℕ) → on_list h old.listed.items j k ≡ true → k < length old.before.items
+  in_before j k y = let a = on_marked h old.listed.items j k y in let b = w.listed_size in let c = w.before_size in omega arith
+
+  in_after : (j k : ℕ) → on_list h old.listed.items j k ≡ true → k < length old.after.items
+  in_after j k y = let a = on_marked h old.listed.items j k y in let b = w.listed_size in let c = w.after_size in omega arith
+
+  ends : get_or old.after.items s 0 ≡ 0 → get_or new.last.items g 0 ≡ get_or old.before.items s 0
+  ends none =
+      let l = w.hubbed g s here in
+      let size_is = w.last_size in
+      ap (λ (ls : List ℕ). get_or ls g 0) (last ∙ ap (λ a. table_with old.last.items (hub_if_last a g) (get_or old.before.items s 0)) none)
+      ∙ get_or-set_same old.last.items g (get_or old.before.items s 0) 0 (omega arith)
+
+  goes : 0 < get_or old.after.items s 0 → get_or new.last.items g 0 ≡ get_or old.last.items g 0
+  goes some =
+      let is : get_or old.after.items s 0 ≡ suc (get_or old.after.items s 0 - 1) = omega arith in
+      ap (λ (ls : List ℕ). get_or ls g 0) (last ∙ ap (λ a. table_with old.last.items (hub_if_last a g) (get_or old.before.items s 0)) is)
+
+  own : IsRow (on_list h new.listed.items g) (length h) (get_or new.last.items g 0) new.before.items new.after.items
+  own = rw (before, after)
+      (row_less (on_list h old.listed.items g) (on_list h new.listed.items g) s (length h) (get_or old.last.items g 0) (get_or new.last.items g 0)
+      old.before.items old.after.items (on_other h size old new w s listed g) (on_gone h size old new w s listed g) here
+      (on_within h old.listed.items g) (in_before g) (in_after g) row ends goes)
+
+  -- the list of another hub
+  last_apart : (j : ℕ) → j ≢ g → get_or new.last.items j 0 ≡ get_or old.last.items j 0
+  last_apart j apart = ap (λ (ls : List ℕ). get_or ls j 0) last ∙ by_word (get_or old.after.items s 0) where
+    by_word : (a : ℕ) → get_or (table_with old.last.items (hub_if_last a g) (get_or old.before.items s 0)) j 0 ≡ get_or old.last.items j 0
+    by_word zero = get_or-set_other old.last.items g j (get_or old.before.items s 0) 0 apart
+    by_word (suc m) = refl
+
+  before_apart : (j k : ℕ) → j ≢ g → on_list h old.listed.items j k ≡ true → get_or new.before.items k 0 ≡ get_or old.before.items k 0
+  before_apart j k apart y = ap (λ (ls : List ℕ). get_or ls k 0) before ∙ by_word (get_or old.after.items s 0) refl where
+    by_word : (a : ℕ) → get_or old.after.items s 0 ≡ a → get_or (table_with old.before.items (number_of a) (get_or old.before.items s 0)) k 0 ≡ get_or old.before.items k 0
+    by_word zero e = refl
+    by_word (suc m) e = get_or-set_other old.before.items m k (get_or old.before.items s 0) 0 (λ same. apart (on_one h old.listed.items j g k m y ((row.up s here).some m e).0 same))
+
+  after_apart : (j k : ℕ) → j ≢ g → on_list h old.listed.items j k ≡ true → get_or new.after.items k 0 ≡ get_or old.after.items k 0
+  after_apart j k apart y = ap (λ (ls : List ℕ). get_or ls k 0) after ∙ by_word (get_or old.before.items s 0) refl where
+    by_word : (b : ℕ) → get_or old.before.items s 0 ≡ b → get_or (table_with old.after.items (number_of b) (get_or old.after.items s 0)) k 0 ≡ get_or old.after.items k 0
+    by_word zero e = refl
+    by_word (suc m) e = get_or-set_other old.after.items m k (get_or old.after.items s 0) 0
+        (λ same. apart (on_one h old.listed.items j g k m y (last_holds (on_list h old.listed.items g) s m (sym (row.down s here) ∙ e)) same))
+
+  other : (j : ℕ) → j ≢ g → IsRow (on_list h new.listed.items j) (length h) (get_or new.last.items j 0) new.before.items new.after.items
+  other j apart = rw (last_apart j apart)
+      (row_apart (on_list h old.listed.items j) (on_list h new.listed.items j) (length h) (length h) (get_or old.last.items j 0)
+      old.before.items old.after.items new.before.items new.after.items
+      (on_same h size old new w s listed j (not_true _ (λ y. apart (on_one h old.listed.items j g s s y here refl)))) (omega arith)
+      (on_within h old.listed.items j) (λ k y. before_apart j k apart y) (λ k y. after_apart j k apart y) (w.rows j))
+
+  by_hub : (j : ℕ) → (j ≡ g) ⊎ ((j < g) ⊎ (g < j)) → IsRow (on_list h new.listed.items j) (length h) (get_or new.last.items j 0) new.before.items new.after.items
+  by_hub j (inl same) = rw same own
+  by_hub j (inr (inl l)) = other j (omega arith)
+  by_hub j (inr (inr l)) = other j (omega arith)
+
+-- a new one -----------------------------------------------------------------------------------------
+
+-- what is on the list of a hub that the event does not subscribe to
+on_longer : (h : List Event) (e : Event) (old new : List Bool) (j : ℕ) → is_subscriber_of j e ≡ false
+    → ((k : ℕ) → k < length h → get_or new k false ≡ get_or old k false) → (k : ℕ) → on_list (h ++ e ∷ []) new j k ≡ on_list h old j k
+on_longer h e old new j out same k = by_order (cases_order k (length h)) where
+  by_order : (k ≡ length h) ⊎ ((k < length h) ⊎ (length h < k)) → on_list (h ++ e ∷ []) new j k ≡ on_list h old j k
+  by_order (inl is) =
+      let last : at (is_subscriber_of j) (h ++ e ∷ []) k ≡ false = ap (at (is_subscriber_of j) (h ++ e ∷ [])) is ∙ ap (λ o. option_map_or (is_subscriber_of j) o false) (slice_get_last h e) ∙ out in
+      let past : at (is_subscriber_of j) h k ≡ false = at_past (is_subscriber_of j) h k (omega arith) in
+      rw (last, past) refl
+  by_order (inr (inl l)) = rw (at-append (is_subscriber_of j) h (e ∷ []) k l, same k l) refl
+  by_order (inr (inr l)) =
+      let longer = one_longer h e in
+      let last : at (is_subscriber_of j) (h ++ e ∷ []) k ≡ false = at_past (is_subscriber_of j) (h ++ e ∷ []) k (omega arith) in
+      let past : at (is_subscriber_of j) h k ≡ false = at_past (is_subscriber_of j) h k (omega arith) in
+      rw (last, past) refl
+
+pub subscribes_so : (e : Event) (g : ℕ) → hub_subscribed e ≡ Some g → is_subscriber_of g e ≡ true
+subscribes_so e g hub = sym (same_subscribed e g) ∙ rw hub (eq-eqb g g refl)
+
+pub subscribes_none : (e : Event) (g : ℕ) → hub_subscribed e ≡ None → is_subscriber_of g e ≡ false
+subscribes_none e g hub = sym (same_subscribed e g) ∙ rw hub refl
+
+-- none is new
+pub rows_same : (h : List Event) (e : Event) (size : ℕ) (s : Subscribers) → AreLinked h size s → ((j : ℕ) → is_subscriber_of j e ≡ false) → AreLinked (h ++ e ∷ []) size s
+rows_same h e size s w none = record {
+  rows = λ j. row_apart (on_list h s.listed.items j) (on_list (h ++ e ∷ []) s.listed.items j) (length h) (length (h ++ e ∷ [])) (get_or s.last.items j 0)
+      s.before.items s.after.items s.before.items s.after.items (same j) (let l = one_longer h e in omega arith)
+      (on_within h s.listed.items j) (λ k y. refl) (λ k y. refl) (w.rows j);
+  hubbed = λ j k y. w.hubbed j k (sym (same j k) ∙ y);
+  listed_size = w.listed_size;
+  last_size = w.last_size;
+  before_size = w.before_size;
+  after_size = w.after_size;
+} where
+  same : (j k : ℕ) → on_list (h ++ e ∷ []) s.listed.items j k ≡ on_list h s.listed.items j k
+  same j = on_longer h e s.listed.items s.listed.items j (none j) (λ k l. refl)
+
+pub rows_more : (h : List Event) (e : Event) (size g : ℕ) (old new : Subscribers) → AreLinked h size old → length h < size → g < size → hub_subscribed e ≡ Some g
+    → new.listed.items ≡ set old.listed.items (length h) true → new.last.items ≡ set old.last.items g (suc (length h))
+    → new.before.items ≡ set old.before.items (length h) (get_or old.last.items g 0)
+    → new.after.items ≡ table_with (set old.after.items (length h) 0) (number_of (get_or old.last.items g 0)) (suc (length h)) → AreLinked (h ++ e ∷ []) size new
+rows_more h e size g old new w room inside hub listed last before after = record {
+  rows = λ j. by_hub j (cases_order j g);
+  hubbed = λ j k y. by_hubbed j k y (cases_order j g);
+  listed_size = ap length listed ∙ length-set old.listed.items (length h) true ∙ w.listed_size;
+  last_size = ap length last ∙ length-set old.last.items g (suc (length h)) ∙ w.last_size;
+  before_size = ap length before ∙ length-set old.before.items (length h) (get_or old.last.items g 0) ∙ w.before_size;
+  after_size = ap length after ∙ length-table_with (set old.after.items (length h) 0) _ _ ∙ length-set old.after.items (length h) 0 ∙ w.after_size;
+} where
+  n : ℕ
+  n = length h
+
+  subscribes : is_subscriber_of g e ≡ true
+  subscribes = subscribes_so e g hub
+
+  marks_same : (k : ℕ) → k < length h → get_or new.listed.items k false ≡ get_or old.listed.items k false
+  marks_same k l = ap (λ (ms : List Bool). get_or ms k false) listed ∙ get_or-set_other old.listed.items (length h) k true false (omega arith)
+
+  on_before : (j k : ℕ) → k < length h → on_list (h ++ e ∷ []) new.listed.items j k ≡ on_list h old.listed.items j k
+  on_before j k l = rw (at-append (is_subscriber_of j) h (e ∷ []) k l, marks_same k l) refl
+
+  on_new : on_list (h ++ e ∷ []) new.listed.items g (length h) ≡ true
+  on_new =
+      let size_is = w.listed_size in
+      let last_is : at (is_subscriber_of g) (h ++ e ∷ []) (length h) ≡ true = ap (λ o. option_map_or (is_subscriber_of g) o false) (slice_get_last h e) ∙ subscribes in
+      let mark : get_or new.listed.items (length h) false ≡ true = ap (λ (ms : List Bool). get_or ms (length h) false) listed
+      ∙ get_or-set_same old.listed.items (length h) true false (omega arith) in
+      rw (last_is, mark) refl
+
+  most : (j k : ℕ) → on_list (h ++ e ∷ []) new.listed.items j k ≡ true → k ≤ length h
+  most j k y = let l = on_within (h ++ e ∷ []) new.listed.items j k y in let m = one_longer h e in omega arith
+
+  row : IsRow (on_list h old.listed.items g) (length h) (get_or old.last.items g 0) old.before.items old.after.items
+  row = w.rows g
+
+  own : IsRow (on_list (h ++ e ∷ []) new.listed.items g) (length (h ++ e ∷ [])) (get_or new.last.items g 0) new.before.items new.after.items
+  own =
+      let last_size = w.last_size in
+      let before_size = w.before_size in
+      let after_size = w.after_size in
+      rw (one_longer h e, last, before, after, get_or-set_same old.last.items g (suc (length h)) 0 (omega arith))
+      (row_more (on_list h old.listed.items g) (on_list (h ++ e ∷ []) new.listed.items g) (length h) (get_or old.last.items g 0) old.before.items old.after.items
+      (on_before g) on_new (most g) (on_within h old.listed.items g) (omega arith) (omega arith) row)
+
+  not_hub : (j : ℕ) → j ≢ g → is_subscriber_of j e ≡ false
+  not_hub j apart = sym (same_subscribed e j) ∙ rw hub (ne_eqb g j (λ is. apart (sym is)))
+
+  on_apart : (j : ℕ) → j ≢ g → (k : ℕ) → on_list (h ++ e ∷ []) new.listed.items j k ≡ on_list h old.listed.items j k
+  on_apart j apart = on_longer h e old.listed.items new.listed.items j (not_hub j apart) marks_same
+
+  last_apart : (j : ℕ) → j ≢ g → get_or new.last.items j 0 ≡ get_or old.last.items j 0
+  last_apart j apart = ap (λ (ls : List ℕ). get_or ls j 0) last ∙ get_or-set_other old.last.items g j (suc (length h)) 0 apart
+
+  before_apart : (j k : ℕ) → on_list h old.listed.items j k ≡ true → get_or new.before.items k 0 ≡ get_or old.before.items k 0
+  before_apart j k y =
+      let l = on_within h old.listed.items j k y in
+      ap (λ (ls : List ℕ). get_or ls k 0) before ∙ get_or-set_other old.before.items (length h) k (get_or old.last.items g 0) 0 (omega arith)
+
+  after_apart : (j k : ℕ) → j ≢ g → on_list h old.listed.items j k ≡ true → get_or new.after.items k 0 ≡ get_or old.after.items k 0
+  after_apart j k apart y = ap (λ (ls : List ℕ). get_or ls k 0) after ∙ by_word (get_or old.last.items g 0) refl where
+    first : get_or (set old.after.items (length h) 0) k 0 ≡ get_or old.after.items k 0
+    first = let l = on_within h old.listed.items j k y in get_or-set_other old.after.items (length h) k 0 0 (omega arith)
+
+    by_word : (b : ℕ) → get_or old.last.items g 0 ≡ b
+        → get_or (table_with (set old.after.items (length h) 0) (number_of b) (suc (length h))) k 0 ≡ get_or old.after.items k 0
+    by_word zero is = first
+    by_word (suc m) is = get_or-set_other (set old.after.items (length h) 0) m k (suc (length h)) 0
+        (λ same. apart (on_one h old.listed.items j g k m y (last_holds (on_list h old.listed.items g) (length h) m (sym row.top ∙ is)) same)) ∙ first
+
+  other : (j : ℕ) → j ≢ g → IsRow (on_list (h ++ e ∷ []) new.listed.items j) (length (h ++ e ∷ [])) (get_or new.last.items j 0) new.before.items new.after.items
+  other j apart = rw (last_apart j apart)
+      (row_apart (on_list h old.listed.items j) (on_list (h ++ e ∷ []) new.listed.items j) (length h) (length (h ++ e ∷ [])) (get_or old.last.items j 0)
+      old.before.items old.after.items new.before.items new.after.items (on_apart j apart) (let l = one_longer h e in omega arith)
+      (on_within h old.listed.items j) (before_apart j) (λ k y. after_apart j k apart y) (w.rows j))
+
+  by_hub : (j : ℕ) → (j ≡ g) ⊎ ((j < g) ⊎ (g < j)) → IsRow (on_list (h ++ e ∷ []) new.listed.items j) (length (h ++ e ∷ [])) (get_or new.last.items j 0) new.before.items new.after.items
+  by_hub j (inl same) = rw same own
+  by_hub j (inr (inl l)) = other j (omega arith)
+  by_hub j (inr (inr l)) = other j (omega arith)
+
+  by_hubbed : (j k : ℕ) → on_list (h ++ e ∷ []) new.listed.items j k ≡ true → (j ≡ g) ⊎ ((j < g) ⊎ (g < j)) → j < size
+  by_hubbed j k y (inl same) = omega arith
+  by_hubbed j k y (inr (inl l)) = w.hubbed j k (sym (on_apart j (omega arith) k) ∙ y)
+  by_hubbed j k y (inr (inr l)) = w.hubbed j k (sym (on_apart j (omega arith) k) ∙ y)
+
+-- from the last to the first --------------------------------------------------------------------------
+
+pub falling_last : (p : ℕ → Bool) (k : ℕ) → falling p k ≡ falling p (last_below p k)
+falling_last p zero = refl
+falling_last p (suc k) = by_test (p k) refl (falling_last p k) where
+  by_test : (b : Bool) → p k ≡ b → falling p k ≡ falling p (last_below p k) → cond b (k ∷ falling p k) (falling p k) ≡ falling p (cond b (suc k) (last_below p k))
+  by_test true y rest = sym (ap (λ b. cond b (k ∷ falling p k) (falling p k)) y)
+  by_test false z rest = rest
+
+falling_same : (p q : ℕ → Bool) → ((k : ℕ) → p k ≡ q k) → (k : ℕ) → falling p k ≡ falling q k
+falling_same p q same zero = refl
+falling_same p q same (suc k) = ap (λ b. cond b (k ∷ falling p k) (falling p k)) (same k) ∙ ap (λ (ks : List ℕ). cond (q k) (k ∷ ks) ks) (falling_same p q same k)
+
+-- so from the word of the hub on, in any sum
+pub falling_open : (h : List Event) (s : Subscribers) (g : ℕ) → AreOpenListed h s → (number : ℕ → ℕ)
+    → sum_by number (falling (on_list h s.listed.items g) (length h)) ≡ sum_by number (open_subscribers h g)
+falling_open h s g listed number =
+    ap (sum_by number) (falling_same (on_list h s.listed.items g) (λ n. at (is_subscriber_of g) h n && is_open h n) same (length h))
+    ∙ sum_by-falling (λ n. at (is_subscriber_of g) h n && is_open h n) number (length h)
+  where
+    same : (k : ℕ) → on_list h s.listed.items g k ≡ (at (is_subscriber_of g) h k && is_open h k)
+    same k = by_test (at (is_subscriber_of g) h k) refl where
+      by_test : (b : Bool) → at (is_subscriber_of g) h k ≡ b → (b && get_or s.listed.items k false) ≡ (b && is_open h k)
+      by_test true y = listed g k y
+      by_test false z = refl
+
+-- the walk of subscribers_of: what was found, and what is left from the word on
+module _ (h : List Event) (size : ℕ) (s : Subscribers) (g : ℕ) (w : AreLinked h size s) where
+  pub walk_starts : (next : ℕ) (found : List ℕ) → AreOpenListed h s → next ≡ get_or s.last.items g 0 → found ≡ [] → (number : ℕ → ℕ)
+      → sum_by number found + sum_by number (falling (on_list h s.listed.items g) next) ≡ sum_by number (open_subscribers h g)
+  walk_starts next found listed is none number =
+      let all : sum_by number (falling (on_list h s.listed.items g) next) ≡ sum_by number (open_subscribers h g) =
+      ap (λ k. sum_by number (falling (on_list h s.listed.items g) k)) (is ∙ (w.rows g).top)
+      ∙ sym (ap (sum_by number) (falling_last (on_list h s.listed.items g) (length h))) ∙ falling_open h s g listed number in
+      let nothing : sum_by number found ≡ 0 = ap (sum_by number) none in
+      omega arith
+
+  pub walk_first : (next : ℕ) → next ≡ get_or s.last.items g 0 → (k : ℕ) → next ≡ suc k → on_list h s.listed.items g k ≡ true
+  walk_first next is k e = last_holds (on_list h s.listed.items g) (length h) k (sym (is ∙ (w.rows g).top) ∙ e)
+
+  -- one more is found
+  walk_word : (next word : ℕ) → 0 < next → ((k : ℕ) → next ≡ suc k → on_list h s.listed.items g k ≡ true) → word ≡ get_or s.before.items (next - 1) 0
+      → word ≡ last_below (on_list h s.listed.items g) (next - 1)
+  walk_word next word some here is = is ∙ (w.rows g).down (next - 1) (here (next - 1) (omega arith))
+
+  pub walk_less : (next word : ℕ) → 0 < next → ((k : ℕ) → next ≡ suc k → on_list h s.listed.items g k ≡ true) → word ≡ get_or s.before.items (next - 1) 0 → word < next
+  walk_less next word some here is = let e = walk_word next word some here is in let l = last_le (on_list h s.listed.items g) (next - 1) in omega arith
+
+  pub walk_next : (next word : ℕ) → 0 < next → ((k : ℕ) → next ≡ suc k → on_list h s.listed.items g k ≡ true) → word ≡ get_or s.before.items (next - 1) 0
+      → (k : ℕ) → word ≡ suc k → on_list h s.listed.items g k ≡ true
+  walk_next next word some here is k e = last_holds (on_list h s.listed.items g) (next - 1) k (sym (walk_word next word some here is) ∙ e)
+
+  pub walk_more : (next word : ℕ) (found more : List ℕ) → 0 < next → ((k : ℕ) → next ≡ suc k → on_list h s.listed.items g k ≡ true)
+      → word ≡ get_or s.before.items (next - 1) 0 → more ≡ found ++ (next - 1) ∷ [] → (number : ℕ → ℕ)
+      → sum_by number found + sum_by number (falling (on_list h s.listed.items g) next) ≡ sum_by number (open_subscribers h g)
+      → sum_by number more + sum_by number (falling (on_list h s.listed.items g) word) ≡ sum_by number (open_subscribers h g)
+  walk_more next word found more some here is pushed number rest =
+      let place : next ≡ suc (next - 1) = omega arith in
+      let passes : on_list h s.listed.items g (next - 1) ≡ true = here (next - 1) place in
+      let split : falling (on_list h s.listed.items g) next ≡ (next - 1) ∷ falling (on_list h s.listed.items g) (next - 1) =
+      ap (falling (on_list h s.listed.items g)) place
+      ∙ ap (λ b. cond b ((next - 1) ∷ falling (on_list h s.listed.items g) (next - 1)) (falling (on_list h s.listed.items g) (next - 1))) passes in
+      let first = ap (sum_by number) split in
+      let cons = sum_by-cons number (next - 1) (falling (on_list h s.listed.items g) (next - 1)) in
+      let left : sum_by number (falling (on_list h s.listed.items g) (next - 1)) ≡ sum_by number (falling (on_list h s.listed.items g) word) =
+      ap (sum_by number) (falling_last (on_list h s.listed.items g) (next - 1) ∙ ap (falling (on_list h s.listed.items g)) (sym (walk_word next word some here is))) in
+      let grown : sum_by number more ≡ sum_by number found + number (next - 1) = ap (sum_by number) pushed ∙ sum_by_push number found (next - 1) in
+      omega arith
+
+  pub walk_ends : (next : ℕ) (found : List ℕ) → next ≡ 0 → ((number : ℕ → ℕ)
+      → sum_by number found + sum_by number (falling (on_list h s.listed.items g) next) ≡ sum_by number (open_subscribers h g)) → (number : ℕ → ℕ)
+      → sum_by number found ≡ sum_by number (open_subscribers h g)
+  walk_ends next found over rest number =
+      let none : sum_by number (falling (on_list h s.listed.items g) next) ≡ 0 = ap (λ k. sum_by number (falling (on_list h s.listed.items g) k)) over in
+      let r = rest number in
+      omega arith

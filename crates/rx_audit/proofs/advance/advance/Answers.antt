@@ -1,0 +1,49 @@
+use Rattle.std.proofs.Common.{◌≡◌, ℕ, ◌++◌, [], ◌∷◌, length, subst, ap, ◌∙◌, arith}
+use Rattle.rx_audit.specs.declared.children.Children.{Children}
+use Rattle.rx_audit.specs.Latest.{AreChildren}
+use Rattle.rx_audit.specs.Listed.{AreLinked}
+use Rattle.rx_audit.specs.HubTables.{AreHubs}
+use Rattle.rx_audit.proofs.DueLists.{all_after}
+use Rattle.rx_audit.proofs.advance.advance.Goals as goal
+
+pub returns-clause-followed : goal.returns-clause-followed
+returns-clause-followed c =
+    let h = c.args.past.now in
+    let e = c.args.event in
+    let w = c.requires.followed in
+    let size : length c.keep.new.nodes.children.youngest.items ≡ length c.args.live.now =
+    ap (λ (x : Children). length x.youngest.items) c.in_ok-keep.ensures.children ∙ w.children.youngest_size in
+    let room = c.requires.room in
+    record {
+      children = subst (λ (n : ℕ). AreChildren (h ++ e ∷ []) n c.relink.new.children) size c.relink.ensures.children;
+      linked = subst (λ (n : ℕ). AreLinked (h ++ e ∷ []) n c.relink.new.subs) size c.relink.ensures.linked;
+      listed = c.relink.ensures.listed;
+      hubs = subst (λ (n : ℕ). AreHubs (h ++ e ∷ []) n c.relink.new.hubs) size c.relink.ensures.hubs;
+      marks_size = c.in_ok-keep.ensures.marks_len ∙ w.marks_size;
+      kept = c.in_ok-keep.ensures.kept;
+      covered = all_after h e (length c.args.live.now) c.args.nodes.now.hubs c.mark_open.new.todo.items c.args.nodes.now.due.items c.keep.new.nodes.due.items
+          c.note_cut.new.due.items c.note_left.new.due.items c.requires.lawful c.requires.next w.hubs (omega arith) c.in_ok-mark_open.ensures.listed w.covered
+          c.in_ok-keep.ensures.keeps c.in_ok-keep.ensures.covered c.in_ok-note_cut.ensures.keeps c.in_ok-note_cut.ensures.ended c.in_ok-note_left.ensures.keeps
+          (rw (c.as_slice.ensures.value, c.in_ok-keep.ensures.hubs) at c.in_ok-note_left.ensures.lost) c.in_ok-note_left.ensures.new;
+    }
+
+pub note_cut-requires-clause-linked : goal.note_cut-requires-clause-linked
+note_cut-requires-clause-linked c =
+    let w = c.requires.followed in
+    rw (c.in_ok-keep.ensures.subscribers, w.linked.listed_size) w.linked
+
+pub note_cut-requires-clause-listed : goal.note_cut-requires-clause-listed
+note_cut-requires-clause-listed c = rw c.in_ok-keep.ensures.subscribers c.requires.followed.listed
+
+pub relink-requires-clause-linked : goal.relink-requires-clause-linked
+relink-requires-clause-linked c =
+    let w = c.requires.followed in
+    rw (c.in_ok-keep.ensures.children, c.in_ok-keep.ensures.subscribers, w.children.youngest_size) w.linked
+
+pub relink-requires-clause-listed : goal.relink-requires-clause-listed
+relink-requires-clause-listed c = rw c.in_ok-keep.ensures.subscribers c.requires.followed.listed
+
+pub relink-requires-clause-hubs : goal.relink-requires-clause-hubs
+relink-requires-clause-hubs c =
+    let w = c.requires.followed in
+    rw (c.in_ok-keep.ensures.children, c.in_ok-keep.ensures.hubs, w.children.youngest_size) w.hubs

@@ -1,0 +1,8 @@
+use Rattle.std.proofs.Common.{nat_lt, ap, ◌∙◌}
+use Rattle.rx_event.specs.declared.marks.Marks.{Marks}
+use Rattle.rx_audit.specs.Rules.{is_owing}
+use Rattle.rx_audit.proofs.allowed.is_owing.Goals as goal
+
+pub returns : goal.returns
+unfolding is_owing
+returns c = ap (λ (m : Marks). nat_lt 0 m.owed) (c.marks_at.ensures ∙ c.requires.kept c.args.f c.requires.here)

@@ -1,0 +1,6 @@
+use Rattle.std.proofs.Common.{ap, ◌∙◌}
+use Rattle.rx_event.specs.declared.marks.Marks.{Marks}
+use Rattle.rx_audit.proofs.allowed.was_sourced.Goals as goal
+
+pub returns : goal.returns
+returns c = ap (λ (m : Marks). m.source_opened) (c.marks_at.ensures ∙ c.requires.kept c.args.p c.requires.here)

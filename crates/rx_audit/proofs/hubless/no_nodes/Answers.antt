@@ -1,6 +1,0 @@
-use Rattle.std.proofs.Common.{sym, ◌∙◌}
-use Rattle.rx_audit.proofs.WithoutHubs.{followed_nothing}
-use Rattle.rx_audit.proofs.hubless.no_nodes.Goals as goal
-
-pub returns : goal.returns
-returns c = followed_nothing c.args.size _ c.in_ok-no_children.ensures (sym c.in_ok-vec.field-0.ok.0 ∙ c.in_ok-vec.ensures.len)

@@ -1,0 +1,23 @@
+use Rattle.std.proofs.Common.{◌≡◌, ℕ, suc, ◌+◌, length, cond, ap, ◌∙◌, arith}
+use Rattle.std.specs.Option.{option_or}
+use Rattle.rx_audit.specs.Latest.{table_with}
+use Rattle.rx_audit.proofs.HubsAfter.{hubs_more, hub_count_few, one_at_most}
+use Rattle.rx_audit.proofs.hubs.note_hubs.Goals as goal
+
+pub overflow_add-known : goal.overflow_add-known
+overflow_add-known c =
+    let few = hub_count_few c.args.past.now in
+    let count = c.requires.known.count in
+    let room = c.requires.room in
+    let one = one_at_most c.one_if.result c.makes_hub.result c.one_if.ensures in
+    omega arith
+
+pub returns : goal.returns
+returns c =
+    let h = c.args.past.now in
+    let old = c.args.known.now in
+    let next : length h + 1 ≡ suc (length h) = omega arith in
+    hubs_more h c.args.event (length old.connection.items) old _ c.requires.lawful c.requires.next c.requires.known
+    (c.put.ensures ∙ ap (λ o. table_with old.connection.items o (length h + 1)) c.connects.ensures ∙ ap (table_with old.connection.items _) next)
+    (c.put-2.ensures ∙ ap (λ o. table_with old.ended.items o (length h + 1)) c.hub_ended.ensures ∙ ap (table_with old.ended.items _) next)
+    (c.or-known.ensures ∙ ap (λ o. option_or o old.waiting) c.subscribes_to.ensures) (ap (λ (k : ℕ). old.count + k) (c.one_if.ensures ∙ ap (λ b. cond {A = ℕ} b 1 0) c.makes_hub.ensures))

@@ -1,0 +1,20 @@
+use Rattle.std.proofs.Common.{◌≡◌, suc, ◌+◌, set, length, sym, ap, ◌∙◌, arith}
+use Rattle.rx_audit.specs.Latest.{table_with}
+use Rattle.rx_audit.specs.Listed.{number_of}
+use Rattle.rx_audit.proofs.SubscriberRows.{rows_more, rows_same, subscribes_so, subscribes_none}
+use Rattle.rx_audit.proofs.subscribers.list_new.Goals as goal
+
+pub returns-in-Some-clause-linked : goal.returns-in-Some-clause-linked
+returns-in-Some-clause-linked c =
+    let h = c.args.past.now in
+    let old = c.args.subs.now in
+    let next : length h + 1 ≡ suc (length h) = omega arith in
+    rows_more h c.args.event (length old.listed.items) c.in-Some.g old c.put_last.new.subs c.requires.linked c.requires.room
+    (c.requires.hubbed c.in-Some.g (subscribes_so c.args.event c.in-Some.g (sym c.in-Some.ensures))) (sym c.in-Some.ensures)
+    c.put_last.ensures.listed (c.put_last.ensures.last ∙ ap (set old.last.items c.in-Some.g) next) c.put_last.ensures.before
+    (c.put_last.ensures.after ∙ ap (table_with (set old.after.items (length h) 0) (number_of _)) next)
+
+pub returns-in_default-clause-linked : goal.returns-in_default-clause-linked
+returns-in_default-clause-linked c =
+    rows_same c.args.past.now c.args.event (length c.args.subs.now.listed.items) c.args.subs.now c.requires.linked
+    (λ g. subscribes_none c.args.event g (sym c.in_default.ensures))

@@ -1,0 +1,15 @@
+use Rattle.std.proofs.Common.{◌≡◌, ℕ, suc, ◌+◌, true}
+use Rattle.std.specs.List.{sum_by}
+use Rattle.rx_event.specs.Tree.{open_subscribers}
+use Rattle.rx_event.specs.Claims.Connections.{falling}
+use Rattle.rx_audit.specs.Listed.{on_list}
+use Rattle.rx_audit.proofs.subscribers.subscribers_of.Given as goal
+
+abbrev pub invariant-loop-next : goal.invariant-loop-next
+invariant-loop-next l = record {
+  rest : (number : ℕ → ℕ) → sum_by number l.found.items + sum_by number (falling (on_list l.past l.subs.listed.items l.g) l.next) ≡ sum_by number (open_subscribers l.past l.g);
+  here : (s : ℕ) → l.next ≡ suc s → on_list l.past l.subs.listed.items l.g s ≡ true;
+}
+
+abbrev pub decreases-loop-next : goal.decreases-loop-next
+decreases-loop-next l = l.next

@@ -1,0 +1,38 @@
+-- What is found of a history, and what is kept of its nodes and hubs. No public clause cites this module.
+use Rattle.std.specs.Prelude.{◌≡◌, ℕ, ◌≤◌, Bool, List, length}
+use Rattle.rx_event.specs.Kept.{nothing_kept}
+use Rattle.rx_event.specs.declared.event.Event.{Event}
+use Rattle.rx_event.specs.Tree.{is_open}
+use Rattle.rx_event.specs.Lawful.{IsLawful}
+use Rattle.rx_audit.specs.declared.advance.Nodes.{Nodes}
+use Rattle.rx_audit.specs.declared.found.Found.{Found}
+use Rattle.rx_audit.specs.Known.{IsFoundHere}
+use Rattle.rx_audit.specs.Tables.{IsMarked}
+use Rattle.rx_audit.specs.Latest.{AreChildren}
+use Rattle.rx_audit.specs.Listed.{AreLinked, AreOpenListed}
+use Rattle.rx_audit.specs.HubTables.{AreHubs}
+use Rattle.rx_audit.specs.Marking.{IsKept}
+use Rattle.rx_audit.specs.DueList.{HasAll}
+
+-- the children, the hubs and their subscribers, and the marks of open nodes are those of the history, and the list has each node
+-- that has to end or to close
+pub record IsFollowed (h : List Event) (size : ℕ) (nodes : Nodes) : Type 0 where
+  pub children : AreChildren h size nodes.children
+  pub linked : AreLinked h size nodes.subscribers
+  pub listed : AreOpenListed h nodes.subscribers
+  pub hubs : AreHubs h size nodes.hubs
+  pub marks_size : length nodes.marks.items ≡ size
+  pub kept : IsKept h nodes.marks.items
+  pub covered : HasAll h nodes.due.items
+
+-- the same of a lawful history, with the marks of what is open and room for each event
+pub record IsKnown (h : List Event) (live : List Bool) (nodes : Nodes) : Type 0 where
+  pub lawful : IsLawful nothing_kept h
+  pub tied : IsMarked live (is_open h)
+  pub room : length h ≤ length live
+  pub followed : IsFollowed h (length live) nodes
+
+-- the events are lawful, and this was found and is kept of all of them
+pub record IsAllFound (h : List Event) (found : Found) (nodes : Nodes) : Type 0 where
+  pub is : IsFoundHere h found
+  pub known : IsKnown h found.live.items nodes

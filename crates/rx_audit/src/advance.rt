@@ -1,0 +1,228 @@
+//! One event more: what is kept of the nodes and the hubs. Each event costs what it changes.
+
+ghost use Rattle.rx_event.specs.Kept.{nothing_kept};
+ghost use Rattle.std.specs.Prelude.{◌≡◌, ◌<◌, IfOk, OnOk, Some, None, [], ◌∷◌, ◌++◌, length};
+ghost use Rattle.rx_event.specs.Tree.{is_open};
+ghost use Rattle.rx_event.specs.Lawful.{IsLawful, MayFollow};
+ghost use Rattle.rx_audit.specs.Tables.{IsMarked, mark_count};
+ghost use Rattle.rx_audit.specs.Latest.{AreChildren, AreClosed};
+ghost use Rattle.rx_audit.specs.Found.{HasFewVisits};
+ghost use Rattle.rx_audit.specs.Marking.{IsKept, IsCovered, leaf_of};
+ghost use Rattle.rx_audit.specs.DueList.{Keeps};
+ghost use Rattle.rx_audit.specs.HubTables.{AreHubs};
+ghost use Rattle.rx_audit.specs.Listed.{AreLinked, AreOpenListed};
+ghost use Rattle.rx_audit.specs.Standing.{IsFollowed};
+
+use crate::children::{Children, link_child, no_children};
+use crate::closing::{mark_open, shut_top};
+use crate::duties::{note_cut, note_left, note_touched};
+use crate::hubs::{Hubs, no_hubs, note_hubs};
+use crate::nodes::{remark, remark_visits};
+use crate::reach::reached;
+use crate::subscribers::{Subscribers, let_go, list_new, no_subscribers};
+use rx_event::{Event, Marks};
+use std::alloc::{AllocError, Global};
+
+/// What is kept of the nodes and the hubs.
+#[derive(Drop)]
+pub struct Nodes {
+    /// The children of each node.
+    pub children: Children,
+    /// The open subscribers of each hub.
+    pub subscribers: Subscribers,
+    /// The hubs.
+    pub hubs: Hubs,
+    /// The nodes that the last event closed.
+    pub todo: Vec<usize>,
+    /// What each open node remembers, by number.
+    pub marks: Vec<Marks>,
+    /// Numbers of nodes, among which is each that has to end or to close.
+    pub due: Vec<usize>,
+}
+
+/// The leaf that emits the item, if the event is one.
+fn leaf_of(event: Event) -> Option<u64>
+    ensures { result ≡ leaf_of event }
+{
+    match event {
+        Event::Item(leaf, _) => Some(leaf),
+        _ => None,
+    }
+}
+
+/// Nothing is kept of no events, with room for this many.
+pub fn no_nodes(alloc: Global, size: usize) -> Result<Nodes, AllocError>
+    ensures { IfOk result (λ nodes. IsFollowed [] size nodes) }
+{
+    Ok(Nodes {
+        children: no_children(alloc, size)?,
+        subscribers: no_subscribers(alloc, size)?,
+        hubs: no_hubs(alloc, size)?,
+        todo: Vec::new(alloc),
+        marks: vec![in alloc; Marks::blank(); size]?,
+        due: Vec::new(alloc),
+    })
+}
+
+/// Keeps what an item of this leaf changes.
+fn keep_item(
+    alloc: Global,
+    past: &[Event],
+    event: Event,
+    live: &[bool],
+    leaf: u64,
+    nodes: &mut Nodes,
+    entries: &mut Vec<usize>,
+) -> Result<(), AllocError>
+    requires lawful { IsLawful nothing_kept past.now }
+    requires next { MayFollow nothing_kept past.now event }
+    requires item { leaf_of event ≡ Some leaf }
+    requires visits { HasFewVisits past.now event }
+    requires room { length past.now < length live.now }
+    requires followed { IsFollowed past.now (length live.now) nodes.old }
+    ensures kept { OnOk result (IsKept (past.now ++ event ∷ []) nodes.new.marks.items) }
+    ensures covered { OnOk result (IsCovered (past.now ++ event ∷ []) nodes.new.due.items) }
+    ensures keeps { OnOk result (Keeps nodes.old.due.items nodes.new.due.items) }
+    ensures marks_len { OnOk result (length nodes.new.marks.items ≡ length nodes.old.marks.items) }
+    ensures children { nodes.new.children ≡ nodes.old.children }
+    ensures subscribers { nodes.new.subscribers ≡ nodes.old.subscribers }
+    ensures hubs { nodes.new.hubs ≡ nodes.old.hubs }
+{
+    let _ = event;
+    let _ = live;
+    match reached(alloc, past, &nodes.subscribers, entries, leaf)? {
+        Some(log) => {
+            remark_visits(past, log.as_slice(), &mut nodes.marks, &mut nodes.due)?;
+            Ok(())
+        }
+        None => unreachable!(),
+    }
+}
+
+/// Keeps what an event changes that is no item.
+fn keep_other(
+    past: &[Event],
+    event: Event,
+    live: &[bool],
+    nodes: &mut Nodes,
+) -> Result<(), AllocError>
+    requires lawful { IsLawful nothing_kept past.now }
+    requires next { MayFollow nothing_kept past.now event }
+    requires other { leaf_of event ≡ None }
+    requires live { IsMarked live.now (is_open past.now) }
+    requires room { length past.now < length live.now }
+    requires followed { IsFollowed past.now (length live.now) nodes.old }
+    ensures kept { OnOk result (IsKept (past.now ++ event ∷ []) nodes.new.marks.items) }
+    ensures covered { OnOk result (IsCovered (past.now ++ event ∷ []) nodes.new.due.items) }
+    ensures keeps { OnOk result (Keeps nodes.old.due.items nodes.new.due.items) }
+    ensures marks_len { OnOk result (length nodes.new.marks.items ≡ length nodes.old.marks.items) }
+    ensures children { nodes.new.children ≡ nodes.old.children }
+    ensures subscribers { nodes.new.subscribers ≡ nodes.old.subscribers }
+    ensures hubs { nodes.new.hubs ≡ nodes.old.hubs }
+{
+    let top = shut_top(past, event, &nodes.children, live);
+    remark(past, event, top, &mut nodes.marks);
+    note_touched(past, event, &mut nodes.due)
+}
+
+/// Keeps what the event changes in what nodes remember.
+fn keep(
+    alloc: Global,
+    past: &[Event],
+    event: Event,
+    live: &[bool],
+    nodes: &mut Nodes,
+    entries: &mut Vec<usize>,
+) -> Result<(), AllocError>
+    requires lawful { IsLawful nothing_kept past.now }
+    requires next { MayFollow nothing_kept past.now event }
+    requires visits { HasFewVisits past.now event }
+    requires live { IsMarked live.now (is_open past.now) }
+    requires room { length past.now < length live.now }
+    requires followed { IsFollowed past.now (length live.now) nodes.old }
+    ensures kept { OnOk result (IsKept (past.now ++ event ∷ []) nodes.new.marks.items) }
+    ensures covered { OnOk result (IsCovered (past.now ++ event ∷ []) nodes.new.due.items) }
+    ensures keeps { OnOk result (Keeps nodes.old.due.items nodes.new.due.items) }
+    ensures marks_len { OnOk result (length nodes.new.marks.items ≡ length nodes.old.marks.items) }
+    ensures children { nodes.new.children ≡ nodes.old.children }
+    ensures subscribers { nodes.new.subscribers ≡ nodes.old.subscribers }
+    ensures hubs { nodes.new.hubs ≡ nodes.old.hubs }
+{
+    match leaf_of(event) {
+        Some(leaf) => keep_item(alloc, past, event, live, leaf, nodes, entries),
+        None => keep_other(past, event, live, nodes),
+    }
+}
+
+/// The children, the hubs and the subscribers, with one event more, of which `closed` lists what it
+/// closes.
+fn relink(
+    past: &[Event],
+    event: Event,
+    closed: &[usize],
+    children: &mut Children,
+    subs: &mut Subscribers,
+    hubs: &mut Hubs,
+)
+    requires lawful { IsLawful nothing_kept past.now }
+    requires next { MayFollow nothing_kept past.now event }
+    requires closed { AreClosed past.now event closed.now }
+    requires children { AreChildren past.now (length children.old.youngest.items) children.old }
+    requires linked { AreLinked past.now (length children.old.youngest.items) subs.old }
+    requires listed { AreOpenListed past.now subs.old }
+    requires hubs { AreHubs past.now (length children.old.youngest.items) hubs.old }
+    requires room { length past.now < length children.old.youngest.items }
+    ensures children { AreChildren (past.now ++ event ∷ []) (length children.old.youngest.items) children.new }
+    ensures linked { AreLinked (past.now ++ event ∷ []) (length children.old.youngest.items) subs.new }
+    ensures listed { AreOpenListed (past.now ++ event ∷ []) subs.new }
+    ensures hubs { AreHubs (past.now ++ event ∷ []) (length children.old.youngest.items) hubs.new }
+{
+    let_go(past, closed, subs);
+    list_new(past, event, subs);
+    note_hubs(past, event, hubs);
+    link_child(past, event, children);
+}
+
+/// The marks of the open nodes, their number and what is kept of them, with one event more.
+pub fn advance(
+    alloc: Global,
+    past: &[Event],
+    event: Event,
+    live: &mut [bool],
+    live_count: &mut usize,
+    nodes: &mut Nodes,
+    entries: &mut Vec<usize>,
+) -> Result<(), AllocError>
+    requires lawful { IsLawful nothing_kept past.now }
+    requires next { MayFollow nothing_kept past.now event }
+    requires visits { HasFewVisits past.now event }
+    requires live { IsMarked live.old (is_open past.now) }
+    requires live_count { live_count.old ≡ mark_count live.old }
+    requires room { length past.now < length live.old }
+    requires followed { IsFollowed past.now (length live.old) nodes.old }
+    ensures live { OnOk result (IsMarked live.new (is_open (past.now ++ event ∷ []))) }
+    ensures live_count { OnOk result (live_count.new ≡ mark_count live.new) }
+    ensures followed { OnOk result (IsFollowed (past.now ++ event ∷ []) (length live.old) nodes.new) }
+    ensures len { length live.new ≡ length live.old }
+{
+    keep(alloc, past, event, live, nodes, entries)?;
+    note_cut(past, event, &nodes.subscribers, &mut nodes.due)?;
+    mark_open(
+        past,
+        event,
+        &nodes.children,
+        live,
+        &mut nodes.todo,
+        live_count,
+    )?;
+    note_left(past, nodes.todo.as_slice(), &nodes.hubs, &mut nodes.due)?;
+    relink(
+        past,
+        event,
+        nodes.todo.as_slice(),
+        &mut nodes.children,
+        &mut nodes.subscribers,
+        &mut nodes.hubs,
+    );
+    Ok(())
+}

@@ -1,0 +1,40 @@
+//! The case `audit`: the verdict on a history of a shape.
+
+ghost use Rattle.std.specs.Prelude.{◌≡◌, IfOk};
+
+use crate::case::Case;
+use crate::done::{Done, Halt};
+use crate::words::Request;
+use rx_audit::{Verdict, audit};
+use rx_event::Event;
+use rx_shapes::history;
+use std::alloc::{AllocError, Global};
+
+/// The history that is audited where this is asked for; it has no events but for an audit.
+pub fn events_of(alloc: Global, request: Request) -> Result<Vec<Event>, AllocError> {
+    match request.case {
+        Case::Audit(shape) => history(alloc, shape, request.size),
+        _ => Ok(Vec::new(alloc)),
+    }
+}
+
+/// The verdict on a history of so many events, which is to be lawful: an operation for each event, and a mark
+/// of how many nodes are open, how many resources held, and how many wait.
+pub fn run_audit(alloc: Global, events: &[Event], size: u64) -> Result<Done, Halt>
+    ensures { IfOk result (λ done. done.operations ≡ size) }
+{
+    if events.len() as u64 != size {
+        return Err(Halt::Refused);
+    }
+    match audit(alloc, events) {
+        Ok(
+            Verdict::Lawful {
+                live,
+                held,
+                waiting,
+            },
+        ) => Ok(Done::counted(size, [live.len(), held.len(), waiting.len()])),
+        Ok(_) => Err(Halt::Refused),
+        Err(_) => Err(Halt::Memory),
+    }
+}
