@@ -31,8 +31,11 @@ module _ (h : List Event) (l r back : ℕ) (leased : slice_get h l ≡ Some (Lea
     by_place (inr p) = is_out_past (take k h) l (past_prefix h k l p m) ∙ sym (and_left _ _ (le-ltb l k p))
 
   pub loan_is : l < length h → IsShape h l (Loan r (max back l))
-  loan_is inside = (leased, record {
-    begun = omega arith;
-    within = let most = turn_within h (was_returned l) back returned in omega arith;
-    out = loan_out;
-  })
+  loan_is inside = (
+    leased,
+    record {
+      begun = omega arith;
+      within = let most = turn_within h (was_returned l) back returned in omega arith;
+      out = loan_out;
+    },
+  )

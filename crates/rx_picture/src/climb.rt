@@ -41,7 +41,12 @@ pub fn mail_at(past: &[Event], n: u64, item: Emitted) -> Option<Mail>
     let value = item.value;
     let place = past.len() as u64;
     match past.get(n as usize).copied() {
-        Some(Event::Open { place: Place::Root, .. }) => Some(Mail {
+        Some(
+            Event::Open {
+                place: Place::Root,
+                ..
+            },
+        ) => Some(Mail {
             place,
             to: n,
             note: Note::Next(value),
@@ -172,12 +177,7 @@ fn push_onward(
 }
 
 /// The nodes that an item of the leaf visits, in order, each as often as it is reached.
-#[tactic(auto, using(
-    crate::proofs::Climbing::climb_begins,
-    crate::proofs::Climbing::climb_ended,
-    crate::proofs::Climbing::climb_stopped,
-    crate::proofs::Climbing::climb_popped
-))]
+#[tactic(auto, using(crate::proofs::Climbing::climb_begins, crate::proofs::Climbing::climb_ended, crate::proofs::Climbing::climb_stopped, crate::proofs::Climbing::climb_popped))]
 pub fn climb(
     alloc: Global,
     past: &[Event],

@@ -145,7 +145,9 @@ fn push_stretch(
     }
     let from = x_of(drawing, after);
     let to = x_of(drawing, until);
-    push_bar(text, class, title, above, height, from, to, y, after, until, end)
+    push_bar(
+        text, class, title, above, height, from, to, y, after, until, end,
+    )
 }
 
 /// The bar of a resource while its node owns it.
@@ -159,7 +161,18 @@ fn push_owned(
 ) -> Result<(), AllocError>
     ensures { OnOk result (string_bytes text.new ≡ string_bytes text.old ++ owned_text drawing.now y after until end) }
 {
-    push_stretch(text, drawing, "held", "held by its node", "5", "10", y, after, until, end)
+    push_stretch(
+        text,
+        drawing,
+        "held",
+        "held by its node",
+        "5",
+        "10",
+        y,
+        after,
+        until,
+        end,
+    )
 }
 
 /// The bar of a resource while a lease of it is out.
@@ -173,7 +186,18 @@ fn push_loan(
 ) -> Result<(), AllocError>
     ensures { OnOk result (string_bytes text.new ≡ string_bytes text.old ++ loan_text drawing.now y after until end) }
 {
-    push_stretch(text, drawing, "held", "held by a lease", "3", "6", y, after, until, end)
+    push_stretch(
+        text,
+        drawing,
+        "held",
+        "held by a lease",
+        "3",
+        "6",
+        y,
+        after,
+        until,
+        end,
+    )
 }
 
 /// The bar of a resource while its node does not own it.
@@ -187,8 +211,9 @@ fn push_wait(
 ) -> Result<(), AllocError>
     ensures { OnOk result (string_bytes text.new ≡ string_bytes text.old ++ wait_text drawing.now y after until end) }
 {
+    let class = "waiting";
     let title = "waits, but where a lease holds it,";
-    push_stretch(text, drawing, "waiting", title, "5", "10", y, after, until, end)
+    push_stretch(text, drawing, class, title, "5", "10", y, after, until, end)
 }
 
 /// Where a resource was released, or the arrow of one that never was.
@@ -205,7 +230,15 @@ fn push_release(
     if taken == end {
         return push_leak(text, x, y);
     }
-    push_mark(text, "mark", "m-7 0l7 -7l7 7l-7 7z", "released", x, y, taken)
+    push_mark(
+        text,
+        "mark",
+        "m-7 0l7 -7l7 7l-7 7z",
+        "released",
+        x,
+        y,
+        taken,
+    )
 }
 
 /// What is drawn in a lane.
@@ -274,14 +307,27 @@ pub fn push_row(text: &mut String, drawing: &Drawing, end: u64, row: Row) -> Res
 }
 
 /// A tick where a resource is used that has a lane.
-fn push_use(text: &mut String, drawing: &Drawing, place: u64, event: Event) -> Result<(), AllocError>
+fn push_use(
+    text: &mut String,
+    drawing: &Drawing,
+    place: u64,
+    event: Event,
+) -> Result<(), AllocError>
     ensures { OnOk result (string_bytes text.new ≡ string_bytes text.old ++ use_text drawing.now place event) }
 {
     match event {
         Event::Use(r) => {
             if has_lane(drawing, r) {
                 let x = x_of(drawing, place);
-                push_mark(text, "tick", "m0 -10v20", "used", x, y_of(drawing, r), place)
+                push_mark(
+                    text,
+                    "tick",
+                    "m0 -10v20",
+                    "used",
+                    x,
+                    y_of(drawing, r),
+                    place,
+                )
             } else {
                 Ok(())
             }

@@ -11,18 +11,17 @@ use std::alloc::AllocError;
 
 /// Up to where a stretch goes, of a history with so many events.
 #[tactic(auto, unfolding(crate::specs::Stroke::until_text, crate::specs::Parts::text_of))]
-fn push_until(
-    text: &mut String,
-    until: u64,
-    end: u64,
-) -> Result<(), AllocError>
+fn push_until(text: &mut String, until: u64, end: u64) -> Result<(), AllocError>
     ensures { OnOk result (string_bytes text.new ≡ string_bytes text.old
         ++ until_text until end) }
 {
     if until == end {
         return text.push_str(" on");
     }
-    push_pieces(text, &[Piece::Words(", until event "), Piece::Number(until)])
+    push_pieces(
+        text,
+        &[Piece::Words(", until event "), Piece::Number(until)],
+    )
 }
 
 /// The front of a line, up to where it goes.
@@ -176,12 +175,7 @@ pub fn push_mark(
 
 /// The code of an error, beside its cross.
 #[tactic(auto, unfolding(crate::specs::Stroke::code_text, crate::specs::Parts::text_of))]
-pub fn push_code(
-    text: &mut String,
-    x: u64,
-    y: u64,
-    code: u64,
-) -> Result<(), AllocError>
+pub fn push_code(text: &mut String, x: u64, y: u64, code: u64) -> Result<(), AllocError>
     ensures { OnOk result (string_bytes text.new ≡ string_bytes text.old
         ++ code_text x y code) }
 {
@@ -201,11 +195,7 @@ pub fn push_code(
 
 /// The arrow of a resource that was never released.
 #[tactic(auto, unfolding(crate::specs::Stroke::leak_text, crate::specs::Parts::text_of))]
-pub fn push_leak(
-    text: &mut String,
-    x: u64,
-    y: u64,
-) -> Result<(), AllocError>
+pub fn push_leak(text: &mut String, x: u64, y: u64) -> Result<(), AllocError>
     ensures { OnOk result (string_bytes text.new ≡ string_bytes text.old
         ++ leak_text x y) }
 {
@@ -325,12 +315,7 @@ pub fn push_marble(
 
 /// The front of a column, up to its event.
 #[tactic(auto, unfolding(crate::specs::Stroke::column_front, crate::specs::Parts::text_of))]
-fn push_column_front(
-    text: &mut String,
-    x: u64,
-    height: u64,
-    place: u64,
-) -> Result<(), AllocError>
+fn push_column_front(text: &mut String, x: u64, height: u64, place: u64) -> Result<(), AllocError>
     ensures { OnOk result (string_bytes text.new ≡ string_bytes text.old ++ column_front x height place) }
 {
     push_pieces(
@@ -383,12 +368,7 @@ pub fn push_column(
 
 /// The line through all lanes at the place whose event may not stand there.
 #[tactic(auto, unfolding(crate::specs::Stroke::broken_text, crate::specs::Parts::text_of))]
-pub fn push_broken(
-    text: &mut String,
-    x: u64,
-    height: u64,
-    place: u64,
-) -> Result<(), AllocError>
+pub fn push_broken(text: &mut String, x: u64, height: u64, place: u64) -> Result<(), AllocError>
     ensures { OnOk result (string_bytes text.new ≡ string_bytes text.old
         ++ broken_text x height place) }
 {

@@ -37,10 +37,7 @@ fn picture_on(alloc: Global, value: &Value) -> Result<String, ScriptError>
 }
 
 // The picture of the history whose dump the reader has left.
-fn picture_read<R: Read>(
-    alloc: Global,
-    reader: &mut Watched<'_, R>,
-) -> Result<String, ScriptError>
+fn picture_read<R: Read>(alloc: Global, reader: &mut Watched<'_, R>) -> Result<String, ScriptError>
     requires { IsFresh reader.old }
     ensures { IfOk result (λ s. (d : Data)
         × GivesJson (R.remaining (device_of reader.old)) (R.remaining (device_of reader.new)) d
