@@ -3,8 +3,6 @@ use Rattle.std.specs.Prelude.{ℕ, List, [], ◌++◌, codes}
 use Rattle.std.specs.Fmt.{decimal, signed_decimal}
 use Rattle.rx_note.specs.declared.note.Terminal.{Terminal}
 use Rattle.rx_note.specs.declared.note.Terminal.TheVariants.{Completed, Error}
-use Rattle.rx_note.specs.declared.note.Note.{Note}
-use Rattle.rx_note.specs.declared.note.Note.TheVariants.{Next, Project, End as Ending}
 use Rattle.rx_event.specs.declared.event.Place.{Place}
 use Rattle.rx_event.specs.declared.event.Place.TheVariants.{Root, Source, Inner, Notifier}
 use Rattle.rx_event.specs.declared.event.Kind.{Kind}
@@ -51,9 +49,3 @@ event_text (Decline f) = codes " no inner for an item of " ++ decimal f
 event_text (End n t) = codes " end of " ++ decimal n ++ codes ":" ++ terminal_text t
 event_text (Close n) = codes " closing of " ++ decimal n
 event_text (Take r) = codes " release of " ++ decimal r
-
--- what somebody was told
-unfoldable pub note_text : Note → List ℕ
-note_text (Next value) = codes " next " ++ signed_decimal value
-note_text (Project value) = codes " project " ++ signed_decimal value
-note_text (Ending t) = terminal_text t

@@ -1,5 +1,5 @@
 -- What stands in the lanes of a picture.
-use Rattle.std.specs.Prelude.{ℕ, ◌+◌, ◌*◌, ◌==◌, min, nat_lt, if◌then◌else◌, List, [], ◌∷◌, ◌++◌, codes, slice_index_or}
+use Rattle.std.specs.Prelude.{ℕ, ◌+◌, ◌*◌, ◌==◌, Bool, ◌&&◌, min, nat_lt, if◌then◌else◌, List, [], ◌∷◌, ◌++◌, codes, length, slice_index_or}
 use Rattle.rx_note.specs.declared.note.Terminal.TheVariants.{Completed, Error}
 use Rattle.rx_event.specs.declared.event.Event.{Event}
 use Rattle.rx_event.specs.declared.event.Event.TheVariants.{Accept, Lease, Use}
@@ -28,7 +28,7 @@ y_of d n = 48 + 24 * min (slice_index_or d.lanes.items n 0) 200
 
 -- the number has a lane that is shown
 abbrev pub has_lane : Drawing → ℕ → Bool
-has_lane d n = nat_lt (slice_index_or d.lanes.items n 0) (slice_index_or d.lanes.items (n + 1) 0)
+has_lane d n = nat_lt n (length d.lanes.items) && nat_lt (slice_index_or d.lanes.items n 0) (slice_index_or d.lanes.items (n + 1) 0)
 
 -- deeper nodes begin further to the right, and a resource one step behind its node
 abbrev pub steps_of : Drawing → ℕ → Event → ℕ

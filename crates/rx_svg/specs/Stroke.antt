@@ -4,7 +4,8 @@ use Rattle.rx_note.specs.declared.note.Note.{Note}
 use Rattle.rx_note.specs.declared.note.Note.TheVariants.{Next, Project, End}
 use Rattle.rx_event.specs.declared.event.Event.{Event}
 use Rattle.rx_svg.specs.Parts.{words, number, signed, text_of}
-use Rattle.rx_svg.specs.Label.{event_text, note_text}
+use Rattle.rx_svg.specs.Label.{event_text}
+use Rattle.rx_svg.specs.Said.{note_text}
 
 -- stretches ---------------------------------------------------------------------------------------
 

@@ -1,7 +1,8 @@
 //! What things are called in a picture, each written behind a text.
 
 ghost use Rattle.std.specs.Prelude.{◌≡◌, ◌++◌, string_bytes, OnOk};
-ghost use Rattle.rx_svg.specs.Label.{kind_text, place_text, mode_text, terminal_text, event_text, note_text};
+ghost use Rattle.rx_svg.specs.Label.{kind_text, place_text, mode_text, terminal_text, event_text};
+ghost use Rattle.rx_svg.specs.Said.{note_text};
 
 use rx_event::{Event, Kind, Mode, Place, Terminal};
 use rx_note::Note;
@@ -82,7 +83,7 @@ pub fn push_event(text: &mut String, event: Event) -> Result<(), AllocError>
 }
 
 /// What somebody was told.
-#[tactic(auto, unfolding(crate::specs::Label::note_text))]
+#[tactic(auto, unfolding(crate::specs::Said::note_text))]
 pub fn push_note(text: &mut String, note: Note) -> Result<(), AllocError>
     ensures { OnOk result (string_bytes text.new ≡ string_bytes text.old ++ note_text note) }
 {

@@ -38,9 +38,8 @@ pub fn y_of(drawing: &Drawing, n: u64) -> u64
 fn has_lane(drawing: &Drawing, n: u64) -> bool
     ensures { result ≡ has_lane drawing.now n }
 {
-    let n = n as usize;
-    let lanes = &drawing.lanes;
-    n + 1 < lanes.len() && lanes[n] < lanes[n + 1]
+    let lanes = drawing.lanes.as_slice();
+    n < lanes.len() as u64 && value_at(lanes, n) < value_at(lanes, n + 1)
 }
 
 /// How many steps from the left the text of the lane begins.

@@ -242,10 +242,10 @@ fn push_lanes(
 ) -> Result<(), AllocError>
     ensures { OnOk result (string_bytes text.new ≡ string_bytes text.old ++ lanes_text drawing.now end height verdict.now) }
 {
-    push_points(text, drawing, height, &drawing.points)?;
-    push_rows(text, drawing, end, &drawing.rows)?;
-    push_ticks(text, drawing, &drawing.points)?;
-    push_marbles(text, drawing, &drawing.marbles)?;
+    push_points(text, drawing, height, drawing.points.as_slice())?;
+    push_rows(text, drawing, end, drawing.rows.as_slice())?;
+    push_ticks(text, drawing, drawing.points.as_slice())?;
+    push_marbles(text, drawing, drawing.marbles.as_slice())?;
     push_break(text, drawing, height, verdict)
 }
 
