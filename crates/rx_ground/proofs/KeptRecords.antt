@@ -32,7 +32,7 @@ use Rattle.rx_slots.specs.Slots.{Slots, entry_of, find}
 use Rattle.rx_tree.specs.declared.node.Node.{Node}
 use Rattle.rx_tree.specs.declared.node.ResKey.{ResKey}
 use Rattle.rx_tree.specs.declared.node.Stowed.{Stowed}
-use Rattle.rx_tree.specs.Bases.{IsInOrder, kept_by, node_as_kept, resource_as_kept, state_in}
+use Rattle.rx_tree.specs.Bases.{IsByNumber, kept_by, node_as_kept, resource_as_kept, state_in}
 use Rattle.rx_tree.specs.Tree.{Tree, AreApart}
 use Rattle.rx_tree.specs.Resources.{is_owned, is_lent, is_held}
 use Rattle.rx_lease.specs.Leases.{lease_as_kept}
@@ -56,33 +56,31 @@ module _ {X Y : Type 0} (keep : Entry X → Y) where
   from_slots : (es all : List (Option (Entry X))) (first : ℕ) → ((i : ℕ) → get_or all (first + i) None ≡ get_or es i None) →
       filter_map (λ slot. option_map keep (get_or all slot None)) (range_with_len first (length es)) ≡ map keep_kept (kept_from first es)
   from_slots [] all first same = refl
-  from_slots (o ∷ es) all first same = by_entry o here where
-    next : first + 1 ≡ suc first
-    next = omega arith
+  from_slots (o ∷ es) all first same =
+      by_entry (from_slots es all (first + 1) (λ i. ap (λ s. get_or all s None) (let e : first + 1 + i ≡ first + suc i = omega arith in e) ∙ same (suc i))) o
+      (ap (λ s. get_or all s None) (let e : first ≡ first + 0 = omega arith in e) ∙ same 0)
+    where
+      rest : List Y
+      rest = filter_map (λ slot. option_map keep (get_or all slot None)) (range_with_len (first + 1) (length es))
 
-    here : get_or all first None ≡ o
-    here = ap (λ s. get_or all s None) (let e : first ≡ first + 0 = omega arith in e) ∙ same 0
+      next : first + 1 ≡ suc first
+      next = omega arith
 
-    rest : filter_map (λ slot. option_map keep (get_or all slot None)) (range_with_len (first + 1) (length es)) ≡ map keep_kept (kept_from (suc first) es)
-    rest = from_slots es all (first + 1) (λ i. ap (λ s. get_or all s None) (let e : first + 1 + i ≡ first + suc i = omega arith in e) ∙ same (suc i)) ∙
-        ap (λ s. map keep_kept (kept_from s es)) next
-
-    by_entry : (o : Option (Entry X)) → get_or all first None ≡ o →
-        cons_option (option_map keep (get_or all first None)) (filter_map (λ slot. option_map keep (get_or all slot None)) (range_with_len (first + 1) (length es))) ≡
-        map keep_kept (kept_from first (o ∷ es))
-    by_entry None is = ap (λ x. cons_option (option_map keep x) (filter_map (λ slot. option_map keep (get_or all slot None)) (range_with_len (first + 1) (length es)))) is ∙ rest
-    by_entry (Some e) is = ap (λ x. cons_option (option_map keep x) (filter_map (λ slot. option_map keep (get_or all slot None)) (range_with_len (first + 1) (length es)))) is ∙
-        ap (λ ks. keep e ∷ ks) rest
+      by_entry : rest ≡ map keep_kept (kept_from (first + 1) es) → (x : Option (Entry X)) → get_or all first None ≡ x →
+          cons_option (option_map keep (get_or all first None)) rest ≡ map keep_kept (kept_from first (x ∷ es))
+      by_entry further None is = ap (λ y. cons_option (option_map keep y) rest) is ∙ further ∙ ap (λ s. map keep_kept (kept_from s es)) next
+      by_entry further (Some e) is = ap (λ y. cons_option (option_map keep y) rest) is ∙
+          ap (λ ks. keep e ∷ ks) (further ∙ ap (λ s. map keep_kept (kept_from s es)) next)
 
   pub kept_listed_by : (slots : Slots X) → kept_by keep slots ≡ map keep_kept (kept_in slots)
   kept_listed_by slots = from_slots slots.entries slots.entries 0 (λ i. ap (λ s. get_or slots.entries s None) (let e : 0 + i ≡ i = omega arith in e))
 
   -- in the order of their numbers they are what is kept of the numbers that pass
   pub slots_in_order : (number : Y → ℕ) → ((k : Kept X) → number (keep_kept k) ≡ k.key.number) → (slots : Slots X) (keep_number : ℕ → Y) (test : ℕ → Bool) (m : ℕ) (ys : List Y) →
-      IsInOrder number (kept_by keep slots) ys → ((k : Kept X) → Contains (kept_in slots) k → keep_kept k ≡ keep_number k.key.number) →
+      IsByNumber number (kept_by keep slots) ys → ((k : Kept X) → Contains (kept_in slots) k → keep_kept k ≡ keep_number k.key.number) →
       ListsJust test (numbers (kept_in slots)) → ((n : ℕ) → test n ≡ true → n < m) → ys ≡ map keep_number (filter test (range_with_len 0 m))
   slots_in_order number numbered slots keep_number test m ys order each just below =
-      in_order number keep_number test m (map keep_kept (kept_in slots)) ys (subst (λ (xs : List Y). IsInOrder number xs ys) (kept_listed_by slots) order) each_kept
+      in_order number keep_number test m (map keep_kept (kept_in slots)) ys (subst (λ (xs : List Y). IsByNumber number xs ys) (kept_listed_by slots) order) each_kept
       (subst (ListsJust test) (sym (same_numbers (kept_in slots))) just) below
     where
       same_numbers : (ks : List (Kept X)) → map number (map keep_kept ks) ≡ numbers ks
@@ -95,6 +93,12 @@ module _ {X Y : Type 0} (keep : Entry X → Y) where
           sym from.2 ∙ each from.0 from.1 ∙ ap keep_number (sym (numbered from.0) ∙ ap number from.2)
 
 -- nodes, resources and leases -----------------------------------------------------------------------
+
+untaken_within : (h : List Event) (r : ℕ) → is_untaken h r ≡ true → r < length h
+untaken_within h r u = by_state (is_held_in h r) refl u where
+  by_state : (b : Bool) → is_held_in h r ≡ b → (b || is_waiting h r) ≡ true → r < length h
+  by_state true held passes = is_held_within h r held
+  by_state false free waits = is_waiting_within h r waits
 
 module _ (base : Base) {T : Type 0} (g : Ghosts T) (h : List Event) (tree : Tree T) (tied : IsTied base g h tree) where
   node_kept : (k : Kept Node) → Contains (kept_in tree.nodes) k → node_as_kept (entry_of k.key.number k.value) ≡ keep_node base h k.key.number
@@ -112,7 +116,7 @@ module _ (base : Base) {T : Type 0} (g : Ghosts T) (h : List Event) (tree : Tree
     made : option_map_or (λ e. e) (slice_get h k.key.number) (Close k.key.number) ≡ k.value.made
     made = ap (λ o. option_map_or (λ e. e) o (Close k.key.number)) is.made
 
-  pub nodes_kept : AreApart tree.nodes → (ys : List BaseNode) → IsInOrder (λ k. k.number) (kept_by node_as_kept tree.nodes) ys → ys ≡ map (keep_node base h) (open_nodes h)
+  pub nodes_kept : AreApart tree.nodes → (ys : List BaseNode) → IsByNumber (λ k. k.number) (kept_by node_as_kept tree.nodes) ys → ys ≡ map (keep_node base h) (open_nodes h)
   nodes_kept apart ys order = slots_in_order node_as_kept (λ k. k.number) (λ k. refl) tree.nodes (keep_node base h) (is_open h) (length h) ys order node_kept
       (just_nodes base g h tree tied apart) (is_open_within h)
 
@@ -140,12 +144,6 @@ module _ (base : Base) {T : Type 0} (g : Ghosts T) (h : List Event) (tree : Tree
     by_state true held passes = let made = held_resource h r held in tied.stored.every r made (untaken made (held_not_taken base h law r held))
     by_state false free waits = let parts = waiting_parts h r waits in tied.stored.every r parts.0 (untaken parts.0 parts.2)
 
-  untaken_within : (r : ℕ) → is_untaken h r ≡ true → r < length h
-  untaken_within r u = by_state (is_held_in h r) refl u where
-    by_state : (b : Bool) → is_held_in h r ≡ b → (b || is_waiting h r) ≡ true → r < length h
-    by_state true held passes = is_held_within h r held
-    by_state false free waits = is_waiting_within h r waits
-
   resource_kept : (k : Kept (Stowed T)) → Contains (kept_in tree.resources) k → resource_as_kept g tree.nodes (entry_of k.key.number k.value) ≡ keep_resource base h k.key.number
   resource_kept k c = (λ i. record {
     number = k.key.number;
@@ -168,26 +166,30 @@ module _ (base : Base) {T : Type 0} (g : Ghosts T) (h : List Event) (tree : Tree
     state = shape (is_owned tree.nodes k.value) (is_lent k.value) ∙
         (λ i. cond (sym (owned_agrees base g h tree tied k.key k.value found) i) Owned (cond (sym (held_agrees base g h tree tied k.key k.value found) i) Leased Waiting))
 
-  pub resources_kept : AreApart tree.resources → IsLawful base h → (ys : List BaseResource) → IsInOrder (λ k. k.number) (kept_by (resource_as_kept g tree.nodes) tree.resources) ys →
+  pub resources_kept : AreApart tree.resources → IsLawful base h → (ys : List BaseResource) → IsByNumber (λ k. k.number) (kept_by (resource_as_kept g tree.nodes) tree.resources) ys →
       ys ≡ map (keep_resource base h) (filter (is_untaken h) (places h))
   resources_kept apart law ys order = slots_in_order (resource_as_kept g tree.nodes) (λ k. k.number) (λ k. refl) tree.resources (keep_resource base h) (is_untaken h) (length h) ys order
-      resource_kept (just_all tree.resources (is_untaken h) apart (record { each = stored_untaken; every = untaken_stored law })) untaken_within
+      resource_kept (just_all tree.resources (is_untaken h) apart (record { each = stored_untaken; every = untaken_stored law })) (untaken_within h)
 
-  pub leases_kept : (leases : Slots ResKey) → AreLeased h tree.resources leases → AreApart leases → (ys : List BaseLease) → IsInOrder (λ k. k.number) (kept_by lease_as_kept leases) ys →
-      ys ≡ map (keep_lease h) (filter (is_out h) (places h))
-  leases_kept leases leased apart ys order = slots_in_order lease_as_kept (λ k. k.number) (λ k. refl) leases (keep_lease h) (is_out h) (length h) ys order
-      (λ k c. let is = leased.each k.key k.value (kept_found leases k c) in
-          ap (λ n. record { number = k.key.number; resource = n }) (sym (ap (λ o. lease_resource (option_map_or (λ e. e) o (Close k.key.number))) is.made)))
-      (just_out h tree.resources leases leased apart) (is_out_within h)
+pub leases_kept : {T : Type 0} (h : List Event) (resources : Slots (Stowed T)) (leases : Slots ResKey) → AreLeased h resources leases → AreApart leases → (ys : List BaseLease) →
+    IsByNumber (λ k. k.number) (kept_by lease_as_kept leases) ys → ys ≡ map (keep_lease h) (filter (is_out h) (places h))
+leases_kept h resources leases leased apart ys order = slots_in_order lease_as_kept (λ k. k.number) (λ k. refl) leases (keep_lease h) (is_out h) (length h) ys order one
+    (just_out h resources leases leased apart) (is_out_within h)
+  where
+    one : (k : Kept ResKey) → Contains (kept_in leases) k → lease_as_kept (entry_of k.key.number k.value) ≡ keep_lease h k.key.number
+    one k c = (λ i. record {
+      number = k.key.number;
+      resource = sym (ap (λ o. lease_resource (option_map_or (λ e. e) o (Close k.key.number))) (leased.each k.key k.value (kept_found leases k c)).made) i;
+    })
 
 -- hubs ------------------------------------------------------------------------------------------------
 
 contains_get : {X : Type 0} (xs : List X) (x : X) → Contains xs x → (i : ℕ) × (slice_get xs i ≡ Some x)
 contains_get [] x c = absurd (Contains-none x c)
-contains_get (y ∷ xs) x c = by_place (Contains-cases y xs x c) where
-  by_place : (y ≡ x) ⊎ Contains xs x → (i : ℕ) × (slice_get (y ∷ xs) i ≡ Some x)
-  by_place (inl same) = (0, ap Some same)
-  by_place (inr later) = let r = contains_get xs x later in (suc r.0, r.1)
+contains_get (y ∷ xs) x c = by_place (contains_get xs x) (Contains-cases y xs x c) where
+  by_place : (Contains xs x → (i : ℕ) × (slice_get xs i ≡ Some x)) → (y ≡ x) ⊎ Contains xs x → (i : ℕ) × (slice_get (y ∷ xs) i ≡ Some x)
+  by_place rest (inl same) = (0, ap Some same)
+  by_place rest (inr later) = let r = rest later in (suc r.0, r.1)
 
 get_contains : {X : Type 0} (xs : List X) (i : ℕ) (x : X) → slice_get xs i ≡ Some x → Contains xs x
 get_contains [] zero x at_i = absurd (none-some x at_i)
@@ -215,7 +217,7 @@ hubs_kept h all promised are =
     one : (hub : Hub) → Contains all.hubs hub → hub_as_kept hub ≡ keep_hub h hub.number
     one hub c =
         let place = contains_get all.hubs hub c in
-        ap (λ mode. record { number = hub.number; mode = mode }) (sym (ap (λ o. mode_of (option_map_or (λ e. e) o (Close hub.number))) (are.each place.0 hub place.1).made))
+        (λ i. record { number = hub.number; mode = sym (ap (λ o. mode_of (option_map_or (λ e. e) o (Close hub.number))) (are.each place.0 hub place.1).made) i })
 
     by_numbers : (hs : List Hub) → ((hub : Hub) → Contains hs hub → hub_as_kept hub ≡ keep_hub h hub.number) → map hub_as_kept hs ≡ map (keep_hub h) (map number hs)
     by_numbers [] same = refl
@@ -235,13 +237,13 @@ hubs_kept h all promised are =
 -- the base ---------------------------------------------------------------------------------------------
 
 -- counts and lists of these make just the base
-pub base_built : (b : Base) (h : List Event) (at items accepted taken : ℕ) (hs : List BaseHub) (nodes : List BaseNode) (resources : List BaseResource) (leases : List BaseLease) →
-    at ≡ length h → items ≡ item_count b h → accepted ≡ accepted_count b h → taken ≡ taken_count b h →
+pub base_built : (b : Base) (h : List Event) (events items accepted taken : ℕ) (hs : List BaseHub) (nodes : List BaseNode) (resources : List BaseResource) (leases : List BaseLease) →
+    events ≡ length h → items ≡ item_count b h → accepted ≡ accepted_count b h → taken ≡ taken_count b h →
     hs ≡ map (keep_hub h) (hubs h) → nodes ≡ map (keep_node b h) (open_nodes h) → resources ≡ map (keep_resource b h) (filter (is_untaken h) (places h)) →
     leases ≡ map (keep_lease h) (filter (is_out h) (places h)) →
-    (let whole : Base = record { at_length = at; items = items; accepted = accepted; taken = taken; hubs = hs; nodes = nodes; resources = resources; leases = leases } in whole) ≡ base_of b h
+    (let whole : Base = record { at_length = events; items = items; accepted = accepted; taken = taken; hubs = hs; nodes = nodes; resources = resources; leases = leases } in whole) ≡ base_of b h
 unfolding base_of
-base_built b h at items accepted taken hs nodes resources leases same_at same_items same_accepted same_taken same_hubs same_nodes same_resources same_leases = λ i. record {
+base_built b h events items accepted taken hs nodes resources leases same_at same_items same_accepted same_taken same_hubs same_nodes same_resources same_leases = λ i. record {
   at_length = same_at i;
   items = same_items i;
   accepted = same_accepted i;

@@ -119,6 +119,16 @@ module _ (b : Base) (h : List Event) (law : IsLawful b h) (settled : IsSettled b
     marks = is.marks ∙ base_marks b h law settled n is.alive;
   }
 
+  leased_still : {T : Type 0} (tree : Tree T) (leases : Slots ResKey) → AreLeased h tree.resources leases → AreLeased k tree.resources leases
+  leased_still tree leases leased = record {
+    each = λ key res found. let is = leased.each key res found in record {
+      out = sym (agree.out key.number) ∙ is.out;
+      made = sym (agree.leased key.number is.out) ∙ is.made;
+      stored = is.stored;
+    };
+    every = λ l out. leased.every l (agree.out l ∙ out);
+  }
+
   module _ {T : Type 0} (g : Ghosts T) (tree : Tree T) where
     stored_still : (r : ℕ) (s : Stowed T) → IsStored b g h tree.nodes r s → IsStored c g k tree.nodes r s
     stored_still r s is =
@@ -147,16 +157,6 @@ module _ (b : Base) (h : List Event) (law : IsLawful b h) (settled : IsSettled b
         each = λ key s found. stored_still key.number s (tied.stored.each key s found);
         every = λ r made none. let parts = untaken_parts b h law r (sym (resource_at r) ∙ made) in tied.stored.every r parts.0 parts.1;
       };
-    }
-
-    leased_still : (leases : Slots ResKey) → AreLeased h tree.resources leases → AreLeased k tree.resources leases
-    leased_still leases leased = record {
-      each = λ key res found. let is = leased.each key res found in record {
-        out = sym (agree.out key.number) ∙ is.out;
-        made = sym (agree.leased key.number is.out) ∙ is.made;
-        stored = is.stored;
-      };
-      every = λ l out. leased.every l (agree.out l ∙ out);
     }
 
     all_still : (hubs new : Hubs) → new.hubs ≡ map without_end hubs.hubs → AreTied b g h tree hubs → AreTied c g k tree new
@@ -197,4 +197,4 @@ standing_still {T = T} g old new promised checkpoint standing = record {
     tied = all_still b h promised.lawful standing.settled g old.tree old.hubs new.hubs (ap (λ (hs : Hubs). hs.hubs) checkpoint.hubs) standing.tied
 
     leased : AreLeased (shown (base_of b h)) old.tree.resources old.leases
-    leased = leased_still b h promised.lawful standing.settled g old.tree old.leases standing.leased
+    leased = leased_still b h promised.lawful standing.settled old.tree old.leases standing.leased

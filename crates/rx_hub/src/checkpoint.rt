@@ -1,6 +1,7 @@
 //! What a checkpoint keeps of hubs.
 
-ghost use Rattle.std.specs.Prelude.{◌≡◌, IfOk, map, option_map, slice_get};
+ghost use Rattle.std.specs.Prelude.{◌≡◌, IfOk, length, map, option_map, slice_get};
+ghost use Rattle.std.specs.List.{range_with_len, filter_map};
 
 use crate::hubs::Hubs;
 use rx_event::BaseHub;
@@ -21,14 +22,22 @@ impl Hubs {
         })
     }
 
+    // What is kept of the hubs, index by index.
+    fn list_hubs(&self, alloc: Global) -> Result<Vec<BaseHub>, AllocError>
+        ensures { IfOk result (λ kept. kept.items ≡
+            filter_map (λ i. option_map hub_as_kept (slice_get self.now.hubs i)) (range_with_len 0 (length self.now.hubs))) }
+    {
+        (0..self.len())
+            .filter_map(|index| self.base_hub(index))
+            .collect(alloc)
+    }
+
     /// What a checkpoint keeps of the hubs, by rising number. Refused only where memory was refused.
     #[tactic(auto, using(crate::proofs::Forgotten::kept_of_all))]
     pub fn base_hubs(&self, alloc: Global) -> Result<Vec<BaseHub>, AllocError>
         ensures { IfOk result (λ kept. kept.items ≡ map hub_as_kept self.now.hubs) }
     {
-        (0..self.len())
-            .filter_map(|index| self.base_hub(index))
-            .collect(alloc)
+        self.list_hubs(alloc)
     }
 
     /// Forgets how connections ended by themselves. Nothing is due at any hub, so no subscriber that is

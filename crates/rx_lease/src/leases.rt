@@ -60,7 +60,7 @@ fn begin(order: &mut Rings) -> Result<(), AllocError>
 impl Leases {
     ghost use Rattle.rx_slots.specs.Slots.{find, entry_at, KeepsOthers};
     ghost use Rattle.rx_tree.specs.Tree.{IsPast, IsFirst, HasNone, AreApart};
-    ghost use Rattle.rx_tree.specs.Bases.{IsInOrder, kept_by};
+    ghost use Rattle.rx_tree.specs.Bases.{IsByNumber, kept_by};
     ghost use Rattle.rx_lease.specs.Leases.{lease_key, lease_as_kept, IsOut};
 
     /// No lease, which takes no memory.
@@ -183,15 +183,22 @@ impl Leases {
         })
     }
 
+    // What is kept of the leases, by rising slot.
+    fn list_leases(&self, alloc: Global) -> Result<Vec<BaseLease>, AllocError>
+        ensures { IfOk result (λ kept. kept.items ≡ kept_by lease_as_kept self.now) }
+    {
+        (0..self.out.slot_count())
+            .filter_map(|slot| self.base_lease(slot))
+            .collect(alloc)
+    }
+
     /// What a checkpoint keeps of the leases, by rising number. It goes over the slots that leases stood
     /// at. Refused only where memory was refused.
     pub fn base_leases(&self, alloc: Global) -> Result<Vec<BaseLease>, AllocError>
-        ensures { IfOk result (λ kept. IsInOrder (λ k. k.number) (kept_by lease_as_kept self.now) kept.items) }
+        ensures { IfOk result (λ kept. IsByNumber (λ k. k.number) (kept_by lease_as_kept self.now) kept.items) }
     {
-        let mut leases: Vec<BaseLease> = (0..self.out.slot_count())
-            .filter_map(|slot| self.base_lease(slot))
-            .collect(alloc)?;
-        leases.sort_unstable_by_key(|lease| lease.number);
+        let mut leases = self.list_leases(alloc)?;
+        leases.sort_by_key(|lease| lease.number)?;
         Ok(leases)
     }
 }

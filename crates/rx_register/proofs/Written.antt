@@ -1,6 +1,7 @@
 -- A register after one more event, and after a note that was handed out.
 use Rattle.std.proofs.Common.{◌≡◌, ℕ, zero, suc, ◌+◌, ◌-◌, ◌<◌, ◌≤◌, Bool, true, false, List, [], ◌∷◌, ◌++◌, length, take, drop, Option, Some, None, cond, refl, sym, ap, ◌∙◌, arith, slice_get, length-append, length-drop, take-append-drop}
 use Rattle.std.specs.Option.{option_to_list}
+use Rattle.std.specs.VecDeque.{deque_len, deque_capacity}
 use Rattle.std.proofs.lemmas.List.{drop-append-le, drop_all, take_all}
 use Rattle.rx_event.specs.declared.event.Event.{Event}
 use Rattle.rx_event.specs.Events.{makes_resource, is_item, is_take}
@@ -20,7 +21,8 @@ use Rattle.rx_event.proofs.Laws.Begin.{shown_nothing, IsLawful_nothing}
 use Rattle.rx_event.proofs.Laws.Lawful.{IsLawful-push}
 use Rattle.rx_event.proofs.Laws.Totals.{item_count-push, accepted_count-push, taken_count-push}
 use Rattle.rx_register.specs.declared.register.Register.TheInside.{Inside}
-use Rattle.rx_register.specs.Ties.{IsTied}
+use Rattle.rx_register.specs.State.{Rebases}
+use Rattle.rx_register.specs.Ties.{state_of, IsTied}
 use Rattle.rx_register.proofs.Laws.Empty.{debt_empty}
 
 -- so many notes are behind those that were told
@@ -204,26 +206,29 @@ pub record IsRebased (a b : Inside) (room : ℕ) : Type 0 where
   pub items : b.item_total ≡ a.item_total
   pub accepted : b.accepted_total ≡ a.accepted_total
   pub taken : b.taken_total ≡ a.taken_total
-  pub handed : b.told ≡ 0
+  pub handed : a.told ≡ 0
+  pub told : b.told ≡ a.told
+  pub mail : b.mail ≡ a.mail
+  pub room : b.history.room ≡ room
 
 pub rebased : (a b : Inside) (room : ℕ) → IsTied a → IsRebased a b room → IsTied b
 rebased a b room r w = record {
   lawful = rw (w.base, w.events) (base_lawful base h r.lawful w.settled);
   limited = rw w.limit r.limited;
-  begun = rw (w.base, w.events) (omega arith);
-  placed = rw w.base (let p = w.placed in omega arith);
-  closing = rw (w.base, w.limit) (let c = w.closing in let l = w.within in omega arith);
-  within = rw (w.base, w.events) (omega arith);
+  begun = rw (w.base, w.events) (let a = as_long in let s = shown_long in omega arith);
+  placed = rw w.base (let p = w.placed in let a = as_long in omega arith);
+  closing = rw (w.base, w.limit) (let c = w.closing in let l = w.within in let d = same_debts in omega arith);
+  within = rw (w.base, w.events) (let a = as_long in let s = shown_long in omega arith);
   limit = w.own_limit ∙ r.limit ∙ sym w.limit;
   item_total = rw (w.base, w.events) (w.items ∙ r.item_total ∙ same.item_total);
   accepted_total = rw (w.base, w.events) (w.accepted ∙ r.accepted_total ∙ same.accepted_total);
   taken_total = rw (w.base, w.events) (w.taken ∙ r.taken_total ∙ same.taken_total);
-  few_items = rw (w.base, w.events) (let f = r.few_items in let s = same.item_total in omega arith);
-  few_accepted = rw (w.base, w.events) (let f = r.few_accepted in let s = same.accepted_total in omega arith);
-  few_taken = rw (w.base, w.events) (let f = r.few_taken in let s = same.taken_total in omega arith);
-  some_told = rw w.handed (omega arith);
-  queued = rw w.handed (omega arith);
-  mail = rw (w.handed, w.events, base_untold base h r.lawful w.settled) refl;
+  few_items = rw (w.base, w.events) (let f = r.few_items in let s = same.item_total in let l = shown_long in omega arith);
+  few_accepted = rw (w.base, w.events) (let f = r.few_accepted in let s = same.accepted_total in let l = shown_long in omega arith);
+  few_taken = rw (w.base, w.events) (let f = r.few_taken in let s = same.taken_total in let l = shown_long in omega arith);
+  some_told = rw all_told (omega arith);
+  queued = rw all_told (omega arith);
+  mail = rw (all_told, w.events, base_untold base h r.lawful w.settled) refl;
 }
   where
     base : Kept
@@ -231,6 +236,9 @@ rebased a b room r w = record {
 
     h : List Event
     h = a.history.events
+
+    all_told : b.told ≡ 0
+    all_told = w.told ∙ w.handed
 
     same : Agree base h (base_of base h) (shown (base_of base h))
     same = kept_agrees base h r.lawful w.settled
@@ -243,3 +251,19 @@ rebased a b room r w = record {
 
     same_debts : debt base h ≡ debt (base_of base h) (shown (base_of base h))
     same_debts = same_debt base h (base_of base h) (shown (base_of base h)) same
+
+-- what callers see of it
+pub rebases : (a b : Inside) (room : ℕ) → IsTied a → IsRebased a b room → drop a.told a.mail.items ≡ [] → Rebases (state_of a) (state_of b) room
+rebases a b room r w none = record {
+  base = w.base;
+  history = w.events ∙ ap shown (sym w.base);
+  limit = w.limit;
+  room = w.room;
+  given = rw (w.events, base_untold a.history.base a.history.events r.lawful w.settled) (omega arith);
+  pending = rw (w.told, w.mail) none;
+  mail_room = ap (λ q. deque_capacity q - deque_len q) w.mail;
+}
+
+-- where all notes were handed out, none is left of those that were told
+pub none_left : (notes told : ℕ) → told ≤ notes → notes - told ≡ notes → told ≡ 0
+none_left notes told l same = omega arith

@@ -111,7 +111,7 @@ added_by h (Connecting hub) = 1 + 1
 added_by h _ = 0
 
 -- the greatest place at which a checkpoint may be made, so that no place after it passes 64 bits
-unfoldable pub most_places : ℕ
+abbrev pub most_places : ℕ
 most_places = 9223372036854775807
 
 -- the rows --------------------------------------------------------------------------------------------------------------------

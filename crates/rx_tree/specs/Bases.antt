@@ -17,8 +17,8 @@ use Rattle.rx_tree.specs.Resources.{is_owned, is_lent}
 abbrev pub kept_by : {X Y : Type 0} → (Entry X → Y) → Slots X → List Y
 kept_by keep slots = filter_map (λ slot. option_map keep (entry_at slots slot)) (range_with_len 0 (slot_count slots))
 
--- the second list is the first, in the order of its numbers
-pub record IsInOrder {Y : Type 0} (number : Y → ℕ) (xs ys : List Y) : Type 0 where
+-- the second list is the first by rising number
+pub record IsByNumber {Y : Type 0} (number : Y → ℕ) (xs ys : List Y) : Type 0 where
   pub same : IsPermutation xs ys
   pub rising : IsNonDecreasingBy number ys
 

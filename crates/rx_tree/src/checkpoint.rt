@@ -1,8 +1,9 @@
 //! What a checkpoint keeps of a tree.
 
 ghost use Rattle.std.specs.Prelude.{◌≡◌, IfOk, option_map};
-ghost use Rattle.rx_slots.specs.Slots.{entry_at};
-ghost use Rattle.rx_tree.specs.Bases.{IsInOrder, kept_by, node_as_kept, resource_as_kept, state_in};
+ghost use Rattle.std.specs.List.{range_with_len, filter_map};
+ghost use Rattle.rx_slots.specs.Slots.{entry_at, slot_count};
+ghost use Rattle.rx_tree.specs.Bases.{IsByNumber, kept_by, node_as_kept, resource_as_kept, state_in};
 ghost use Rattle.rx_tree.specs.Store.{nodes_of, resources_of};
 
 use crate::node::Stowed;
@@ -58,26 +59,43 @@ impl<R: Resource> Store<R> {
         })
     }
 
-    // What is kept of all nodes.
-    fn base_nodes(&self, alloc: Global) -> Result<Vec<BaseNode>, AllocError>
-        ensures { IfOk result (λ kept. IsInOrder (λ k. k.number) (kept_by node_as_kept (nodes_of self.now)) kept.items) }
+    // What is kept of the nodes, by rising slot.
+    fn list_nodes(&self, alloc: Global) -> Result<Vec<BaseNode>, AllocError>
+        ensures { IfOk result (λ kept. kept.items ≡
+            filter_map (λ slot. option_map node_as_kept (entry_at (nodes_of self.now) slot)) (range_with_len 0 (slot_count self.now.nodes))) }
     {
-        let mut nodes: Vec<BaseNode> = (0..self.nodes.slot_count())
+        (0..self.nodes.slot_count())
             .filter_map(|slot| self.base_node(slot))
-            .collect(alloc)?;
-        nodes.sort_unstable_by_key(|node| node.number);
+            .collect(alloc)
+    }
+
+    // What is kept of the resources, by rising slot.
+    fn list_resources(&self, alloc: Global) -> Result<Vec<BaseResource>, AllocError>
+        ensures { IfOk result (λ kept. kept.items ≡
+            filter_map (λ slot. option_map (resource_as_kept R.Resource (nodes_of self.now)) (entry_at (resources_of self.now) slot))
+            (range_with_len 0 (slot_count self.now.resources))) }
+    {
+        (0..self.resources.slot_count())
+            .filter_map(|slot| self.base_resource(slot))
+            .collect(alloc)
+    }
+
+    // What is kept of the nodes, by rising number.
+    fn base_nodes(&self, alloc: Global) -> Result<Vec<BaseNode>, AllocError>
+        ensures { IfOk result (λ kept. IsByNumber (λ k. k.number) (kept_by node_as_kept (nodes_of self.now)) kept.items) }
+    {
+        let mut nodes = self.list_nodes(alloc)?;
+        nodes.sort_by_key(|node| node.number)?;
         Ok(nodes)
     }
 
-    // What is kept of all resources.
+    // What is kept of the resources, by rising number.
     fn base_resources(&self, alloc: Global) -> Result<Vec<BaseResource>, AllocError>
-        ensures { IfOk result (λ kept. IsInOrder (λ k. k.number)
+        ensures { IfOk result (λ kept. IsByNumber (λ k. k.number)
             (kept_by (resource_as_kept R.Resource (nodes_of self.now)) (resources_of self.now)) kept.items) }
     {
-        let mut resources: Vec<BaseResource> = (0..self.resources.slot_count())
-            .filter_map(|slot| self.base_resource(slot))
-            .collect(alloc)?;
-        resources.sort_unstable_by_key(|resource| resource.number);
+        let mut resources = self.list_resources(alloc)?;
+        resources.sort_by_key(|resource| resource.number)?;
         Ok(resources)
     }
 }
@@ -86,7 +104,7 @@ impl<R: Resource> Tree<R> {
     /// What a checkpoint keeps of the nodes, by rising number. It goes over the slots that nodes stood at.
     /// Refused only where memory was refused.
     pub fn base_nodes(&self, alloc: Global) -> Result<Vec<BaseNode>, AllocError>
-        ensures { IfOk result (λ kept. IsInOrder (λ k. k.number) (kept_by node_as_kept self.now.nodes) kept.items) }
+        ensures { IfOk result (λ kept. IsByNumber (λ k. k.number) (kept_by node_as_kept self.now.nodes) kept.items) }
     {
         self.store.base_nodes(alloc)
     }
@@ -95,7 +113,7 @@ impl<R: Resource> Tree<R> {
     /// those that leases alone hold, and of those that wait. It goes over the slots that resources stood
     /// at. Refused only where memory was refused.
     pub fn base_resources(&self, alloc: Global) -> Result<Vec<BaseResource>, AllocError>
-        ensures { IfOk result (λ kept. IsInOrder (λ k. k.number)
+        ensures { IfOk result (λ kept. IsByNumber (λ k. k.number)
             (kept_by (resource_as_kept R.Resource self.now.nodes) self.now.resources) kept.items) }
     {
         self.store.base_resources(alloc)

@@ -45,6 +45,7 @@ impl Register {
         ensures ok { OnOk result (Rebases self.old self.new room) }
         ensures refused { OnErr result (self.new ≡ self.old) }
     {
-        self.history.rebase(base, room)
+        self.history.rebase(base, room)?;
+        Ok(())
     }
 }
