@@ -40,13 +40,11 @@ fires_until : (h : List Event) (ss : List Stop) → AllByRecursion (StopsAtOpen 
 fires_until h [] well u found = absurd (false≢true found)
 fires_until h (Delivery m ∷ ss) well u found = fires_until h ss well.1 u found
 fires_until h (Projection m ∷ ss) well u found = fires_until h ss well.1 u found
-fires_until h (Firing v ∷ ss) well u found = by_test (v == u) refl found where
-  rest : list_any (is_firing_of u) ss ≡ true → at is_until h u ≡ true
-  rest = fires_until h ss well.1 u
-
-  by_test : (b : Bool) → (v == u) ≡ b → (b || list_any (is_firing_of u) ss) ≡ true → at is_until h u ≡ true
-  by_test true same passes = sym (ap (at is_until h) (eqb-true v u same)) ∙ well.0.1
-  by_test false other passes = rest passes
+fires_until h (Firing v ∷ ss) well u found = by_test (fires_until h ss well.1 u) (v == u) refl found where
+  by_test : (list_any (is_firing_of u) ss ≡ true → at is_until h u ≡ true) → (b : Bool) → (v == u) ≡ b → (b || list_any (is_firing_of u) ss) ≡ true →
+      at is_until h u ≡ true
+  by_test rest true same passes = sym (ap (at is_until h) (eqb-true v u same)) ∙ well.0.1
+  by_test rest false other passes = rest passes
 
 event_fires_until : (base : Kept) (h : List Event) (e : Event) → IsLawful base h → MayFollow base h e → (u : ℕ) →
     list_any (is_firing_of u) (stops_of h e) ≡ true → at is_until h u ≡ true
