@@ -1,0 +1,134 @@
+//! What a line says.
+
+ghost use Rattle.std.specs.Prelude.{◌≡◌, IfOk};
+ghost use Rattle.serde_json.specs.View.{view};
+
+use crate::wanted::fault_of;
+use rx_device::ShapeError;
+use rx_scenario::{Action, Command, Step, scenario_of};
+use serde_json::{Error, Map, Value};
+use std::alloc::{AllocError, AllocFailed, Global};
+
+/// What a line asks for.
+#[derive(Drop)]
+pub enum Order {
+    /// A command of the book.
+    Command(Command),
+    /// What is open and held.
+    List,
+    /// The history so far.
+    Dump,
+}
+
+/// Why a line is no order.
+#[derive(Drop)]
+pub enum Unread {
+    /// It is faulty: which member, and why.
+    Faulty(String),
+    /// Memory was refused, and nothing is known of the line.
+    Memory,
+}
+
+impl From<AllocError> for Unread {
+    fn from(_error: AllocError) -> Unread {
+        Unread::Memory
+    }
+}
+
+impl<T: Drop> From<AllocFailed<T>> for Unread {
+    fn from(_error: AllocFailed<T>) -> Unread {
+        Unread::Memory
+    }
+}
+
+// What is said of a line that is no JSON text.
+fn no_json(alloc: Global, error: &Error) -> Result<String, AllocError> {
+    let column = error.column();
+    if error.is_eof() {
+        return format!(in alloc; "column {column}: the JSON text ends too early");
+    }
+    format!(in alloc; "column {column}: no JSON text; look here and just before")
+}
+
+// The JSON value whose text the line is.
+fn value_of(alloc: Global, line: &[u8]) -> Result<Value, Unread> {
+    match Value::from_slice(alloc, line) {
+        Ok(value) => Ok(value),
+        Err(error) => Err(if error.is_memory() {
+            Unread::Memory
+        } else {
+            Unread::Faulty(no_json(alloc, &error)?)
+        }),
+    }
+}
+
+// Whether a value is an object that has this word alone.
+fn is_word(value: &Value, word: &str) -> bool {
+    let Some(members) = value.as_object() else {
+        return false;
+    };
+    members.len() == 1 && value.get("do").and_then(Value::as_str) == Some(word)
+}
+
+// Whether a member is one of a step, and of no line.
+fn is_timed(value: &Value) -> bool {
+    value.get("label").is_some()
+        || value.get("at").is_some()
+        || value.get("after").is_some()
+        || value.get("then").is_some()
+}
+
+// The scenario of this one step, as a JSON value.
+fn scenario_with(alloc: Global, step: Value) -> Result<Value, Unread> {
+    let mut steps = Vec::new(alloc);
+    steps.push(step)?;
+    let mut members = Map::new(alloc);
+    members.insert(String::from_str(alloc, "steps")?, Value::Array(steps))?;
+    Ok(Value::Object(members))
+}
+
+// The command of the only step.
+fn only_command(steps: Vec<Step>) -> Option<Command> {
+    let step = steps.into_iter().next()?;
+    let (action, _then) = step.into_parts();
+    match action {
+        Action::Command(command) => Some(command),
+        Action::Cancel(_) => None,
+    }
+}
+
+// The command that a scenario of one step has.
+fn command_in(alloc: Global, scenario: &Value) -> Result<Option<Command>, Unread> {
+    match scenario_of(alloc, scenario) {
+        Ok(scenario) => Ok(only_command(scenario.steps)),
+        Err(ShapeError::Shape) => Ok(None),
+        Err(ShapeError::Memory) => Err(Unread::Memory),
+    }
+}
+
+// The step that a scenario of one step was made of.
+fn step_in(scenario: &Value) -> Option<&Value> {
+    scenario.get("steps").and_then(|steps| steps.get(0usize))
+}
+
+/// What a line asks for: one JSON object, `do` with the members of its command.
+pub fn order_of(alloc: Global, line: &[u8]) -> Result<Order, Unread> {
+    let value = value_of(alloc, line)?;
+    if is_word(&value, "list") {
+        return Ok(Order::List);
+    }
+    if is_word(&value, "dump") {
+        return Ok(Order::Dump);
+    }
+    if is_timed(&value) {
+        return Err(Unread::Faulty(fault_of(alloc, &value)?));
+    }
+    let scenario = scenario_with(alloc, value)?;
+    match command_in(alloc, &scenario)? {
+        Some(command) => Ok(Order::Command(command)),
+        None => Err(Unread::Faulty(match step_in(&scenario) {
+            Some(step) => fault_of(alloc, step)?,
+            None => String::from_str(alloc, "an object is expected")?,
+        })),
+    }
+}
