@@ -1,5 +1,5 @@
 -- Names, and where what they stand for lies.
-use Rattle.std.specs.Prelude.{◌≡◌, ℕ, ◌==◌, List, Option, Some, None, cond, option_map, is_some}
+use Rattle.std.specs.Prelude.{◌≡◌, ℕ, ◌==◌, Option, Some, None, cond, option_map}
 use Rattle.std.specs.Str.{bytes_eq}
 use Rattle.rx_scenario.specs.Scenario.{Name}
 use Rattle.rx_live.specs.declared.names.Spot.{Spot}
@@ -11,8 +11,8 @@ pub record Names : Type 0 where
   pub room : ℕ
 
 -- no name is bound
-abbrev pub are_none : Names → Type 0
-are_none t = ((n : Name) → t.spot_of n ≡ None) × ((k : ℕ) → t.name_of k ≡ None)
+abbrev pub AreNone : Names → Type 0
+AreNone t = ((n : Name) → t.spot_of n ≡ None) × ((k : ℕ) → t.name_of k ≡ None)
 
 -- each name stands for a number of its own
 pub record ArePaired (spot_of : Name → Option Spot) (name_of : ℕ → Option Name) : Type 0 where

@@ -1,5 +1,5 @@
 -- What a line asks for.
-use Rattle.std.specs.Prelude.{◌≡◌, ℕ, ◌&&◌, ◌||◌, List, [], ◌∷◌, codes, Bool, false, Option, Some, None, is_some, option_map, option_and_then, if◌then◌else◌}
+use Rattle.std.specs.Prelude.{ℕ, ◌&&◌, ◌||◌, List, [], ◌∷◌, codes, Bool, false, Option, Some, None, is_some, option_map, option_and_then, if◌then◌else◌}
 use Rattle.std.specs.Str.{bytes_eq}
 use Rattle.std.specs.Option.{option_map_or}
 use Rattle.serde_json.specs.Data.{Data}
@@ -7,6 +7,8 @@ use Rattle.serde_json.specs.Find.{get, as_str}
 use Rattle.rx_scenario.specs.Scenario.{Command, Action, command as command_of_step, cancel, command_of}
 use Rattle.rx_scenario.specs.Reading.{is_object_of, action_in}
 use Rattle.rx_live.specs.declared.order.Order.{Order as OrderInCode}
+use Rattle.rx_live.specs.declared.order.Unread.{Unread}
+use Rattle.rx_live.specs.declared.order.Unread.TheVariants.{Faulty, Memory}
 use Rattle.rx_live.specs.declared.order.Order.TheVariants.{Command as CommandThere, List as ListThere, Dump as DumpThere}
 
 -- a command of the book; what is open and held; the history so far
@@ -42,3 +44,8 @@ abbrev pub order_of : OrderInCode → Order
 order_of (CommandThere c) = command (command_of c)
 order_of ListThere = list
 order_of DumpThere = dump
+
+-- it is faulty for this reason; where memory is refused, nothing is known of it
+abbrev pub IsUnread : Type 0 → Unread → Type 0
+IsUnread reason (Faulty told) = reason
+IsUnread reason Memory = Unit {0}

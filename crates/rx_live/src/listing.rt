@@ -93,10 +93,12 @@ fn push_nodes(live: &Live, text: &mut String) -> Result<Counts, AllocError> {
             push_node(live, text, number)?;
             text.push_str("}")?;
             lead = ",";
-            if let Some(Event::Open {
-                place: _,
-                kind: Kind::Sub(hub),
-            }) = live.book.event(number)
+            if let Some(
+                Event::Open {
+                    place: _,
+                    kind: Kind::Sub(hub),
+                },
+            ) = live.book.event(number)
             {
                 count(&mut subscribers, hub)?;
             }
@@ -159,7 +161,10 @@ fn push_hub(
         Some(Event::Hub(Mode::Manual)) => ("manual", live.is_connected(number)),
         _ => ("auto", subscribers > 0),
     };
-    write!(text, ",\"mode\":\"{mode}\",\"connected\":{connected},\"subscribers\":{subscribers}}}")
+    write!(
+        text,
+        ",\"mode\":\"{mode}\",\"connected\":{connected},\"subscribers\":{subscribers}}}"
+    )
 }
 
 fn push_hubs(live: &Live, text: &mut String, subscribers: &Counts) -> Result<(), AllocError> {

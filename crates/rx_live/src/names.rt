@@ -1,7 +1,7 @@
 //! What names stand for, both ways.
 
-ghost use Rattle.std.specs.Prelude.{◌≡◌, ◌+◌, ◌<◌, ◌≤◌, None, map, option_map, is_some, string_bytes, IfSome, IfNone, OnOk};
-ghost use Rattle.rx_live.specs.Names.{are_none, AreSame, Binds, Forgets};
+ghost use Rattle.std.specs.Prelude.{◌≡◌, ◌+◌, ◌<◌, ◌≤◌, None, map, option_map, is_some, string_bytes, IfOk, IfSome, IfNone, OnOk};
+ghost use Rattle.rx_live.specs.Names.{AreNone, AreSame, Binds, Forgets};
 
 use std::alloc::{AllocError, Global};
 use std::collections::HashMap;
@@ -46,9 +46,21 @@ impl Model for Names {
     ghost invariant = { λ t. IsTied t.by_name t.by_number };
 }
 
+impl Model for Twice {
+    ghost use Rattle.std.specs.Prelude.{◌≡◌, string_bytes};
+    ghost use Rattle.rx_scenario.specs.Scenario.{Name};
+
+    ghost Value = { Name };
+
+    ghost view = { λ t. string_bytes t.one };
+
+    ghost invariant = { λ t. string_bytes t.other ≡ string_bytes t.one };
+}
+
 impl Twice {
     /// The name, twice. Err where memory is refused.
     pub fn new(name: String) -> Result<Twice, AllocError>
+        ensures { IfOk result (λ t. t ≡ string_bytes name) }
     {
         let other = name.clone()?;
         Ok(Twice { one: name, other })
@@ -58,7 +70,7 @@ impl Twice {
 impl Names {
     /// No name is bound. It takes no memory.
     pub fn new(alloc: Global) -> Self
-        ensures { are_none result }
+        ensures { AreNone result }
     {
         Names {
             by_name: HashMap::new(alloc),
@@ -95,10 +107,9 @@ impl Names {
     /// Binds a name that is not bound to a number that has none, where there is room. It takes no memory.
     pub fn bind(&mut self, name: Twice, spot: Spot)
         requires room { 0 < self.old.room }
-        requires free { self.old.spot_of (string_bytes name.one) ≡ None }
+        requires free { self.old.spot_of name ≡ None }
         requires unnamed { self.old.name_of spot.number ≡ None }
-        requires twice { string_bytes name.other ≡ string_bytes name.one }
-        ensures binds { Binds self.old (string_bytes name.one) spot self.new }
+        ensures binds { Binds self.old name spot self.new }
         ensures room { self.old.room ≤ self.new.room + 1 }
     {
         let Twice { one, other } = name;

@@ -87,12 +87,7 @@ fn bind_made(nodes: &mut Names, name: Option<Twice>, made: Option<Key>) {
 
 /// A node is opened. Where it is a subscriber for which its hub is connected, the connection gets the name
 /// that the command gives it, if it gives one.
-pub fn open(
-    live: &mut Live,
-    name: String,
-    site: &Site,
-    sort: Sort,
-) -> Result<Outcome, AllocError> {
+pub fn open(live: &mut Live, name: String, site: &Site, sort: Sort) -> Result<Outcome, AllocError> {
     let Some(place) = place_of(live, site) else {
         return Ok(Outcome::Refused(Cause::NoName));
     };

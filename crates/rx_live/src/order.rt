@@ -1,7 +1,13 @@
 //! What a line says.
 
-ghost use Rattle.std.specs.Prelude.{◌≡◌, IfOk};
+ghost use Rattle.std.specs.Prelude.{◌≡◌, ◌∷◌, [], codes, string_bytes, IfOk, IfErr, None, Some};
+ghost use Rattle.std.specs.List.{list_all};
+ghost use Rattle.std.specs.Map.{keys_of};
+ghost use Rattle.rx_scenario.specs.Reading.{is_one_of};
 ghost use Rattle.serde_json.specs.View.{view};
+ghost use Rattle.serde_json.specs.Data.{Data};
+ghost use Rattle.rx_device.specs.Input.{IsJsonOf};
+ghost use Rattle.rx_live.specs.Orders.{is_word, is_timed, command_in, order_in, order_of, IsUnread};
 
 use crate::wanted::fault_of;
 use rx_device::ShapeError;
@@ -51,7 +57,10 @@ fn no_json(alloc: Global, error: &Error) -> Result<String, AllocError> {
 }
 
 // The JSON value whose text the line is.
-fn value_of(alloc: Global, line: &[u8]) -> Result<Value, Unread> {
+fn value_of(alloc: Global, line: &[u8]) -> Result<Value, Unread>
+    ensures ok { IfOk result (λ v. IsJsonOf line.now (view v)) }
+    ensures err { IfErr result (IsUnread ((d : Data) → ¬ IsJsonOf line.now d)) }
+{
     match Value::from_slice(alloc, line) {
         Ok(value) => Ok(value),
         Err(error) => Err(if error.is_memory() {
@@ -62,16 +71,31 @@ fn value_of(alloc: Global, line: &[u8]) -> Result<Value, Unread> {
     }
 }
 
-// Whether a value is an object that has this word alone.
-fn is_word(value: &Value, word: &str) -> bool {
-    let Some(members) = value.as_object() else {
-        return false;
-    };
-    members.len() == 1 && value.get("do").and_then(Value::as_str) == Some(word)
+// Whether an object has no member but `do`.
+fn is_only_do(members: &Map<String, Value>) -> bool
+    ensures { result ≡ list_all (λ k. is_one_of (codes "do" ∷ []) (string_bytes k)) (keys_of members.now.entries) }
+{
+    members.keys().all(|key| key.as_str() == "do")
+}
+
+// Whether a value is an object that has `do` alone, with this word.
+#[tactic(auto, unfolding(crate::specs::Orders::is_word))]
+fn is_word(value: &Value, word: &str) -> bool
+    ensures { result ≡ is_word word.now (view value.now) }
+{
+    match value {
+        Value::Object(members) => {
+            is_only_do(members) && value.get("do").and_then(Value::as_str) == Some(word)
+        }
+        _ => false,
+    }
 }
 
 // Whether a member is one of a step, and of no line.
-fn is_timed(value: &Value) -> bool {
+#[tactic(auto, unfolding(crate::specs::Orders::is_timed))]
+fn is_timed(value: &Value) -> bool
+    ensures { result ≡ is_timed (view value.now) }
+{
     value.get("label").is_some()
         || value.get("at").is_some()
         || value.get("after").is_some()
@@ -112,7 +136,10 @@ fn step_in(scenario: &Value) -> Option<&Value> {
 }
 
 /// What a line asks for: one JSON object, `do` with the members of its command.
-pub fn order_of(alloc: Global, line: &[u8]) -> Result<Order, Unread> {
+pub fn order_of(alloc: Global, line: &[u8]) -> Result<Order, Unread>
+    ensures ok { IfOk result (λ o. (d : Data) × IsJsonOf line.now d × (order_in d ≡ Some (order_of o))) }
+    ensures err { IfErr result (IsUnread ((d : Data) → IsJsonOf line.now d → order_in d ≡ None)) }
+{
     let value = value_of(alloc, line)?;
     if is_word(&value, "list") {
         return Ok(Order::List);

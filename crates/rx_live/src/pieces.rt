@@ -69,8 +69,12 @@ pub fn note_text(alloc: Global, to: &str, note: Note) -> Result<String, AllocErr
     match note {
         Note::Next(value) => format!(in alloc; "{{\"to\":\"{to}\",\"next\":{value}}}"),
         Note::Project(value) => format!(in alloc; "{{\"to\":\"{to}\",\"project\":{value}}}"),
-        Note::End(Terminal::Completed) => format!(in alloc; "{{\"to\":\"{to}\",\"completed\":true}}"),
-        Note::End(Terminal::Error(code)) => format!(in alloc; "{{\"to\":\"{to}\",\"error\":{code}}}"),
+        Note::End(Terminal::Completed) => format!(in alloc;
+            "{{\"to\":\"{to}\",\"completed\":true}}"
+        ),
+        Note::End(Terminal::Error(code)) => format!(in alloc;
+            "{{\"to\":\"{to}\",\"error\":{code}}}"
+        ),
     }
 }
 

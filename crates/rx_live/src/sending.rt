@@ -1,17 +1,18 @@
 //! A line, and its answer.
 
-use crate::calls;
-use crate::holding;
 use crate::listing::{dump_text, list_text};
 use crate::live::Live;
-use crate::opening;
 use crate::order::{Order, Unread, order_of};
 use crate::outcome::Outcome;
 use crate::pieces::{ok_text, put, refused_text};
 use crate::telling::{ROOM, tell_notes, tell_releases};
+use crate::{calls, holding, opening};
 use rx_scenario::Command;
 use serde_json::Value;
 use std::alloc::{AllocError, Global};
+
+// How many bytes the name of a resource takes in an answer, at most, with what stands between two.
+const NAME_ROOM: usize = 40;
 
 /// The answer to a line that is faulty, with which member, and why.
 pub fn faulty_text(alloc: Global, told: String) -> Result<String, AllocError> {
@@ -89,10 +90,11 @@ impl Live {
 
     /// Closes all, and answers what is left to be released: `{"closed":true}`, with `"release"` where there
     /// is some. Nothing is open or held afterwards, and no name but a hub's is bound. Err where memory is
-    /// refused: nothing has changed then but for notes that were told.
+    /// refused, and then nothing has changed.
     pub fn end(&mut self) -> Result<String, AllocError> {
         let mut text = String::from_str(self.alloc, "{\"closed\":true")?;
-        text.reserve(ROOM)?;
+        let names = self.resources.len().saturating_add(1);
+        text.reserve(names.saturating_mul(NAME_ROOM).saturating_add(ROOM))?;
         tell_notes(self, &mut text);
         self.close();
         tell_releases(self, &mut text);

@@ -1,5 +1,9 @@
 //! What an answer tells beside its outcome: notes, and what is to be released.
 
+ghost use Rattle.std.specs.Prelude.{◌≡◌, ◌++◌, codes, string_bytes, OnOk, OnErr};
+ghost use Rattle.rx_live.specs.Pieces.{name_text};
+ghost use Rattle.rx_live.specs.Room.{HasRoom};
+
 use crate::live::Live;
 use crate::pieces::{note_text, put};
 use rx_book::Mail;
@@ -23,8 +27,14 @@ fn mail_text(live: &Live, mail: &Mail) -> Result<String, AllocError> {
 }
 
 // Writes a piece of an array, and what leads to it; a piece that finds no room is not written.
-fn push_piece(text: &mut String, lead: &str, piece: &str) -> Result<(), AllocError> {
-    text.reserve(lead.len() + piece.len() + ROOM)?;
+fn push_piece(text: &mut String, lead: &str, piece: &str) -> Result<(), AllocError>
+    requires { HasRoom text.old }
+    ensures ok { OnOk result (string_bytes text.new ≡ string_bytes text.old ++ lead.now ++ piece.now) }
+    ensures err { OnErr result (string_bytes text.new ≡ string_bytes text.old) }
+    ensures room { HasRoom text.new }
+{
+    let wanted = lead.len().saturating_add(piece.len());
+    text.reserve(wanted.saturating_add(ROOM))?;
     put(text, lead);
     put(text, piece);
     Ok(())
@@ -69,8 +79,15 @@ fn next_name(live: &mut Live) -> Option<String> {
 }
 
 // Writes a name, and what leads to it; one that finds no room is not written.
-fn push_name(text: &mut String, lead: &str, name: &str) -> Result<(), AllocError> {
-    text.reserve(lead.len() + name.len() + 2 + ROOM)?;
+#[tactic(auto, unfolding(crate::specs::Pieces::name_text))]
+fn push_name(text: &mut String, lead: &str, name: &str) -> Result<(), AllocError>
+    requires { HasRoom text.old }
+    ensures ok { OnOk result (string_bytes text.new ≡ string_bytes text.old ++ lead.now ++ name_text name.now) }
+    ensures err { OnErr result (string_bytes text.new ≡ string_bytes text.old) }
+    ensures room { HasRoom text.new }
+{
+    let wanted = lead.len().saturating_add(name.len());
+    text.reserve(wanted.saturating_add(2 + ROOM))?;
     put(text, lead);
     put(text, "\"");
     put(text, name);

@@ -4,6 +4,7 @@ use serde_json::Value;
 use std::alloc::{AllocError, Global};
 
 const NAME: &str = "a name of 1 to 32 letters, digits, - and _ is expected";
+
 const CODE: &str = "a whole number from 0 to 4294967295 is expected";
 
 // The members of a command, besides `do`.
@@ -172,6 +173,9 @@ fn command_fault(
         return format!(in alloc; "{member}: {command} has no such member");
     }
     for member in own.split(", ") {
+        if member.is_empty() {
+            break;
+        }
         if let Some(told) = member_fault(object, command, member) {
             return format!(in alloc; "{member}: {told}");
         }
