@@ -27,6 +27,7 @@ module _ (spot_of spot_of' : List ℕ → Option Spot) (name_of name_of' : ℕ �
     named_by n t false apart found = other (s.number == t.number) refl where
       old : name_of t.number ≡ Some n
       old = paired.named n t found
+
       other : (c : Bool) → (s.number == t.number) ≡ c → name_of' t.number ≡ Some n
       other true same =
           let clash : None ≡ Some n = sym unnamed ∙ ap name_of (eqb-true s.number t.number same) ∙ old in absurd (none-some n clash)
@@ -42,6 +43,7 @@ module _ (spot_of spot_of' : List ℕ → Option Spot) (name_of name_of' : ℕ �
     numbered_by k n false apart found = other (bytes_eq name n) refl where
       old : option_map (λ (t : Spot). t.number) (spot_of n) ≡ Some k
       old = paired.numbered k n found
+
       other : (c : Bool) → bytes_eq name n ≡ c → option_map (λ (t : Spot). t.number) (spot_of' n) ≡ Some k
       other true same =
           let gone : spot_of n ≡ None = ap spot_of (sym ((bytes_eq-Decides name n).0 same)) ∙ free in
@@ -62,6 +64,7 @@ module _ (spot_of spot_of' : List ℕ → Option Spot) (name_of name_of' : ℕ �
     left_named n t false apart found = other (number == t.number) refl where
       old : name_of t.number ≡ Some n
       old = paired.named n t found
+
       other : (c : Bool) → (number == t.number) ≡ c → name_of' t.number ≡ Some n
       other true same =
           let one : Some name ≡ Some n = sym known ∙ ap name_of (eqb-true number t.number same) ∙ old in
@@ -74,8 +77,10 @@ module _ (spot_of spot_of' : List ℕ → Option Spot) (name_of name_of' : ℕ �
     left_numbered k n false apart found = other (bytes_eq name n) refl where
       old : option_map (λ (t : Spot). t.number) (spot_of n) ≡ Some k
       old = paired.numbered k n found
+
       mine : option_map (λ (t : Spot). t.number) (spot_of name) ≡ Some number
       mine = paired.numbered number name known
+
       other : (c : Bool) → bytes_eq name n ≡ c → option_map (λ (t : Spot). t.number) (spot_of' n) ≡ Some k
       other true same =
           let is_n : name ≡ n = (bytes_eq-Decides name n).0 same in

@@ -8,7 +8,8 @@ use Rattle.rx_scenario.specs.Scenario.{Name}
 use Rattle.rx_book.specs.State.{State}
 use Rattle.rx_book.specs.Answers.{Accepts}
 use Rattle.rx_book.specs.Requests.{take_request}
-use Rattle.rx_live.specs.Names.{Names, Forgets, AreSame}
+use Rattle.rx_live.specs.declared.names.Names.{Names}
+use Rattle.rx_live.specs.Names.{name_of, Forgets, AreSame}
 use Rattle.rx_live.specs.Pieces.{note_text, name_text, member_text}
 use Rattle.rx_live.specs.Session.{Session}
 
@@ -32,7 +33,7 @@ to_tell s = option_to_list s.untold ++ drop s.book.given (notes s.book.history)
 
 -- the names of nodes, as the notes' addressees
 abbrev pub name_or_none : Names → ℕ → Name
-name_or_none names n = option_map_or (λ name. name) (names.name_of n) []
+name_or_none names n = option_map_or (λ name. name) (name_of names n) []
 
 abbrev pub told_of : Names → Mail → Told
 told_of names m = record { to = name_or_none names m.to; note = m.note }
@@ -49,5 +50,5 @@ pub record TellsNotes (old : Session) (told : List Told) (new : Session) : Type 
 pub data TakesNames (book : State) (names : Names) : List Name → State → Names → Type 0 where
   none_taken : {names' : Names} → AreSame names names' → TakesNames book names [] book names'
   one_taken : {released : List Name} {mid new : State} {names' names'' : Names} (r : ℕ) (name : Name) → TakesNames book names released mid names'
-      → names'.name_of r ≡ Some name → Accepts mid (take_request r) new → Forgets names' r name names''
+      → name_of names' r ≡ Some name → Accepts mid (take_request r) new → Forgets names' r name names''
       → TakesNames book names (released ++ name ∷ []) new names''

@@ -1,5 +1,4 @@
 pub mod Names
-pub mod Ties
 pub mod Orders
 pub mod Pieces
 pub mod Room

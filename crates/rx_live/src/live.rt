@@ -1,14 +1,13 @@
 //! A live book: its book, and what names stand for.
 
 ghost use Rattle.std.specs.Prelude.{◌≡◌, ◌≤◌};
-ghost use Rattle.rx_live.specs.Session.{node_of, resource_of, lease_of, hub_of};
+ghost use Rattle.rx_live.specs.Session.{session_of, node_of, resource_of, lease_of, hub_of};
 
 use crate::names::Names;
 use crate::token::Token;
 use rx_book::{Book, Key, LeaseKey, Mail, ResKey};
 use std::alloc::Global;
 use std::collections::HashMap;
-use std::marker::Model;
 
 /// A book that takes its commands as lines of text, and answers each with one.
 ///
@@ -28,15 +27,6 @@ pub struct Live {
     pub(crate) untold: Option<Mail>,
     // The name of a resource that was taken from the book and is still to be told.
     pub(crate) unnamed: Option<String>,
-}
-
-impl Model for Live {
-    ghost use Rattle.std.specs.Prelude.{option_map, string_bytes};
-    ghost use Rattle.rx_live.specs.Session.{Session};
-
-    ghost Value = { Session };
-
-    ghost view = { λ l. record { book = l.book; nodes = l.nodes; hubs = l.hubs; resources = l.resources; leases = l.leases; untold = l.untold; unnamed = option_map string_bytes l.unnamed } };
 }
 
 impl Live {
@@ -61,7 +51,7 @@ impl Live {
     /// The open node that has the name.
     #[tactic(auto, unfolding(crate::specs::Session::node_of))]
     pub(crate) fn node(&self, name: &str) -> Option<Key>
-        ensures { result ≡ node_of self.now name.now }
+        ensures { result ≡ node_of (session_of self.now) name.now }
     {
         let spot = self.nodes.get(name)?;
         let key = Key {
@@ -77,7 +67,7 @@ impl Live {
 
     /// The held resource that has the name, or one that waits, whose key is nobody's.
     pub(crate) fn resource(&self, name: &str) -> Option<ResKey>
-        ensures { result ≡ resource_of self.now name.now }
+        ensures { result ≡ resource_of (session_of self.now) name.now }
     {
         let spot = self.resources.get(name)?;
         Some(ResKey {
@@ -88,7 +78,7 @@ impl Live {
 
     /// The lease that has the name.
     pub(crate) fn lease_of(&self, name: &str) -> Option<LeaseKey>
-        ensures { result ≡ lease_of self.now name.now }
+        ensures { result ≡ lease_of (session_of self.now) name.now }
     {
         let spot = self.leases.get(name)?;
         Some(LeaseKey {
@@ -99,7 +89,7 @@ impl Live {
 
     /// The number of the hub that has the name.
     pub(crate) fn hub_of(&self, name: &str) -> Option<u64>
-        ensures { result ≡ hub_of self.now name.now }
+        ensures { result ≡ hub_of (session_of self.now) name.now }
     {
         let spot = self.hubs.get(name)?;
         Some(spot.number)

@@ -1,7 +1,7 @@
 //! What names stand for, both ways.
 
 ghost use Rattle.std.specs.Prelude.{◌≡◌, ◌+◌, ◌<◌, ◌≤◌, None, map, option_map, is_some, string_bytes, IfOk, IfSome, IfNone, OnOk};
-ghost use Rattle.rx_live.specs.Names.{AreNone, AreSame, Binds, Forgets};
+ghost use Rattle.rx_live.specs.Names.{spot_of, name_of, room_of, AreNone, IsPaired, AreSame, Binds, Forgets};
 
 use std::alloc::{AllocError, Global};
 use std::collections::HashMap;
@@ -24,26 +24,12 @@ pub struct Twice {
 /// A space of names, each of which stands for one number: from the name to where that lies, and from the
 /// number to its name.
 ///
-/// Contracts see it as those two functions. Either way takes a number of steps that does not grow with
+/// Contracts see it as those two functions (`specs/Names.antt`). Either way takes a number of steps that does not grow with
 /// how many names are bound.
 #[derive(Drop)]
 pub struct Names {
     by_name: HashMap<String, Spot>,
     by_number: HashMap<u64, String>,
-}
-
-impl Model for Names {
-    ghost use Rattle.std.specs.Prelude.{option_map, string_bytes, min};
-    ghost use Rattle.std.specs.Bool.{nat_eq};
-    ghost use Rattle.std.specs.HashMap.{get, get_by_text, spare};
-    ghost use Rattle.rx_live.specs.Names.{Names as Seen};
-    ghost use Rattle.rx_live.specs.Ties.{IsTied};
-
-    ghost Value = { Seen };
-
-    ghost view = { λ t. record { spot_of = λ n. get_by_text t.by_name n; name_of = λ k. option_map string_bytes (get nat_eq t.by_number k); room = min (spare t.by_name) (spare t.by_number) } };
-
-    ghost invariant = { λ t. IsTied t.by_name t.by_number };
 }
 
 impl Model for Twice {
@@ -70,7 +56,8 @@ impl Twice {
 impl Names {
     /// No name is bound. It takes no memory.
     pub fn new(alloc: Global) -> Self
-        ensures { AreNone result }
+        ensures none { AreNone result }
+        ensures paired { IsPaired result }
     {
         Names {
             by_name: HashMap::new(alloc),
@@ -80,14 +67,14 @@ impl Names {
 
     /// The spot that the name stands for.
     pub fn get(&self, name: &str) -> Option<Spot>
-        ensures { result ≡ self.now.spot_of name.now }
+        ensures { result ≡ spot_of self.now name.now }
     {
         self.by_name.get(name).copied()
     }
 
     /// The name of a number.
     pub fn name_of(&self, number: u64) -> Option<&str>
-        ensures { option_map (λ s. s.now) result ≡ self.now.name_of number }
+        ensures { option_map (λ s. s.now) result ≡ name_of self.now number }
     {
         match self.by_number.get(&number) {
             Some(name) => Some(name.as_str()),
@@ -98,7 +85,8 @@ impl Names {
     /// Gets room for two more names. Err where memory is refused.
     pub fn make_room(&mut self) -> Result<(), AllocError>
         ensures same { AreSame self.old self.new }
-        ensures ok { OnOk result (2 ≤ self.new.room) }
+        ensures paired { IsPaired self.old → IsPaired self.new }
+        ensures ok { OnOk result (2 ≤ room_of self.new) }
     {
         self.by_name.reserve(2)?;
         self.by_number.reserve(2)
@@ -106,11 +94,12 @@ impl Names {
 
     /// Binds a name that is not bound to a number that has none, where there is room. It takes no memory.
     pub fn bind(&mut self, name: Twice, spot: Spot)
-        requires room { 0 < self.old.room }
-        requires free { self.old.spot_of name ≡ None }
-        requires unnamed { self.old.name_of spot.number ≡ None }
+        requires room { 0 < room_of self.old }
+        requires free { spot_of self.old name ≡ None }
+        requires unnamed { name_of self.old spot.number ≡ None }
+        ensures paired { IsPaired self.old → IsPaired self.new }
         ensures binds { Binds self.old name spot self.new }
-        ensures room { self.old.room ≤ self.new.room + 1 }
+        ensures room { room_of self.old ≤ room_of self.new + 1 }
     {
         let Twice { one, other } = name;
         let number = spot.number;
@@ -124,10 +113,12 @@ impl Names {
 
     /// Forgets the name of a number, and answers it; it is free again.
     pub fn forget(&mut self, number: u64) -> Option<String>
-        ensures value { option_map string_bytes result ≡ self.old.name_of number }
+        requires { IsPaired self.old }
+        ensures paired { IsPaired self.new }
+        ensures value { option_map string_bytes result ≡ name_of self.old number }
         ensures some { IfSome result (λ name. Forgets self.old number (string_bytes name) self.new) }
         ensures none { IfNone result (AreSame self.old self.new) }
-        ensures room { self.old.room ≤ self.new.room }
+        ensures room { room_of self.old ≤ room_of self.new }
     {
         let name = self.by_number.remove(&number)?;
         self.by_name.remove(name.as_str());

@@ -32,7 +32,9 @@ impl Line {
     // Takes some more of the line. Of one that is too long nothing is kept.
     fn take_in(&mut self, piece: &[u8]) {
         let room = MOST_BYTES.saturating_sub(self.bytes.len());
-        self.is_long = self.is_long || piece.len() > room || self.bytes.extend_from_slice(piece).is_err();
+        self.is_long = self.is_long
+            || piece.len() > room
+            || self.bytes.extend_from_slice(piece).is_err();
     }
 
     fn clear(&mut self) {
@@ -60,7 +62,12 @@ fn write_line<W: Write>(output: &mut W, answer: Result<String, AllocError>) -> I
 }
 
 // Answers a line that has come whole.
-fn answer<W: Write>(alloc: Global, live: &mut Live, line: &mut Line, output: &mut W) -> IoResult<()> {
+fn answer<W: Write>(
+    alloc: Global,
+    live: &mut Live,
+    line: &mut Line,
+    output: &mut W,
+) -> IoResult<()> {
     let answer = if line.is_long {
         faulty(alloc, "a line has at most 65536 bytes")
     } else {
