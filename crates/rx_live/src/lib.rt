@@ -14,6 +14,7 @@
 //!
 //! # Promised, and not
 //!
+//! - None of what follows is proved yet.
 //! - A line that is refused or faulty changes nothing, and neither does one for which there is no memory.
 //! - What is told in want of memory is not lost: the next answer tells it.
 //! - Of the words in a `faulty` nothing is proved, nor of `list`.
