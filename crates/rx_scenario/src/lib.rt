@@ -12,8 +12,9 @@
 //!
 //! # Promised, and not
 //!
-//! - [`scenario_of`] gives the scenario that a value is, and `Shape` where it is none, exactly. That
-//!   `Memory` is given only where memory was refused is tested above.
+//! - [`scenario_of`] gives the scenario that a value is, and `Shape` where it is none, exactly; so does
+//!   [`action_in`] for what one step does. That `Memory` is given only where memory was refused is
+//!   tested above.
 //! - There are the commands `using`, `open`, `hold`, `apply`, `remove`, `lease`, `return`, `next`,
 //!   `end`, `abort`, `decline`, `fail`, `dispose`, `hub`, `connect`, `disconnect`, `drain` and `cancel`,
 //!   at every place, for every kind of node. Anything else is `Shape`.
@@ -22,5 +23,5 @@
 mod reading;
 mod scenario;
 
-pub use reading::scenario_of;
+pub use reading::{action_in, scenario_of};
 pub use scenario::{Action, Command, Scenario, Site, Sort, Step, Ticks};

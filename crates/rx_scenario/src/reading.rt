@@ -5,4 +5,5 @@ mod labels;
 mod members;
 mod steps;
 
+pub use commands::action_in;
 pub use steps::scenario_of;

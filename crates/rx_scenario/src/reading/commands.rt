@@ -262,7 +262,12 @@ fn action_by(alloc: Global, what: &str, object: &Value) -> Result<Action, ShapeE
     }
 }
 
-/// What a step does, by its member `do`.
+/// What a step does, by its member `do`: the command, or the `cancel`, that has just the members which
+/// docs/FORMATS.md gives it, beside those that any step may have and which are not read here.
+///
+/// # Errors
+///
+/// `Shape` where the value is no such object, exactly; `Memory` where memory for a name is refused.
 #[tactic(auto, unfolding(crate::specs::Reading::action_in))]
 pub fn action_in(alloc: Global, object: &Value) -> Result<Action, ShapeError>
     ensures { Gives action_meant result (action_in (view object.now)) }
