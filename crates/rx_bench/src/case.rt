@@ -34,6 +34,8 @@ pub enum Case {
     Scenario,
     /// The audit of a history of a shape.
     Audit(Shape),
+    /// The reading of its dump by serde_json alone.
+    Json(Shape),
     /// Threads at one desk.
     Storm,
 }
@@ -56,6 +58,24 @@ fn audit_name(shape: Shape) -> &'static str {
     }
 }
 
+/// The word that asks for the reading of the dump of this history.
+fn json_name(shape: Shape) -> &'static str {
+    match shape {
+        Shape::Roots => "json-roots",
+        Shape::Items => "json-items",
+        Shape::Cycle => "json-cycle",
+        Shape::Chain => "json-chain",
+        Shape::Resources => "json-resources",
+        Shape::Flat => "json-flat",
+        Shape::Switch => "json-switch",
+        Shape::Until => "json-until",
+        Shape::Subscribers => "json-subscribers",
+        Shape::HubEnd => "json-hub-end",
+        Shape::Hubs => "json-hubs",
+        Shape::HubItems => "json-hub-items",
+    }
+}
+
 impl Case {
     /// The word that asks for the case.
     pub fn name(self) -> &'static str {
@@ -73,6 +93,7 @@ impl Case {
             Case::Lease => "lease",
             Case::Scenario => "scenario",
             Case::Audit(shape) => audit_name(shape),
+            Case::Json(shape) => json_name(shape),
             Case::Storm => "storm",
         }
     }
@@ -85,7 +106,7 @@ impl Case {
             Case::Timeline | Case::Trampoline | Case::Cycle | Case::Items => 10_000_000,
             Case::Sorted | Case::Crowd | Case::Inner | Case::Share | Case::Hold | Case::Lease =>
                 1_000_000,
-            Case::Audit(_) => 1_000_000,
+            Case::Audit(_) | Case::Json(_) => 1_000_000,
             Case::Chain => 100_000,
             Case::Scenario => 65_536,
             Case::Storm => 10_000,
@@ -93,7 +114,7 @@ impl Case {
     }
 }
 
-/// All of them but the audits.
+/// All of them but those of a shape.
 static CASES: [Case; 13] = [
     Case::Timeline,
     Case::Trampoline,
@@ -120,6 +141,9 @@ pub fn case_named(word: &str) -> Option<Case> {
     for &shape in &SHAPES {
         if audit_name(shape) == word {
             return Some(Case::Audit(shape));
+        }
+        if json_name(shape) == word {
+            return Some(Case::Json(shape));
         }
     }
     None

@@ -21,7 +21,8 @@
 //! | `hold` | N resources held at one node, every second one removed, the disposal of the root, each resource taken and released | N: each resource |
 //! | `lease` | N resources held at one node; each is leased, used and given back, one after another; the disposal of the root, each resource taken and released | N: each lease that comes and goes |
 //! | `scenario` | the first N steps of this cycle, as a JSON text that is run by `rx_script` and reported: a Using root with one resource, a leaf at its source, two items, the end of the leaf or in each second cycle the disposal of the root, a drain. The text and the resources are made before the time begins | N: each step |
-//! | `audit-SHAPE` | the audit of a lawful history of N events of one of twelve shapes: `roots`, `items`, `cycle`, `chain`, `resources`, `flat`, `switch`, `until`, `subscribers`, `hub-end`, `hubs`, `hub-items`; N is at least 40. The history is made before the time begins | N: each event |
+//! | `audit-SHAPE` | the audit of a lawful history of N events of one of twelve shapes: `roots`, `items`, `cycle`, `chain`, `resources`, `flat`, `switch`, `until`, `subscribers`, `hub-end`, `hubs`, `hub-items`; N is at least 40. The history is made before the time begins. Beside it, in the same call, the next one is measured | N: each event |
+//! | `json-SHAPE` | serde_json's own reading of the dump of that history. The text is made before the time begins | N: each event |
 //! | `storm` | a storm of 64 sources, 16 workers and N items of each source, with its start, its end and its figures | 64N: each item |
 //!
 //! The exit status is 0 where the case was run and what it did is written, 1 where memory, a call,
@@ -51,7 +52,9 @@ mod done;
 mod hold;
 mod inner;
 mod items;
+mod json;
 mod lease;
+mod material;
 mod measure;
 mod order;
 mod program;

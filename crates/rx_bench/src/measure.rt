@@ -5,7 +5,7 @@ ghost use Rattle.std.specs.Duration.{as_nanos};
 ghost use Rattle.rx_bench.specs.Cases.{operations_of};
 
 use crate::agenda::run_orders;
-use crate::audit::{events_of, run_audit};
+use crate::audit::run_audit;
 use crate::case::Case;
 use crate::chain::run_chain;
 use crate::crowd::run_crowd;
@@ -14,15 +14,16 @@ use crate::done::{Done, Halt};
 use crate::hold::run_hold;
 use crate::inner::run_inner;
 use crate::items::run_items;
+use crate::json::run_json;
 use crate::lease::run_lease;
-use crate::scenario::{Scenario, run_scenario};
+use crate::material::Material;
+use crate::scenario::run_scenario;
 use crate::share::run_share;
 use crate::sorted::SortedList;
 use crate::storm::run_storm;
 use crate::times::{RUNS, Summary, summarize};
 use crate::words::Request;
 use rx_book::Book;
-use rx_event::Event;
 use rx_resource::Sample;
 use rx_time::{Timeline, Trampoline};
 use std::alloc::Global;
@@ -50,22 +51,27 @@ fn run_on_book(alloc: Global, request: Request) -> Result<Done, Halt>
     }
 }
 
-/// Runs a case once, of which the scenario, or the history, is made before.
+/// Runs a case once, over what is made before.
 pub fn run<T: Threads + Wait + Sync>(
     rt: &T,
     alloc: Global,
     request: Request,
-    scenario: Scenario,
-    events: &[Event],
+    material: Material,
 ) -> Result<Done, Halt>
     ensures { IfOk result (λ done. done.operations ≡ operations_of request.case request.size) }
 {
+    let Material {
+        scenario,
+        events,
+        dump,
+    } = material;
     match request.case {
         Case::Timeline => run_orders::<Timeline<u64>>(alloc, request.size),
         Case::Trampoline => run_orders::<Trampoline<u64>>(alloc, request.size),
         Case::Sorted => run_orders::<SortedList>(alloc, request.size),
         Case::Scenario => run_scenario(alloc, scenario, request.size),
-        Case::Audit(_) => run_audit(alloc, events, request.size),
+        Case::Audit(_) => run_audit(alloc, events.as_slice(), request.size),
+        Case::Json(_) => run_json(alloc, dump.as_str(), request.size),
         Case::Storm => run_storm(rt, alloc, request.size),
         _ => run_on_book(alloc, request),
     }
@@ -81,7 +87,7 @@ fn tenths_each(took: Duration, operations: u64) -> u64
 }
 
 /// Runs a case once by this clock, and answers what it did and what an operation took. The making of
-/// a scenario or a history is not timed.
+/// what it is run over is not timed.
 fn time_run<T: Threads + Wait + Sync, C: Clock>(
     rt: &T,
     clock: &C,
@@ -90,12 +96,11 @@ fn time_run<T: Threads + Wait + Sync, C: Clock>(
 ) -> Result<(Done, u64), Halt>
     ensures { IfOk result (λ r. r.0.operations ≡ operations_of request.case request.size) }
 {
-    let scenario = Scenario::of(alloc, request)?;
-    let events = events_of(alloc, request)?;
+    let material = Material::of(alloc, request)?;
     let Ok(start) = Instant::now(clock) else {
         return Err(Halt::Clock);
     };
-    let done = run(rt, alloc, request, scenario, events.as_slice())?;
+    let done = run(rt, alloc, request, material)?;
     match start.elapsed(clock) {
         Ok(took) => Ok((done, tenths_each(took, done.operations))),
         Err(_) => Err(Halt::Clock),

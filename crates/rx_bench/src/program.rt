@@ -1,11 +1,10 @@
 //! The program over any streams and clock.
 
-use crate::audit::events_of;
 use crate::case::Case;
 use crate::done::{Done, Halt};
+use crate::material::Material;
 use crate::measure::{measure, run};
 use crate::reading::request;
-use crate::scenario::Scenario;
 use crate::times::{RUNS, Summary};
 use crate::words::{Fault, Request};
 use rx_shapes::{LEAST, SHAPES};
@@ -71,8 +70,16 @@ fn write_fault<E: Write>(errors: &mut E, fault: Fault, name: &str) -> io::Result
     writeln!(errors, "rx_bench: {front}{name}{rear}")
 }
 
-/// Measures what is asked for, and writes what was done and how long it took.
-fn bench<T: Threads + Wait + Sync, C: Clock, O: Write, E: Write>(
+/// What is measured beside what is asked for: beside an audit, the reading of the same dump.
+fn beside(request: Request) -> Option<Request> {
+    match request.case {
+        Case::Audit(shape) => Request::of(Case::Json(shape), request.size),
+        _ => None,
+    }
+}
+
+/// Measures one case, and writes what was done and how long it took.
+fn bench_one<T: Threads + Wait + Sync, C: Clock, O: Write, E: Write>(
     rt: &T,
     alloc: Global,
     request: Request,
@@ -86,7 +93,23 @@ fn bench<T: Threads + Wait + Sync, C: Clock, O: Write, E: Write>(
     Ok(())
 }
 
-/// Each case but the audits at a small size.
+/// Measures what is asked for, and what stands beside it.
+fn bench<T: Threads + Wait + Sync, C: Clock, O: Write, E: Write>(
+    rt: &T,
+    alloc: Global,
+    request: Request,
+    clock: &C,
+    output: &mut O,
+    errors: &mut E,
+) -> Result<(), Halt> {
+    bench_one(rt, alloc, request, clock, output, errors)?;
+    match beside(request) {
+        Some(other) => bench_one(rt, alloc, other, clock, output, errors),
+        None => Ok(()),
+    }
+}
+
+/// Each case at a small size, but those of a shape.
 static SMALL: [(Case, u64); 14] = [
     (Case::Timeline, 1),
     (Case::Timeline, 2),
@@ -125,9 +148,8 @@ fn run_small<T: Threads + Wait + Sync, O: Write>(
     let Some(request) = Request::of(case, size) else {
         return Err(Halt::Refused);
     };
-    let scenario = Scenario::of(alloc, request)?;
-    let events = events_of(alloc, request)?;
-    let done = run(rt, alloc, request, scenario, events.as_slice())?;
+    let material = Material::of(alloc, request)?;
+    let done = run(rt, alloc, request, material)?;
     write_done(output, request, done)
 }
 
@@ -142,6 +164,7 @@ fn run_all<T: Threads + Wait + Sync, O: Write>(
     }
     for &shape in &SHAPES {
         run_small(rt, alloc, Case::Audit(shape), LEAST, output)?;
+        run_small(rt, alloc, Case::Json(shape), LEAST, output)?;
     }
     Ok(())
 }

@@ -6,6 +6,8 @@ mod caller;
 #[cfg(test)]
 mod calls;
 #[cfg(test)]
+mod closed;
+#[cfg(test)]
 mod day;
 #[cfg(test)]
 mod feeds;
@@ -17,5 +19,7 @@ mod leases;
 mod meetings;
 #[cfg(test)]
 mod parts;
+#[cfg(test)]
+mod want;
 #[cfg(test)]
 mod workers;

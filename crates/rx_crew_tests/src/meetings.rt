@@ -8,7 +8,7 @@ use super::feeds::Single;
 use super::parts::{Open, blanks};
 use rx_book::{At, Book};
 use rx_crew::{Desk, Gate, feed, worker};
-use rx_event::Kind;
+use rx_event::{Kind, Refusal};
 use rx_ledger::Seat;
 use rx_resource::{Life, Resource, Sample};
 use std::alloc::Global;
@@ -90,14 +90,14 @@ fn lay_out<R: Resource, I: Ledger, A: Ledger, K: Ledger>(
     Ok(())
 }
 
-// One thread releases an actor; the other waits until that release runs, asks the desk, and only then
-// lets it end. Answers the faults of the release.
-fn asks_meanwhile<
+// One thread releases an actor; the other waits until that release runs, disposes of another root at the
+// same desk, and only then lets it end. Answers the faults of the release, and where that root was closed.
+fn disposes_meanwhile<
     I: Ledger + Send + Sync,
     A: Ledger + Send + Sync,
     K: Ledger + Send + Sync,
     T: Threads + Wait + Sync,
->(rt: &T, alloc: Global, blanks: (Blank, Blank, Blank)) -> Result<(u64, u64), Fail>
+>(rt: &T, alloc: Global, blanks: (Blank, Blank, Blank)) -> Result<(u64, Result<u64, Refusal>), Fail>
     requires items { Opens I.name I.parts blanks.0.name blanks.0.parts }
     requires accepted { Opens A.name A.parts blanks.1.name blanks.1.parts }
     requires taken { Opens K.name K.parts blanks.2.name blanks.2.parts }
@@ -110,25 +110,26 @@ fn asks_meanwhile<
         uses: 0,
         stage: Arc::try_clone(&stage)?,
     };
+    let other = desk.floor.lock(rt).open(At::Root, Kind::Pass)?.key;
     lay_out(rt, &desk, &mut seat, actor)?;
     let at = &desk;
-    let (worked, len) = thread::join(
+    let (worked, disposed) = thread::join(
         rt,
         || worker(rt, at, seat, &Open, 1),
-        || -> u64 {
+        || -> Result<u64, Refusal> {
             came_to(&stage, 1);
-            let len = at.floor.lock(rt).len();
+            let disposed = at.floor.lock(rt).dispose(other);
             stage.store(2, Ordering::SeqCst);
-            len
+            disposed
         },
     );
-    Ok((worked.faults, len))
+    Ok((worked.faults, disposed))
 }
 
 #[test]
 fn a_release_runs_while_the_desk_answers_another(rt: HostRuntime) -> Result<(), Fail> {
-    let told = asks_meanwhile::<Brand, Brand, Brand, _>(&rt, rt.alloc(), blanks())?;
-    assert_eq!(rt; told, (0, 4));
+    let told = disposes_meanwhile::<Brand, Brand, Brand, _>(&rt, rt.alloc(), blanks())?;
+    assert_eq!(rt; told, (0, Ok(5)));
     Ok(())
 }
 

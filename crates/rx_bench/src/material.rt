@@ -1,0 +1,39 @@
+//! What is made before the time of a run begins.
+
+use crate::audit::events_of;
+use crate::json::dump_of;
+use crate::scenario::Scenario;
+use crate::words::Request;
+use rx_event::Event;
+use std::alloc::{AllocError, Global};
+
+/// What a run is given: of these the one that its case takes, and the others empty.
+pub struct Material {
+    /// The scenario that is run.
+    pub scenario: Scenario,
+    /// The history that is audited.
+    pub events: Vec<Event>,
+    /// The dump that is read.
+    pub dump: String,
+}
+
+impl Drop for Material {
+    fn drop(self) {
+        let Material {
+            scenario: _scenario,
+            events: _events,
+            dump: _dump,
+        } = self;
+    }
+}
+
+impl Material {
+    /// What is made for what is asked for.
+    pub fn of(alloc: Global, request: Request) -> Result<Material, AllocError> {
+        Ok(Material {
+            scenario: Scenario::of(alloc, request)?,
+            events: events_of(alloc, request)?,
+            dump: dump_of(alloc, request)?,
+        })
+    }
+}
