@@ -10,11 +10,11 @@ use std::alloc::{AllocError, Global};
 /// What a run is given: of these the one that its case takes, and the others empty.
 pub struct Material {
     /// The scenario that is run.
-    pub scenario: Scenario,
+    scenario: Scenario,
     /// The history that is audited.
-    pub events: Vec<Event>,
+    events: Vec<Event>,
     /// The dump that is read.
-    pub dump: String,
+    dump: String,
 }
 
 impl Drop for Material {
@@ -35,5 +35,15 @@ impl Material {
             events: events_of(alloc, request)?,
             dump: dump_of(alloc, request)?,
         })
+    }
+
+    /// The scenario, the history and the dump.
+    pub fn into_parts(self) -> (Scenario, Vec<Event>, String) {
+        let Material {
+            scenario,
+            events,
+            dump,
+        } = self;
+        (scenario, events, dump)
     }
 }

@@ -60,11 +60,7 @@ pub fn run<T: Threads + Wait + Sync>(
 ) -> Result<Done, Halt>
     ensures { IfOk result (λ done. done.operations ≡ operations_of request.case request.size) }
 {
-    let Material {
-        scenario,
-        events,
-        dump,
-    } = material;
+    let (scenario, events, dump) = material.into_parts();
     match request.case {
         Case::Timeline => run_orders::<Timeline<u64>>(alloc, request.size),
         Case::Trampoline => run_orders::<Trampoline<u64>>(alloc, request.size),

@@ -55,22 +55,40 @@ fn knocks<I: Ledger, A: Ledger, K: Ledger>(
     gone
 }
 
+// Two seats that were split off another one.
+fn two_seats<I: Ledger, A: Ledger, K: Ledger>(
+    seat: &mut Seat<I, A, K>,
+) -> Option<(Seat<I, A, K>, Seat<I, A, K>)> {
+    Some((seat.split()?, seat.split()?))
+}
+
 // On two threads.
 fn two_knock<
     I: Ledger + Send + Sync,
     A: Ledger + Send + Sync,
     K: Ledger + Send + Sync,
     T: Threads + Wait + Sync,
->(rt: &T, desk: &Desk<Sample, I, A, K>, mut seat: Seat<I, A, K>, closed: Key) -> u64 {
-    let Some(other) = seat.split() else {
-        return 0;
-    };
-    let (one, two) = thread::join(
+>(rt: &T, desk: &Desk<Sample, I, A, K>, seats: (Seat<I, A, K>, Seat<I, A, K>), closed: Key) -> u64 {
+    let (one, two) = seats;
+    let (first, second) = thread::join(
         rt,
-        || knocks(rt, desk, seat, closed),
-        || knocks(rt, desk, other, closed),
+        || knocks(rt, desk, one, closed),
+        || knocks(rt, desk, two, closed),
     );
-    one.saturating_add(two)
+    first.saturating_add(second)
+}
+
+// Two and two.
+type FourSeats<I, A, K> = (
+    (Seat<I, A, K>, Seat<I, A, K>),
+    (Seat<I, A, K>, Seat<I, A, K>),
+);
+
+// Four seats likewise.
+fn four_seats<I: Ledger, A: Ledger, K: Ledger>(
+    seat: &mut Seat<I, A, K>,
+) -> Option<FourSeats<I, A, K>> {
+    Some((two_seats(seat)?, two_seats(seat)?))
 }
 
 // On four.
@@ -79,16 +97,14 @@ fn four_knock<
     A: Ledger + Send + Sync,
     K: Ledger + Send + Sync,
     T: Threads + Wait + Sync,
->(rt: &T, desk: &Desk<Sample, I, A, K>, mut seat: Seat<I, A, K>, closed: Key) -> u64 {
-    let Some(other) = seat.split() else {
-        return 0;
-    };
-    let (one, two) = thread::join(
+>(rt: &T, desk: &Desk<Sample, I, A, K>, seats: FourSeats<I, A, K>, closed: Key) -> u64 {
+    let (one, two) = seats;
+    let (first, second) = thread::join(
         rt,
-        || two_knock(rt, desk, seat, closed),
-        || two_knock(rt, desk, other, closed),
+        || two_knock(rt, desk, one, closed),
+        || two_knock(rt, desk, two, closed),
     );
-    one.saturating_add(two)
+    first.saturating_add(second)
 }
 
 // On eight, at a desk whose one root was closed; and how long its history is then.
@@ -106,14 +122,15 @@ fn eight_knock<
     let (desk, mut first) = Desk::<Sample, I, A, K>::new(book, blanks.0, blanks.1, blanks.2);
     let closed = desk.floor.lock(rt).open(At::Root, Kind::Leaf)?.key;
     desk.floor.lock(rt).dispose(closed)?;
-    let second = first.split().ok_or("no second seat")?;
+    let one = four_seats(&mut first).ok_or("no seats")?;
+    let two = four_seats(&mut first).ok_or("no seats")?;
     let at = &desk;
-    let (one, two) = thread::join(
+    let (some, others) = thread::join(
         rt,
-        || four_knock(rt, at, first, closed),
-        || four_knock(rt, at, second, closed),
+        || four_knock(rt, at, one, closed),
+        || four_knock(rt, at, two, closed),
     );
-    Ok((one.saturating_add(two), desk.floor.lock(rt).len()))
+    Ok((some.saturating_add(others), desk.floor.lock(rt).len()))
 }
 
 #[test]

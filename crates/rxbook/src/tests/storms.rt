@@ -20,6 +20,7 @@ use rx_storm::{Gathered, Lack, StormFault, end_storm, run_threads, storm};
 use std::alloc::{AllocError, Global};
 use std::io::Write;
 use std::marker::Brand;
+use std::process::Abort;
 use std::sync::Wait;
 use std::sync::atomic::{AtomicU64, Ordering};
 use std::sync::ledger::{Blank, Ledger};
@@ -301,34 +302,41 @@ fn end_with_an_open_root<I: Ledger, A: Ledger, K: Ledger, W: Write>(
     Ok(end_storm(alloc, desk, gathered, &mut Watched::new(writer)))
 }
 
+// The end of such a storm, whose writer takes so many bytes: it is told so, and the resource was released once.
+fn assert_closed<T: Wait + Abort>(
+    rt: &T,
+    alloc: Global,
+    fault: Option<Lack>,
+    room: usize,
+    told: Result<bool, StormFault>,
+) -> Result<(), Fail> {
+    let tracker = Tracker::new(alloc)?;
+    let blanks = (Blank::new(PARTS), Blank::new(PARTS), Blank::new(PARTS));
+    let mut narrow = Narrow {
+        taken: Vec::new(alloc),
+        room,
+    };
+    let ended = end_with_an_open_root::<Brand, Brand, Brand, _>(
+        rt,
+        alloc,
+        blanks,
+        tracker.resource(7, None)?,
+        fault,
+        &mut narrow,
+    )?;
+    same(rt, ended, told);
+    same(rt, (tracker.released(), tracker.dropped()), (1, 1));
+    let figures = ONE_HELD.as_bytes();
+    let written = figures.len().min(room);
+    same(rt, narrow.taken.as_slice(), &figures[..written]);
+    Ok(())
+}
+
 #[test]
 fn the_book_of_a_storm_is_closed_in_each_outcome(rt: HostRuntime) -> Result<(), Fail> {
-    let figures = ONE_HELD.as_bytes();
-    let cases = [
-        (None, 100, Ok(true)),
-        (None, 10, Err(StormFault::Write)),
-        (Some(Lack::Memory), 0, Err(StormFault::Memory)),
-        (Some(Lack::Thread), 0, Err(StormFault::Thread)),
-    ];
-    for (fault, room, outcome) in cases {
-        let tracker = Tracker::new(rt.alloc())?;
-        let blanks = (Blank::new(PARTS), Blank::new(PARTS), Blank::new(PARTS));
-        let mut narrow = Narrow {
-            taken: Vec::new(rt.alloc()),
-            room,
-        };
-        let ended = end_with_an_open_root::<Brand, Brand, Brand, _>(
-            &rt,
-            rt.alloc(),
-            blanks,
-            tracker.resource(7, None)?,
-            fault,
-            &mut narrow,
-        )?;
-        same(&rt, ended, outcome);
-        same(&rt, (tracker.released(), tracker.dropped()), (1, 1));
-        let written = figures.len().min(room);
-        same(&rt, narrow.taken.as_slice(), &figures[..written]);
-    }
-    Ok(())
+    let alloc = rt.alloc();
+    assert_closed(&rt, alloc, None, 100, Ok(true))?;
+    assert_closed(&rt, alloc, None, 10, Err(StormFault::Write))?;
+    assert_closed(&rt, alloc, Some(Lack::Memory), 0, Err(StormFault::Memory))?;
+    assert_closed(&rt, alloc, Some(Lack::Thread), 0, Err(StormFault::Thread))
 }

@@ -1,10 +1,10 @@
 use Rattle.rx_crew_tests.proofs.meetings.a_release_runs_while_the_desk_answers_another.Given as goal
 
-abbrev pub ghosts-asks_meanwhile-I-Ledger : goal.ghosts-asks_meanwhile-I-Ledger
-ghosts-asks_meanwhile-I-Ledger g a = record { name = a.blanks.0.name; parts = a.blanks.0.parts }
+abbrev pub ghosts-disposes_meanwhile-I-Ledger : goal.ghosts-disposes_meanwhile-I-Ledger
+ghosts-disposes_meanwhile-I-Ledger g a = record { name = a.blanks.0.name; parts = a.blanks.0.parts }
 
-abbrev pub ghosts-asks_meanwhile-A-Ledger : goal.ghosts-asks_meanwhile-A-Ledger
-ghosts-asks_meanwhile-A-Ledger g a = record { name = a.blanks.1.name; parts = a.blanks.1.parts }
+abbrev pub ghosts-disposes_meanwhile-A-Ledger : goal.ghosts-disposes_meanwhile-A-Ledger
+ghosts-disposes_meanwhile-A-Ledger g a = record { name = a.blanks.1.name; parts = a.blanks.1.parts }
 
-abbrev pub ghosts-asks_meanwhile-K-Ledger : goal.ghosts-asks_meanwhile-K-Ledger
-ghosts-asks_meanwhile-K-Ledger g a = record { name = a.blanks.2.name; parts = a.blanks.2.parts }
+abbrev pub ghosts-disposes_meanwhile-K-Ledger : goal.ghosts-disposes_meanwhile-K-Ledger
+ghosts-disposes_meanwhile-K-Ledger g a = record { name = a.blanks.2.name; parts = a.blanks.2.parts }
