@@ -107,9 +107,9 @@ fn a_feed_stops_at_its_turns_at_the_end_and_when_refused(rt: HostRuntime) -> Res
     Ok(())
 }
 
-// Why two feeds stop, one of a leaf and one of a node that is none; the events that they may have written,
-// and the notes that are left.
-type Written = ([Stop; 2], [Option<Event>; 3], [Option<Mail>; 3]);
+// Why three feeds stop, one of a leaf, one that begins with its end, and one of a node that is no leaf; the
+// events that they may have written, and the notes that are left.
+type Written = ([Stop; 3], [Option<Event>; 4], [Option<Mail>; 4]);
 
 // A source that fails is fed, and what the desk has then is looked at.
 fn written<I: Ledger, A: Ledger, K: Ledger>(
@@ -125,37 +125,59 @@ fn written<I: Ledger, A: Ledger, K: Ledger>(
     let (desk, seat) = Desk::<Sample, I, A, K>::new(book, blanks.0, blanks.1, blanks.2);
     let pass = desk.floor.lock(rt).open(At::Root, Kind::Pass)?.key;
     let leaf = desk.floor.lock(rt).open(At::Root, Kind::Leaf)?.key;
+    let other = desk.floor.lock(rt).open(At::Root, Kind::Leaf)?.key;
     let mut source = Single {
         left: 2,
         terminal: Terminal::Error(7),
     };
     let failed = feed(rt, alloc, &desk, seat, leaf, &mut source, 9);
+    let mut source = Single {
+        left: 1,
+        terminal: Terminal::Completed,
+    };
+    let ended = feed(rt, alloc, &desk, failed.seat, other, &mut source, 9);
     let mut source = Single::completing();
-    let refused = feed(rt, alloc, &desk, failed.seat, pass, &mut source, 9);
+    let refused = feed(rt, alloc, &desk, ended.seat, pass, &mut source, 9);
     let mut floor = desk.floor.lock(rt);
-    let events = [floor.event(2), floor.event(3), floor.event(4)];
-    let mail = [floor.take_mail(), floor.take_mail(), floor.take_mail()];
-    Ok(([failed.stop, refused.stop], events, mail))
+    let events = [
+        floor.event(3),
+        floor.event(4),
+        floor.event(5),
+        floor.event(6),
+    ];
+    let mail = [
+        floor.take_mail(),
+        floor.take_mail(),
+        floor.take_mail(),
+        floor.take_mail(),
+    ];
+    Ok(([failed.stop, ended.stop, refused.stop], events, mail))
 }
 
 #[test]
 fn a_feed_writes_what_was_pulled_and_takes_no_note(rt: HostRuntime) -> Result<(), Fail> {
     let (stops, events, mail) = written::<Brand, Brand, Brand>(&rt, rt.alloc(), blanks())?;
     let wrong = Stop::Refused(Refusal::WrongKind);
-    assert_eq!(rt; stops, [Stop::Done, wrong]);
+    assert_eq!(rt; stops, [Stop::Done, Stop::Done, wrong]);
     let error = Terminal::Error(7);
     let (item, end) = (Event::Item(1, 5), Event::End(1, error));
-    assert_eq!(rt; events, [Some(item), Some(end), None]);
+    let other = Event::End(2, Terminal::Completed);
+    assert_eq!(rt; events, [Some(item), Some(end), Some(other), None]);
     let told = [
         Some(Mail {
-            place: 2,
+            place: 3,
             to: 1,
             note: Note::Next(5),
         }),
         Some(Mail {
-            place: 3,
+            place: 4,
             to: 1,
             note: Note::End(error),
+        }),
+        Some(Mail {
+            place: 5,
+            to: 2,
+            note: Note::End(Terminal::Completed),
         }),
         None,
     ];
