@@ -2,7 +2,7 @@
 #include <stdio.h>
 #include <stdlib.h>
 
-#include "rx_c.h"
+#include <rx.h>
 
 typedef uint8_t call(const uint8_t *, size_t, uint8_t *, size_t, size_t *);
 

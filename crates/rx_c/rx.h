@@ -1,12 +1,15 @@
-/* The audit of a dump and the run of a scenario, as librx_c.a offers them: text in, text out.
+/* The audit of a dump and the run of a scenario, as the library rx offers them: text in, text out.
  *
  * Each call reads `length` bytes at its first pointer, writes its answer to the front of `buffer`, which
  * has room for `capacity` bytes, and answers a status. docs/C.md tells what a caller has to see to. */
-#ifndef RX_C_H
-#define RX_C_H
+#ifndef RX_H
+#define RX_H
 
 #include <stddef.h>
 #include <stdint.h>
+
+/* Which version this is; an installed header has the number here. */
+#define RX_VERSION "@VERSION@"
 
 #ifdef __cplusplus
 extern "C" {
