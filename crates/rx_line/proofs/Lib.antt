@@ -1,0 +1,4 @@
+pub mod Pairing
+pub mod Lists
+pub mod Reordered
+pub mod Changed
