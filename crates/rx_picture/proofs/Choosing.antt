@@ -1,0 +1,86 @@
+-- Marks of the numbers so far, and how many are chosen.
+use Rattle.std.proofs.Common.{◌≡◌, ℕ, zero, suc, ◌+◌, ◌-◌, ◌<◌, ◌≤◌, min, Bool, true, false, cond, List, [], ◌∷◌, ◌++◌, length, get_or, refl, sym, ap, ◌∙◌, arith, inl, inr, ◌⊎◌, nat_lt}
+use Rattle.std.proofs.Math.Bool.{not, ◌&&◌}
+use Rattle.std.proofs.lemmas.Bool.{cases_Bool, cases_lt, lt-ltb, le-ltb, ltb-true, and_from, and_parts}
+use Rattle.std.proofs.lemmas.List.{length_push}
+use Rattle.rx_picture.specs.Choice.{bit, count_below, leads, follows, rank, is_chosen, marked, AreMarks}
+use Rattle.rx_picture.proofs.Prefixes.{same_tests}
+use Rattle.rx_picture.proofs.Ranges.{count_next}
+
+-- marks -------------------------------------------------------------------------------------------
+
+mark_old : (xs : List Bool) (y : Bool) (i : ℕ) → i < length xs → marked (xs ++ y ∷ []) i ≡ marked xs i
+mark_old [] y i l = absurd (omega arith)
+mark_old (x ∷ xs) y zero l = refl
+mark_old (x ∷ xs) y (suc i) l = mark_old xs y i (omega arith)
+
+mark_new : (xs : List Bool) (y : Bool) → marked (xs ++ y ∷ []) (length xs) ≡ y
+mark_new [] y = refl
+mark_new (x ∷ xs) y = mark_new xs y
+
+pub marks_none : (test : ℕ → Bool) → AreMarks [] 0 test
+marks_none test = record { size = refl; each = λ n l. absurd (omega arith) }
+
+pub marks_more : (marks : List Bool) (n : ℕ) (test : ℕ → Bool) (mark : Bool) → AreMarks marks n test → mark ≡ test n → AreMarks (marks ++ mark ∷ []) (n + 1) test
+marks_more marks n test mark tied is = record {
+  size = length_push marks mark ∙ ap (λ (j : ℕ). j + 1) tied.size;
+  each = λ i l. by_place i l (cases_lt i n);
+} where
+  by_place : (i : ℕ) → i < n + 1 → (i < n) ⊎ (n ≤ i) → marked (marks ++ mark ∷ []) i ≡ test i
+  by_place i l (inl m) = let size = tied.size in mark_old marks mark i (omega arith) ∙ tied.each i m
+  by_place i l (inr m) =
+      let size = tied.size in
+      let last : i ≡ length marks = omega arith in
+      let here : n ≡ i = omega arith in
+      ap (λ (j : ℕ). marked (marks ++ mark ∷ []) j) last ∙ mark_new marks mark ∙ is ∙ ap test here
+
+-- room --------------------------------------------------------------------------------------------
+
+pub room_behind : (leading others limit : ℕ) → leading < limit → nat_lt others (limit - leading) ≡ nat_lt (leading + others) limit
+room_behind leading others limit l =
+    same_tests _ _ (λ passes. let m = ltb-true others (limit - leading) passes in lt-ltb (leading + others) limit (omega arith))
+    (λ passes. let m = ltb-true (leading + others) limit passes in lt-ltb others (limit - leading) (omega arith))
+
+pub no_room_behind : (leading others limit : ℕ) → limit ≤ leading → false ≡ nat_lt (leading + others) limit
+no_room_behind leading others limit l = sym (le-ltb (leading + others) limit (omega arith))
+
+-- no more than the limit are chosen -----------------------------------------------------------------
+
+pub bit_few : (b : Bool) → bit b ≤ 1
+bit_few true = omega arith
+bit_few false = omega arith
+
+few_plain : (limit most a b : ℕ) (is_among is_first : Bool) →
+    bit (is_among && nat_lt (cond is_first a (most + b)) limit) + (min limit a + min (limit - most) b)
+    ≡ min limit (a + bit (is_among && is_first)) + min (limit - most) (b + bit (is_among && not is_first))
+few_plain limit most a b false is_first = omega arith
+few_plain limit most a b true true = by_place (cases_lt a limit) where
+  by_place : (a < limit) ⊎ (limit ≤ a) → bit (nat_lt a limit) + (min limit a + min (limit - most) b) ≡ min limit (a + 1) + min (limit - most) (b + 0)
+  by_place (inl l) = rw (lt-ltb a limit l) (omega arith)
+  by_place (inr l) = rw (le-ltb a limit l) (omega arith)
+few_plain limit most a b true false = by_place (cases_lt (most + b) limit) where
+  by_place : (most + b < limit) ⊎ (limit ≤ most + b) → bit (nat_lt (most + b) limit) + (min limit a + min (limit - most) b) ≡ min limit (a + 0) + min (limit - most) (b + 1)
+  by_place (inl l) = rw (lt-ltb (most + b) limit l) (omega arith)
+  by_place (inr l) = rw (le-ltb (most + b) limit l) (omega arith)
+
+few_next : (limit most a b chosen a_next b_next chosen_next : ℕ) (is_among is_first : Bool) → chosen ≡ min limit a + min (limit - most) b →
+    chosen_next ≡ chosen + bit (is_among && nat_lt (cond is_first a (most + b)) limit) → a_next ≡ a + bit (is_among && is_first) →
+    b_next ≡ b + bit (is_among && not is_first) → chosen_next ≡ min limit a_next + min (limit - most) b_next
+few_next limit most a b chosen a_next b_next chosen_next is_among is_first before next leading following =
+    let step = few_plain limit most a b is_among is_first in
+    rw (leading, following) (omega arith)
+
+module _ (first among : ℕ → Bool) (limit size : ℕ) where
+  few_below : (n : ℕ) → count_below (is_chosen first among limit size) n
+      ≡ min limit (count_below (leads first among) n) + min (limit - count_below (leads first among) size) (count_below (follows first among) n)
+  few_below zero = omega arith
+  few_below (suc n) =
+      let more : n + 1 ≡ suc n = omega arith in
+      let next = few_next limit (count_below (leads first among) size) (count_below (leads first among) n) (count_below (follows first among) n)
+      (count_below (is_chosen first among limit size) n) (count_below (leads first among) (n + 1)) (count_below (follows first among) (n + 1))
+      (count_below (is_chosen first among limit size) (n + 1)) (among n) (first n) (few_below n) (count_next (is_chosen first among limit size) n)
+      (count_next (leads first among) n) (count_next (follows first among) n) in
+      rw more at next
+
+  pub few_chosen : count_below (is_chosen first among limit size) size ≤ limit
+  few_chosen = let all = few_below size in omega arith

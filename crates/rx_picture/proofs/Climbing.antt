@@ -1,0 +1,77 @@
+-- A climb by a list whose last number is visited next.
+use Rattle.std.proofs.Common.{◌≡◌, ℕ, zero, suc, ◌+◌, ◌-◌, ◌<◌, ◌≤◌, Bool, true, false, List, [], ◌∷◌, ◌++◌, length, take, get_or, reverse, Option, Some, None, refl, sym, ap, ◌∙◌, arith, nat_lt, append-nil}
+use Rattle.std.proofs.Math.Bool.{not, ◌&&◌}
+use Rattle.std.proofs.lemmas.Bool.{lt-ltb}
+use Rattle.std.proofs.lemmas.List.{reverse-append, reverse-reverse, append_assoc, length-take-le}
+use Rattle.rx_event.specs.declared.event.Event.{Event}
+use Rattle.rx_event.specs.Tree.{is_open}
+use Rattle.rx_event.specs.Climb.{visited, onward, most_visits, climb}
+use Rattle.rx_picture.specs.Tables.{AreLines}
+use Rattle.rx_picture.specs.Told.{AreEndsOf}
+
+-- what the table of the whole history says of a prefix
+pub ends_of_prefix : (h : List Event) (ends : List ℕ) (k : ℕ) → AreLines h (length h) ends → k ≤ length h → AreEndsOf (take k h) ends
+ends_of_prefix h ends k lines m = record {
+  each = λ n l.
+      let size : length (take k h) ≡ k = length-take-le k h m in
+      lines.spans n (omega arith) k m ∙ ap (λ (x : Bool). x && not (nat_lt (get_or ends n 0) k)) (lt-ltb n k (omega arith))
+      ∙ ap (λ (j : ℕ). not (nat_lt (get_or ends n 0) j)) (sym size);
+}
+
+-- the visits so far, and those that are still to be made of so many
+abbrev pub ClimbsOn : ℕ → List Event → ℕ → ℕ → List ℕ → List ℕ → Type 0
+ClimbsOn most past leaf step visits todo = visits ++ visited (suc most - step) past (reverse todo) ≡ visited (suc most) past (leaf ∷ [])
+
+pub climb_begins : (most : ℕ) (past : List Event) (leaf : ℕ) → ClimbsOn most past leaf 0 [] (leaf ∷ [])
+climb_begins most past leaf = let none : suc most - 0 ≡ suc most = omega arith in ap (λ (left : ℕ). visited left past (leaf ∷ [])) none
+
+visited_none : (left : ℕ) (past : List Event) → visited left past [] ≡ []
+visited_none zero past = refl
+visited_none (suc left) past = refl
+
+pub climb_ends : (most : ℕ) (past : List Event) (leaf step : ℕ) (visits : List ℕ) → ClimbsOn most past leaf step visits [] → visits ≡ visited (suc most) past (leaf ∷ [])
+climb_ends most past leaf step visits on = sym (append-nil visits) ∙ ap (λ (vs : List ℕ). visits ++ vs) (sym (visited_none (suc most - step) past)) ∙ on
+
+pub climb_stops : (most : ℕ) (past : List Event) (leaf step : ℕ) (visits todo : List ℕ) → suc most ≤ step → ClimbsOn most past leaf step visits todo →
+    visits ≡ visited (suc most) past (leaf ∷ [])
+climb_stops most past leaf step visits todo whole on =
+    let none : suc most - step ≡ 0 = omega arith in
+    sym (append-nil visits) ∙ ap (λ (left : ℕ). visits ++ visited left past (reverse todo)) (sym none) ∙ on
+
+pub climb_goes_on : (most : ℕ) (past : List Event) (leaf step n : ℕ) (visits todo rest more : List ℕ) → step ≤ most → todo ≡ rest ++ n ∷ [] →
+    more ≡ rest ++ reverse (onward past n) → ClimbsOn most past leaf step visits todo → ClimbsOn most past leaf (step + 1) (visits ++ n ∷ []) more
+climb_goes_on most past leaf step n visits todo rest more l was next on =
+    let first : reverse todo ≡ n ∷ reverse rest = ap reverse was ∙ reverse-append rest (n ∷ []) in
+    let then : reverse more ≡ onward past n ++ reverse rest =
+    ap reverse next ∙ reverse-append rest (reverse (onward past n)) ∙ ap (λ (ns : List ℕ). ns ++ reverse rest) (reverse-reverse (onward past n)) in
+    let left : suc most - step ≡ suc (most - step) = omega arith in
+    let less : suc most - (step + 1) ≡ most - step = omega arith in
+    append_assoc visits (n ∷ []) (visited (suc most - (step + 1)) past (reverse more))
+    ∙ ap (λ (j : ℕ). visits ++ n ∷ visited j past (reverse more)) less
+    ∙ ap (λ (ns : List ℕ). visits ++ n ∷ visited (most - step) past ns) then
+    ∙ ap (λ (ns : List ℕ). visits ++ visited (suc (most - step)) past ns) (sym first)
+    ∙ ap (λ (j : ℕ). visits ++ visited j past (reverse todo)) (sym left)
+    ∙ on
+
+pub limit_is : most_visits ≡ 1048576
+unfolding most_visits
+limit_is = refl
+
+pub climb_is : (past : List Event) (leaf : ℕ) → climb past leaf ≡ visited (suc most_visits) past (leaf ∷ [])
+unfolding climb
+climb_is past leaf = refl
+
+-- the same, as the loop has it
+pub climb_ended : (past : List Event) (leaf step : ℕ) (visits todo : List ℕ) → todo ≡ [] → ClimbsOn most_visits past leaf step visits todo → visits ≡ climb past leaf
+climb_ended past leaf step visits todo none on = climb_ends most_visits past leaf step visits (rw none at on) ∙ sym (climb_is past leaf)
+
+pub climb_stopped : (past : List Event) (leaf step : ℕ) (visits todo : List ℕ) → 1048577 ≤ step → ClimbsOn most_visits past leaf step visits todo → visits ≡ climb past leaf
+climb_stopped past leaf step visits todo whole on =
+    let limit = limit_is in
+    climb_stops most_visits past leaf step visits todo (omega arith) on ∙ sym (climb_is past leaf)
+
+pub climb_popped : (past : List Event) (leaf step n : ℕ) (visits todo rest more : List ℕ) → step < 1048577 → todo ≡ rest ++ n ∷ [] →
+    more ≡ rest ++ reverse (onward past n) → ClimbsOn most_visits past leaf step visits todo → ClimbsOn most_visits past leaf (step + 1) (visits ++ n ∷ []) more
+climb_popped past leaf step n visits todo rest more l was next on =
+    let limit = limit_is in
+    climb_goes_on most_visits past leaf step n visits todo rest more (omega arith) was next on

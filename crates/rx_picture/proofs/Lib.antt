@@ -1,0 +1,16 @@
+mod Ranges
+mod Prefixes
+mod Turning
+mod Shutting
+mod Lining
+mod Barring
+mod Loans
+mod Listing
+mod Choosing
+mod Leveling
+mod Leaving
+mod Placing
+mod Climbing
+mod Telling
+mod Pointing
+mod Drawings

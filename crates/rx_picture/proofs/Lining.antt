@@ -1,0 +1,129 @@
+-- Where the line of a node ends: where it is itself taken away, or with the line of the node above it.
+use Rattle.std.proofs.Common.{◌≡◌, ℕ, zero, suc, ◌+◌, ◌<◌, ◌≤◌, min, max, Bool, true, false, List, [], ◌∷◌, ◌++◌, length, take, get_or, Option, Some, None, refl, sym, ap, ◌∙◌, arith, inl, inr, ◌⊎◌, nat_lt}
+use Rattle.std.proofs.Math.Bool.{not, ◌&&◌, ◌||◌}
+use Rattle.std.specs.Option.{option_map_or}
+use Rattle.std.proofs.lemmas.Bool.{cases_lt, cases_eq, lt-ltb, le-ltb, ltb-true, and_left, or_left, or_right, or_cases}
+use Rattle.std.proofs.lemmas.List.{length_push}
+use Rattle.rx_event.specs.declared.event.Event.{Event}
+use Rattle.rx_event.specs.Events.{makes_node}
+use Rattle.rx_event.specs.Tree.{at, parent, is_shut, is_open}
+use Rattle.rx_event.proofs.Laws.Openness.{is_open_step, is_open_past}
+use Rattle.rx_event.proofs.Laws.Parents.{parent-lt}
+use Rattle.rx_picture.specs.Rows.{Spans}
+use Rattle.rx_picture.specs.Tables.{IsTurn, AreLines, was_shut}
+use Rattle.rx_picture.proofs.Prefixes.{same_tests, past_prefix, at_prefix, parent_prefix}
+
+-- numbers -----------------------------------------------------------------------------------------
+
+pub cut_either : (s u n k : ℕ) → n < k → nat_lt (max (min s u) n) k ≡ (nat_lt s k || nat_lt u k)
+cut_either s u n k l = same_tests _ _ (λ passes. there (ltb-true (max (min s u) n) k passes) (cases_lt s k)) (λ passes. back (or_cases _ _ passes)) where
+  there : max (min s u) n < k → (s < k) ⊎ (k ≤ s) → (nat_lt s k || nat_lt u k) ≡ true
+  there m (inl a) = or_left _ _ (lt-ltb s k a)
+  there m (inr a) = or_right _ _ (lt-ltb u k (omega arith))
+
+  back : (nat_lt s k ≡ true) ⊎ (nat_lt u k ≡ true) → nat_lt (max (min s u) n) k ≡ true
+  back (inl a) = let m = ltb-true s k a in lt-ltb (max (min s u) n) k (omega arith)
+  back (inr a) = let m = ltb-true u k a in lt-ltb (max (min s u) n) k (omega arith)
+
+pub cut_alone : (s n k : ℕ) → n < k → nat_lt (max s n) k ≡ nat_lt s k
+cut_alone s n k l = same_tests _ _ (λ passes. let m = ltb-true (max s n) k passes in lt-ltb s k (omega arith)) (λ passes. let m = ltb-true s k passes in lt-ltb (max s n) k (omega arith))
+
+pub neither : (a b : Bool) → ((true && not a) && not b) ≡ (true && not (a || b))
+neither true b = refl
+neither false b = refl
+
+pub and_not : (a : Bool) → (a && not a) ≡ false
+and_not true = refl
+and_not false = refl
+
+-- a line ------------------------------------------------------------------------------------------
+
+open_prefix : (h : List Event) (n k : ℕ) → n < k → k ≤ length h →
+    is_open (take k h) n ≡ ((at makes_node h n && not (is_shut (take k h) n)) && option_map_or (is_open (take k h)) (parent h n) true)
+open_prefix h n k l m =
+    is_open_step (take k h) n ∙ ap (λ (x : Bool). (x && not (is_shut (take k h) n)) && option_map_or (is_open (take k h)) (parent (take k h) n) true) (at_prefix makes_node h k n l m)
+    ∙ ap (λ (o : Option ℕ). (at makes_node h n && not (is_shut (take k h) n)) && option_map_or (is_open (take k h)) o true) (parent_prefix h k n l m)
+
+pub line_none : (h : List Event) (n : ℕ) → at makes_node h n ≡ false → Spans h (λ k. is_open k n) n n
+line_none h n none k m = by_place (cases_lt n k) ∙ sym (and_not (nat_lt n k)) where
+  by_place : (n < k) ⊎ (k ≤ n) → is_open (take k h) n ≡ false
+  by_place (inl l) = open_prefix h n k l m ∙ ap (λ (x : Bool). (x && not (is_shut (take k h) n)) && option_map_or (is_open (take k h)) (parent h n) true) none
+  by_place (inr l) = is_open_past (take k h) n (past_prefix h k n l m)
+
+module _ (h : List Event) (n s : ℕ) (node : at makes_node h n ≡ true) (shut : IsTurn h (was_shut n) (length h) (length h) s) where
+  line_whole : (k until : ℕ) (above : Bool) → n < k → k ≤ length h → option_map_or (is_open (take k h)) (parent h n) true ≡ not above → nat_lt until k ≡ (nat_lt s k || above) →
+      is_open (take k h) n ≡ (nat_lt n k && not (nat_lt until k))
+  line_whole k until above l m stays cuts =
+      open_prefix h n k l m ∙ ap (λ (x : Bool). (x && not (is_shut (take k h) n)) && option_map_or (is_open (take k h)) (parent h n) true) node
+      ∙ ap (λ (x : Bool). (true && not x) && option_map_or (is_open (take k h)) (parent h n) true) (shut.turns k m)
+      ∙ ap (λ (x : Bool). (true && not (nat_lt s k)) && x) stays
+      ∙ neither (nat_lt s k) above
+      ∙ sym (ap (λ (x : Bool). x && not (nat_lt until k)) (lt-ltb n k l) ∙ ap (λ (x : Bool). true && not x) cuts)
+
+  line_short : (k until : ℕ) → k ≤ n → k ≤ length h → is_open (take k h) n ≡ (nat_lt n k && not (nat_lt until k))
+  line_short k until l m = is_open_past (take k h) n (past_prefix h k n l m) ∙ sym (and_left _ _ (le-ltb n k l))
+
+  pub line_top : parent h n ≡ None → Spans h (λ k. is_open k n) n (max s n)
+  line_top none k m = by_place (cases_lt n k) where
+    or_false : (b : Bool) → b ≡ (b || false)
+    or_false true = refl
+    or_false false = refl
+
+    by_place : (n < k) ⊎ (k ≤ n) → is_open (take k h) n ≡ (nat_lt n k && not (nat_lt (max s n) k))
+    by_place (inl l) = line_whole k (max s n) false l m (ap (λ (o : Option ℕ). option_map_or (is_open (take k h)) o true) none) (cut_alone s n k l ∙ or_false (nat_lt s k))
+    by_place (inr l) = line_short k (max s n) l m
+
+  pub line_below : (p u : ℕ) → parent h n ≡ Some p → Spans h (λ k. is_open k p) p u → Spans h (λ k. is_open k n) n (max (min s u) n)
+  line_below p u below spans k m = by_place (cases_lt n k) where
+    by_place : (n < k) ⊎ (k ≤ n) → is_open (take k h) n ≡ (nat_lt n k && not (nat_lt (max (min s u) n) k))
+    by_place (inl l) =
+        let less : p < n = parent-lt h n p below in
+        line_whole k (max (min s u) n) (nat_lt u k) l m
+        (ap (λ (o : Option ℕ). option_map_or (is_open (take k h)) o true) below ∙ spans k m ∙ ap (λ (x : Bool). x && not (nat_lt u k)) (lt-ltb p k (omega arith)))
+        (cut_either s u n k l)
+    by_place (inr l) = line_short k (max (min s u) n) l m
+
+-- a table -----------------------------------------------------------------------------------------
+
+pub get_old : (xs : List ℕ) (y i : ℕ) → i < length xs → get_or (xs ++ y ∷ []) i 0 ≡ get_or xs i 0
+get_old [] y i l = absurd (omega arith)
+get_old (x ∷ xs) y zero l = refl
+get_old (x ∷ xs) y (suc i) l = get_old xs y i (omega arith)
+
+pub get_new : (xs : List ℕ) (y : ℕ) → get_or (xs ++ y ∷ []) (length xs) 0 ≡ y
+get_new [] y = refl
+get_new (x ∷ xs) y = get_new xs y
+
+pub lines_none : (h : List Event) → AreLines h 0 []
+lines_none h = record {
+  size = refl;
+  begun = λ n l. absurd (omega arith);
+  within = λ n l. absurd (omega arith);
+  spans = λ n l. absurd (omega arith);
+}
+
+pub lines_more : (h : List Event) (n : ℕ) (ends : List ℕ) (v : ℕ) → AreLines h n ends → n ≤ v → v ≤ length h → Spans h (λ k. is_open k n) n v → AreLines h (n + 1) (ends ++ v ∷ [])
+lines_more h n ends v tied begins stays spans = record {
+  size = length_push ends v ∙ ap (λ (j : ℕ). j + 1) tied.size;
+  begun = λ i l. by_begun i (value i l);
+  within = λ i l. by_within i (value i l);
+  spans = λ i l. by_spans i (value i l);
+} where
+  -- an older line, or the new one
+  value : (i : ℕ) → i < n + 1 → ((i < n) × (get_or (ends ++ v ∷ []) i 0 ≡ get_or ends i 0)) ⊎ ((i ≡ n) × (get_or (ends ++ v ∷ []) i 0 ≡ v))
+  value i l = by_place (cases_lt i n) where
+    by_place : (i < n) ⊎ (n ≤ i) → ((i < n) × (get_or (ends ++ v ∷ []) i 0 ≡ get_or ends i 0)) ⊎ ((i ≡ n) × (get_or (ends ++ v ∷ []) i 0 ≡ v))
+    by_place (inl m) = let size = tied.size in inl (m, get_old ends v i (omega arith))
+    by_place (inr m) = let size = tied.size in let last : i ≡ length ends = omega arith in inr (omega arith, ap (λ (j : ℕ). get_or (ends ++ v ∷ []) j 0) last ∙ get_new ends v)
+
+  by_begun : (i : ℕ) → ((i < n) × (get_or (ends ++ v ∷ []) i 0 ≡ get_or ends i 0)) ⊎ ((i ≡ n) × (get_or (ends ++ v ∷ []) i 0 ≡ v)) → i ≤ get_or (ends ++ v ∷ []) i 0
+  by_begun i (inl w) = rw w.1 (tied.begun i w.0)
+  by_begun i (inr w) = rw (w.1, w.0) begins
+
+  by_within : (i : ℕ) → ((i < n) × (get_or (ends ++ v ∷ []) i 0 ≡ get_or ends i 0)) ⊎ ((i ≡ n) × (get_or (ends ++ v ∷ []) i 0 ≡ v)) → get_or (ends ++ v ∷ []) i 0 ≤ length h
+  by_within i (inl w) = rw w.1 (tied.within i w.0)
+  by_within i (inr w) = rw w.1 stays
+
+  by_spans : (i : ℕ) → ((i < n) × (get_or (ends ++ v ∷ []) i 0 ≡ get_or ends i 0)) ⊎ ((i ≡ n) × (get_or (ends ++ v ∷ []) i 0 ≡ v)) → Spans h (λ k. is_open k i) i (get_or (ends ++ v ∷ []) i 0)
+  by_spans i (inl w) = rw w.1 (tied.spans i w.0)
+  by_spans i (inr w) = rw (w.1, w.0) spans

@@ -1,0 +1,75 @@
+-- The rows of the first places.
+use Rattle.std.proofs.Common.{◌≡◌, ℕ, zero, suc, ◌+◌, ◌<◌, Bool, true, false, cond, List, [], ◌∷◌, ◌++◌, length, map, filter, Option, Some, None, refl, sym, ap, ◌∙◌, arith, slice_get}
+use Rattle.std.proofs.Math.Bool.{◌&&◌, ◌||◌}
+use Rattle.std.specs.List.{AllByRecursion, range_with_len}
+use Rattle.std.specs.Option.{option_map_or}
+use Rattle.std.proofs.lemmas.Bool.{or_left, or_right, and_from}
+use Rattle.std.proofs.lemmas.List.{map-append}
+use Rattle.std.proofs.lemmas.List.Elements.{filter-append}
+use Rattle.std.proofs.Common.{append-nil}
+use Rattle.rx_event.specs.declared.event.Event.{Event}
+use Rattle.rx_event.specs.Events.{makes_node, makes_hub, makes_resource}
+use Rattle.rx_event.specs.declared.event.Event.TheVariants.{Lease}
+use Rattle.rx_event.specs.Tree.{at}
+use Rattle.rx_event.proofs.Laws.Lists.{AllByRecursion-both}
+use Rattle.rx_picture.specs.declared.row.Row.{Row}
+use Rattle.rx_picture.specs.declared.row.Shape.{Shape}
+use Rattle.rx_picture.specs.declared.row.Shape.TheVariants.{Node, Hub, Resource, Loan}
+use Rattle.rx_picture.specs.Rows.{AreRows, IsRow, IsShape, has_row}
+use Rattle.rx_picture.specs.Tables.{IsShownAt}
+use Rattle.rx_picture.proofs.Ranges.{below_push}
+
+pub record RowsUpTo (h : List Event) (shown : ℕ → Bool) (n : ℕ) (rows : List Row) : Type 0 where
+  pub numbers : map (λ row. row.number) rows ≡ filter (λ k. at has_row h k && shown k) (range_with_len 0 n)
+  pub each : AllByRecursion (IsRow h) rows
+
+pub next_filter : (p : ℕ → Bool) (n : ℕ) → filter p (range_with_len 0 (n + 1)) ≡ filter p (range_with_len 0 n) ++ cond (p n) (n ∷ []) []
+next_filter p n = ap (filter p) (below_push n) ∙ filter-append p (range_with_len 0 n) (n ∷ [])
+
+-- what has a shape has a row
+drawn : (h : List Event) (n : ℕ) (shape : Shape) → IsShape h n shape → at has_row h n ≡ true
+drawn h n shape is = by_shape shape is where
+  nodes : (o : Option Event) → option_map_or makes_node o false ≡ true → option_map_or has_row o false ≡ true
+  nodes None fails = fails
+  nodes (Some e) holds = or_left _ _ (or_left _ _ (or_left _ _ holds))
+
+  hubs : (o : Option Event) → option_map_or makes_hub o false ≡ true → option_map_or has_row o false ≡ true
+  hubs None fails = fails
+  hubs (Some e) holds = or_left _ _ (or_left _ _ (or_right _ _ holds))
+
+  resources : (o : Option Event) → option_map_or makes_resource o false ≡ true → option_map_or has_row o false ≡ true
+  resources None fails = fails
+  resources (Some e) holds = or_left _ _ (or_right _ _ holds)
+
+  by_shape : (shape : Shape) → IsShape h n shape → at has_row h n ≡ true
+  by_shape (Node until ending) is = nodes (slice_get h n) is.0
+  by_shape Hub is = hubs (slice_get h n) is
+  by_shape (Resource after until taken) is = resources (slice_get h n) is.0
+  by_shape (Loan resource until) is = ap (λ (o : Option Event). option_map_or has_row o false) is.0
+
+pub rows_none : (h : List Event) (shown : ℕ → Bool) → RowsUpTo h shown 0 []
+rows_none h shown = record { numbers = refl; each = tt }
+
+pub rows_more : (h : List Event) (shown : ℕ → Bool) (n : ℕ) (rows : List Row) (row : Row) → RowsUpTo h shown n rows → IsShownAt h shown n row → RowsUpTo h shown (n + 1) (rows ++ row ∷ [])
+rows_more h shown n rows row tied here = record {
+  numbers =
+      let here_made : (at has_row h n && shown n) ≡ true = and_from _ _ (ap (at has_row h) (sym here.number) ∙ drawn h row.number row.shape here.is.shape) here.shown_here in
+      map-append (λ row. row.number) rows (row ∷ []) ∙ ap (λ (ks : List ℕ). ks ++ row.number ∷ []) tied.numbers
+      ∙ ap (λ (k : ℕ). filter (λ k. at has_row h k && shown k) (range_with_len 0 n) ++ k ∷ []) here.number
+      ∙ sym (next_filter (λ k. at has_row h k && shown k) n ∙ ap (λ (x : Bool). filter (λ k. at has_row h k && shown k) (range_with_len 0 n) ++ cond x (n ∷ []) []) here_made);
+  each = AllByRecursion-both (IsRow h) rows (row ∷ []) tied.each (here.is, tt);
+}
+
+pub rows_skip : (h : List Event) (shown : ℕ → Bool) (n : ℕ) (rows : List Row) → RowsUpTo h shown n rows → (at has_row h n && shown n) ≡ false → RowsUpTo h shown (n + 1) rows
+rows_skip h shown n rows tied none = record {
+  numbers =
+      tied.numbers ∙ sym (next_filter (λ k. at has_row h k && shown k) n ∙ ap (λ (x : Bool). filter (λ k. at has_row h k && shown k) (range_with_len 0 n) ++ cond x (n ∷ []) []) none
+      ∙ append-nil (filter (λ k. at has_row h k && shown k) (range_with_len 0 n)));
+  each = tied.each;
+}
+
+pub rows_whole : (h : List Event) (shown : ℕ → Bool) (n : ℕ) (rows : List Row) → n ≡ length h → RowsUpTo h shown n rows → AreRows h shown rows
+rows_whole h shown n rows whole tied = record {
+  numbers = tied.numbers ∙ ap (λ (k : ℕ). filter (λ k. at has_row h k && shown k) (range_with_len 0 k)) whole;
+  each = tied.each;
+}

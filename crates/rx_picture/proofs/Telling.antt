@@ -1,0 +1,135 @@
+-- The notes of a prefix, so far as they are shown, and what one more event tells.
+use Rattle.std.proofs.Common.{◌≡◌, ℕ, zero, suc, ◌+◌, ◌<◌, ◌≤◌, Bool, true, false, cond, List, [], ◌∷◌, ◌++◌, length, take, filter, Option, Some, None, refl, sym, ap, ◌∙◌, arith, inl, inr, ◌⊎◌, slice_get, append-nil, ℤ}
+use Rattle.std.proofs.Math.Bool.{◌&&◌}
+use Rattle.std.proofs.Math.Seq.{take-length}
+use Rattle.std.specs.List.{AllByRecursion, filter_map, flat_map, cons_option}
+use Rattle.std.specs.Option.{option_and_then, option_map_or, option_to_list}
+use Rattle.std.proofs.lemmas.Bool.{cases_Bool}
+use Rattle.std.proofs.lemmas.List.{length-take-le}
+use Rattle.std.proofs.lemmas.List.Elements.{filter-append}
+use Rattle.rx_note.specs.declared.note.Terminal.{Terminal}
+use Rattle.rx_event.specs.declared.mail.Mail.{Mail}
+use Rattle.rx_event.specs.declared.event.Event.{Event}
+use Rattle.rx_event.specs.declared.event.Event.TheVariants.{Open, Hub, Connect, Accept, Use, Remove, Lease, Return, Item, Decline, End, Close, Take}
+use Rattle.rx_event.specs.Events.{is_root}
+use Rattle.rx_event.specs.Tree.{at}
+use Rattle.rx_event.specs.Climb.{Stop, Delivery, Projection, Firing, stop_at, stops, climb}
+use Rattle.rx_event.specs.Moments.{moments}
+use Rattle.rx_event.specs.Notes.{notes, mail_of, told}
+use Rattle.rx_event.proofs.Laws.Counts.{notes-push}
+use Rattle.rx_picture.specs.Told.{is_marble, mail_told, marbles, told_at}
+use Rattle.rx_picture.proofs.Prefixes.{some_event, take_next}
+
+-- an item -----------------------------------------------------------------------------------------
+
+module _ (lane : ℕ → Bool) (past : List Event) (value : ℤ) where
+  told_mail : (o : Option Mail) (ms more : List Mail) → filter (λ m. lane m.to) ms ≡ more →
+      filter (λ m. lane m.to) (cons_option o ms) ≡ filter (λ m. lane m.to) (option_to_list o) ++ more
+  told_mail None ms more same = same
+  told_mail (Some m) ms more same = by_lane (lane m.to) where
+    by_lane : (b : Bool) → cond b (m ∷ filter (λ m. lane m.to) ms) (filter (λ m. lane m.to) ms) ≡ cond b (m ∷ []) [] ++ more
+    by_lane true = ap (λ (xs : List Mail). m ∷ xs) same
+    by_lane false = same
+
+  told_stop : (o : Option Stop) (ss : List Stop) (more : List Mail) → filter (λ m. lane m.to) (filter_map (told (length past) value) ss) ≡ more →
+      filter (λ m. lane m.to) (filter_map (told (length past) value) (cons_option o ss))
+      ≡ filter (λ m. lane m.to) (option_to_list (option_and_then (told (length past) value) o)) ++ more
+  told_stop None ss more same = same
+  told_stop (Some s) ss more same = told_mail (told (length past) value s) (filter_map (told (length past) value) ss) more same
+
+  -- what the stops tell, visit by visit
+  told_visits : (ns : List ℕ) → filter (λ m. lane m.to) (filter_map (told (length past) value) (filter_map (stop_at past) ns)) ≡ flat_map (told_at lane past value) ns
+  told_visits [] = refl
+  told_visits (n ∷ ns) = told_stop (stop_at past n) (filter_map (stop_at past) ns) (flat_map (told_at lane past value) ns) (told_visits ns)
+
+  pub item_told : (leaf : ℕ) → flat_map (told_at lane past value) (climb past leaf) ≡ filter (λ m. lane m.to) (mail_of past (Item leaf value))
+  unfolding stops
+  item_told leaf = sym (told_visits (climb past leaf))
+
+-- the place of a note -----------------------------------------------------------------------------
+
+abbrev StandAt : ℕ → List Mail → Type 0
+StandAt place ms = AllByRecursion (λ m. m.place ≡ place) ms
+
+told_place : (place : ℕ) (value : ℤ) (ss : List Stop) → StandAt place (filter_map (told place value) ss)
+told_place place value [] = tt
+told_place place value (Delivery n ∷ ss) = (refl, told_place place value ss)
+told_place place value (Projection f ∷ ss) = (refl, told_place place value ss)
+told_place place value (Firing u ∷ ss) = told_place place value ss
+
+mail_place : (past : List Event) (e : Event) → StandAt (length past) (mail_of past e)
+mail_place past (Item leaf value) = told_place (length past) value (stops past leaf)
+mail_place past (End n t) = by_root (at is_root past n) where
+  by_root : (b : Bool) → StandAt (length past) (cond b ((record { place = length past; to = n; note = Rattle.rx_note.specs.declared.note.Note.TheVariants.End t }) ∷ []) [])
+  by_root true = (refl, tt)
+  by_root false = tt
+mail_place past _ = tt
+
+and_true : (b : Bool) → (b && true) ≡ b
+and_true true = refl
+and_true false = refl
+
+and_false : (b : Bool) → (b && false) ≡ false
+and_false true = refl
+and_false false = refl
+
+module _ (lane place : ℕ → Bool) (n : ℕ) where
+  all_placed : place n ≡ true → (ms : List Mail) → StandAt n ms → filter (is_marble lane place) ms ≡ filter (λ m. lane m.to) ms
+  all_placed shown [] stand = refl
+  all_placed shown (m ∷ ms) stand =
+      ap (λ (x : Bool). cond x (m ∷ filter (is_marble lane place) ms) (filter (is_marble lane place) ms))
+      (ap (λ (x : Bool). lane m.to && x) (ap place stand.0 ∙ shown) ∙ and_true (lane m.to))
+      ∙ ap (λ (xs : List Mail). cond (lane m.to) (m ∷ xs) xs) (all_placed shown ms stand.1)
+
+  none_placed : place n ≡ false → (ms : List Mail) → StandAt n ms → filter (is_marble lane place) ms ≡ []
+  none_placed hidden [] stand = refl
+  none_placed hidden (m ∷ ms) stand =
+      ap (λ (x : Bool). cond x (m ∷ filter (is_marble lane place) ms) (filter (is_marble lane place) ms))
+      (ap (λ (x : Bool). lane m.to && x) (ap place stand.0 ∙ hidden) ∙ and_false (lane m.to)) ∙ none_placed hidden ms stand.1
+
+-- one event more ----------------------------------------------------------------------------------
+
+pub marbles_none : (lane place : ℕ → Bool) (h : List Event) → [] ≡ marbles lane place (take 0 h)
+unfolding notes moments
+marbles_none lane place h = refl
+
+module _ (lane place : ℕ → Bool) (h : List Event) (n : ℕ) (within : n < length h) where
+  marbles_next : (e : Event) → slice_get h n ≡ Some e → marbles lane place (take (n + 1) h) ≡ marbles lane place (take n h) ++ filter (is_marble lane place) (mail_of (take n h) e)
+  marbles_next e at_n =
+      let more : n + 1 ≡ suc n = omega arith in
+      ap (λ (k : ℕ). marbles lane place (take k h)) more ∙ ap (marbles lane place) (take_next h n e at_n)
+      ∙ ap (filter (is_marble lane place)) (notes-push (take n h) e) ∙ filter-append (is_marble lane place) (notes (take n h)) (mail_of (take n h) e)
+
+  stands : (e : Event) → StandAt n (mail_of (take n h) e)
+  stands e =
+      let size : length (take n h) ≡ n = length-take-le n h (omega arith) in
+      let all : StandAt (length (take n h)) (mail_of (take n h) e) = mail_place (take n h) e in
+      rw size at all
+
+  pub marbles_more : (shown : List Mail) → place n ≡ true → shown ≡ marbles lane place (take n h) →
+      shown ++ mail_told lane h n ≡ marbles lane place (take (n + 1) h)
+  marbles_more shown here same =
+      let e = (some_event h n within).0 in
+      let at_n : slice_get h n ≡ Some e = (some_event h n within).1 in
+      ap (λ (o : Option Event). shown ++ filter (λ m. lane m.to) (option_map_or (mail_of (take n h)) o [])) at_n
+      ∙ ap (λ (ms : List Mail). ms ++ filter (λ m. lane m.to) (mail_of (take n h) e)) same
+      ∙ ap (λ (ms : List Mail). marbles lane place (take n h) ++ ms) (sym (all_placed lane place n here (mail_of (take n h) e) (stands e)))
+      ∙ sym (marbles_next e at_n)
+
+  pub marbles_skip : (shown : List Mail) → place n ≡ false → shown ≡ marbles lane place (take n h) → shown ≡ marbles lane place (take (n + 1) h)
+  marbles_skip shown hidden same =
+      let e = (some_event h n within).0 in
+      let at_n : slice_get h n ≡ Some e = (some_event h n within).1 in
+      same ∙ sym (marbles_next e at_n ∙ ap (λ (ms : List Mail). marbles lane place (take n h) ++ ms) (none_placed lane place n hidden (mail_of (take n h) e) (stands e))
+      ∙ append-nil (marbles lane place (take n h)))
+
+pub marbles_whole : (lane place : ℕ → Bool) (h : List Event) (n : ℕ) (shown : List Mail) → n ≡ length h → shown ≡ marbles lane place (take n h) → shown ≡ marbles lane place h
+marbles_whole lane place h n shown whole same = same ∙ ap (λ (k : ℕ). marbles lane place (take k h)) whole ∙ ap (marbles lane place) (take-length h)
+
+pub visits_whole : (old new : List Mail) (f : ℕ → List Mail) (ns : List ℕ) (i : ℕ) → length ns ≤ i → new ≡ old ++ flat_map f (take i ns) → new ≡ old ++ flat_map f ns
+visits_whole old new f ns i whole is = is ∙ ap (λ (ks : List ℕ). old ++ flat_map f ks) (take_all ns i whole) where
+  take_all : (ns : List ℕ) (i : ℕ) → length ns ≤ i → take i ns ≡ ns
+  take_all [] zero l = refl
+  take_all [] (suc i) l = refl
+  take_all (n ∷ ns) zero l = absurd (omega arith)
+  take_all (n ∷ ns) (suc i) l = ap (λ (ks : List ℕ). n ∷ ks) (take_all ns i (omega arith))

@@ -1,0 +1,178 @@
+-- The place at which a test of the prefixes turns true, in a table by number.
+use Rattle.std.proofs.Common.{◌≡◌, ℕ, zero, suc, ◌+◌, ◌<◌, ◌≤◌, Bool, true, false, cond, List, [], ◌∷◌, ◌++◌, length, take, replicate, get_or, set, Option, Some, None, refl, sym, ap, ◌∙◌, arith, inl, inr, ◌⊎◌, ◌==◌, nat_lt, slice_get}
+use Rattle.std.proofs.Math.Bool.{◌||◌}
+use Rattle.std.specs.List.{list_any}
+use Rattle.std.specs.Option.{option_and_then}
+use Rattle.std.proofs.lemmas.Bool.{cases_Bool, cases_lt, cases_eq, lt-ltb, le-ltb, ltb-true, eq-eqb, ne_eqb, eqb-true, or_left, or_right, or_cases, both_ways}
+use Rattle.std.proofs.lemmas.List.{get_or-set_same, get_or-set_other, length-set, get_or-replicate, length-replicate}
+use Rattle.std.proofs.lemmas.List.Folds.{list_any-append}
+use Rattle.rx_event.specs.declared.event.Event.{Event}
+use Rattle.rx_event.specs.declared.event.Event.TheVariants.{Remove, Return, Take}
+use Rattle.rx_event.specs.Events.{removed_of, returned_of, taken_of, is_remove_of, is_return_of, is_take_of}
+use Rattle.rx_picture.specs.Tables.{is_key, IsTurn, AreTurns, noted, was_removed, was_returned, was_taken}
+use Rattle.rx_picture.proofs.Prefixes.{take_next, some_event}
+
+-- one test ----------------------------------------------------------------------------------------
+
+pub turn_none : (h : List Event) (test : List Event → Bool) → test [] ≡ false → IsTurn h test 0 (length h) (length h)
+turn_none h test never = record {
+  turns = λ k l. let z : k ≡ 0 = omega arith in rw z (never ∙ sym (le-ltb (length h) 0 (omega arith)));
+  told = or_right _ _ (eq-eqb (length h) (length h) refl);
+}
+
+pub turn_within : (h : List Event) (test : List Event → Bool) (at : ℕ) → IsTurn h test (length h) (length h) at → at ≤ length h
+turn_within h test at tied = by_told (or_cases _ _ tied.told) where
+  by_told : (nat_lt at (length h) ≡ true) ⊎ ((at == length h) ≡ true) → at ≤ length h
+  by_told (inl below) = let l = ltb-true at (length h) below in omega arith
+  by_told (inr same) = let e = eqb-true at (length h) same in omega arith
+
+kept_value : (now full : Bool) (b at : ℕ) → full ≡ false → cond now (cond full b at) at ≡ at
+kept_value true full b at gone = ap (λ x. cond x b at) gone
+kept_value false full b at gone = refl
+
+module _ (h : List Event) (test : List Event → Bool) (b at : ℕ) (s : Bool) (inside : b < length h) (next : test (take (suc b) h) ≡ (test (take b h) || s))
+    (tied : IsTurn h test b (length h) at) where
+  -- it was true before
+  turned : test (take b h) ≡ true → IsTurn h test (suc b) (length h) at
+  turned was = record { turns = λ k m. by_place k m (cases_lt b k); told = let l = below in or_left _ _ (lt-ltb at (suc b) (omega arith)) } where
+    below : at < b
+    below = ltb-true at b (sym (tied.turns b (omega arith)) ∙ was)
+
+    by_place : (k : ℕ) → k ≤ suc b → (b < k) ⊎ (k ≤ b) → test (take k h) ≡ nat_lt at k
+    by_place k m (inl l) =
+        let less = below in
+        let same : k ≡ suc b = omega arith in
+        ap (λ (j : ℕ). test (take j h)) same ∙ next ∙ or_left _ _ was ∙ sym (lt-ltb at k (omega arith))
+    by_place k m (inr l) = tied.turns k l
+
+  unturned : test (take b h) ≡ false → at ≡ length h
+  unturned was = by_told (or_cases _ _ tied.told) where
+    by_told : (nat_lt at b ≡ true) ⊎ ((at == length h) ≡ true) → at ≡ length h
+    by_told (inl below) = absurd (both_ways _ (sym (tied.turns b (omega arith)) ∙ was) below)
+    by_told (inr same) = eqb-true at (length h) same
+
+  -- the event makes it true
+  turns_now : test (take b h) ≡ false → s ≡ true → IsTurn h test (suc b) (length h) b
+  turns_now was now = record { turns = λ k m. by_place k m (cases_lt b k); told = or_left _ _ (lt-ltb b (suc b) (omega arith)) } where
+    last : at ≡ length h
+    last = unturned was
+
+    by_place : (k : ℕ) → k ≤ suc b → (b < k) ⊎ (k ≤ b) → test (take k h) ≡ nat_lt b k
+    by_place k m (inl l) = let same : k ≡ suc b = omega arith in ap (λ (j : ℕ). test (take j h)) same ∙ next ∙ or_right _ _ now ∙ sym (lt-ltb b k l)
+    by_place k m (inr l) = let e = last in tied.turns k l ∙ le-ltb at k (omega arith) ∙ sym (le-ltb b k l)
+
+  -- it stays false
+  turns_later : test (take b h) ≡ false → s ≡ false → IsTurn h test (suc b) (length h) at
+  turns_later was never = record { turns = λ k m. by_place k m (cases_lt b k); told = or_right _ _ (eq-eqb at (length h) (unturned was)) } where
+    last : at ≡ length h
+    last = unturned was
+
+    by_place : (k : ℕ) → k ≤ suc b → (b < k) ⊎ (k ≤ b) → test (take k h) ≡ nat_lt at k
+    by_place k m (inl l) =
+        let e = last in
+        let same : k ≡ suc b = omega arith in
+        ap (λ (j : ℕ). test (take j h)) same ∙ next ∙ ap (λ x. x || s) was ∙ never ∙ sym (le-ltb at k (omega arith))
+    by_place k m (inr l) = tied.turns k l
+
+  pub turn_step : (now : Bool) → (test (take b h) ≡ false → now ≡ s) → IsTurn h test (suc b) (length h) (cond now (cond (at == length h) b at) at)
+  turn_step now same = by_before (cases_Bool (test (take b h))) where
+    by_before : (test (take b h) ≡ true) ⊎ (test (take b h) ≡ false) → IsTurn h test (suc b) (length h) (cond now (cond (at == length h) b at) at)
+    by_before (inl was) =
+        let below : at < b = ltb-true at b (sym (tied.turns b (omega arith)) ∙ was) in
+        rw (kept_value now (at == length h) b at (ne_eqb at (length h) (omega arith))) (turned was)
+    by_before (inr was) = by_now (cases_Bool s) where
+      by_now : (s ≡ true) ⊎ (s ≡ false) → IsTurn h test (suc b) (length h) (cond now (cond (at == length h) b at) at)
+      by_now (inl holds) = rw (same was ∙ holds, eq-eqb at (length h) (unturned was)) (turns_now was holds)
+      by_now (inr fails) = rw (same was ∙ fails) (turns_later was fails)
+
+-- a table -----------------------------------------------------------------------------------------
+
+pub turns_none : (h : List Event) (test : ℕ → List Event → Bool) → ((n : ℕ) → test n [] ≡ false) → AreTurns h test 0 (replicate (length h) (length h))
+turns_none h test never = record {
+  size = length-replicate (length h) (length h);
+  each = λ n l.
+      let size : length (replicate (length h) (length h)) ≡ length h = length-replicate (length h) (length h) in
+      rw (get_or-replicate (length h) n (length h) 0 (omega arith)) (turn_none h (test n) (never n));
+}
+
+noted_size : (table : List ℕ) (key : Option ℕ) (place : ℕ) → length (noted table key place) ≡ length table
+noted_size table None place = refl
+noted_size table (Some m) place = by_test (get_or table m 0 == length table) where
+  by_test : (full : Bool) → length (cond full (set table m place) table) ≡ length table
+  by_test true = length-set table m place
+  by_test false = refl
+
+noted_at : (table : List ℕ) (key : Option ℕ) (place n : ℕ) → n < length table →
+    get_or (noted table key place) n 0 ≡ cond (is_key key n) (cond (get_or table n 0 == length table) place (get_or table n 0)) (get_or table n 0)
+noted_at table None place n l = refl
+noted_at table (Some m) place n l = by_order (cases_eq m n) where
+  here : (full : Bool) → get_or (cond full (set table n place) table) n 0 ≡ cond full place (get_or table n 0)
+  here true = get_or-set_same table n place 0 l
+  here false = refl
+
+  there : (full : Bool) → (n ≡ m → ⊥) → get_or (cond full (set table m place) table) n 0 ≡ get_or table n 0
+  there true differs = get_or-set_other table m n place 0 differs
+  there false differs = refl
+
+  by_order : (m ≡ n) ⊎ (m ≡ n → ⊥) →
+      get_or (cond (get_or table m 0 == length table) (set table m place) table) n 0 ≡ cond (m == n) (cond (get_or table n 0 == length table) place (get_or table n 0)) (get_or table n 0)
+  by_order (inl same) = rw (same, eq-eqb n n refl) (here (get_or table n 0 == length table))
+  by_order (inr differs) = rw (ne_eqb m n differs) (there (get_or table m 0 == length table) (λ e. differs (sym e)))
+
+pub turns_step : (h : List Event) (test : ℕ → List Event → Bool) (b : ℕ) (table : List ℕ) (key : Option ℕ) (s : ℕ → Bool) → b < length h →
+    ((n : ℕ) → test n (take (suc b) h) ≡ (test n (take b h) || s n)) → ((n : ℕ) → test n (take b h) ≡ false → is_key key n ≡ s n) →
+    AreTurns h test b table → AreTurns h test (b + 1) (noted table key b)
+turns_step h test b table key s inside next same tied = record {
+  size = noted_size table key b ∙ tied.size;
+  each = λ n l.
+      let size : length (noted table key b) ≡ length table = noted_size table key b in
+      let more : b + 1 ≡ suc b = omega arith in
+      let m : n < length table = omega arith in
+      rw (more, noted_at table key b n m, tied.size) (turn_step h (test n) b (get_or table n 0) (s n) inside (next n) (tied.each n m) (is_key key n) (same n));
+}
+
+-- removals and takings ----------------------------------------------------------------------------
+
+or_false : (b : Bool) → (b || false) ≡ b
+or_false true = refl
+or_false false = refl
+
+-- a test of any event is true after one more where it was, or where it holds of that
+any_next : (p : Event → Bool) (h : List Event) (b : ℕ) (e : Event) → slice_get h b ≡ Some e → list_any p (take (suc b) h) ≡ (list_any p (take b h) || p e)
+any_next p h b e at_b = ap (λ (k : List Event). list_any p k) (take_next h b e at_b) ∙ list_any-append p (take b h) (e ∷ []) ∙ ap (λ x. list_any p (take b h) || x) (or_false (p e))
+
+removes : (e : Event) (n : ℕ) → is_key (removed_of e) n ≡ is_remove_of n e
+removes (Remove r) n = refl
+removes _ n = refl
+
+returned : (e : Event) (n : ℕ) → is_key (returned_of e) n ≡ is_return_of n e
+returned (Return l) n = refl
+returned _ n = refl
+
+takes : (e : Event) (n : ℕ) → is_key (taken_of e) n ≡ is_take_of n e
+takes (Take r) n = refl
+takes _ n = refl
+
+pub removed_step : (h : List Event) (b : ℕ) (table : List ℕ) → b < length h → AreTurns h was_removed b table →
+    AreTurns h was_removed (b + 1) (noted table (option_and_then removed_of (slice_get h b)) b)
+removed_step h b table inside tied =
+    let e = (some_event h b inside).0 in
+    let at_b : slice_get h b ≡ Some e = (some_event h b inside).1 in
+    turns_step h was_removed b table (option_and_then removed_of (slice_get h b)) (λ n. is_remove_of n e) inside (λ n. any_next (is_remove_of n) h b e at_b)
+    (λ n was. ap (λ (o : Option Event). is_key (option_and_then removed_of o) n) at_b ∙ removes e n) tied
+
+pub taken_step : (h : List Event) (b : ℕ) (table : List ℕ) → b < length h → AreTurns h was_taken b table →
+    AreTurns h was_taken (b + 1) (noted table (option_and_then taken_of (slice_get h b)) b)
+taken_step h b table inside tied =
+    let e = (some_event h b inside).0 in
+    let at_b : slice_get h b ≡ Some e = (some_event h b inside).1 in
+    turns_step h was_taken b table (option_and_then taken_of (slice_get h b)) (λ n. is_take_of n e) inside (λ n. any_next (is_take_of n) h b e at_b)
+    (λ n was. ap (λ (o : Option Event). is_key (option_and_then taken_of o) n) at_b ∙ takes e n) tied
+
+pub returned_step : (h : List Event) (b : ℕ) (table : List ℕ) → b < length h → AreTurns h was_returned b table →
+    AreTurns h was_returned (b + 1) (noted table (option_and_then returned_of (slice_get h b)) b)
+returned_step h b table inside tied =
+    let e = (some_event h b inside).0 in
+    let at_b : slice_get h b ≡ Some e = (some_event h b inside).1 in
+    turns_step h was_returned b table (option_and_then returned_of (slice_get h b)) (λ n. is_return_of n e) inside (λ n. any_next (is_return_of n) h b e at_b)
+    (λ n was. ap (λ (o : Option Event). is_key (option_and_then returned_of o) n) at_b ∙ returned e n) tied

@@ -1,0 +1,11 @@
+use Rattle.std.proofs.Common.{◌≡◌, ◌≤◌}
+use Rattle.rx_picture.specs.Choice.{count_below, marked}
+use Rattle.rx_picture.proofs.Placing.{ColumnsUpTo}
+use Rattle.rx_picture.proofs.columns.columns_of.Given as goal
+
+abbrev pub invariant-loop-n : goal.invariant-loop-n
+invariant-loop-n l = record {
+  tied : ColumnsUpTo (marked l.shown) l.n l.columns.items;
+  is : l.before ≡ count_below (marked l.shown) l.n;
+  few : l.before ≤ l.n;
+}

@@ -1,0 +1,10 @@
+use Rattle.std.proofs.Common.{length}
+use Rattle.rx_event.specs.Tree.{at}
+use Rattle.rx_picture.specs.Rows.{is_drawn, is_left}
+use Rattle.rx_picture.proofs.Placing.{marks_chosen}
+use Rattle.rx_picture.proofs.drawing.shown_marks.Goals as goal
+
+pub returns : goal.returns
+returns c =
+    marks_chosen _ _ _ (is_left c.args.events.now) (at is_drawn c.args.events.now) 200 (length c.args.events.now) c.in_ok-left.ensures c.requires.drawn
+    (rw c.deref.ensures.value at c.in_ok-chosen.ensures.chosen)

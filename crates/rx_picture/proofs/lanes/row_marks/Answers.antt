@@ -1,0 +1,10 @@
+use Rattle.rx_picture.specs.Choice.{marked}
+use Rattle.rx_picture.specs.Drawn.{is_rowed_by}
+use Rattle.rx_picture.proofs.Choosing.{marks_more}
+use Rattle.rx_picture.proofs.lanes.row_marks.Goals as goal
+
+pub loop-n-preserved : goal.loop-n-preserved
+loop-n-preserved c =
+    rw c.in_ok-push.ensures.items
+    (marks_more c.loop-n.marks.items c.loop-n.n (is_rowed_by (marked c.args.shown.now) c.args.events.now) c.is_lane_marked-mark.result c.loop-n.invariant
+    c.is_lane_marked-mark.ensures)

@@ -1,0 +1,6 @@
+use Rattle.rx_picture.specs.Choice.{AreMarks, marked}
+use Rattle.rx_picture.specs.Drawn.{is_rowed_by}
+use Rattle.rx_picture.proofs.lanes.row_marks.Given as goal
+
+abbrev pub invariant-loop-n : goal.invariant-loop-n
+invariant-loop-n l = AreMarks l.marks.items l.n (is_rowed_by (marked l.shown) l.events)

@@ -1,0 +1,5 @@
+use Rattle.rx_picture.specs.Levels.{AreLevels}
+use Rattle.rx_picture.proofs.levels.levels_of.Given as goal
+
+abbrev pub invariant-loop-n : goal.invariant-loop-n
+invariant-loop-n l = AreLevels l.events l.n l.levels.items

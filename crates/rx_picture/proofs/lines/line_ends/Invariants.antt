@@ -1,0 +1,5 @@
+use Rattle.rx_picture.specs.Tables.{AreLines}
+use Rattle.rx_picture.proofs.lines.line_ends.Given as goal
+
+abbrev pub invariant-loop-n : goal.invariant-loop-n
+invariant-loop-n l = AreLines l.events l.n l.ends.items

@@ -1,0 +1,8 @@
+use Rattle.std.proofs.Common.{◌≡◌, ◌++◌, take}
+use Rattle.std.specs.Prelude.{flat_map}
+use Rattle.rx_picture.specs.Choice.{marked}
+use Rattle.rx_picture.specs.Told.{told_at}
+use Rattle.rx_picture.proofs.marbles.push_visits.Given as goal
+
+abbrev pub invariant-loop-n : goal.invariant-loop-n
+invariant-loop-n l = l.marbles.items ≡ l.initial.marbles.items ++ flat_map (told_at (marked l.lanes) l.past l.item.value) (take l.n-index l.visits)

@@ -1,0 +1,7 @@
+use Rattle.rx_event.specs.Tree.{at}
+use Rattle.rx_picture.specs.Rows.{is_drawn}
+use Rattle.rx_picture.specs.Choice.{AreMarks}
+use Rattle.rx_picture.proofs.tables.drawn_marks.Given as goal
+
+abbrev pub invariant-loop-n : goal.invariant-loop-n
+invariant-loop-n l = AreMarks l.marks.items l.n (at is_drawn l.events)

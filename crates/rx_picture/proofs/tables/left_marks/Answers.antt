@@ -1,0 +1,8 @@
+use Rattle.rx_picture.specs.Rows.{is_left}
+use Rattle.rx_picture.proofs.Choosing.{marks_more}
+use Rattle.rx_picture.proofs.tables.left_marks.Goals as goal
+
+pub loop-n-preserved : goal.loop-n-preserved
+loop-n-preserved c =
+    rw c.in_ok-push.ensures.items
+    (marks_more c.loop-n.marks.items c.loop-n.n (is_left c.args.events.now) c.is_left-mark.result c.loop-n.invariant c.is_left-mark.ensures)

@@ -1,0 +1,6 @@
+pub mod Rows
+pub mod Choice
+pub mod Levels
+pub mod Tables
+pub mod Told
+pub mod Drawn

@@ -1,0 +1,48 @@
+-- The marbles and places of a picture: what observers were told, so far as lane and place are shown, and what happened where.
+use Rattle.std.specs.Prelude.{◌≡◌, ℕ, ℤ, ◌<◌, Bool, true, ◌&&◌, nat_lt, Some, List, [], length, filter, map, take, slice_get, slice_index_or}
+use Rattle.std.proofs.Math.Bool.{not}
+use Rattle.std.specs.List.{AllByRecursion}
+use Rattle.std.specs.Option.{option_and_then, option_map_or, option_to_list}
+use Rattle.rx_event.specs.declared.mail.Mail.{Mail}
+use Rattle.rx_event.specs.declared.event.Event.{Event}
+use Rattle.rx_event.specs.Tree.{is_open, places}
+use Rattle.rx_event.specs.Climb.{stop_at}
+use Rattle.rx_event.specs.Notes.{notes, mail_of, told}
+use Rattle.rx_picture.specs.declared.points.Point.{Point}
+
+-- marbles -----------------------------------------------------------------------------------------
+
+-- the lane of whom the note goes to is shown, and the place of its event
+abbrev pub is_marble : (ℕ → Bool) → (ℕ → Bool) → Mail → Bool
+is_marble lane place m = lane m.to && place m.place
+
+-- what was told, in order, so far as it is shown
+abbrev pub marbles : (ℕ → Bool) → (ℕ → Bool) → List Event → List Mail
+marbles lane place h = filter (is_marble lane place) (notes h)
+
+-- places ------------------------------------------------------------------------------------------
+
+-- one point for each place that is shown, by rising number, with its event
+pub record ArePoints (h : List Event) (place : ℕ → Bool) (points : List Point) : Type 0 where
+  pub numbers : map (λ p. p.place) points ≡ filter place (places h)
+  pub each : AllByRecursion (λ p. slice_get h p.place ≡ Some p.event) points
+
+-- the parts of it -----------------------------------------------------------------------------------
+
+-- after these events a node is open where its line has not ended
+pub record AreEndsOf (past : List Event) (ends : List ℕ) : Type 0 where
+  pub each : (n : ℕ) → n < length past → is_open past n ≡ not (nat_lt (slice_index_or ends n 0) (length past))
+
+-- what an item tells at the node, where the lane is shown of whom it goes to
+abbrev pub told_at : (ℕ → Bool) → List Event → ℤ → ℕ → List Mail
+told_at lane past value n = filter (λ m. lane m.to) (option_to_list (option_and_then (told (length past) value) (stop_at past n)))
+
+-- what the event at the place tells, where the lane is shown of whom it goes to
+abbrev pub mail_told : (ℕ → Bool) → List Event → ℕ → List Mail
+mail_told lane h n = filter (λ m. lane m.to) (option_map_or (mail_of (take n h)) (slice_get h n) [])
+
+-- the point of the place, which is shown
+pub record IsPointAt (h : List Event) (place : ℕ → Bool) (n : ℕ) (point : Point) : Type 0 where
+  pub number : point.place ≡ n
+  pub shown_here : place n ≡ true
+  pub is : slice_get h n ≡ Some point.event

@@ -1,0 +1,105 @@
+//! The place at which each resource is removed and taken, and at which each lease is returned.
+
+ghost use Rattle.std.specs.Prelude.{◌≡◌, IfOk, length, replicate, slice_get, slice_index_or};
+ghost use Rattle.std.specs.Option.{option_and_then};
+ghost use Rattle.rx_event.specs.Events.{removed_of, returned_of, taken_of};
+ghost use Rattle.rx_picture.specs.Tables.{AreTurns, noted, was_removed, was_returned, was_taken};
+
+use rx_event::Event;
+use std::alloc::{AllocError, Global};
+
+/// A list of this many times the value.
+pub fn filled(alloc: Global, value: usize, size: usize) -> Result<Vec<usize>, AllocError>
+    ensures { IfOk result (λ v. v.items ≡ replicate size value) }
+{
+    Ok(vec![in alloc; value; size]?)
+}
+
+/// The value at this place of the list, and 0 past its end.
+pub fn value_at(table: &[usize], n: u64) -> usize
+    ensures { result ≡ slice_index_or table.now n 0 }
+{
+    let n = n as usize;
+    if n < table.len() { table[n] } else { 0 }
+}
+
+/// Notes the place for the number, if there is one, the list has it, and no place was noted for it:
+/// what stands there then is the list's length.
+pub fn note(table: &mut Vec<usize>, key: Option<u64>, place: usize)
+    ensures { table.new.items ≡ noted table.old.items key place }
+{
+    if let Some(n) = key {
+        let n = n as usize;
+        if n < table.len() && table[n] == table.len() {
+            table[n] = place;
+        }
+    }
+}
+
+/// The resource that the event at the place removes.
+fn removed_at(events: &[Event], place: usize) -> Option<u64>
+    ensures { result ≡ option_and_then removed_of (slice_get events.now place) }
+{
+    match events.get(place).copied() {
+        Some(event) => event.removed(),
+        None => None,
+    }
+}
+
+/// The lease that the event at the place returns.
+fn returned_at(events: &[Event], place: usize) -> Option<u64>
+    ensures { result ≡ option_and_then returned_of (slice_get events.now place) }
+{
+    match events.get(place).copied() {
+        Some(event) => event.returned(),
+        None => None,
+    }
+}
+
+/// The resource that the event at the place hands out.
+fn taken_at(events: &[Event], place: usize) -> Option<u64>
+    ensures { result ≡ option_and_then taken_of (slice_get events.now place) }
+{
+    match events.get(place).copied() {
+        Some(event) => event.taken(),
+        None => None,
+    }
+}
+
+/// By resource: the place of the first event that removes it, and the number of events where none
+/// does.
+pub fn removals(alloc: Global, events: &[Event]) -> Result<Vec<usize>, AllocError>
+    ensures { IfOk result (λ v. AreTurns events.now was_removed (length events.now) v.items) }
+{
+    let mut table = filled(alloc, events.len(), events.len())?;
+    for place in 0..events.len() {
+        let key = removed_at(events, place);
+        note(&mut table, key, place);
+    }
+    Ok(table)
+}
+
+/// By lease: the place of the first event that returns it, and the number of events where none does.
+pub fn returns(alloc: Global, events: &[Event]) -> Result<Vec<usize>, AllocError>
+    ensures { IfOk result (λ v. AreTurns events.now was_returned (length events.now) v.items) }
+{
+    let mut table = filled(alloc, events.len(), events.len())?;
+    for place in 0..events.len() {
+        let key = returned_at(events, place);
+        note(&mut table, key, place);
+    }
+    Ok(table)
+}
+
+/// By resource: the place of the first event that takes it, and the number of events where none
+/// does.
+pub fn takings(alloc: Global, events: &[Event]) -> Result<Vec<usize>, AllocError>
+    ensures { IfOk result (λ v. AreTurns events.now was_taken (length events.now) v.items) }
+{
+    let mut table = filled(alloc, events.len(), events.len())?;
+    for place in 0..events.len() {
+        let key = taken_at(events, place);
+        note(&mut table, key, place);
+    }
+    Ok(table)
+}

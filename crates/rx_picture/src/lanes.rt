@@ -1,0 +1,32 @@
+//! Which rows are shown: those that lie in a lane which is.
+
+ghost use Rattle.std.specs.Prelude.{◌≡◌, IfOk, length};
+ghost use Rattle.rx_picture.specs.Choice.{AreMarks, marked};
+ghost use Rattle.rx_picture.specs.Drawn.{is_rowed_by};
+
+use crate::choice::is_marked;
+use rx_event::Event;
+use std::alloc::{AllocError, Global};
+
+/// Whether the lane is marked in which the row of the event at the place lies.
+fn is_lane_marked(events: &[Event], shown: &[bool], n: usize) -> bool
+    ensures { result ≡ is_rowed_by (marked shown.now) events.now n }
+{
+    match events.get(n).copied() {
+        Some(Event::Lease(resource)) => is_marked(shown, resource as usize),
+        Some(_) => is_marked(shown, n),
+        None => false,
+    }
+}
+
+/// Marks the rows that are shown, by the marks of the lanes that are.
+pub fn row_marks(alloc: Global, events: &[Event], shown: &[bool]) -> Result<Vec<bool>, AllocError>
+    ensures { IfOk result (λ v. AreMarks v.items (length events.now) (is_rowed_by (marked shown.now) events.now)) }
+{
+    let mut marks = Vec::new(alloc);
+    for n in 0..events.len() {
+        let mark = is_lane_marked(events, shown, n);
+        marks.push(mark)?;
+    }
+    Ok(marks)
+}

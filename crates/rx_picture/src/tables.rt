@@ -1,0 +1,105 @@
+//! What is known of a whole history, by number.
+
+ghost use Rattle.std.specs.Prelude.{◌≡◌, ◌<◌, IfOk, length, slice_get};
+ghost use Rattle.rx_event.specs.Events.{makes_resource};
+ghost use Rattle.rx_event.specs.Tree.{at};
+ghost use Rattle.rx_picture.specs.Rows.{is_drawn, is_left};
+ghost use Rattle.rx_picture.specs.Choice.{AreMarks};
+ghost use Rattle.rx_picture.specs.Tables.{AreTables, AreTurns, AreLines, was_taken};
+
+use crate::firsts::{removals, returns, takings, value_at};
+use crate::lines::line_ends;
+use crate::shut::shuttings;
+use rx_event::Event;
+use std::alloc::{AllocError, Global};
+
+/// By number: the place of an event, and the number of events where there is none.
+#[derive(Drop)]
+pub struct Tables {
+    /// Where the resource is removed.
+    pub removed: Vec<usize>,
+    /// Where the lease is returned.
+    pub returned: Vec<usize>,
+    /// Where the resource is handed out.
+    pub taken: Vec<usize>,
+    /// Where the node is closed.
+    pub ends: Vec<usize>,
+}
+
+/// The tables of the events.
+pub fn tables_of(alloc: Global, events: &[Event]) -> Result<Tables, AllocError>
+    ensures { IfOk result (λ t. AreTables events.now t) }
+{
+    let shut = shuttings(alloc, events)?;
+    let ends = line_ends(alloc, events, &shut)?;
+    let removed = removals(alloc, events)?;
+    let returned = returns(alloc, events)?;
+    let taken = takings(alloc, events)?;
+    Ok(Tables {
+        removed,
+        returned,
+        taken,
+        ends,
+    })
+}
+
+/// Whether the event at the place makes something that is drawn.
+fn is_drawn_at(events: &[Event], n: usize) -> bool
+    ensures { result ≡ at is_drawn events.now n }
+{
+    match events.get(n).copied() {
+        Some(event) => event.makes_node() || event.makes_hub() || event.makes_resource(),
+        None => false,
+    }
+}
+
+/// Whether the event at the place makes a resource.
+fn is_resource_at(events: &[Event], n: usize) -> bool
+    ensures { result ≡ at makes_resource events.now n }
+{
+    match events.get(n).copied() {
+        Some(event) => event.makes_resource(),
+        None => false,
+    }
+}
+
+/// Whether number `n` leaks: an open node, or a resource that was never handed out.
+fn is_left(events: &[Event], taken: &[usize], ends: &[usize], n: usize) -> bool
+    requires taken { AreTurns events.now was_taken (length events.now) taken.now }
+    requires ends { AreLines events.now (length events.now) ends.now }
+    requires within { n < length events.now }
+    ensures { result ≡ is_left events.now n }
+{
+    if value_at(ends, n as u64) >= events.len() {
+        return true;
+    }
+    if value_at(taken, n as u64) < events.len() {
+        return false;
+    }
+    is_resource_at(events, n)
+}
+
+/// Marks what leaks.
+pub fn left_marks(alloc: Global, events: &[Event], tables: &Tables) -> Result<Vec<bool>, AllocError>
+    requires { AreTables events.now tables.now }
+    ensures { IfOk result (λ v. AreMarks v.items (length events.now) (is_left events.now)) }
+{
+    let mut marks = Vec::new(alloc);
+    for n in 0..events.len() {
+        let mark = is_left(events, &tables.taken, &tables.ends, n);
+        marks.push(mark)?;
+    }
+    Ok(marks)
+}
+
+/// Marks what is drawn: nodes, hubs and resources.
+pub fn drawn_marks(alloc: Global, events: &[Event]) -> Result<Vec<bool>, AllocError>
+    ensures { IfOk result (λ v. AreMarks v.items (length events.now) (at is_drawn events.now)) }
+{
+    let mut marks = Vec::new(alloc);
+    for n in 0..events.len() {
+        let mark = is_drawn_at(events, n);
+        marks.push(mark)?;
+    }
+    Ok(marks)
+}

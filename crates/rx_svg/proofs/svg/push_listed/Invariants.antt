@@ -1,0 +1,7 @@
+use Rattle.std.proofs.Common.{◌≡◌, ◌++◌, take, string_bytes}
+use Rattle.std.specs.Prelude.{flat_map}
+use Rattle.rx_svg.specs.Page.{listed_text}
+use Rattle.rx_svg.proofs.svg.push_listed.Given as goal
+
+abbrev pub invariant-loop-n : goal.invariant-loop-n
+invariant-loop-n l = string_bytes l.text ≡ string_bytes l.initial.text ++ flat_map listed_text (take l.n-index l.numbers)

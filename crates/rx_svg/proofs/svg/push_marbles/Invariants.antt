@@ -1,0 +1,7 @@
+use Rattle.std.proofs.Common.{◌≡◌, ◌++◌, take, string_bytes}
+use Rattle.std.specs.Prelude.{flat_map}
+use Rattle.rx_svg.specs.Lane.{told_text}
+use Rattle.rx_svg.proofs.svg.push_marbles.Given as goal
+
+abbrev pub invariant-loop-mail : goal.invariant-loop-mail
+invariant-loop-mail l = string_bytes l.text ≡ string_bytes l.initial.text ++ flat_map (told_text l.drawing) (take l.mail-index l.marbles)

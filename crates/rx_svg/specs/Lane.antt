@@ -1,0 +1,107 @@
+-- What stands in the lanes of a picture.
+use Rattle.std.specs.Prelude.{ℕ, ◌+◌, ◌*◌, ◌==◌, Bool, ◌&&◌, min, nat_lt, if◌then◌else◌, List, [], ◌∷◌, ◌++◌, codes, length, slice_index_or}
+use Rattle.rx_note.specs.declared.note.Terminal.TheVariants.{Completed, Error}
+use Rattle.rx_event.specs.declared.event.Event.{Event}
+use Rattle.rx_event.specs.declared.event.Event.TheVariants.{Accept, Lease, Use}
+use Rattle.rx_event.specs.declared.mail.Mail.{Mail}
+use Rattle.rx_picture.specs.declared.row.Ending.{Ending}
+use Rattle.rx_picture.specs.declared.row.Ending.TheVariants.{Lasting, Ended, Disposed}
+use Rattle.rx_picture.specs.declared.row.Shape.{Shape}
+use Rattle.rx_picture.specs.declared.row.Shape.TheVariants.{Node, Hub, Resource, Loan}
+use Rattle.rx_picture.specs.declared.row.Row.{Row}
+use Rattle.rx_picture.specs.declared.points.Point.{Point}
+use Rattle.rx_picture.specs.declared.drawing.Drawing.{Drawing}
+use Rattle.rx_picture.specs.Rows.{lane_of}
+use Rattle.rx_svg.specs.Parts.{words, number, text_of}
+use Rattle.rx_svg.specs.Label.{event_text}
+use Rattle.rx_svg.specs.Stroke.{line_text, bar_text, mark_text, code_text, leak_text, marble_text, bar_shape, cross_shape, ring_shape, diamond_shape, tick_shape}
+
+-- where things stand --------------------------------------------------------------------------------
+
+-- a place, from the left
+abbrev pub x_of : Drawing → ℕ → ℕ
+x_of d place = 350 + 20 * min (slice_index_or d.columns.items place 0) 2000
+
+-- the lane of a number, from the top
+abbrev pub y_of : Drawing → ℕ → ℕ
+y_of d n = 48 + 24 * min (slice_index_or d.lanes.items n 0) 200
+
+-- the number has a lane that is shown
+abbrev pub has_lane : Drawing → ℕ → Bool
+has_lane d n = nat_lt n (length d.lanes.items) && nat_lt (slice_index_or d.lanes.items n 0) (slice_index_or d.lanes.items (n + 1) 0)
+
+-- deeper nodes begin further to the right, and a resource one step behind its node
+abbrev pub steps_of : Drawing → ℕ → Event → ℕ
+steps_of d n (Accept node tag) = min (slice_index_or d.levels.items node 0) 8 + 1
+steps_of d n _ = min (slice_index_or d.levels.items n 0) 8
+
+-- a row -------------------------------------------------------------------------------------------
+
+-- what a lane shows
+unfoldable pub label_front : ℕ → ℕ → ℕ → List ℕ
+label_front x y n =
+    text_of (words (codes "<text x=\"") ∷ number x ∷ words (codes "\" y=\"") ∷ number y ∷ words (codes "\" dy=\"4\">") ∷ number n ∷ [])
+
+unfoldable pub label_text : ℕ → ℕ → ℕ → Event → List ℕ
+label_text x y n made = label_front x y n ++ event_text made ++ codes "</text>\n"
+
+-- a bar for completed, a cross for an error with its code, an open ring for a disposal, nothing where it is still open
+abbrev pub ending_text : ℕ → ℕ → ℕ → Ending → List ℕ
+ending_text x y at Lasting = []
+ending_text x y at (Ended Completed) = mark_text (codes "mark") bar_shape (codes "completed") x y at
+ending_text x y at (Ended (Error code)) = mark_text (codes "mark") cross_shape (codes "ended with an error") x y at ++ code_text x y code
+ending_text x y at Disposed = mark_text (codes "ring") ring_shape (codes "closed") x y at
+
+-- the line of a node that was open
+abbrev pub life_text : Drawing → ℕ → ℕ → ℕ → ℕ → Ending → List ℕ
+life_text d y n until end ending =
+    if nat_lt n until
+    then line_text (codes "life") (codes "open") (x_of d n) (x_of d until) y n until end ++ ending_text (x_of d until) y until ending
+    else []
+
+-- a full bar while the node owns it, a lower one while a lease is out, and a hollow one while neither is said of it
+abbrev pub stretch_text : Drawing → List ℕ → List ℕ → List ℕ → List ℕ → ℕ → ℕ → ℕ → ℕ → List ℕ
+stretch_text d class title above height y after until end =
+    if nat_lt after until then bar_text class title above height (x_of d after) (x_of d until) y after until end else []
+
+abbrev pub owned_text : Drawing → ℕ → ℕ → ℕ → ℕ → List ℕ
+owned_text d = stretch_text d (codes "held") (codes "held by its node") (codes "5") (codes "10")
+
+abbrev pub loan_text : Drawing → ℕ → ℕ → ℕ → ℕ → List ℕ
+loan_text d = stretch_text d (codes "held") (codes "held by a lease") (codes "3") (codes "6")
+
+abbrev pub wait_text : Drawing → ℕ → ℕ → ℕ → ℕ → List ℕ
+wait_text d = stretch_text d (codes "waiting") (codes "waits, but where a lease holds it,") (codes "5") (codes "10")
+
+-- a diamond where it is released, an arrow where it never was
+abbrev pub release_text : Drawing → ℕ → ℕ → ℕ → List ℕ
+release_text d y taken end =
+    if taken == end then leak_text (x_of d end) y else mark_text (codes "mark") diamond_shape (codes "released") (x_of d taken) y taken
+
+abbrev pub shape_text : Drawing → ℕ → ℕ → ℕ → Shape → List ℕ
+shape_text d y n end (Node until ending) = life_text d y n until end ending
+shape_text d y n end Hub = line_text (codes "hub") (codes "a hub") (x_of d n) (x_of d end) y n end end
+shape_text d y n end (Resource after until taken) =
+    wait_text d y n after end ++ wait_text d y until taken end ++ owned_text d y after until end ++ release_text d y taken end
+shape_text d y n end (Loan resource until) = loan_text d y n until end
+
+-- a lease has no label, and lies in the lane of its resource
+abbrev pub name_text : Drawing → ℕ → Event → List ℕ
+name_text d n (Lease r) = []
+name_text d n made = label_text (10 * steps_of d n made) (y_of d n) n made
+
+unfoldable pub row_text : Drawing → ℕ → Row → List ℕ
+row_text d end row = name_text d row.number row.made ++ shape_text d (y_of d (lane_of row.number row.made)) row.number end row.shape
+
+-- marks -------------------------------------------------------------------------------------------
+
+-- a tick where a resource is used that has a lane
+abbrev pub use_text : Drawing → ℕ → Event → List ℕ
+use_text d place (Use r) = if has_lane d r then mark_text (codes "tick") tick_shape (codes "used") (x_of d place) (y_of d r) place else []
+use_text d place _ = []
+
+unfoldable pub tick_text : Drawing → Point → List ℕ
+tick_text d point = use_text d point.place point.event
+
+unfoldable pub told_text : Drawing → Mail → List ℕ
+told_text d m = marble_text (x_of d m.place) (y_of d m.to) m.place m.to m.note

@@ -1,0 +1,6 @@
+pub mod Parts
+pub mod Label
+pub mod Said
+pub mod Stroke
+pub mod Lane
+pub mod Page

@@ -1,0 +1,84 @@
+-- The SVG document of a drawing, with the verdict of the audit.
+use Rattle.std.specs.Prelude.{◌≡◌, ℕ, ◌+◌, ◌*◌, min, List, [], ◌∷◌, ◌++◌, codes, flat_map, length, slice_index_or}
+use Rattle.rx_event.specs.declared.event.Event.{Event}
+use Rattle.rx_audit.specs.declared.verdict.Verdict.{Verdict}
+use Rattle.rx_audit.specs.declared.verdict.Verdict.TheVariants.{Lawful, Unlawful, Unsettled}
+use Rattle.rx_audit.specs.Verdict.{IsVerdict}
+use Rattle.rx_picture.specs.declared.points.Point.{Point}
+use Rattle.rx_picture.specs.declared.drawing.Drawing.{Drawing}
+use Rattle.rx_picture.specs.Drawn.{IsDrawing}
+use Rattle.rx_svg.specs.Parts.{words, number, text_of}
+use Rattle.rx_svg.specs.Stroke.{column_text, broken_text}
+use Rattle.rx_svg.specs.Lane.{x_of, row_text, tick_text, told_text}
+
+-- how many lanes and places are shown
+abbrev pub lanes_shown : Drawing → ℕ → ℕ
+lanes_shown d end = min (slice_index_or d.lanes.items end 0) 200
+
+abbrev pub places_shown : Drawing → ℕ → ℕ
+places_shown d end = min (slice_index_or d.columns.items end 0) 2000
+
+-- all lanes together are so high
+abbrev pub height_of : Drawing → ℕ → ℕ
+height_of d end = 32 + 24 * lanes_shown d end
+
+abbrev pub style_text : List ℕ
+style_text = codes "<style>text{font:12px monospace;fill:#222}.axis{font-size:8px;text-anchor:middle}.value{font-size:10px;text-anchor:middle}path{stroke:#222;stroke-width:2;fill:none}.place{stroke:#ddd;stroke-width:1;pointer-events:all}.hub{stroke-dasharray:2 4}.held,.leak{fill:#222}.waiting{fill:#fff;stroke-dasharray:3 3}.ring,.marble{fill:#fff}.tick{stroke:#fff}.broken{stroke-width:5;stroke-dasharray:9 5}@media(prefers-color-scheme:dark){svg{background:#111}text{fill:#eee}path{stroke:#eee}.place{stroke:#333}.held,.leak{fill:#eee}.waiting,.ring,.marble{fill:#111}.tick{stroke:#111}}</style>\n"
+
+unfoldable pub head_text : ℕ → ℕ → List ℕ
+head_text width height =
+    text_of (words (codes "<svg xmlns=\"http://www.w3.org/2000/svg\" width=\"") ∷ number width ∷ words (codes "\" height=\"") ∷ number height
+    ∷ words (codes "\" viewBox=\"0 0 ") ∷ number width ∷ words (codes " ") ∷ number height ∷ words (codes "\">\n") ∷ words style_text ∷ [])
+
+unfoldable pub point_text : Drawing → ℕ → Point → List ℕ
+point_text d height point = column_text (x_of d point.place) height point.place point.event
+
+-- what stands under the picture -------------------------------------------------------------------
+
+-- the line of this number under the lanes, up to its words
+unfoldable pub below_text : ℕ → List ℕ
+below_text y = text_of (words (codes "<text x=\"10\" y=\"") ∷ number y ∷ words (codes "\">") ∷ [])
+
+unfoldable pub listed_text : ℕ → List ℕ
+listed_text n = text_of (words (codes " ") ∷ number n ∷ [])
+
+unfoldable pub verdict_text : Verdict → List ℕ
+verdict_text (Lawful live held waiting) =
+    codes "lawful; open:" ++ flat_map listed_text live.items ++ codes "; held:" ++ flat_map listed_text held.items
+    ++ codes "; waiting:" ++ flat_map listed_text waiting.items
+verdict_text (Unlawful place) = text_of (words (codes "unlawful: event ") ∷ number place ∷ words (codes " may not follow those before it") ∷ [])
+verdict_text Unsettled = codes "unsettled: an operator has something left to do"
+
+abbrev pub break_text : Drawing → ℕ → Verdict → List ℕ
+break_text d height (Unlawful place) = broken_text (x_of d place) height place
+break_text d height _ = []
+
+unfoldable pub shares_text : Drawing → ℕ → List ℕ
+shares_text d end =
+    text_of (number (lanes_shown d end) ∷ words (codes " of ") ∷ number d.all ∷ words (codes " lanes and ") ∷ number (places_shown d end)
+    ∷ words (codes " of ") ∷ number end ∷ words (codes " places are drawn") ∷ [])
+
+unfoldable pub under_text : Drawing → ℕ → ℕ → Verdict → List ℕ
+under_text d end height verdict =
+    below_text (height + 48) ++ verdict_text verdict ++ codes "</text>\n" ++ below_text (height + 72) ++ shares_text d end ++ codes "</text>\n"
+
+-- the whole ---------------------------------------------------------------------------------------
+
+unfoldable pub lanes_text : Drawing → ℕ → ℕ → Verdict → List ℕ
+lanes_text d end height verdict =
+    flat_map (point_text d height) d.points.items ++ flat_map (row_text d end) d.rows.items ++ flat_map (tick_text d) d.points.items
+    ++ flat_map (told_text d) d.marbles.items ++ break_text d height verdict
+
+-- the document of a drawing of so many events
+unfoldable pub svg_text : Drawing → ℕ → Verdict → List ℕ
+svg_text d end verdict =
+    head_text (x_of d end + 50) (height_of d end + 84) ++ lanes_text d end (height_of d end) verdict
+    ++ under_text d end (height_of d end) verdict ++ codes "</svg>\n"
+
+-- the text is the document of the drawing of these events, with the verdict on them
+pub record IsPicture (h : List Event) (text : List ℕ) : Type 0 where
+  pub drawing : Drawing
+  pub is : IsDrawing h drawing
+  pub verdict : Verdict
+  pub judges : IsVerdict h verdict
+  pub reads : text ≡ svg_text drawing (length h) verdict

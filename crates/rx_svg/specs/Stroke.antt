@@ -1,0 +1,124 @@
+-- The elements of a picture, each as its text. Where one points, a browser shows the title.
+use Rattle.std.specs.Prelude.{ℕ, ℤ, ◌==◌, List, [], ◌∷◌, ◌++◌, codes, if◌then◌else◌}
+use Rattle.rx_note.specs.declared.note.Note.{Note}
+use Rattle.rx_note.specs.declared.note.Note.TheVariants.{Next, Project, End}
+use Rattle.rx_event.specs.declared.event.Event.{Event}
+use Rattle.rx_svg.specs.Parts.{words, number, signed, text_of}
+use Rattle.rx_svg.specs.Label.{event_text}
+use Rattle.rx_svg.specs.Said.{note_text}
+
+-- stretches ---------------------------------------------------------------------------------------
+
+-- what ends with the history has no event that ends it
+unfoldable pub until_text : ℕ → ℕ → List ℕ
+until_text until end = if until == end then codes " on" else text_of (words (codes ", until event ") ∷ number until ∷ [])
+
+-- a line between two places: its front, and the whole
+unfoldable pub line_front : List ℕ → List ℕ → ℕ → ℕ → ℕ → ℕ → List ℕ
+line_front class title from to y after =
+    text_of (words (codes "<path class=\"") ∷ words class ∷ words (codes "\" d=\"M") ∷ number from ∷ words (codes " ") ∷ number y
+    ∷ words (codes "H") ∷ number to ∷ words (codes "\"><title>") ∷ words title ∷ words (codes " from event ") ∷ number after ∷ [])
+
+unfoldable pub line_text : List ℕ → List ℕ → ℕ → ℕ → ℕ → ℕ → ℕ → ℕ → List ℕ
+line_text class title from to y after until end = line_front class title from to y after ++ until_text until end ++ codes "</title></path>\n"
+
+-- a bar between two places, so high above its middle and so high in all
+unfoldable pub bar_front : List ℕ → List ℕ → List ℕ → List ℕ → ℕ → ℕ → ℕ → ℕ → List ℕ
+bar_front class title above height from to y after =
+    text_of (words (codes "<path class=\"") ∷ words class ∷ words (codes "\" d=\"M") ∷ number from ∷ words (codes " ") ∷ number y
+    ∷ words (codes "m0 -") ∷ words above ∷ words (codes "H") ∷ number to ∷ words (codes "v") ∷ words height ∷ words (codes "H") ∷ number from
+    ∷ words (codes "z\"><title>") ∷ words title ∷ words (codes " from event ") ∷ number after ∷ [])
+
+unfoldable pub bar_text : List ℕ → List ℕ → List ℕ → List ℕ → ℕ → ℕ → ℕ → ℕ → ℕ → ℕ → List ℕ
+bar_text class title above height from to y after until end =
+    bar_front class title above height from to y after ++ until_text until end ++ codes "</title></path>\n"
+
+-- marks -------------------------------------------------------------------------------------------
+
+-- a mark of this shape, and what its event did
+unfoldable pub mark_text : List ℕ → List ℕ → List ℕ → ℕ → ℕ → ℕ → List ℕ
+mark_text class shape title x y at =
+    text_of (words (codes "<path class=\"") ∷ words class ∷ words (codes "\" d=\"M") ∷ number x ∷ words (codes " ") ∷ number y ∷ words shape
+    ∷ words (codes "\"><title>") ∷ words title ∷ words (codes " by event ") ∷ number at ∷ words (codes "</title></path>\n") ∷ [])
+
+abbrev pub bar_shape : List ℕ
+bar_shape = codes "m0 -8v16"
+
+abbrev pub cross_shape : List ℕ
+cross_shape = codes "m-6 -6l12 12m0 -12l-12 12"
+
+abbrev pub ring_shape : List ℕ
+ring_shape = codes "m-6 0a6 6 0 1 0 12 0a6 6 0 1 0 -12 0z"
+
+abbrev pub diamond_shape : List ℕ
+diamond_shape = codes "m-7 0l7 -7l7 7l-7 7z"
+
+abbrev pub tick_shape : List ℕ
+tick_shape = codes "m0 -10v20"
+
+abbrev pub flag_shape : List ℕ
+flag_shape = codes "m-5 -11h10l-5 6z"
+
+-- a text beside a place
+unfoldable pub code_text : ℕ → ℕ → ℕ → List ℕ
+code_text x y code =
+    text_of (words (codes "<text x=\"") ∷ number x ∷ words (codes "\" y=\"") ∷ number y ∷ words (codes "\" dx=\"10\" dy=\"4\">") ∷ number code
+    ∷ words (codes "</text>\n") ∷ [])
+
+-- the arrow of a resource that was never released
+unfoldable pub leak_text : ℕ → ℕ → List ℕ
+leak_text x y =
+    text_of (words (codes "<path class=\"leak\" d=\"M") ∷ number x ∷ words (codes " ") ∷ number y
+    ∷ words (codes "m0 -9l15 9l-15 9z\"><title>never released</title></path>\n") ∷ [])
+
+-- marbles -----------------------------------------------------------------------------------------
+
+-- a circle for an item, a diamond for one that is to be projected, a flag for an end
+abbrev pub marble_shape : Note → List ℕ
+marble_shape (Next value) = ring_shape
+marble_shape (Project value) = diamond_shape
+marble_shape (End t) = flag_shape
+
+-- the value above it
+unfoldable pub above_text : ℕ → ℕ → ℤ → List ℕ
+above_text x y value =
+    text_of (words (codes "<text class=\"value\" x=\"") ∷ number x ∷ words (codes "\" y=\"") ∷ number y ∷ words (codes "\" dy=\"-9\">")
+    ∷ signed value ∷ words (codes "</text>\n") ∷ [])
+
+abbrev pub value_text : ℕ → ℕ → Note → List ℕ
+value_text x y (Next value) = above_text x y value
+value_text x y (Project value) = above_text x y value
+value_text x y (End t) = []
+
+unfoldable pub marble_front : ℕ → ℕ → ℕ → List ℕ → List ℕ
+marble_front x y to shape =
+    text_of (words (codes "<path class=\"marble\" d=\"M") ∷ number x ∷ words (codes " ") ∷ number y ∷ words shape
+    ∷ words (codes "\"><title>") ∷ number to ∷ words (codes " was told") ∷ [])
+
+unfoldable pub by_text : ℕ → List ℕ
+by_text at = text_of (words (codes " by event ") ∷ number at ∷ words (codes "</title></path>\n") ∷ [])
+
+unfoldable pub marble_text : ℕ → ℕ → ℕ → ℕ → Note → List ℕ
+marble_text x y at to note = marble_front x y to (marble_shape note) ++ note_text note ++ by_text at ++ value_text x y note
+
+-- places ------------------------------------------------------------------------------------------
+
+-- the column of a place, so high, and its number above it
+unfoldable pub column_front : ℕ → ℕ → ℕ → List ℕ
+column_front x height place =
+    text_of (words (codes "<path class=\"place\" d=\"M") ∷ number x ∷ words (codes " 28m-10 0h20v") ∷ number height
+    ∷ words (codes "h-20z\"><title>") ∷ number place ∷ words (codes ":") ∷ [])
+
+unfoldable pub axis_text : ℕ → ℕ → List ℕ
+axis_text x place =
+    text_of (words (codes "</title></path>\n<text class=\"axis\" x=\"") ∷ number x ∷ words (codes "\" y=\"20\">") ∷ number place
+    ∷ words (codes "</text>\n") ∷ [])
+
+unfoldable pub column_text : ℕ → ℕ → ℕ → Event → List ℕ
+column_text x height place event = column_front x height place ++ event_text event ++ axis_text x place
+
+-- the line through all lanes at the place whose event may not stand there
+unfoldable pub broken_text : ℕ → ℕ → ℕ → List ℕ
+broken_text x height place =
+    text_of (words (codes "<path class=\"broken\" d=\"M") ∷ number x ∷ words (codes " 28v") ∷ number height
+    ∷ words (codes "\"><title>unlawful: event ") ∷ number place ∷ words (codes "</title></path>\n") ∷ [])

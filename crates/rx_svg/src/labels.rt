@@ -1,0 +1,95 @@
+//! What things are called in a picture, each written behind a text.
+
+ghost use Rattle.std.specs.Prelude.{◌≡◌, ◌++◌, string_bytes, OnOk};
+ghost use Rattle.rx_svg.specs.Label.{kind_text, place_text, mode_text, terminal_text, event_text};
+ghost use Rattle.rx_svg.specs.Said.{note_text};
+
+use rx_event::{Event, Kind, Mode, Place, Terminal};
+use rx_note::Note;
+use std::alloc::AllocError;
+
+#[tactic(auto, unfolding(crate::specs::Label::kind_text))]
+fn push_kind(text: &mut String, kind: Kind) -> Result<(), AllocError>
+    ensures { OnOk result (string_bytes text.new ≡ string_bytes text.old ++ kind_text kind) }
+{
+    match kind {
+        Kind::Leaf => text.push_str(" leaf"),
+        Kind::Pass => text.push_str(" mirror"),
+        Kind::Flat => text.push_str(" FlatMap"),
+        Kind::Switch => text.push_str(" Switch"),
+        Kind::Until => text.push_str(" TakeUntil"),
+        Kind::Sub(hub) => write!(text, " subscriber of hub {hub}"),
+    }
+}
+
+#[tactic(auto, unfolding(crate::specs::Label::place_text))]
+fn push_place(text: &mut String, place: Place) -> Result<(), AllocError>
+    ensures { OnOk result (string_bytes text.new ≡ string_bytes text.old ++ place_text place) }
+{
+    match place {
+        Place::Root => text.push_str(", root"),
+        Place::Source(p) => write!(text, ", source of {p}"),
+        Place::Inner(p) => write!(text, ", inner of {p}"),
+        Place::Notifier(p) => write!(text, ", notifier of {p}"),
+    }
+}
+
+#[tactic(auto, unfolding(crate::specs::Label::mode_text))]
+fn push_mode(text: &mut String, mode: Mode) -> Result<(), AllocError>
+    ensures { OnOk result (string_bytes text.new ≡ string_bytes text.old ++ mode_text mode) }
+{
+    match mode {
+        Mode::Auto => text.push_str(" hub, RefCount"),
+        Mode::Manual => text.push_str(" hub"),
+    }
+}
+
+#[tactic(auto, unfolding(crate::specs::Label::terminal_text))]
+fn push_terminal(text: &mut String, terminal: Terminal) -> Result<(), AllocError>
+    ensures { OnOk result (string_bytes text.new ≡ string_bytes text.old ++ terminal_text terminal) }
+{
+    match terminal {
+        Terminal::Completed => text.push_str(" completed"),
+        Terminal::Error(code) => write!(text, " error {code}"),
+    }
+}
+
+/// What the event did; of one that makes something, what it made.
+#[tactic(auto, unfolding(crate::specs::Label::event_text))]
+pub fn push_event(text: &mut String, event: Event) -> Result<(), AllocError>
+    ensures { OnOk result (string_bytes text.new ≡ string_bytes text.old ++ event_text event) }
+{
+    match event {
+        Event::Open { place, kind } => {
+            push_kind(text, kind)?;
+            push_place(text, place)
+        }
+        Event::Hub(mode) => push_mode(text, mode),
+        Event::Connect(hub) => write!(text, " connection of hub {hub}"),
+        Event::Accept(node, tag) => write!(text, " resource of {node}, tag {tag}"),
+        Event::Use(r) => write!(text, " use of {r}"),
+        Event::Remove(r) => write!(text, " removal of {r}"),
+        Event::Lease(r) => write!(text, " lease of {r}"),
+        Event::Return(l) => write!(text, " return of lease {l}"),
+        Event::Item(n, value) => write!(text, " item {value} of {n}"),
+        Event::Decline(f) => write!(text, " no inner for an item of {f}"),
+        Event::End(n, terminal) => {
+            write!(text, " end of {n}:")?;
+            push_terminal(text, terminal)
+        }
+        Event::Close(n) => write!(text, " closing of {n}"),
+        Event::Take(r) => write!(text, " release of {r}"),
+    }
+}
+
+/// What somebody was told.
+#[tactic(auto, unfolding(crate::specs::Said::note_text))]
+pub fn push_note(text: &mut String, note: Note) -> Result<(), AllocError>
+    ensures { OnOk result (string_bytes text.new ≡ string_bytes text.old ++ note_text note) }
+{
+    match note {
+        Note::Next(value) => write!(text, " next {value}"),
+        Note::Project(value) => write!(text, " project {value}"),
+        Note::End(terminal) => push_terminal(text, terminal),
+    }
+}

@@ -1,0 +1,354 @@
+//! What stands in the lanes of a picture, each written behind a text.
+
+ghost use Rattle.std.specs.Prelude.{◌≡◌, ◌++◌, ◌≤◌, ◌*◌, string_bytes, OnOk, slice_index_or};
+ghost use Rattle.rx_picture.specs.Rows.{lane_of};
+ghost use Rattle.rx_svg.specs.Lane.{x_of, y_of, has_lane, steps_of, label_front, label_text, ending_text, life_text, stretch_text, owned_text, loan_text, wait_text, release_text, shape_text, name_text, row_text, use_text, tick_text, told_text};
+
+use crate::labels::push_event;
+use crate::pieces::{Piece, push_pieces};
+use crate::strokes::{push_bar, push_code, push_leak, push_line, push_marble, push_mark};
+use rx_event::{Event, Mail, Terminal};
+use rx_picture::{Drawing, Ending, Point, Row, Shape};
+use std::alloc::AllocError;
+
+/// The value at this place of the list, and 0 past its end.
+pub fn value_at(table: &[usize], n: u64) -> usize
+    ensures { result ≡ slice_index_or table.now n 0 }
+{
+    let n = n as usize;
+    if n < table.len() { table[n] } else { 0 }
+}
+
+/// Where the place stands, from the left.
+pub fn x_of(drawing: &Drawing, place: u64) -> u64
+    ensures value { result ≡ x_of drawing.now place }
+    ensures few { result ≤ 40350 }
+{
+    350 + 20 * value_at(&drawing.columns, place).min(2000) as u64
+}
+
+/// Where the lane of the number stands, from the top.
+pub fn y_of(drawing: &Drawing, n: u64) -> u64
+    ensures { result ≡ y_of drawing.now n }
+{
+    48 + 24 * value_at(&drawing.lanes, n).min(200) as u64
+}
+
+/// Whether the number has a lane that is shown.
+fn has_lane(drawing: &Drawing, n: u64) -> bool
+    ensures { result ≡ has_lane drawing.now n }
+{
+    let lanes = drawing.lanes.as_slice();
+    n < lanes.len() as u64 && value_at(lanes, n) < value_at(lanes, n + 1)
+}
+
+/// How many steps from the left the text of the lane begins.
+fn steps_of(drawing: &Drawing, n: u64, made: Event) -> u64
+    ensures value { result ≡ steps_of drawing.now n made }
+    ensures few { result ≤ 9 }
+{
+    match made {
+        Event::Accept(node, _) => value_at(&drawing.levels, node).min(8) as u64 + 1,
+        _ => value_at(&drawing.levels, n).min(8) as u64,
+    }
+}
+
+/// The front of what a lane shows, up to what was made.
+#[tactic(auto, unfolding(crate::specs::Lane::label_front, crate::specs::Parts::text_of))]
+fn push_label_front(text: &mut String, x: u64, y: u64, n: u64) -> Result<(), AllocError>
+    ensures { OnOk result (string_bytes text.new ≡ string_bytes text.old ++ label_front x y n) }
+{
+    push_pieces(
+        text,
+        &[
+            Piece::Words("<text x=\""),
+            Piece::Number(x),
+            Piece::Words("\" y=\""),
+            Piece::Number(y),
+            Piece::Words("\" dy=\"4\">"),
+            Piece::Number(n),
+        ],
+    )
+}
+
+/// What a lane shows.
+#[tactic(auto, unfolding(crate::specs::Lane::label_text))]
+fn push_label(text: &mut String, x: u64, y: u64, n: u64, made: Event) -> Result<(), AllocError>
+    ensures { OnOk result (string_bytes text.new ≡ string_bytes text.old ++ label_text x y n made) }
+{
+    push_label_front(text, x, y, n)?;
+    push_event(text, made)?;
+    text.push_str("</text>\n")
+}
+
+/// How a node ends, where that is by an event.
+fn push_ending(text: &mut String, x: u64, y: u64, at: u64, ending: Ending) -> Result<(), AllocError>
+    ensures { OnOk result (string_bytes text.new ≡ string_bytes text.old ++ ending_text x y at ending) }
+{
+    match ending {
+        Ending::Lasting => Ok(()),
+        Ending::Ended(Terminal::Completed) => {
+            push_mark(text, "mark", "m0 -8v16", "completed", x, y, at)
+        }
+        Ending::Ended(Terminal::Error(code)) => {
+            let cross = "m-6 -6l12 12m0 -12l-12 12";
+            push_mark(text, "mark", cross, "ended with an error", x, y, at)?;
+            push_code(text, x, y, u64::from(code))
+        }
+        Ending::Disposed => {
+            let ring = "m-6 0a6 6 0 1 0 12 0a6 6 0 1 0 -12 0z";
+            push_mark(text, "ring", ring, "closed", x, y, at)
+        }
+    }
+}
+
+/// The line of a node that was open, and how it ends.
+fn push_life(
+    text: &mut String,
+    drawing: &Drawing,
+    y: u64,
+    n: u64,
+    until: u64,
+    end: u64,
+    ending: Ending,
+) -> Result<(), AllocError>
+    ensures { OnOk result (string_bytes text.new ≡ string_bytes text.old ++ life_text drawing.now y n until end ending) }
+{
+    if n >= until {
+        return Ok(());
+    }
+    let from = x_of(drawing, n);
+    let to = x_of(drawing, until);
+    push_line(text, "life", "open", from, to, y, n, until, end)?;
+    push_ending(text, to, y, until, ending)
+}
+
+/// A stretch of a bar, if it is one.
+fn push_stretch(
+    text: &mut String,
+    drawing: &Drawing,
+    class: &'static str,
+    title: &'static str,
+    above: &'static str,
+    height: &'static str,
+    y: u64,
+    after: u64,
+    until: u64,
+    end: u64,
+) -> Result<(), AllocError>
+    ensures { OnOk result (string_bytes text.new ≡ string_bytes text.old
+        ++ stretch_text drawing.now class.now title.now above.now height.now y after until end) }
+{
+    if after >= until {
+        return Ok(());
+    }
+    let from = x_of(drawing, after);
+    let to = x_of(drawing, until);
+    push_bar(
+        text, class, title, above, height, from, to, y, after, until, end,
+    )
+}
+
+/// The bar of a resource while its node owns it.
+fn push_owned(
+    text: &mut String,
+    drawing: &Drawing,
+    y: u64,
+    after: u64,
+    until: u64,
+    end: u64,
+) -> Result<(), AllocError>
+    ensures { OnOk result (string_bytes text.new ≡ string_bytes text.old ++ owned_text drawing.now y after until end) }
+{
+    push_stretch(
+        text,
+        drawing,
+        "held",
+        "held by its node",
+        "5",
+        "10",
+        y,
+        after,
+        until,
+        end,
+    )
+}
+
+/// The bar of a resource while a lease of it is out.
+fn push_loan(
+    text: &mut String,
+    drawing: &Drawing,
+    y: u64,
+    after: u64,
+    until: u64,
+    end: u64,
+) -> Result<(), AllocError>
+    ensures { OnOk result (string_bytes text.new ≡ string_bytes text.old ++ loan_text drawing.now y after until end) }
+{
+    push_stretch(
+        text,
+        drawing,
+        "held",
+        "held by a lease",
+        "3",
+        "6",
+        y,
+        after,
+        until,
+        end,
+    )
+}
+
+/// The bar of a resource while its node does not own it.
+fn push_wait(
+    text: &mut String,
+    drawing: &Drawing,
+    y: u64,
+    after: u64,
+    until: u64,
+    end: u64,
+) -> Result<(), AllocError>
+    ensures { OnOk result (string_bytes text.new ≡ string_bytes text.old ++ wait_text drawing.now y after until end) }
+{
+    let class = "waiting";
+    let title = "waits, but where a lease holds it,";
+    push_stretch(text, drawing, class, title, "5", "10", y, after, until, end)
+}
+
+/// Where a resource was released, or the arrow of one that never was.
+fn push_release(
+    text: &mut String,
+    drawing: &Drawing,
+    y: u64,
+    taken: u64,
+    end: u64,
+) -> Result<(), AllocError>
+    ensures { OnOk result (string_bytes text.new ≡ string_bytes text.old ++ release_text drawing.now y taken end) }
+{
+    let x = x_of(drawing, taken);
+    if taken == end {
+        return push_leak(text, x, y);
+    }
+    push_mark(
+        text,
+        "mark",
+        "m-7 0l7 -7l7 7l-7 7z",
+        "released",
+        x,
+        y,
+        taken,
+    )
+}
+
+/// What is drawn in a lane.
+fn push_shape(
+    text: &mut String,
+    drawing: &Drawing,
+    y: u64,
+    n: u64,
+    end: u64,
+    shape: Shape,
+) -> Result<(), AllocError>
+    ensures { OnOk result (string_bytes text.new ≡ string_bytes text.old ++ shape_text drawing.now y n end shape) }
+{
+    match shape {
+        Shape::Node { until, ending } => push_life(text, drawing, y, n, until, end, ending),
+        Shape::Hub => {
+            let from = x_of(drawing, n);
+            let to = x_of(drawing, end);
+            push_line(text, "hub", "a hub", from, to, y, n, end, end)
+        }
+        Shape::Resource {
+            owned_after,
+            owned_until,
+            taken,
+        } => {
+            push_wait(text, drawing, y, n, owned_after, end)?;
+            push_wait(text, drawing, y, owned_until, taken, end)?;
+            push_owned(text, drawing, y, owned_after, owned_until, end)?;
+            push_release(text, drawing, y, taken, end)
+        }
+        Shape::Loan { until, .. } => push_loan(text, drawing, y, n, until, end),
+    }
+}
+
+/// The label of a row that has a lane of its own.
+fn push_name(text: &mut String, drawing: &Drawing, n: u64, made: Event) -> Result<(), AllocError>
+    ensures { OnOk result (string_bytes text.new ≡ string_bytes text.old ++ name_text drawing.now n made) }
+{
+    match made {
+        Event::Lease(_) => Ok(()),
+        _ => {
+            let x = 10 * steps_of(drawing, n, made);
+            push_label(text, x, y_of(drawing, n), n, made)
+        }
+    }
+}
+
+/// The number in whose lane the row lies.
+fn lane_of(n: u64, made: Event) -> u64
+    ensures { result ≡ lane_of n made }
+{
+    match made {
+        Event::Lease(r) => r,
+        _ => n,
+    }
+}
+
+/// One row.
+#[tactic(auto, unfolding(crate::specs::Lane::row_text))]
+pub fn push_row(text: &mut String, drawing: &Drawing, end: u64, row: Row) -> Result<(), AllocError>
+    ensures { OnOk result (string_bytes text.new ≡ string_bytes text.old ++ row_text drawing.now end row) }
+{
+    push_name(text, drawing, row.number, row.made)?;
+    let y = y_of(drawing, lane_of(row.number, row.made));
+    push_shape(text, drawing, y, row.number, end, row.shape)
+}
+
+/// A tick where a resource is used that has a lane.
+fn push_use(
+    text: &mut String,
+    drawing: &Drawing,
+    place: u64,
+    event: Event,
+) -> Result<(), AllocError>
+    ensures { OnOk result (string_bytes text.new ≡ string_bytes text.old ++ use_text drawing.now place event) }
+{
+    match event {
+        Event::Use(r) => {
+            if has_lane(drawing, r) {
+                let x = x_of(drawing, place);
+                push_mark(
+                    text,
+                    "tick",
+                    "m0 -10v20",
+                    "used",
+                    x,
+                    y_of(drawing, r),
+                    place,
+                )
+            } else {
+                Ok(())
+            }
+        }
+        _ => Ok(()),
+    }
+}
+
+/// The tick of a place, if it has one.
+#[tactic(auto, unfolding(crate::specs::Lane::tick_text))]
+pub fn push_tick(text: &mut String, drawing: &Drawing, point: Point) -> Result<(), AllocError>
+    ensures { OnOk result (string_bytes text.new ≡ string_bytes text.old ++ tick_text drawing.now point) }
+{
+    push_use(text, drawing, point.place, point.event)
+}
+
+/// A marble.
+#[tactic(auto, unfolding(crate::specs::Lane::told_text))]
+pub fn push_told(text: &mut String, drawing: &Drawing, mail: Mail) -> Result<(), AllocError>
+    ensures { OnOk result (string_bytes text.new ≡ string_bytes text.old ++ told_text drawing.now mail) }
+{
+    let x = x_of(drawing, mail.place);
+    let y = y_of(drawing, mail.to);
+    push_marble(text, x, y, mail.place, mail.to, mail.note)
+}

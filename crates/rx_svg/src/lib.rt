@@ -1,0 +1,21 @@
+//! The picture of a history as an SVG document, which every browser shows.
+//!
+//! Vocabulary: the drawing of a history is that of `rx_picture`. Its lanes stand under one another, its
+//! places beside one another.
+//!
+//! Promised: the text of [`picture`] is the document that `specs` tells of the drawing of the events
+//! and of the verdict that the audit gives on them. Nothing is asked of the events. All that the text
+//! takes from them are numbers, so that whatever they are it is the same kind of document.
+//!
+//! Not promised: what a browser makes of it.
+//!
+//! Cost: that of the drawing and of the audit, and one pass over what is drawn.
+#![tactic(auto)]
+
+mod labels;
+mod lanes;
+mod pieces;
+mod strokes;
+mod svg;
+
+pub use svg::picture;

@@ -1,0 +1,37 @@
+//! Texts that are made of fixed words and of numbers.
+
+ghost use Rattle.std.specs.Prelude.{◌≡◌, ◌++◌, string_bytes, OnOk, flat_map};
+ghost use Rattle.rx_svg.specs.Parts.{piece_text};
+
+use std::alloc::AllocError;
+
+/// A piece of a text.
+#[derive(Clone, Copy)]
+pub enum Piece {
+    /// Fixed words.
+    Words(&'static str),
+    /// A number.
+    Number(u64),
+    /// A number with its sign.
+    Signed(i64),
+}
+
+fn push_piece(text: &mut String, piece: Piece) -> Result<(), AllocError>
+    ensures { OnOk result (string_bytes text.new ≡ string_bytes text.old ++ piece_text piece) }
+{
+    match piece {
+        Piece::Words(words) => text.push_str(words),
+        Piece::Number(n) => write!(text, "{n}"),
+        Piece::Signed(n) => write!(text, "{n}"),
+    }
+}
+
+/// Puts the pieces behind the text, one after the other.
+pub fn push_pieces(text: &mut String, pieces: &[Piece]) -> Result<(), AllocError>
+    ensures { OnOk result (string_bytes text.new ≡ string_bytes text.old ++ flat_map piece_text pieces.now) }
+{
+    for piece in pieces {
+        push_piece(text, *piece)?;
+    }
+    Ok(())
+}

@@ -1,0 +1,282 @@
+//! A drawing as an SVG document, with the verdict of the audit.
+
+ghost use Rattle.std.specs.Prelude.{◌≡◌, ◌+◌, ◌++◌, ◌≤◌, string_bytes, OnOk, IfOk, flat_map, length};
+ghost use Rattle.rx_svg.specs.Lane.{row_text, tick_text, told_text};
+ghost use Rattle.rx_svg.specs.Page.{lanes_shown, places_shown, height_of, head_text, point_text, below_text, listed_text, verdict_text, break_text, shares_text, under_text, lanes_text, svg_text, IsPicture};
+
+use crate::lanes::{push_row, push_tick, push_told, value_at, x_of};
+use crate::pieces::{Piece, push_pieces};
+use crate::strokes::{push_broken, push_column};
+use rx_audit::{Verdict, audit};
+use rx_event::{Event, Mail};
+use rx_picture::{Drawing, Point, Row, draw};
+use std::alloc::{AllocError, Global};
+
+/// How the marks look, on a bright page and on a dark one.
+const STYLE: &str =
+    "<style>text{font:12px monospace;fill:#222}.axis{font-size:8px;text-anchor:middle}.value{font-size:10px;text-anchor:middle}path{stroke:#222;stroke-width:2;fill:none}.place{stroke:#ddd;stroke-width:1;pointer-events:all}.hub{stroke-dasharray:2 4}.held,.leak{fill:#222}.waiting{fill:#fff;stroke-dasharray:3 3}.ring,.marble{fill:#fff}.tick{stroke:#fff}.broken{stroke-width:5;stroke-dasharray:9 5}@media(prefers-color-scheme:dark){svg{background:#111}text{fill:#eee}path{stroke:#eee}.place{stroke:#333}.held,.leak{fill:#eee}.waiting,.ring,.marble{fill:#111}.tick{stroke:#111}}</style>\n";
+
+/// How many lanes are shown, of so many events.
+fn lanes_shown(drawing: &Drawing, end: u64) -> u64
+    ensures value { result ≡ lanes_shown drawing.now end }
+    ensures few { result ≤ 200 }
+{
+    value_at(&drawing.lanes, end).min(200) as u64
+}
+
+/// How many places are shown, of so many events.
+fn places_shown(drawing: &Drawing, end: u64) -> u64
+    ensures { result ≡ places_shown drawing.now end }
+{
+    value_at(&drawing.columns, end).min(2000) as u64
+}
+
+/// The head of the document, which is so wide and so high.
+#[tactic(auto, unfolding(crate::specs::Page::head_text, crate::specs::Parts::text_of))]
+fn push_head(text: &mut String, width: u64, height: u64) -> Result<(), AllocError>
+    ensures { OnOk result (string_bytes text.new ≡ string_bytes text.old ++ head_text width height) }
+{
+    push_pieces(
+        text,
+        &[
+            Piece::Words("<svg xmlns=\"http://www.w3.org/2000/svg\" width=\""),
+            Piece::Number(width),
+            Piece::Words("\" height=\""),
+            Piece::Number(height),
+            Piece::Words("\" viewBox=\"0 0 "),
+            Piece::Number(width),
+            Piece::Words(" "),
+            Piece::Number(height),
+            Piece::Words("\">\n"),
+            Piece::Words(STYLE),
+        ],
+    )
+}
+
+/// The column of a place.
+#[tactic(auto, unfolding(crate::specs::Page::point_text))]
+fn push_point(
+    text: &mut String,
+    drawing: &Drawing,
+    height: u64,
+    point: Point,
+) -> Result<(), AllocError>
+    ensures { OnOk result (string_bytes text.new ≡ string_bytes text.old ++ point_text drawing.now height point) }
+{
+    let x = x_of(drawing, point.place);
+    push_column(text, x, height, point.place, point.event)
+}
+
+/// The columns of all places.
+fn push_points(
+    text: &mut String,
+    drawing: &Drawing,
+    height: u64,
+    points: &[Point],
+) -> Result<(), AllocError>
+    ensures { OnOk result (string_bytes text.new ≡ string_bytes text.old ++ flat_map (point_text drawing.now height) points.now) }
+{
+    for point in points {
+        push_point(text, drawing, height, *point)?;
+    }
+    Ok(())
+}
+
+/// All rows.
+fn push_rows(text: &mut String, drawing: &Drawing, end: u64, rows: &[Row]) -> Result<(), AllocError>
+    ensures { OnOk result (string_bytes text.new ≡ string_bytes text.old ++ flat_map (row_text drawing.now end) rows.now) }
+{
+    for row in rows {
+        push_row(text, drawing, end, *row)?;
+    }
+    Ok(())
+}
+
+/// All ticks.
+fn push_ticks(text: &mut String, drawing: &Drawing, points: &[Point]) -> Result<(), AllocError>
+    ensures { OnOk result (string_bytes text.new ≡ string_bytes text.old ++ flat_map (tick_text drawing.now) points.now) }
+{
+    for point in points {
+        push_tick(text, drawing, *point)?;
+    }
+    Ok(())
+}
+
+/// All marbles.
+fn push_marbles(text: &mut String, drawing: &Drawing, marbles: &[Mail]) -> Result<(), AllocError>
+    ensures { OnOk result (string_bytes text.new ≡ string_bytes text.old ++ flat_map (told_text drawing.now) marbles.now) }
+{
+    for mail in marbles {
+        push_told(text, drawing, *mail)?;
+    }
+    Ok(())
+}
+
+/// The front of a line of text under the lanes.
+#[tactic(auto, unfolding(crate::specs::Page::below_text, crate::specs::Parts::text_of))]
+fn push_below(text: &mut String, y: u64) -> Result<(), AllocError>
+    ensures { OnOk result (string_bytes text.new ≡ string_bytes text.old ++ below_text y) }
+{
+    push_pieces(
+        text,
+        &[
+            Piece::Words("<text x=\"10\" y=\""),
+            Piece::Number(y),
+            Piece::Words("\">"),
+        ],
+    )
+}
+
+#[tactic(auto, unfolding(crate::specs::Page::listed_text))]
+fn push_one(text: &mut String, n: u64) -> Result<(), AllocError>
+    ensures { OnOk result (string_bytes text.new ≡ string_bytes text.old ++ listed_text n) }
+{
+    push_pieces(text, &[Piece::Words(" "), Piece::Number(n)])
+}
+
+/// Each number after a space.
+fn push_listed(text: &mut String, numbers: &[u64]) -> Result<(), AllocError>
+    ensures { OnOk result (string_bytes text.new ≡ string_bytes text.old ++ flat_map listed_text numbers.now) }
+{
+    for n in numbers {
+        push_one(text, *n)?;
+    }
+    Ok(())
+}
+
+/// The verdict.
+#[tactic(auto, unfolding(crate::specs::Page::verdict_text, crate::specs::Parts::text_of))]
+fn push_verdict(text: &mut String, verdict: &Verdict) -> Result<(), AllocError>
+    ensures { OnOk result (string_bytes text.new ≡ string_bytes text.old ++ verdict_text verdict.now) }
+{
+    match verdict {
+        Verdict::Lawful {
+            live,
+            held,
+            waiting,
+        } => {
+            text.push_str("lawful; open:")?;
+            push_listed(text, live.as_slice())?;
+            text.push_str("; held:")?;
+            push_listed(text, held.as_slice())?;
+            text.push_str("; waiting:")?;
+            push_listed(text, waiting.as_slice())
+        }
+        Verdict::Unlawful { place } => push_pieces(
+            text,
+            &[
+                Piece::Words("unlawful: event "),
+                Piece::Number(*place),
+                Piece::Words(" may not follow those before it"),
+            ],
+        ),
+        Verdict::Unsettled => text.push_str("unsettled: an operator has something left to do"),
+    }
+}
+
+/// The line through all lanes, where an event may not stand where it does.
+fn push_break(
+    text: &mut String,
+    drawing: &Drawing,
+    height: u64,
+    verdict: &Verdict,
+) -> Result<(), AllocError>
+    ensures { OnOk result (string_bytes text.new ≡ string_bytes text.old ++ break_text drawing.now height verdict.now) }
+{
+    match verdict {
+        Verdict::Unlawful { place } => push_broken(text, x_of(drawing, *place), height, *place),
+        Verdict::Lawful { .. } | Verdict::Unsettled => Ok(()),
+    }
+}
+
+/// How much of the history is drawn.
+#[tactic(auto, unfolding(crate::specs::Page::shares_text, crate::specs::Parts::text_of))]
+fn push_shares(text: &mut String, drawing: &Drawing, end: u64) -> Result<(), AllocError>
+    ensures { OnOk result (string_bytes text.new ≡ string_bytes text.old ++ shares_text drawing.now end) }
+{
+    let lanes = lanes_shown(drawing, end);
+    let places = places_shown(drawing, end);
+    push_pieces(
+        text,
+        &[
+            Piece::Number(lanes),
+            Piece::Words(" of "),
+            Piece::Number(drawing.all as u64),
+            Piece::Words(" lanes and "),
+            Piece::Number(places),
+            Piece::Words(" of "),
+            Piece::Number(end),
+            Piece::Words(" places are drawn"),
+        ],
+    )
+}
+
+/// What stands under the lanes, which are so high.
+#[tactic(auto, unfolding(crate::specs::Page::under_text))]
+fn push_under(
+    text: &mut String,
+    drawing: &Drawing,
+    end: u64,
+    height: u64,
+    verdict: &Verdict,
+) -> Result<(), AllocError>
+    requires { height ≤ 10000 }
+    ensures { OnOk result (string_bytes text.new ≡ string_bytes text.old ++ under_text drawing.now end height verdict.now) }
+{
+    push_below(text, height + 48)?;
+    push_verdict(text, verdict)?;
+    text.push_str("</text>\n")?;
+    push_below(text, height + 72)?;
+    push_shares(text, drawing, end)?;
+    text.push_str("</text>\n")
+}
+
+/// What stands in the lanes, which are so high.
+#[tactic(auto, unfolding(crate::specs::Page::lanes_text))]
+fn push_lanes(
+    text: &mut String,
+    drawing: &Drawing,
+    end: u64,
+    height: u64,
+    verdict: &Verdict,
+) -> Result<(), AllocError>
+    ensures { OnOk result (string_bytes text.new ≡ string_bytes text.old ++ lanes_text drawing.now end height verdict.now) }
+{
+    push_points(text, drawing, height, drawing.points.as_slice())?;
+    push_rows(text, drawing, end, drawing.rows.as_slice())?;
+    push_ticks(text, drawing, drawing.points.as_slice())?;
+    push_marbles(text, drawing, drawing.marbles.as_slice())?;
+    push_break(text, drawing, height, verdict)
+}
+
+/// The document of the drawing of so many events, with the verdict on them.
+#[tactic(auto, unfolding(crate::specs::Page::svg_text))]
+pub fn push_svg(
+    text: &mut String,
+    drawing: &Drawing,
+    end: u64,
+    verdict: &Verdict,
+) -> Result<(), AllocError>
+    ensures { OnOk result (string_bytes text.new ≡ string_bytes text.old ++ svg_text drawing.now end verdict.now) }
+{
+    let width = x_of(drawing, end) + 50;
+    let height = 32 + 24 * lanes_shown(drawing, end);
+    push_head(text, width, height + 84)?;
+    push_lanes(text, drawing, end, height, verdict)?;
+    push_under(text, drawing, end, height, verdict)?;
+    text.push_str("</svg>\n")
+}
+
+/// The picture of the events, which need not be lawful, with the verdict of the audit, as an SVG
+/// document. The error comes where memory is refused.
+pub fn picture(alloc: Global, events: &[Event]) -> Result<String, AllocError>
+    ensures { IfOk result (λ s. IsPicture events.now (string_bytes s)) }
+{
+    let drawing = draw(alloc, events)?;
+    let Ok(verdict) = audit(alloc, events) else {
+        return Err(AllocError);
+    };
+    let mut text = String::new(alloc);
+    push_svg(&mut text, &drawing, events.len() as u64, &verdict)?;
+    Ok(text)
+}
