@@ -2,9 +2,10 @@
 //! it is what the program `rxbook` writes.
 //!
 //! Of `NAME.json` the report is `NAME.report` and, where it is there, the dump `NAME.dump`; of `NAME.dump`
-//! the verdict is `NAME.verdict`; of `NAME.input` what is said of it, which is faulty, is `NAME.told`. The
-//! folders are the current one, with the examples, and below it `cases`, `histories` and `mistakes`. What is
-//! stored and is not written, or differs, is a line with `DIFFERS`.
+//! the verdict is `NAME.verdict`; of `NAME.input` what is said of it, which is faulty, is `NAME.told`.
+//! `NAME.svg` is the picture of the history of `NAME.dump`. The folders are the current one, with the
+//! examples, and below it `cases`, `histories` and `mistakes`, and for pictures alone `pictures`. What is stored
+//! and is not written, or differs, is a line with `DIFFERS`.
 //!
 //! Then the JSON Schemas of scenarios and dumps are compared with what the program takes.
 #![tactic(auto)]
@@ -69,7 +70,24 @@ fn replay<R: Files + AllocGlobal + Print>(
     compare(rt, asked, path, &stored, paths)
 }
 
-// Compares all that is stored of these files.
+// Compares the picture that is stored in this file, if it is one.
+fn replay_picture<R: Files + AllocGlobal + Print>(rt: &R, path: &String) -> io::Result<()> {
+    let Some(stem) = path.as_str().strip_suffix(".svg") else {
+        return Ok(());
+    };
+    let dump = format!(in rt.alloc(); "{stem}.dump")?;
+    compare(rt, Asked::Picture, dump.as_str(), path, &[])
+}
+
+// Compares all pictures among these files.
+fn replay_pictures<R: Files + AllocGlobal + Print>(rt: &R, paths: &[String]) -> io::Result<()> {
+    for path in paths {
+        replay_picture(rt, path)?;
+    }
+    Ok(())
+}
+
+// Compares all that is stored of these files but pictures.
 fn replay_all<R: Files + AllocGlobal + Print>(rt: &R, paths: &[String]) -> io::Result<()> {
     for path in paths {
         let path = path.as_str();
@@ -118,5 +136,8 @@ fn main(rt: HostRuntime) -> io::Result<()> {
     }
     paths.sort()?;
     replay_all(&rt, paths.as_slice())?;
+    list(&rt, "pictures", &mut paths)?;
+    paths.sort()?;
+    replay_pictures(&rt, paths.as_slice())?;
     compare_schemas(&rt)
 }

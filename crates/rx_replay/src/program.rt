@@ -1,7 +1,11 @@
 //! What the program `rxbook` makes of a text.
 
 use rx_cli::{Form, ScriptError, Watched, check, run, stock};
+use rx_device::ShapeError;
+use rx_dump::history_of;
 use rx_explain::explain;
+use rx_svg::picture;
+use serde_json::Value;
 use std::alloc::{AllocError, Global};
 
 /// What is asked of the program.
@@ -13,6 +17,8 @@ pub enum Asked {
     Verdict,
     /// What is wrong with an input.
     Fault,
+    /// The picture of the history of a dump.
+    Picture,
 }
 
 // Writes what is said of the input, if something is.
@@ -24,6 +30,22 @@ fn push_told(alloc: Global, input: &[u8], output: &mut Vec<u8>) -> Result<bool, 
     Ok(true)
 }
 
+// Writes the picture of the history of which the input is the dump, and tells whether it is one.
+fn push_picture(alloc: Global, input: &[u8], output: &mut Vec<u8>) -> Result<bool, AllocError> {
+    let Ok(value) = Value::from_slice(alloc, input) else {
+        return Ok(false);
+    };
+    match history_of(alloc, &value) {
+        Ok(history) => {
+            let picture = picture(alloc, history.as_slice())?;
+            output.extend_from_slice(picture.as_str().as_bytes())?;
+            Ok(true)
+        }
+        Err(ShapeError::Shape) => Ok(false),
+        Err(ShapeError::Memory) => Err(AllocError),
+    }
+}
+
 /// Writes what the program makes of the input, and tells whether the program takes it.
 pub fn answer(
     alloc: Global,
@@ -33,6 +55,9 @@ pub fn answer(
 ) -> Result<bool, AllocError> {
     if matches!(asked, Asked::Fault) {
         return push_told(alloc, input, output);
+    }
+    if matches!(asked, Asked::Picture) {
+        return push_picture(alloc, input, output);
     }
     let mut left = input;
     let mut reader = Watched::new(&mut left);

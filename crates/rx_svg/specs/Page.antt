@@ -42,12 +42,26 @@ below_text y = text_of (words (codes "<text x=\"10\" y=\"") ∷ number y ∷ wor
 unfoldable pub listed_text : ℕ → List ℕ
 listed_text n = text_of (words (codes " ") ∷ number n ∷ [])
 
-unfoldable pub verdict_text : Verdict → List ℕ
-verdict_text (Lawful live held waiting) =
-    codes "lawful; open:" ++ flat_map listed_text live.items ++ codes "; held:" ++ flat_map listed_text held.items
-    ++ codes "; waiting:" ++ flat_map listed_text waiting.items
-verdict_text (Unlawful place) = text_of (words (codes "unlawful: event ") ∷ number place ∷ words (codes " may not follow those before it") ∷ [])
-verdict_text Unsettled = codes "unsettled: an operator has something left to do"
+-- a word, and the numbers behind it
+unfoldable pub list_text : List ℕ → List ℕ → List ℕ
+list_text name numbers = name ++ flat_map listed_text numbers
+
+unfoldable pub untaken_text : List ℕ → List ℕ → List ℕ
+untaken_text held waiting = list_text (codes "; held:") held ++ list_text (codes "; waiting:") waiting
+
+unfoldable pub lawful_text : List ℕ → List ℕ → List ℕ → List ℕ
+lawful_text live held waiting = codes "lawful" ++ list_text (codes "; open:") live ++ untaken_text held waiting
+
+unfoldable pub unlawful_text : ℕ → List ℕ
+unlawful_text place = text_of (words (codes "unlawful: event ") ∷ number place ∷ words (codes " may not follow those before it") ∷ [])
+
+unfoldable pub unsettled_text : List ℕ
+unsettled_text = codes "unsettled: an operator has something left to do"
+
+abbrev pub verdict_text : Verdict → List ℕ
+verdict_text (Lawful live held waiting) = lawful_text live.items held.items waiting.items
+verdict_text (Unlawful place) = unlawful_text place
+verdict_text Unsettled = unsettled_text
 
 abbrev pub break_text : Drawing → ℕ → Verdict → List ℕ
 break_text d height (Unlawful place) = broken_text (x_of d place) height place

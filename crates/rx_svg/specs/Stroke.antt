@@ -13,6 +13,10 @@ use Rattle.rx_svg.specs.Said.{note_text}
 unfoldable pub until_text : ℕ → ℕ → List ℕ
 until_text until end = if until == end then codes " on" else text_of (words (codes ", until event ") ∷ number until ∷ [])
 
+-- how the element of a stretch ends
+unfoldable pub stretch_end : ℕ → ℕ → List ℕ
+stretch_end until end = until_text until end ++ codes "</title></path>\n"
+
 -- a line between two places: its front, and the whole
 unfoldable pub line_front : List ℕ → List ℕ → ℕ → ℕ → ℕ → ℕ → List ℕ
 line_front class title from to y after =
@@ -20,7 +24,7 @@ line_front class title from to y after =
     ∷ words (codes "H") ∷ number to ∷ words (codes "\"><title>") ∷ words title ∷ words (codes " from event ") ∷ number after ∷ [])
 
 unfoldable pub line_text : List ℕ → List ℕ → ℕ → ℕ → ℕ → ℕ → ℕ → ℕ → List ℕ
-line_text class title from to y after until end = line_front class title from to y after ++ until_text until end ++ codes "</title></path>\n"
+line_text class title from to y after until end = line_front class title from to y after ++ stretch_end until end
 
 -- a bar between two places, so high above its middle and so high in all
 unfoldable pub bar_front : List ℕ → List ℕ → List ℕ → List ℕ → ℕ → ℕ → ℕ → ℕ → List ℕ
@@ -31,7 +35,7 @@ bar_front class title above height from to y after =
 
 unfoldable pub bar_text : List ℕ → List ℕ → List ℕ → List ℕ → ℕ → ℕ → ℕ → ℕ → ℕ → ℕ → List ℕ
 bar_text class title above height from to y after until end =
-    bar_front class title above height from to y after ++ until_text until end ++ codes "</title></path>\n"
+    bar_front class title above height from to y after ++ stretch_end until end
 
 -- marks -------------------------------------------------------------------------------------------
 

@@ -1,7 +1,7 @@
 //! The elements of a picture, each written behind a text.
 
 ghost use Rattle.std.specs.Prelude.{◌≡◌, ◌++◌, string_bytes, OnOk};
-ghost use Rattle.rx_svg.specs.Stroke.{until_text, line_front, line_text, bar_front, bar_text, mark_text, code_text, leak_text, marble_shape, above_text, value_text, marble_front, by_text, marble_text, column_front, axis_text, column_text, broken_text};
+ghost use Rattle.rx_svg.specs.Stroke.{until_text, stretch_end, line_front, line_text, bar_front, bar_text, mark_text, code_text, leak_text, marble_shape, above_text, value_text, marble_front, by_text, marble_text, column_front, axis_text, column_text, broken_text};
 
 use crate::labels::{push_event, push_note};
 use crate::pieces::{Piece, push_pieces};
@@ -56,6 +56,15 @@ fn push_line_front(
     )
 }
 
+/// How the element of a stretch ends.
+#[tactic(auto, unfolding(crate::specs::Stroke::stretch_end))]
+fn push_stretch_end(text: &mut String, until: u64, end: u64) -> Result<(), AllocError>
+    ensures { OnOk result (string_bytes text.new ≡ string_bytes text.old ++ stretch_end until end) }
+{
+    push_until(text, until, end)?;
+    text.push_str("</title></path>\n")
+}
+
 /// A line between two places.
 #[tactic(auto, unfolding(crate::specs::Stroke::line_text))]
 pub fn push_line(
@@ -73,8 +82,7 @@ pub fn push_line(
         ++ line_text class.now title.now from to y after until end) }
 {
     push_line_front(text, class, title, from, to, y, after)?;
-    push_until(text, until, end)?;
-    text.push_str("</title></path>\n")
+    push_stretch_end(text, until, end)
 }
 
 /// The front of a bar, up to where it goes.
@@ -136,8 +144,7 @@ pub fn push_bar(
         ++ bar_text class.now title.now above.now height.now from to y after until end) }
 {
     push_bar_front(text, class, title, above, height, from, to, y, after)?;
-    push_until(text, until, end)?;
-    text.push_str("</title></path>\n")
+    push_stretch_end(text, until, end)
 }
 
 /// A mark of this shape, and what its event did.

@@ -2,7 +2,7 @@
 
 ghost use Rattle.std.specs.Prelude.{◌≡◌, ◌+◌, ◌++◌, ◌≤◌, string_bytes, OnOk, IfOk, flat_map, length};
 ghost use Rattle.rx_svg.specs.Lane.{row_text, tick_text, told_text};
-ghost use Rattle.rx_svg.specs.Page.{lanes_shown, places_shown, height_of, head_text, point_text, below_text, listed_text, verdict_text, break_text, shares_text, under_text, lanes_text, svg_text, IsPicture};
+ghost use Rattle.rx_svg.specs.Page.{lanes_shown, places_shown, height_of, head_text, point_text, below_text, listed_text, list_text, untaken_text, lawful_text, unlawful_text, unsettled_text, verdict_text, break_text, shares_text, under_text, lanes_text, svg_text, IsPicture};
 
 use crate::lanes::{push_row, push_tick, push_told, value_at, x_of};
 use crate::pieces::{Piece, push_pieces};
@@ -127,7 +127,8 @@ fn push_below(text: &mut String, y: u64) -> Result<(), AllocError>
     )
 }
 
-#[tactic(auto, unfolding(crate::specs::Page::listed_text))]
+/// One number after a space.
+#[tactic(auto, unfolding(crate::specs::Page::listed_text, crate::specs::Parts::text_of))]
 fn push_one(text: &mut String, n: u64) -> Result<(), AllocError>
     ensures { OnOk result (string_bytes text.new ≡ string_bytes text.old ++ listed_text n) }
 {
@@ -144,8 +145,63 @@ fn push_listed(text: &mut String, numbers: &[u64]) -> Result<(), AllocError>
     Ok(())
 }
 
+/// A word, and the numbers behind it.
+#[tactic(auto, unfolding(crate::specs::Page::list_text))]
+fn push_list(text: &mut String, name: &'static str, numbers: &[u64]) -> Result<(), AllocError>
+    ensures { OnOk result (string_bytes text.new ≡ string_bytes text.old ++ list_text name.now numbers.now) }
+{
+    text.push_str(name)?;
+    push_listed(text, numbers)
+}
+
+/// Which resources were not handed out.
+#[tactic(auto, unfolding(crate::specs::Page::untaken_text))]
+fn push_untaken(text: &mut String, held: &[u64], waiting: &[u64]) -> Result<(), AllocError>
+    ensures { OnOk result (string_bytes text.new ≡ string_bytes text.old ++ untaken_text held.now waiting.now) }
+{
+    push_list(text, "; held:", held)?;
+    push_list(text, "; waiting:", waiting)
+}
+
+/// What is left of a lawful history.
+#[tactic(auto, unfolding(crate::specs::Page::lawful_text))]
+fn push_lawful(
+    text: &mut String,
+    live: &[u64],
+    held: &[u64],
+    waiting: &[u64],
+) -> Result<(), AllocError>
+    ensures { OnOk result (string_bytes text.new ≡ string_bytes text.old ++ lawful_text live.now held.now waiting.now) }
+{
+    text.push_str("lawful")?;
+    push_list(text, "; open:", live)?;
+    push_untaken(text, held, waiting)
+}
+
+/// Which event may not stand where it does.
+#[tactic(auto, unfolding(crate::specs::Page::unlawful_text, crate::specs::Parts::text_of))]
+fn push_unlawful(text: &mut String, place: u64) -> Result<(), AllocError>
+    ensures { OnOk result (string_bytes text.new ≡ string_bytes text.old ++ unlawful_text place) }
+{
+    push_pieces(
+        text,
+        &[
+            Piece::Words("unlawful: event "),
+            Piece::Number(place),
+            Piece::Words(" may not follow those before it"),
+        ],
+    )
+}
+
+/// That an event is due.
+#[tactic(auto, unfolding(crate::specs::Page::unsettled_text))]
+fn push_unsettled(text: &mut String) -> Result<(), AllocError>
+    ensures { OnOk result (string_bytes text.new ≡ string_bytes text.old ++ unsettled_text) }
+{
+    text.push_str("unsettled: an operator has something left to do")
+}
+
 /// The verdict.
-#[tactic(auto, unfolding(crate::specs::Page::verdict_text, crate::specs::Parts::text_of))]
 fn push_verdict(text: &mut String, verdict: &Verdict) -> Result<(), AllocError>
     ensures { OnOk result (string_bytes text.new ≡ string_bytes text.old ++ verdict_text verdict.now) }
 {
@@ -154,23 +210,9 @@ fn push_verdict(text: &mut String, verdict: &Verdict) -> Result<(), AllocError>
             live,
             held,
             waiting,
-        } => {
-            text.push_str("lawful; open:")?;
-            push_listed(text, live.as_slice())?;
-            text.push_str("; held:")?;
-            push_listed(text, held.as_slice())?;
-            text.push_str("; waiting:")?;
-            push_listed(text, waiting.as_slice())
-        }
-        Verdict::Unlawful { place } => push_pieces(
-            text,
-            &[
-                Piece::Words("unlawful: event "),
-                Piece::Number(*place),
-                Piece::Words(" may not follow those before it"),
-            ],
-        ),
-        Verdict::Unsettled => text.push_str("unsettled: an operator has something left to do"),
+        } => push_lawful(text, live.as_slice(), held.as_slice(), waiting.as_slice()),
+        Verdict::Unlawful { place } => push_unlawful(text, *place),
+        Verdict::Unsettled => push_unsettled(text),
     }
 }
 

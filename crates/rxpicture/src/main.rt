@@ -2,7 +2,7 @@
 //! document.
 #![tactic(auto)]
 
-ghost use Rattle.std.specs.Prelude.{◌≡◌, ◌×◌, Some, List, IfOk, string_bytes};
+ghost use Rattle.std.specs.Prelude.{◌≡◌, Some, List, IfOk, string_bytes};
 ghost use Rattle.serde_json.specs.Data.{Data};
 ghost use Rattle.serde_json.specs.View.{view};
 ghost use Rattle.rx_event.specs.declared.event.Event.{Event};

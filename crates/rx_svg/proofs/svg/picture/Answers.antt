@@ -1,0 +1,7 @@
+use Rattle.std.proofs.Common.{rules, ◌≡◌, ◌++◌, string_bytes, OnOk, IfOk, ℕ, length, List}
+use Rattle.rx_svg.specs.Page.{svg_text, IsPicture}
+use Rattle.rx_svg.proofs.svg.picture.Goals as goal
+
+-- src/svg.rt:272:1
+pub returns : goal.returns
+returns c = record { drawing = c.in_ok-drawing.drawing; is = search rules; verdict = c.in-Ok.verdict; judges = search rules; reads = search rules }
