@@ -1,5 +1,5 @@
 -- A resource is held where its own row has a full bar, or a lease of it has one.
-use Rattle.std.proofs.Common.{◌≡◌, ℕ, zero, suc, ◌+◌, ◌<◌, ◌≤◌, Bool, true, false, List, [], ◌∷◌, length, take, map, filter, Option, Some, None, refl, sym, ap, subst, ◌∙◌, arith, inl, inr, ◌⊎◌, ◌==◌, nat_lt, slice_get}
+use Rattle.std.proofs.Common.{◌≡◌, ℕ, zero, suc, ◌+◌, ◌<◌, ◌≤◌, Bool, true, false, List, [], ◌∷◌, length, take, map, Option, Some, None, refl, sym, ap, subst, ◌∙◌, arith, inl, inr, ◌⊎◌, ◌==◌, nat_lt, slice_get}
 use Rattle.std.proofs.Math.Bool.{not, ◌&&◌, ◌||◌}
 use Rattle.std.specs.List.{AllByRecursion, list_any, range_with_len}
 use Rattle.std.specs.Option.{option_map_or}
@@ -9,7 +9,7 @@ use Rattle.std.proofs.lemmas.Option.{none-some, same_Some}
 use Rattle.std.proofs.lemmas.Map.Views.{any-filter_same}
 use Rattle.rx_event.specs.declared.event.Event.{Event}
 use Rattle.rx_event.specs.declared.event.Event.TheVariants.{Accept, Lease}
-use Rattle.rx_event.specs.Events.{makes_node, makes_hub, makes_resource, makes_lease, is_lease_of}
+use Rattle.rx_event.specs.Events.{makes_node, makes_hub, makes_resource, is_lease_of}
 use Rattle.rx_event.specs.Tree.{at, places}
 use Rattle.rx_event.specs.Resources.{is_owned, is_out, is_out_of, leases_of, is_leased, is_held}
 use Rattle.rx_event.proofs.Laws.Places.{at_within}
@@ -20,7 +20,7 @@ use Rattle.rx_picture.specs.declared.row.Row.{Row}
 use Rattle.rx_picture.specs.declared.row.Shape.{Shape}
 use Rattle.rx_picture.specs.declared.row.Shape.TheVariants.{Node, Hub, Resource, Loan}
 use Rattle.rx_picture.specs.declared.drawing.Drawing.{Drawing}
-use Rattle.rx_picture.specs.Rows.{AreRows, IsRow, IsShape, has_row, lane_of}
+use Rattle.rx_picture.specs.Rows.{AreRows, IsRow, IsShape, has_row}
 use Rattle.rx_picture.specs.Drawn.{is_shown, is_rowed, IsDrawing}
 use Rattle.rx_picture.specs.Held.{bars, bars_row, HeldIsBarred}
 use Rattle.rx_picture.proofs.Prefixes.{same_tests, get_prefix, at_prefix}

@@ -7,7 +7,7 @@ use Rattle.rx_event.specs.Events.{makes_resource}
 use Rattle.rx_event.specs.Tree.{at}
 use Rattle.rx_event.specs.Resources.{is_held}
 use Rattle.rx_picture.specs.declared.row.Shape.{Shape}
-use Rattle.rx_picture.specs.declared.row.Shape.TheVariants.{Node, Hub, Resource, Loan}
+use Rattle.rx_picture.specs.declared.row.Shape.TheVariants.{Resource, Loan}
 use Rattle.rx_picture.specs.declared.row.Row.{Row}
 use Rattle.rx_picture.specs.declared.drawing.Drawing.{Drawing}
 use Rattle.rx_picture.specs.Drawn.{is_shown, IsDrawing}
