@@ -1,6 +1,6 @@
 -- The bar of a resource: while its node is open and it was not removed it is held, and from its taking on taken.
 use Rattle.std.proofs.Common.{◌≡◌, ℕ, ◌<◌, ◌≤◌, min, max, Bool, true, false, cond, List, length, take, get_or, Option, Some, None, refl, sym, ap, ◌∙◌, arith, inl, inr, ◌⊎◌, nat_lt, slice_get}
-use Rattle.std.proofs.Math.Bool.{not, ◌&&◌, ◌||◌}
+use Rattle.std.proofs.Math.Bool.{not, ◌&&◌}
 use Rattle.std.specs.List.{list_any}
 use Rattle.std.specs.Option.{option_and_then, option_map_or}
 use Rattle.std.proofs.lemmas.Bool.{cases_lt, lt-ltb, le-ltb, and_left}
@@ -8,7 +8,7 @@ use Rattle.std.proofs.lemmas.Option.{none-some}
 use Rattle.rx_event.specs.declared.event.Event.{Event}
 use Rattle.rx_event.specs.declared.event.Event.TheVariants.{Accept}
 use Rattle.rx_event.specs.Events.{makes_resource, node_of_accept, is_remove_of, is_take_of}
-use Rattle.rx_event.specs.Tree.{at, is_open}
+use Rattle.rx_event.specs.Tree.{is_open}
 use Rattle.rx_event.specs.Resources.{is_owned, is_taken}
 use Rattle.rx_event.proofs.Laws.Openness.{is_open_past}
 use Rattle.rx_event.proofs.Laws.Resources.{is_owned_past, is_taken_past}

@@ -1,9 +1,9 @@
 -- Marks of the numbers so far, and how many are chosen.
-use Rattle.std.proofs.Common.{◌≡◌, ℕ, zero, suc, ◌+◌, ◌-◌, ◌<◌, ◌≤◌, min, Bool, true, false, cond, List, [], ◌∷◌, ◌++◌, length, get_or, refl, sym, ap, ◌∙◌, arith, inl, inr, ◌⊎◌, nat_lt}
+use Rattle.std.proofs.Common.{◌≡◌, ℕ, zero, suc, ◌+◌, ◌-◌, ◌<◌, ◌≤◌, min, Bool, true, false, cond, List, [], ◌∷◌, ◌++◌, length, refl, sym, ap, ◌∙◌, arith, inl, inr, ◌⊎◌, nat_lt}
 use Rattle.std.proofs.Math.Bool.{not, ◌&&◌}
-use Rattle.std.proofs.lemmas.Bool.{cases_Bool, cases_lt, lt-ltb, le-ltb, ltb-true, and_from, and_parts}
+use Rattle.std.proofs.lemmas.Bool.{cases_lt, lt-ltb, le-ltb, ltb-true}
 use Rattle.std.proofs.lemmas.List.{length_push}
-use Rattle.rx_picture.specs.Choice.{bit, count_below, leads, follows, rank, is_chosen, marked, AreMarks}
+use Rattle.rx_picture.specs.Choice.{bit, count_below, leads, follows, is_chosen, marked, AreMarks}
 use Rattle.rx_picture.proofs.Prefixes.{same_tests}
 use Rattle.rx_picture.proofs.Ranges.{count_next}
 

@@ -1,10 +1,9 @@
 -- A climb by a list whose last number is visited next.
-use Rattle.std.proofs.Common.{◌≡◌, ℕ, zero, suc, ◌+◌, ◌-◌, ◌<◌, ◌≤◌, Bool, true, false, List, [], ◌∷◌, ◌++◌, length, take, get_or, reverse, Option, Some, None, refl, sym, ap, ◌∙◌, arith, nat_lt, append-nil}
+use Rattle.std.proofs.Common.{◌≡◌, ℕ, zero, suc, ◌+◌, ◌-◌, ◌<◌, ◌≤◌, Bool, List, [], ◌∷◌, ◌++◌, length, take, get_or, reverse, refl, sym, ap, ◌∙◌, arith, nat_lt, append-nil}
 use Rattle.std.proofs.Math.Bool.{not, ◌&&◌}
 use Rattle.std.proofs.lemmas.Bool.{lt-ltb}
 use Rattle.std.proofs.lemmas.List.{reverse-append, reverse-reverse, append_assoc, length-take-le}
 use Rattle.rx_event.specs.declared.event.Event.{Event}
-use Rattle.rx_event.specs.Tree.{is_open}
 use Rattle.rx_event.specs.Climb.{visited, onward, most_visits, climb}
 use Rattle.rx_picture.specs.Tables.{AreLines}
 use Rattle.rx_picture.specs.Told.{AreEndsOf}

@@ -1,5 +1,5 @@
 -- The drawing, by the marks of what is shown.
-use Rattle.std.proofs.Common.{◌≡◌, ℕ, ◌<◌, Bool, true, List, length, filter, replicate, sym, ap, ◌∙◌, nat_lt}
+use Rattle.std.proofs.Common.{◌≡◌, ℕ, Bool, true, List, length, filter, replicate, ap, ◌∙◌, nat_lt}
 use Rattle.rx_event.specs.declared.event.Event.{Event}
 use Rattle.rx_event.specs.Tree.{at, places}
 use Rattle.rx_picture.specs.declared.drawing.Drawing.{Drawing}

@@ -14,3 +14,4 @@ mod Climbing
 mod Telling
 mod Pointing
 mod Drawings
+mod Holding

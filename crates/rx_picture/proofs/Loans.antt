@@ -1,5 +1,5 @@
 -- A lease is out from the event that gives it to the first one that returns it.
-use Rattle.std.proofs.Common.{◌≡◌, ℕ, ◌<◌, ◌≤◌, max, Bool, true, false, List, length, take, Option, Some, sym, ap, ◌∙◌, arith, inl, inr, ◌⊎◌, nat_lt, slice_get, refl}
+use Rattle.std.proofs.Common.{◌≡◌, ℕ, ◌<◌, ◌≤◌, max, Bool, true, false, List, length, take, Option, Some, sym, ap, ◌∙◌, arith, inl, inr, ◌⊎◌, nat_lt, slice_get}
 use Rattle.std.proofs.Math.Bool.{not, ◌&&◌}
 use Rattle.std.specs.List.{list_any}
 use Rattle.std.specs.Option.{option_map_or}
@@ -10,7 +10,7 @@ use Rattle.rx_event.specs.Events.{makes_lease, is_return_of}
 use Rattle.rx_event.specs.Resources.{is_out}
 use Rattle.rx_event.proofs.Laws.Leases.{is_out_past}
 use Rattle.rx_picture.specs.declared.row.Shape.TheVariants.{Loan}
-use Rattle.rx_picture.specs.Rows.{Spans, IsLoan, IsShape}
+use Rattle.rx_picture.specs.Rows.{Spans, IsShape}
 use Rattle.rx_picture.specs.Tables.{IsTurn, was_returned}
 use Rattle.rx_picture.proofs.Prefixes.{past_prefix, at_prefix}
 use Rattle.rx_picture.proofs.Turning.{turn_within}

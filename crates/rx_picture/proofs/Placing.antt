@@ -9,7 +9,7 @@ use Rattle.rx_event.specs.declared.event.Event.{Event}
 use Rattle.rx_event.specs.Tree.{at}
 use Rattle.rx_event.proofs.Laws.Sums.{sum_by-same}
 use Rattle.rx_picture.specs.declared.row.Row.{Row}
-use Rattle.rx_picture.specs.Choice.{bit, count_below, leads, follows, rank, is_chosen, marked, AreMarks}
+use Rattle.rx_picture.specs.Choice.{bit, count_below, leads, follows, is_chosen, marked, AreMarks}
 use Rattle.rx_picture.specs.Rows.{AreRows, has_row, is_drawn, lane_of}
 use Rattle.rx_picture.specs.Drawn.{is_shown, is_placed, is_rowed, is_rowed_by, AreColumns}
 use Rattle.rx_picture.proofs.Lining.{get_old, get_new}

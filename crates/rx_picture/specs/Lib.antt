@@ -4,3 +4,4 @@ pub mod Levels
 pub mod Tables
 pub mod Told
 pub mod Drawn
+pub mod Held

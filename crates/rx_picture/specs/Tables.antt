@@ -6,7 +6,7 @@ use Rattle.std.specs.List.{list_any}
 use Rattle.std.specs.Option.{option_and_then, option_map_or}
 use Rattle.rx_event.specs.declared.event.Event.{Event}
 use Rattle.rx_event.specs.declared.event.Event.TheVariants.{End, Close}
-use Rattle.rx_event.specs.Events.{inner_named, is_switch, is_inner_of, is_remove_of, is_return_of, is_take_of}
+use Rattle.rx_event.specs.Events.{inner_named, is_switch, is_remove_of, is_return_of, is_take_of}
 use Rattle.rx_event.specs.Tree.{at, if_less, is_shut, is_open, shuts}
 use Rattle.rx_picture.specs.Rows.{Spans, IsRow}
 use Rattle.rx_picture.specs.declared.row.Row.{Row}

@@ -25,6 +25,7 @@ mod columns;
 mod drawing;
 mod firsts;
 mod lanes;
+mod laws;
 mod levels;
 mod lines;
 mod marbles;
@@ -35,5 +36,6 @@ mod shut;
 mod tables;
 
 pub use drawing::{Drawing, draw};
+pub use laws::a_resource_is_held_where_it_has_a_full_bar;
 pub use points::Point;
 pub use row::{Ending, Row, Shape};

@@ -1,4 +1,4 @@
-use Rattle.std.proofs.Common.{◌≡◌, ◌<◌, ◌+◌, Some, length, sym, ap, ◌∙◌, arith}
+use Rattle.std.proofs.Common.{◌≡◌, ◌<◌, ◌+◌, Some, sym, ap, ◌∙◌}
 use Rattle.rx_event.specs.Tree.{parent}
 use Rattle.rx_event.proofs.Laws.Parents.{parent-lt}
 use Rattle.rx_picture.proofs.Leveling.{level_top, level_below}

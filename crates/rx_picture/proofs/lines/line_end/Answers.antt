@@ -1,6 +1,5 @@
-use Rattle.std.proofs.Common.{◌≡◌, ◌<◌, true, Some, length, get_or, sym, arith}
-use Rattle.rx_event.specs.Events.{makes_node}
-use Rattle.rx_event.specs.Tree.{at, parent}
+use Rattle.std.proofs.Common.{◌≡◌, ◌<◌, Some, get_or, sym, arith}
+use Rattle.rx_event.specs.Tree.{parent}
 use Rattle.rx_event.proofs.Laws.Parents.{parent-lt}
 use Rattle.rx_picture.proofs.Lining.{line_none, line_top, line_below}
 use Rattle.rx_picture.proofs.lines.line_end.Goals as goal

@@ -1,4 +1,4 @@
-use Rattle.std.proofs.Common.{◌≡◌, ◌<◌, length, sym, ◌∙◌, arith}
+use Rattle.std.proofs.Common.{sym, ◌∙◌, arith}
 use Rattle.rx_picture.specs.Choice.{marked}
 use Rattle.rx_picture.proofs.Telling.{marbles_none, marbles_more, marbles_skip}
 use Rattle.rx_picture.proofs.marbles.marbles_of.Goals as goal

@@ -1,4 +1,4 @@
-use Rattle.std.proofs.Common.{length, arith}
+use Rattle.std.proofs.Common.{arith}
 use Rattle.rx_picture.specs.Choice.{marked}
 use Rattle.rx_picture.specs.Told.{told_at}
 use Rattle.rx_picture.proofs.Telling.{visits_whole}

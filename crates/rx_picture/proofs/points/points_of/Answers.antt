@@ -1,4 +1,4 @@
-use Rattle.std.proofs.Common.{◌<◌, length, arith}
+use Rattle.std.proofs.Common.{arith}
 use Rattle.rx_picture.specs.Choice.{marked}
 use Rattle.rx_picture.proofs.Pointing.{points_more, points_skip}
 use Rattle.rx_picture.proofs.points.points_of.Goals as goal

@@ -1,4 +1,4 @@
-use Rattle.std.proofs.Common.{◌≡◌, length, refl, arith, ◌∙◌}
+use Rattle.std.proofs.Common.{arith}
 use Rattle.rx_picture.specs.Tables.{was_shut}
 use Rattle.rx_picture.proofs.Turning.{turns_none}
 use Rattle.rx_picture.proofs.Shutting.{never_shut, inners_none, shut_step, inners_step}

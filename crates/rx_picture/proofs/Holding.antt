@@ -1,0 +1,171 @@
+-- A resource is held where its own row has a full bar, or a lease of it has one.
+use Rattle.std.proofs.Common.{◌≡◌, ℕ, zero, suc, ◌+◌, ◌<◌, ◌≤◌, Bool, true, false, List, [], ◌∷◌, length, take, map, Option, Some, None, refl, sym, ap, subst, ◌∙◌, arith, inl, inr, ◌⊎◌, ◌==◌, nat_lt, slice_get}
+use Rattle.std.proofs.Math.Bool.{not, ◌&&◌, ◌||◌}
+use Rattle.std.specs.List.{AllByRecursion, list_any, range_with_len}
+use Rattle.std.specs.Option.{option_map_or}
+use Rattle.std.proofs.lemmas.Bool.{cases_Bool, cases_order, false≢true, and_parts, and_from, or_left, or_right, or_cases, eqb-true, eq-eqb, ltb-true}
+use Rattle.std.proofs.lemmas.List.{length-take-le}
+use Rattle.std.proofs.lemmas.Option.{none-some, same_Some}
+use Rattle.std.proofs.lemmas.Map.Views.{any-filter_same}
+use Rattle.rx_event.specs.declared.event.Event.{Event}
+use Rattle.rx_event.specs.declared.event.Event.TheVariants.{Accept, Lease}
+use Rattle.rx_event.specs.Events.{makes_node, makes_hub, makes_resource, is_lease_of}
+use Rattle.rx_event.specs.Tree.{at, places}
+use Rattle.rx_event.specs.Resources.{is_owned, is_out, is_out_of, leases_of, is_leased, is_held}
+use Rattle.rx_event.proofs.Laws.Places.{at_within}
+use Rattle.rx_event.proofs.Laws.Searches.{list_any_found, list_any_holds}
+use Rattle.rx_event.proofs.Laws.Leases.{leased_some, leased_where, leases_of_some, lease_at, is_out_within}
+use Rattle.rx_event.proofs.Laws.Sound.{count_none}
+use Rattle.rx_picture.specs.declared.row.Row.{Row}
+use Rattle.rx_picture.specs.declared.row.Shape.{Shape}
+use Rattle.rx_picture.specs.declared.row.Shape.TheVariants.{Node, Hub, Resource, Loan}
+use Rattle.rx_picture.specs.declared.drawing.Drawing.{Drawing}
+use Rattle.rx_picture.specs.Rows.{AreRows, IsRow, IsShape, has_row}
+use Rattle.rx_picture.specs.Drawn.{is_shown, is_rowed, IsDrawing}
+use Rattle.rx_picture.specs.Held.{bars, bars_row, HeldIsBarred}
+use Rattle.rx_picture.proofs.Prefixes.{same_tests, get_prefix, at_prefix}
+
+-- rows of a number ---------------------------------------------------------------------------------
+
+all_at : {X : Type 0} (P : X → Type 0) (xs : List X) (i : ℕ) (x : X) → AllByRecursion P xs → slice_get xs i ≡ Some x → P x
+all_at P [] i x each at_i = absurd (none-some x at_i)
+all_at P (y ∷ xs) zero x each at_i = subst P (same_Some y x at_i) each.0
+all_at P (y ∷ xs) (suc i) x each at_i = all_at P xs i x each.1 at_i
+
+in_range : (n s c : ℕ) → s ≤ n → n < s + c → list_any (λ m. n == m) (range_with_len s c) ≡ true
+in_range n s zero above below = absurd (omega arith)
+in_range n s (suc c) above below = by_place (cases_order n s) (in_range n (s + 1) c) where
+  by_place : (n ≡ s) ⊎ ((n < s) ⊎ (s < n)) → (s + 1 ≤ n → n < (s + 1) + c → list_any (λ m. n == m) (range_with_len (s + 1) c) ≡ true) →
+      list_any (λ m. n == m) (range_with_len s (suc c)) ≡ true
+  by_place (inl same) rest = or_left (n == s) _ (eq-eqb n s same)
+  by_place (inr (inl less)) rest = absurd (omega arith)
+  by_place (inr (inr more)) rest = or_right (n == s) _ (rest (omega arith) (omega arith))
+
+any_map : (n : ℕ) (rows : List Row) → list_any (λ m. n == m) (map (λ row. row.number) rows) ≡ list_any (λ row. n == row.number) rows
+any_map n [] = refl
+any_map n (row ∷ rows) = ap (λ (b : Bool). (n == row.number) || b) (any_map n rows)
+
+row_there : (h : List Event) (shown : ℕ → Bool) (rows : List Row) → AreRows h shown rows → (n : ℕ) → n < length h → (at has_row h n && shown n) ≡ true →
+    (i : ℕ) × (row : Row) × (slice_get rows i ≡ Some row) × ((n == row.number) ≡ true)
+row_there h shown rows are n within has = list_any_found (λ row. n == row.number) rows
+    (sym (any_map n rows) ∙ ap (list_any (λ m. n == m)) are.numbers
+    ∙ any-filter_same (λ m. n == m) (λ k. at has_row h k && shown k) true (λ m same. ap (λ (k : ℕ). at has_row h k && shown k) (sym (eqb-true n m same)) ∙ has) (places h)
+    ∙ in_range n 0 (length h) (omega arith) (omega arith))
+
+-- what the shape of a row says ----------------------------------------------------------------------
+
+no_node : (o : Option Event) → option_map_or makes_node o false ≡ true → option_map_or makes_resource o false ≡ true → false ≡ true
+no_node None a b = b
+no_node (Some e) a b = by_event e a b where
+  by_event : (e : Event) → makes_node e ≡ true → makes_resource e ≡ true → false ≡ true
+  by_event (Accept node tag) a b = a
+  by_event (Lease r) a b = b
+  by_event _ a b = b
+
+no_hub : (o : Option Event) → option_map_or makes_hub o false ≡ true → option_map_or makes_resource o false ≡ true → false ≡ true
+no_hub None a b = b
+no_hub (Some e) a b = by_event e a b where
+  by_event : (e : Event) → makes_hub e ≡ true → makes_resource e ≡ true → false ≡ true
+  by_event (Accept node tag) a b = a
+  by_event (Lease r) a b = b
+  by_event _ a b = b
+
+lease_of : (q r : ℕ) → Some (Lease q) ≡ Some (Lease r) → q ≡ r
+lease_of q r same = eqb-true q r (ap (λ (o : Option Event). option_map_or (is_lease_of r) o false) same ∙ eq-eqb r r refl)
+
+owned_barred : (h : List Event) (r k : ℕ) (shape : Shape) → IsShape h r shape → at makes_resource h r ≡ true → k ≤ length h → is_owned (take k h) r ≡ true →
+    bars r k r shape ≡ true
+owned_barred h r k (Node until ending) is made m owned = absurd (false≢true (no_node (slice_get h r) is.0 made))
+owned_barred h r k Hub is made m owned = absurd (false≢true (no_hub (slice_get h r) is made))
+owned_barred h r k (Resource after until taken) is made m owned = and_from (r == r) _ (eq-eqb r r refl) (sym (is.1.owned k m) ∙ owned)
+owned_barred h r k (Loan q until) is made m owned = absurd (false≢true (sym (ap (λ (o : Option Event). option_map_or makes_resource o false) is.0) ∙ made))
+
+out_barred : (h : List Event) (r k l : ℕ) (shape : Shape) → IsShape h l shape → slice_get h l ≡ Some (Lease r) → k ≤ length h → is_out (take k h) l ≡ true →
+    bars r k l shape ≡ true
+out_barred h r k l (Node until ending) is leased m out = absurd (false≢true (sym (ap (λ (o : Option Event). option_map_or makes_node o false) leased) ∙ is.0))
+out_barred h r k l Hub is leased m out = absurd (false≢true (sym (ap (λ (o : Option Event). option_map_or makes_hub o false) leased) ∙ is))
+out_barred h r k l (Resource after until taken) is leased m out = absurd (false≢true (sym (ap (λ (o : Option Event). option_map_or makes_resource o false) leased) ∙ is.0))
+out_barred h r k l (Loan q until) is leased m out = and_from (q == r) _ (eq-eqb q r (lease_of q r (sym is.0 ∙ leased))) (sym (is.1.out k m) ∙ out)
+
+-- a full bar says that the resource is held
+held_by_owner : (h : List Event) (r : ℕ) → is_owned h r ≡ true → is_held h r ≡ true
+unfolding is_held
+held_by_owner h r owned = or_left _ _ owned
+
+held_by_lease : (h : List Event) (r : ℕ) → is_leased h r ≡ true → is_held h r ≡ true
+unfolding is_held
+held_by_lease h r leased = or_right _ _ leased
+
+held_cases : (h : List Event) (r : ℕ) → is_held h r ≡ true → (is_owned h r ≡ true) ⊎ (is_leased h r ≡ true)
+unfolding is_held
+held_cases h r held = or_cases (is_owned h r) (is_leased h r) held
+
+barred_held : (h : List Event) (r k n : ℕ) (shape : Shape) → IsShape h n shape → at makes_resource h r ≡ true → r < k → k ≤ length h → bars r k n shape ≡ true →
+    is_held (take k h) r ≡ true
+barred_held h r k n (Node until ending) is made l m barred = absurd (false≢true barred)
+barred_held h r k n Hub is made l m barred = absurd (false≢true barred)
+barred_held h r k n (Resource after until taken) is made l m barred =
+    let parts = and_parts (n == r) (nat_lt after k && not (nat_lt until k)) barred in
+    held_by_owner (take k h) r (ap (is_owned (take k h)) (sym (eqb-true n r parts.0)) ∙ is.1.owned k m ∙ parts.1)
+barred_held h r k n (Loan q until) is made l m barred =
+    let parts = and_parts (q == r) (nat_lt n k && not (nat_lt until k)) barred in
+    let inside = ltb-true n k (and_parts (nat_lt n k) (not (nat_lt until k)) parts.1).0 in
+    let leased : slice_get (take k h) n ≡ Some (Lease r) = get_prefix h k n inside m ∙ is.0 ∙ ap (λ (p : ℕ). Some (Lease p)) (eqb-true q r parts.0) in
+    held_by_lease (take k h) r (leased_where (take k h) r (at_prefix makes_resource h k r l m ∙ made) (leases_of_some (take k h) n r leased (is.1.out k m ∙ parts.1)))
+
+-- a lease that is out --------------------------------------------------------------------------------
+
+out_somewhere : (h : List Event) (r : ℕ) → 0 < leases_of h r → list_any (is_out_of h r) (places h) ≡ true
+unfolding leases_of
+out_somewhere h r some = by_test (cases_Bool (list_any (is_out_of h r) (places h))) where
+  by_test : (list_any (is_out_of h r) (places h) ≡ true) ⊎ (list_any (is_out_of h r) (places h) ≡ false) → list_any (is_out_of h r) (places h) ≡ true
+  by_test (inl passes) = passes
+  by_test (inr fail) = absurd (let none = count_none (is_out_of h r) (places h) (λ i x at_i. fails i x at_i (cases_Bool (is_out_of h r x))) in omega arith) where
+    fails : (i x : ℕ) → slice_get (places h) i ≡ Some x → (is_out_of h r x ≡ true) ⊎ (is_out_of h r x ≡ false) → is_out_of h r x ≡ false
+    fails i x at_i (inl passes) = absurd (false≢true (sym fail ∙ list_any_holds (is_out_of h r) (places h) i x at_i passes))
+    fails i x at_i (inr none) = none
+
+module _ (h : List Event) (d : Drawing) (is : IsDrawing h d) (r : ℕ) (made : at makes_resource h r ≡ true) (shown : is_shown h r ≡ true) (k : ℕ) (l : r < k) (m : k ≤ length h) where
+  barred_by : (n : ℕ) → n < length h → (at has_row h n && is_rowed h n) ≡ true → ((shape : Shape) → IsShape h n shape → bars r k n shape ≡ true) →
+      list_any (bars_row r k) d.rows.items ≡ true
+  barred_by n within has holds =
+      let found = row_there h (is_rowed h) d.rows.items is.rows n within has in
+      let same : n ≡ found.1.number = eqb-true n found.1.number found.3 in
+      let row = all_at (IsRow h) d.rows.items found.0 found.1 is.rows.each found.2 in
+      list_any_holds (bars_row r k) d.rows.items found.0 found.1 found.2
+      (ap (λ (j : ℕ). bars r k j found.1.shape) (sym same) ∙ holds found.1.shape (subst (λ (j : ℕ). IsShape h j found.1.shape) (sym same) row.shape))
+
+  own_row : (at has_row h r && is_rowed h r) ≡ true
+  own_row = by_event (slice_get h r) refl made where
+    by_event : (o : Option Event) → slice_get h r ≡ o → option_map_or makes_resource o false ≡ true → (at has_row h r && is_rowed h r) ≡ true
+    by_event None at_r fails = absurd (false≢true fails)
+    by_event (Some (Accept node tag)) at_r holds = rw at_r shown
+    by_event (Some _) at_r fails = absurd (false≢true fails)
+
+  lease_row : (n : ℕ) → slice_get h n ≡ Some (Lease r) → (at has_row h n && is_rowed h n) ≡ true
+  lease_row n at_n = rw at_n shown
+
+  by_lease : is_leased (take k h) r ≡ true → list_any (bars_row r k) d.rows.items ≡ true
+  by_lease leased =
+      let found = list_any_found (is_out_of (take k h) r) (places (take k h)) (out_somewhere (take k h) r (leased_some (take k h) r leased)) in
+      let parts = and_parts (at (is_lease_of r) (take k h) found.1) (is_out (take k h) found.1) found.3 in
+      let inside = is_out_within (take k h) found.1 parts.1 in
+      let size = length-take-le k h m in
+      let at_n : slice_get h found.1 ≡ Some (Lease r) = sym (get_prefix h k found.1 (omega arith) m) ∙ lease_at (take k h) r found.1 parts.0 in
+      barred_by found.1 (omega arith) (lease_row found.1 at_n) (λ shape of. out_barred h r k found.1 shape of at_n m parts.1)
+
+  by_case : (is_owned (take k h) r ≡ true) ⊎ (is_leased (take k h) r ≡ true) → list_any (bars_row r k) d.rows.items ≡ true
+  by_case (inl owned) = barred_by r (at_within makes_resource h r made) own_row (λ shape of. owned_barred h r k shape of made m owned)
+  by_case (inr leased) = by_lease leased
+
+  back : list_any (bars_row r k) d.rows.items ≡ true → is_held (take k h) r ≡ true
+  back some =
+      let found = list_any_found (bars_row r k) d.rows.items some in
+      let row = all_at (IsRow h) d.rows.items found.0 found.1 is.rows.each found.2 in
+      barred_held h r k found.1.number found.1.shape row.shape made l m found.3
+
+  pub held_where : is_held (take k h) r ≡ list_any (bars_row r k) d.rows.items
+  held_where = same_tests (is_held (take k h) r) (list_any (bars_row r k) d.rows.items) (λ held. by_case (held_cases (take k h) r held)) back
+
+pub held_is_barred : HeldIsBarred
+held_is_barred h d is r made shown k l m = held_where h d is r made shown k l m
