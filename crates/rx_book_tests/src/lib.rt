@@ -15,6 +15,8 @@ mod closings;
 #[cfg(test)]
 mod fates;
 #[cfg(test)]
+mod forced;
+#[cfg(test)]
 mod fresh;
 #[cfg(test)]
 mod just;
