@@ -25,4 +25,7 @@ pub mod Passage
 pub mod Arrived
 pub mod Loads
 pub mod Standing
+mod RisingNumbers
+mod KeptRecords
+mod Rebased
 pub mod Laws
