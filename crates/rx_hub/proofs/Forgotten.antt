@@ -1,5 +1,5 @@
 -- Hubs that forget how their connections ended, and what is kept of hubs.
-use Rattle.std.proofs.Common.{◌≡◌, ℕ, zero, suc, ◌<◌, ◌+◌, ◌++◌, ◌&&◌, ◌||◌, cond, map, take, drop, Bool, true, false, List, [], ◌∷◌, length, set, get_or, slice_get, Option, Some, None}
+use Rattle.std.proofs.Common.{◌≡◌, ℕ, zero, suc, ◌<◌, ◌+◌, ◌-◌, ◌++◌, ◌&&◌, ◌||◌, cond, map, take, drop, Bool, true, false, List, [], ◌∷◌, length, set, get_or, slice_get, Option, Some, None}
 use Rattle.std.proofs.Common.{option_map, is_none, refl, sym, ap, subst, ◌∙◌, arith, nat_lt}
 use Rattle.std.specs.Prelude.{if◌then◌else◌}
 use Rattle.std.specs.List.{range_with_len, list_any, filter_map, cons_option}
@@ -87,6 +87,15 @@ linked_forgot s waiting due quiet linked =
       both = linked.both;
       room = omega (arith, room, long);
     }
+
+-- and all that callers see of them
+pub shown_forgot : (s new : Hubs) (members : ℕ) → new ≡ record s { hubs = map without_end s.hubs } →
+    record new { room = members - length new.hubs } ≡ record s { hubs = map without_end s.hubs; room = members - length s.hubs }
+shown_forgot s new members same = ap (λ (t : Hubs). record t { room = members - length t.hubs }) same ∙ (λ i. record {
+  hubs = map without_end s.hubs;
+  room = members - length-map s.hubs without_end i;
+  slots = s.slots;
+})
 
 -- the records as they are written -----------------------------------------------------------------------
 

@@ -1,6 +1,6 @@
 -- What the records and the lists of subscribers show as hubs.
 use Rattle.std.proofs.Common.{◌≡◌, ◌≢◌, ℕ, zero, suc, ◌<◌, ◌≤◌, ◌+◌, ◌==◌, ◌||◌, ◌&&◌, ◌++◌, cond, map, Bool, true, false, List, [], ◌∷◌, length, get_or, set, slice_get, Option, Some, None}
-use Rattle.std.proofs.Common.{option_map, is_some, IsSome, IfSome, refl, sym, ap, subst, ◌∙◌, inl, inr, arith, true≢false, zero-add}
+use Rattle.std.proofs.Common.{◌-◌, min, option_map, is_some, IsSome, IfSome, refl, sym, ap, subst, ◌∙◌, inl, inr, arith, true≢false, zero-add}
 use Rattle.std.specs.List.{range_with_len, list_any}
 use Rattle.std.proofs.Math.Bool.{not}
 use Rattle.std.proofs.lemmas.Bool.{cases_eq, cases_lt, false≢true}
@@ -506,3 +506,13 @@ kept_forgot records lists numbers kept =
       listed = kept.listed ∙ sym (length-map records ended_never);
       slots = kept.slots;
     }
+
+-- and all that callers see of it
+pub store_forgot : (records after : List Published) (lists : Lists) (numbers : List ℕ) (capacity more : ℕ) → after ≡ map ended_never records → more ≡ capacity →
+    store_in after lists numbers (min (more - length after) lists.room) ≡
+    record (store_in records lists numbers (min (capacity - length records) lists.room)) { hubs = map without_end (hubs_in records lists numbers) }
+store_forgot records after lists numbers capacity more same caps = λ i. record {
+  hubs = (ap (λ (ps : List Published). hubs_in ps lists numbers) same ∙ hubs_forgot records lists numbers) i;
+  room = min (caps i - (ap (λ (ps : List Published). length ps) same ∙ length-map records ended_never) i) lists.room;
+  slots = lists.members;
+}

@@ -72,8 +72,8 @@ fn forget_all(records: &mut Vec<Published>)
     ensures items { records.new.items ≡ map ended_never records.old.items }
     ensures capacity { vec_capacity records.new ≡ vec_capacity records.old }
 {
-    for record in records.iter_mut() {
-        record.last_end = None;
+    for hub in records.iter_mut() {
+        hub.last_end = None;
     }
 }
 
