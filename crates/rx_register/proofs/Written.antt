@@ -1,5 +1,5 @@
 -- A register after one more event, and after a note that was handed out.
-use Rattle.std.proofs.Common.{◌≡◌, ℕ, zero, suc, ◌+◌, ◌-◌, ◌<◌, ◌≤◌, Bool, true, false, List, [], ◌∷◌, ◌++◌, length, take, drop, Option, Some, None, cond, refl, sym, ap, ◌∙◌, arith, slice_get, length-append, length-drop, take-append-drop}
+use Rattle.std.proofs.Common.{◌≡◌, ℕ, zero, suc, ◌+◌, ◌-◌, ◌<◌, ◌≤◌, Bool, true, false, List, [], ◌∷◌, ◌++◌, length, take, drop, Option, Some, None, cond, refl, sym, ap, subst, ◌∙◌, arith, slice_get, length-append, length-drop, take-append-drop}
 use Rattle.std.specs.Option.{option_to_list}
 use Rattle.std.specs.VecDeque.{deque_len, deque_capacity}
 use Rattle.std.proofs.lemmas.List.{drop-append-le, drop_all, take_all}
@@ -21,7 +21,7 @@ use Rattle.rx_event.proofs.Laws.Begin.{shown_nothing, IsLawful_nothing}
 use Rattle.rx_event.proofs.Laws.Lawful.{IsLawful-push}
 use Rattle.rx_event.proofs.Laws.Totals.{item_count-push, accepted_count-push, taken_count-push}
 use Rattle.rx_register.specs.declared.register.Register.TheInside.{Inside}
-use Rattle.rx_register.specs.State.{Rebases}
+use Rattle.rx_register.specs.State.{State, Rebases}
 use Rattle.rx_register.specs.Ties.{state_of, IsTied}
 use Rattle.rx_register.proofs.Laws.Empty.{debt_empty}
 
@@ -194,11 +194,11 @@ no_notes = refl
 -- a base in place of the events ---------------------------------------------------------------------
 
 -- b is a with what its history leaves in place of its base and its events
-pub record IsRebased (a b : Inside) (room : ℕ) : Type 0 where
+pub record IsRebased (a b : Inside) (reserved : ℕ) : Type 0 where
   pub settled : IsSettled a.history.base a.history.events
   pub placed : length a.history.events ≤ 9223372036854775807
-  pub closing : debt a.history.base a.history.events ≤ room
-  pub within : room ≤ a.history.limit
+  pub closing : debt a.history.base a.history.events ≤ reserved
+  pub within : reserved ≤ a.history.limit
   pub base : b.history.base ≡ base_of a.history.base a.history.events
   pub events : b.history.events ≡ shown (base_of a.history.base a.history.events)
   pub limit : b.history.limit ≡ a.history.limit
@@ -209,7 +209,7 @@ pub record IsRebased (a b : Inside) (room : ℕ) : Type 0 where
   pub handed : a.told ≡ 0
   pub told : b.told ≡ a.told
   pub mail : b.mail ≡ a.mail
-  pub room : b.history.room ≡ room
+  pub room : b.history.room ≡ reserved
 
 pub rebased : (a b : Inside) (room : ℕ) → IsTied a → IsRebased a b room → IsTied b
 rebased a b room r w = record {
@@ -267,3 +267,57 @@ rebases a b room r w none = record {
 -- where all notes were handed out, none is left of those that were told
 pub none_left : (notes told : ℕ) → told ≤ notes → notes - told ≡ notes → told ≡ 0
 none_left notes told l same = omega arith
+
+-- what a caller asks for, of a register and of what it shows ------------------------------------------
+
+pub base_long : (a : Inside) (s : State) (base : Kept) → state_of a ≡ s → base ≡ base_of s.base s.history → base.at_length ≡ length a.history.events
+base_long a s base same is = ap (λ (b : Kept). b.at_length) is ∙ base_length s.base s.history ∙ ap (λ (t : State). length t.history) (sym same)
+
+pub placed_base : (a : Inside) (s : State) (base : Kept) → state_of a ≡ s → base ≡ base_of s.base s.history → length s.history ≤ 9223372036854775807 → base.at_length ≤ 9223372036854775807
+placed_base a s base same is placed = let l = ap (λ (b : Kept). b.at_length) is ∙ base_length s.base s.history in omega arith
+
+pub record MayRebase (a : Inside) (base : Kept) (reserved : ℕ) : Type 0 where
+  pub base_is : base ≡ base_of a.history.base a.history.events
+  pub settled : IsSettled a.history.base a.history.events
+  pub handed : (state_of a).given ≡ length (notes a.history.events)
+  pub pending : drop a.told a.mail.items ≡ []
+  pub placed : length a.history.events ≤ 9223372036854775807
+  pub closing : debt a.history.base a.history.events ≤ reserved
+  pub within : reserved ≤ a.history.limit
+
+pub may_rebase : (a : Inside) (s : State) (base : Kept) (reserved : ℕ) → state_of a ≡ s → base ≡ base_of s.base s.history → IsSettled s.base s.history →
+    s.given ≡ length (notes s.history) → s.pending ≡ [] → length s.history ≤ 9223372036854775807 → debt s.base s.history ≤ reserved → reserved ≤ s.limit → MayRebase a base reserved
+may_rebase a s base reserved same is settled handed pending placed closing within = record {
+  base_is = is ∙ ap (λ (t : State). base_of t.base t.history) (sym same);
+  settled = subst (λ (t : State). IsSettled t.base t.history) (sym same) settled;
+  handed = subst (λ (t : State). t.given ≡ length (notes t.history)) (sym same) handed;
+  pending = subst (λ (t : State). t.pending ≡ []) (sym same) pending;
+  placed = subst (λ (t : State). length t.history ≤ 9223372036854775807) (sym same) placed;
+  closing = subst (λ (t : State). debt t.base t.history ≤ reserved) (sym same) closing;
+  within = subst (λ (t : State). reserved ≤ t.limit) (sym same) within;
+}
+
+pub made_rebased : (a b : Inside) (base : Kept) (reserved : ℕ) → IsTied a → MayRebase a base reserved → b.history.base ≡ base → b.history.events ≡ shown base →
+    b.history.room ≡ reserved → b.history.limit ≡ a.history.limit → b.limit ≡ a.limit → b.item_total ≡ a.item_total → b.accepted_total ≡ a.accepted_total →
+    b.taken_total ≡ a.taken_total → b.told ≡ a.told → b.mail ≡ a.mail → IsRebased a b reserved
+made_rebased a b base reserved r may same_base same_events same_room same_limit own items accepted taken told mail = record {
+  settled = may.settled;
+  placed = may.placed;
+  closing = may.closing;
+  within = may.within;
+  base = same_base ∙ may.base_is;
+  events = same_events ∙ ap shown may.base_is;
+  limit = same_limit;
+  own_limit = own;
+  items = items;
+  accepted = accepted;
+  taken = taken;
+  handed = none_left (length (notes a.history.events)) a.told r.some_told may.handed;
+  told = told;
+  mail = mail;
+  room = same_room;
+}
+
+-- what callers see of it, of a register that they saw as this
+pub rebases_seen : (a b : Inside) (s : State) (reserved : ℕ) → state_of a ≡ s → IsTied a → IsRebased a b reserved → drop a.told a.mail.items ≡ [] → Rebases s (state_of b) reserved
+rebases_seen a b s reserved same r w none = subst (λ (t : State). Rebases t (state_of b) reserved) same (rebases a b reserved r w none)

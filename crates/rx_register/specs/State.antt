@@ -53,11 +53,11 @@ pub record Writes (old : State) (events : List Event) (new : State) : Type 0 whe
 
 -- what old leaves stands in place of its base and its events: nothing happened since, nothing was told since, and there is room for
 -- just so many events
-pub record Rebases (old new : State) (room : ℕ) : Type 0 where
+pub record Rebases (old new : State) (reserved : ℕ) : Type 0 where
   pub base : new.base ≡ base_of old.base old.history
   pub history : new.history ≡ shown new.base
   pub limit : new.limit ≡ old.limit
-  pub room : new.room ≡ room
+  pub room : new.room ≡ reserved
   pub given : new.given ≡ 0
   pub pending : new.pending ≡ []
   pub mail_room : new.mail_room ≡ old.mail_room
