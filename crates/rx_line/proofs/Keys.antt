@@ -1,0 +1,12 @@
+-- A test of all members' names, through the view of a map.
+use Rattle.std.proofs.Common.{◌≡◌, ℕ, List, [], ◌∷◌, Bool, refl, ap, String, Global, string_bytes}
+use Rattle.std.specs.Prelude.{◌&&◌}
+use Rattle.std.specs.List.{list_all}
+use Rattle.std.specs.Map.{keys_of}
+use Rattle.serde_json.specs.View.{members_view}
+use Rattle.serde_json.specs.declared.value.Value.{Value}
+use Rattle.rx_scenario.specs.Reading.{keys}
+
+pub list_all_keys : (p : List ℕ → Bool) (es : List (String Global × Value)) → list_all p (keys (members_view es)) ≡ list_all (λ (k : String Global). p (string_bytes k)) (keys_of es)
+list_all_keys p [] = refl
+list_all_keys p (e ∷ es) = ap (λ (b : Bool). p (string_bytes e.0) && b) (list_all_keys p es)

@@ -1,0 +1,70 @@
+-- The pieces of an answer, in JSON.
+use Rattle.std.specs.Prelude.{ℕ, List, [], ◌∷◌, ◌++◌, codes, flat_map}
+use Rattle.std.specs.Fmt.{decimal, signed_decimal}
+use Rattle.serde_json.specs.Data.{string}
+use Rattle.serde_json.specs.Written.{compact_text}
+use Rattle.rx_note.specs.declared.note.Terminal.TheVariants.{Completed, Error}
+use Rattle.rx_note.specs.declared.note.Note.{Note}
+use Rattle.rx_note.specs.declared.note.Note.TheVariants.{Next, Project, End}
+use Rattle.rx_event.specs.declared.refusal.Refusal.{Refusal}
+use Rattle.rx_event.specs.declared.refusal.Refusal.TheVariants.{NoMemory, Full, Gone, WrongKind, PlaceTaken, NothingOwed, NotRoot, NoHub, HubOrder, Connected, NotConnected, NotFresh, NotHeld, HasChild, TooMany, NoLease, Leased}
+use Rattle.rx_scenario.specs.Scenario.{Name}
+use Rattle.rx_line.specs.declared.outcome.Cause.{Cause}
+use Rattle.rx_line.specs.declared.outcome.Cause.TheVariants.{NoName, NameTaken, Book}
+
+abbrev pub refusal_name : Refusal → List ℕ
+refusal_name NoMemory = codes "NoMemory"
+refusal_name Full = codes "Full"
+refusal_name Gone = codes "Gone"
+refusal_name WrongKind = codes "WrongKind"
+refusal_name PlaceTaken = codes "PlaceTaken"
+refusal_name NothingOwed = codes "NothingOwed"
+refusal_name NotRoot = codes "NotRoot"
+refusal_name NoHub = codes "NoHub"
+refusal_name HubOrder = codes "HubOrder"
+refusal_name Connected = codes "Connected"
+refusal_name NotConnected = codes "NotConnected"
+refusal_name NotFresh = codes "NotFresh"
+refusal_name NotHeld = codes "NotHeld"
+refusal_name HasChild = codes "HasChild"
+refusal_name TooMany = codes "TooMany"
+refusal_name NoLease = codes "NoLease"
+refusal_name Leased = codes "Leased"
+
+abbrev pub cause_name : Cause → List ℕ
+cause_name NoName = codes "NoName"
+cause_name NameTaken = codes "NameTaken"
+cause_name (Book why) = refusal_name why
+
+-- a refused command
+unfoldable pub refused_text : Cause → List ℕ
+refused_text why = codes "{\"refused\":\"" ++ cause_name why ++ codes "\"}"
+
+-- a line that is no order, and what is said of it
+unfoldable pub faulty_text : List ℕ → List ℕ
+faulty_text told = codes "{\"faulty\":" ++ compact_text (string told) ++ codes "}"
+
+-- the front of what an accepted one is answered
+unfoldable pub ok_text : (place : ℕ) → List ℕ
+ok_text place = codes "{\"ok\":" ++ decimal place
+
+-- a note, to the node of this name
+unfoldable pub note_text : Name → Note → List ℕ
+note_text to (Next value) = codes "{\"to\":\"" ++ to ++ codes "\",\"next\":" ++ signed_decimal value ++ codes "}"
+note_text to (Project value) = codes "{\"to\":\"" ++ to ++ codes "\",\"project\":" ++ signed_decimal value ++ codes "}"
+note_text to (End Completed) = codes "{\"to\":\"" ++ to ++ codes "\",\"completed\":true}"
+note_text to (End (Error code)) = codes "{\"to\":\"" ++ to ++ codes "\",\"error\":" ++ decimal code ++ codes "}"
+
+-- a name as a string
+unfoldable pub name_text : Name → List ℕ
+name_text name = codes "\"" ++ name ++ codes "\""
+
+-- pieces with a comma between each two
+abbrev pub joined : List (List ℕ) → List ℕ
+joined [] = []
+joined (p ∷ ps) = p ++ flat_map (λ q. codes "," ++ q) ps
+
+-- a member that is an array of pieces; it is left out where there are none
+abbrev pub member_text : List ℕ → List (List ℕ) → List ℕ
+member_text key [] = []
+member_text key (p ∷ ps) = codes ",\"" ++ key ++ codes "\":[" ++ joined (p ∷ ps) ++ codes "]"

@@ -1,0 +1,142 @@
+//! What names stand for, both ways.
+
+ghost use Rattle.std.specs.Prelude.{◌≡◌, ◌+◌, ◌<◌, ◌≤◌, None, map, option_map, is_some, string_bytes, IfOk, IfSome, IfNone, OnOk};
+ghost use Rattle.rx_line.specs.Names.{spot_of, name_of, room_of, AreNone, IsPaired, AreSame, Binds, Forgets};
+
+use std::alloc::{AllocError, Global};
+use std::collections::HashMap;
+use std::marker::Model;
+
+/// Where something lies in its book, and its number.
+#[derive(Clone, Copy, Debug, PartialEq, Eq)]
+pub struct Spot {
+    pub slot: u64,
+    pub number: u64,
+}
+
+/// A name that is to be bound, once for each way.
+#[derive(Drop)]
+pub struct Twice {
+    one: String,
+    other: String,
+}
+
+/// A space of names, each of which stands for one number: from the name to where that lies, and from the
+/// number to its name.
+///
+/// Contracts see it as those two functions (`specs/Names.antt`). Either way takes a number of steps that does not grow with
+/// how many names are bound.
+#[derive(Drop)]
+pub struct Names {
+    by_name: HashMap<String, Spot>,
+    by_number: HashMap<u64, String>,
+}
+
+impl Model for Twice {
+    ghost use Rattle.std.specs.Prelude.{◌≡◌, string_bytes};
+    ghost use Rattle.rx_scenario.specs.Scenario.{Name};
+
+    ghost Value = { Name };
+
+    ghost view = { λ t. string_bytes t.one };
+
+    ghost invariant = { λ t. string_bytes t.other ≡ string_bytes t.one };
+}
+
+impl Twice {
+    /// The name, twice. Err where memory is refused.
+    pub fn new(name: String) -> Result<Twice, AllocError>
+        ensures { IfOk result (λ t. t ≡ string_bytes name) }
+    {
+        let other = name.clone()?;
+        Ok(Twice { one: name, other })
+    }
+}
+
+impl Names {
+    /// No name is bound. It takes no memory.
+    pub fn new(alloc: Global) -> Self
+        ensures none { AreNone result }
+        ensures paired { IsPaired result }
+    {
+        Names {
+            by_name: HashMap::new(alloc),
+            by_number: HashMap::new(alloc),
+        }
+    }
+
+    /// The spot that the name stands for.
+    pub fn get(&self, name: &str) -> Option<Spot>
+        ensures { result ≡ spot_of self.now name.now }
+    {
+        self.by_name.get(name).copied()
+    }
+
+    /// The name of a number.
+    pub fn name_of(&self, number: u64) -> Option<&str>
+        ensures { option_map (λ s. s.now) result ≡ name_of self.now number }
+    {
+        match self.by_number.get(&number) {
+            Some(name) => Some(name.as_str()),
+            None => None,
+        }
+    }
+
+    /// Gets room for two more names. Err where memory is refused.
+    pub fn make_room(&mut self) -> Result<(), AllocError>
+        ensures same { AreSame self.old self.new }
+        ensures paired { IsPaired self.old → IsPaired self.new }
+        ensures ok { OnOk result (2 ≤ room_of self.new) }
+    {
+        self.by_name.reserve(2)?;
+        self.by_number.reserve(2)
+    }
+
+    /// Binds a name that is not bound to a number that has none, where there is room. It takes no memory.
+    pub fn bind(&mut self, name: Twice, spot: Spot)
+        requires room { 0 < room_of self.old }
+        requires free { spot_of self.old name ≡ None }
+        requires unnamed { name_of self.old spot.number ≡ None }
+        ensures paired { IsPaired self.old → IsPaired self.new }
+        ensures binds { Binds self.old name spot self.new }
+        ensures room { room_of self.old ≤ room_of self.new + 1 }
+    {
+        let Twice { one, other } = name;
+        let number = spot.number;
+        let Ok(_) = self.by_name.insert(one, spot) else {
+            unreachable!()
+        };
+        let Ok(_) = self.by_number.insert(number, other) else {
+            unreachable!()
+        };
+    }
+
+    /// Forgets the name of a number, and answers it; it is free again.
+    pub fn forget(&mut self, number: u64) -> Option<String>
+        requires { IsPaired self.old }
+        ensures paired { IsPaired self.new }
+        ensures value { option_map string_bytes result ≡ name_of self.old number }
+        ensures some { IfSome result (λ name. Forgets self.old number (string_bytes name) self.new) }
+        ensures none { IfNone result (AreSame self.old self.new) }
+        ensures room { room_of self.old ≤ room_of self.new }
+    {
+        let name = self.by_number.remove(&number)?;
+        self.by_name.remove(name.as_str());
+        Some(name)
+    }
+
+    /// How many names are bound.
+    pub fn len(&self) -> usize {
+        self.by_name.len()
+    }
+
+    /// The numbers that have names, rising. Err where memory is refused.
+    pub fn numbers(&self, alloc: Global) -> Result<Vec<u64>, AllocError> {
+        let mut numbers = Vec::new(alloc);
+        for number in self.by_number.keys() {
+            numbers.push(*number)?;
+        }
+        numbers.sort()?;
+        Ok(numbers)
+    }
+}

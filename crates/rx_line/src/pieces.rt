@@ -1,0 +1,102 @@
+//! The pieces of an answer, in JSON.
+
+ghost use Rattle.std.specs.Prelude.{◌≡◌, ◌++◌, ◌+◌, ◌≤◌, length, string_bytes, IfOk, OnOk};
+ghost use Rattle.std.specs.String.{string_len, string_capacity};
+ghost use Rattle.rx_line.specs.Pieces.{refusal_name, cause_name, faulty_text, note_text, ok_text, refused_text};
+
+use crate::outcome::Cause;
+use rx_event::{Refusal, Terminal};
+use rx_note::Note;
+use serde_json::Value;
+use std::alloc::{AllocError, Global};
+
+fn refusal_name(why: Refusal) -> &'static str
+    ensures { result.now ≡ refusal_name why }
+{
+    match why {
+        Refusal::NoMemory => "NoMemory",
+        Refusal::Full => "Full",
+        Refusal::Gone => "Gone",
+        Refusal::WrongKind => "WrongKind",
+        Refusal::PlaceTaken => "PlaceTaken",
+        Refusal::NothingOwed => "NothingOwed",
+        Refusal::NotRoot => "NotRoot",
+        Refusal::NoHub => "NoHub",
+        Refusal::HubOrder => "HubOrder",
+        Refusal::Connected => "Connected",
+        Refusal::NotConnected => "NotConnected",
+        Refusal::NotFresh => "NotFresh",
+        Refusal::NotHeld => "NotHeld",
+        Refusal::HasChild => "HasChild",
+        Refusal::TooMany => "TooMany",
+        Refusal::NoLease => "NoLease",
+        Refusal::Leased => "Leased",
+    }
+}
+
+// The name of a cause.
+fn cause_name(why: Cause) -> &'static str
+    ensures { result.now ≡ cause_name why }
+{
+    match why {
+        Cause::NoName => "NoName",
+        Cause::NameTaken => "NameTaken",
+        Cause::Book(why) => refusal_name(why),
+    }
+}
+
+/// The answer to a command that was refused. Err where memory is refused.
+#[tactic(auto, unfolding(crate::specs::Pieces::refused_text))]
+pub fn refused_text(alloc: Global, why: Cause) -> Result<String, AllocError>
+    ensures { IfOk result (λ s. string_bytes s ≡ refused_text why) }
+{
+    let name = cause_name(why);
+    format!(in alloc; "{{\"refused\":\"{name}\"}}")
+}
+
+/// The answer to a line that is faulty, with which member, and why. Err where memory is refused.
+#[tactic(auto, unfolding(crate::specs::Pieces::faulty_text))]
+pub fn faulty_text(alloc: Global, told: String) -> Result<String, AllocError>
+    ensures { IfOk result (λ s. string_bytes s ≡ faulty_text (string_bytes told)) }
+{
+    let told = Value::String(told).to_string(alloc)?;
+    format!(in alloc; "{{\"faulty\":{told}}}")
+}
+
+/// How the answer begins of a command that is accepted at this place. Err where memory is refused.
+#[tactic(auto, unfolding(crate::specs::Pieces::ok_text))]
+pub fn ok_text(alloc: Global, place: u64) -> Result<String, AllocError>
+    ensures { IfOk result (λ s. string_bytes s ≡ ok_text place) }
+{
+    format!(in alloc; "{{\"ok\":{place}")
+}
+
+/// What is told of a note, to the node of this name. Err where memory is refused.
+#[tactic(auto, unfolding(crate::specs::Pieces::note_text))]
+pub fn note_text(alloc: Global, to: &str, note: Note) -> Result<String, AllocError>
+    ensures { IfOk result (λ s. string_bytes s ≡ note_text to.now note) }
+{
+    match note {
+        Note::Next(value) => format!(in alloc; "{{\"to\":\"{to}\",\"next\":{value}}}"),
+        Note::Project(value) => format!(in alloc; "{{\"to\":\"{to}\",\"project\":{value}}}"),
+        Note::End(Terminal::Completed) => format!(in alloc;
+            "{{\"to\":\"{to}\",\"completed\":true}}"
+        ),
+        Note::End(Terminal::Error(code)) => format!(in alloc;
+            "{{\"to\":\"{to}\",\"error\":{code}}}"
+        ),
+    }
+}
+
+/// Puts a piece behind a text that has room for it. It takes no memory.
+pub fn put(text: &mut String, piece: &str)
+    requires room { string_len text.old + length piece.now ≤ string_capacity text.old }
+    ensures bytes { string_bytes text.new ≡ string_bytes text.old ++ piece.now }
+    ensures len { string_len text.new ≡ string_len text.old + length piece.now }
+    ensures capacity { string_capacity text.old ≤ string_capacity text.new }
+{
+    match text.push_str(piece) {
+        Ok(()) => {}
+        Err(_) => unreachable!(),
+    }
+}

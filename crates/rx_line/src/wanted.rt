@@ -1,0 +1,198 @@
+//! What is wrong with a line that is JSON and no command. Nothing is proved of what it says.
+
+use serde_json::Value;
+use std::alloc::{AllocError, Global};
+
+const NAME: &str = "a name of 1 to 32 letters, digits, - and _ is expected";
+
+const CODE: &str = "a whole number from 0 to 4294967295 is expected";
+
+// The members of a command, besides `do`.
+fn members_of(command: &str) -> Option<&'static str> {
+    match command {
+        "using" => Some("name, place, of, res"),
+        "open" => Some("name, place, of, kind, hub, connection"),
+        "hold" => Some("node, res"),
+        "apply" => Some("res, word"),
+        "remove" => Some("res"),
+        "lease" => Some("res, name"),
+        "return" => Some("lease"),
+        "next" => Some("node, value"),
+        "end" | "abort" | "fail" => Some("node, error"),
+        "decline" | "dispose" => Some("node"),
+        "hub" => Some("name, mode"),
+        "connect" => Some("hub, name"),
+        "disconnect" => Some("hub"),
+        "drain" | "list" | "dump" => Some(""),
+        _ => None,
+    }
+}
+
+fn is_among(member: &str, members: &str) -> bool {
+    members.split(", ").any(|known| known == member)
+}
+
+fn is_name_byte(byte: u8) -> bool {
+    matches!(byte, b'0'..=b'9' | b'A'..=b'Z' | b'a'..=b'z' | b'-' | b'_')
+}
+
+fn is_name(value: &Value) -> bool {
+    let Some(text) = value.as_str() else {
+        return false;
+    };
+    let bytes = text.as_bytes();
+    1 <= bytes.len() && bytes.len() <= 32 && bytes.iter().all(|byte| is_name_byte(*byte))
+}
+
+fn is_code(value: &Value) -> bool {
+    match value.as_u64() {
+        Some(code) => code <= 4_294_967_295,
+        None => false,
+    }
+}
+
+// Whether a member of the object is this word.
+fn is_word(object: &Value, member: &str, word: &str) -> bool {
+    object.get(member).and_then(Value::as_str) == Some(word)
+}
+
+// Whether a member of the object is one of these words.
+fn is_one_of(object: &Value, member: &str, words: &str) -> bool {
+    match object.get(member).and_then(Value::as_str) {
+        Some(word) => is_among(word, words),
+        None => false,
+    }
+}
+
+// Whether a name, or with `may` none, stands there.
+fn name_fault(object: &Value, member: &str, may: bool) -> Option<&'static str> {
+    match object.get(member) {
+        Some(value) if is_name(value) => None,
+        None if may => None,
+        _ => Some(NAME),
+    }
+}
+
+// Whether an error's code, or with `may` none, stands there.
+fn code_fault(object: &Value, may: bool) -> Option<&'static str> {
+    match object.get("error") {
+        Some(value) if is_code(value) => None,
+        None if may => None,
+        _ => Some(CODE),
+    }
+}
+
+// What is wrong with the node above.
+fn of_fault(object: &Value) -> Option<&'static str> {
+    if !is_word(object, "place", "root") {
+        return name_fault(object, "of", false);
+    }
+    match object.get("of") {
+        Some(_) => Some("not to be given: a root stands below no node"),
+        None => None,
+    }
+}
+
+// What is wrong with a member that a subscriber alone has.
+fn sub_fault(object: &Value, member: &str, may: bool) -> Option<&'static str> {
+    if is_word(object, "kind", "sub") {
+        return name_fault(object, member, may);
+    }
+    match object.get(member) {
+        Some(_) => Some("not to be given: the kind is not sub"),
+        None => None,
+    }
+}
+
+fn value_fault(object: &Value) -> Option<&'static str> {
+    match object.get("value").and_then(Value::as_i64) {
+        Some(_) => None,
+        None => Some("a whole number from -2^63 to 2^63 - 1 is expected"),
+    }
+}
+
+fn word_fault(object: &Value) -> Option<&'static str> {
+    match object.get("word").and_then(Value::as_u64) {
+        Some(_) => None,
+        None => Some("a whole number from 0 to 2^64 - 1 is expected"),
+    }
+}
+
+fn words_fault(object: &Value, member: &str) -> Option<&'static str> {
+    let (words, told) = match member {
+        "place" => (
+            "root, source, inner, notifier",
+            "root, source, inner or notifier is expected",
+        ),
+        "kind" => (
+            "leaf, pass, flat, switch, until, sub",
+            "leaf, pass, flat, switch, until or sub is expected",
+        ),
+        _ => ("auto, manual", "auto or manual is expected"),
+    };
+    if is_one_of(object, member, words) {
+        None
+    } else {
+        Some(told)
+    }
+}
+
+// What is wrong with a member of a command.
+fn member_fault(object: &Value, command: &str, member: &str) -> Option<&'static str> {
+    match member {
+        "value" => value_fault(object),
+        "word" => word_fault(object),
+        "error" => code_fault(object, command == "end"),
+        "of" => of_fault(object),
+        "place" | "kind" | "mode" => words_fault(object, member),
+        "hub" if command == "open" => sub_fault(object, member, false),
+        "connection" => sub_fault(object, member, true),
+        _ => name_fault(object, member, command == "connect" && member == "name"),
+    }
+}
+
+// The first member that the command does not have.
+fn stranger<'a>(object: &'a Value, own: &str) -> Option<&'a str> {
+    for member in object.as_object()?.keys() {
+        let member = member.as_str();
+        if member != "do" && !is_among(member, own) {
+            return Some(member);
+        }
+    }
+    None
+}
+
+// What is wrong with an object that has this word for its command.
+fn command_fault(
+    alloc: Global,
+    object: &Value,
+    command: &str,
+    own: &'static str,
+) -> Result<String, AllocError> {
+    if let Some(member) = stranger(object, own) {
+        return format!(in alloc; "{member}: {command} has no such member");
+    }
+    for member in own.split(", ") {
+        if member.is_empty() {
+            break;
+        }
+        if let Some(told) = member_fault(object, command, member) {
+            return format!(in alloc; "{member}: {told}");
+        }
+    }
+    format!(in alloc; "{command}: this is no such command")
+}
+
+/// What is wrong with a value that is no command: which member, and why.
+pub fn fault_of(alloc: Global, value: &Value) -> Result<String, AllocError> {
+    if !value.is_object() {
+        return String::from_str(alloc, "a command is an object");
+    }
+    let Some(command) = value.get("do").and_then(Value::as_str) else {
+        return String::from_str(alloc, "do: the name of a command is expected");
+    };
+    match members_of(command) {
+        Some(own) => command_fault(alloc, value, command, own),
+        None => String::from_str(alloc, "do: there is no such command here"),
+    }
+}
