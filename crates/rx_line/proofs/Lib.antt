@@ -1,2 +1,4 @@
 pub mod Pairing
-pub mod Keys
+pub mod Lists
+pub mod Reordered
+pub mod Changed

@@ -1,5 +1,5 @@
 -- The pieces of an answer, in JSON.
-use Rattle.std.specs.Prelude.{ℕ, List, [], ◌∷◌, ◌++◌, codes, flat_map}
+use Rattle.std.specs.Prelude.{ℕ, ℤ, List, [], ◌∷◌, ◌++◌, codes, flat_map}
 use Rattle.std.specs.Fmt.{decimal, signed_decimal}
 use Rattle.serde_json.specs.Data.{string}
 use Rattle.serde_json.specs.Written.{compact_text}
@@ -48,12 +48,27 @@ faulty_text told = codes "{\"faulty\":" ++ compact_text (string told) ++ codes "
 unfoldable pub ok_text : (place : ℕ) → List ℕ
 ok_text place = codes "{\"ok\":" ++ decimal place
 
--- a note, to the node of this name
-unfoldable pub note_text : Name → Note → List ℕ
-note_text to (Next value) = codes "{\"to\":\"" ++ to ++ codes "\",\"next\":" ++ signed_decimal value ++ codes "}"
-note_text to (Project value) = codes "{\"to\":\"" ++ to ++ codes "\",\"project\":" ++ signed_decimal value ++ codes "}"
-note_text to (End Completed) = codes "{\"to\":\"" ++ to ++ codes "\",\"completed\":true}"
-note_text to (End (Error code)) = codes "{\"to\":\"" ++ to ++ codes "\",\"error\":" ++ decimal code ++ codes "}"
+-- a note, to the node of this name: an item, an item that is owed an inner observable, a completion, an error
+unfoldable pub to_text : Name → List ℕ
+to_text to = codes "{\"to\":\"" ++ to ++ codes "\""
+
+unfoldable pub next_text : Name → ℤ → List ℕ
+next_text to value = to_text to ++ codes ",\"next\":" ++ signed_decimal value ++ codes "}"
+
+unfoldable pub project_text : Name → ℤ → List ℕ
+project_text to value = to_text to ++ codes ",\"project\":" ++ signed_decimal value ++ codes "}"
+
+unfoldable pub completed_text : Name → List ℕ
+completed_text to = to_text to ++ codes ",\"completed\":true}"
+
+unfoldable pub error_text : Name → (code : ℕ) → List ℕ
+error_text to code = to_text to ++ codes ",\"error\":" ++ decimal code ++ codes "}"
+
+abbrev pub note_text : Name → Note → List ℕ
+note_text to (Next value) = next_text to value
+note_text to (Project value) = project_text to value
+note_text to (End Completed) = completed_text to
+note_text to (End (Error code)) = error_text to code
 
 -- a name as a string
 unfoldable pub name_text : Name → List ℕ

@@ -10,8 +10,10 @@
 //!
 //! # Promised, and not
 //!
-//! - [`order_of`] gives the order that a line is, and `Faulty` where it is none, exactly; that `Memory` is given
-//!   only where memory was refused is tested above.
+//! - [`order_of`] gives the order that a line is, and `Faulty` where it is none, exactly. Of a line for which it
+//!   answers `Memory` nothing is known, and that it does so only where memory was refused is not proved.
+//! - Each piece of an answer is the text that its definition says, or memory was refused.
+//! - A name that is bound, and one that is forgotten, changes nothing of any other.
 //! - Of the words with which a line is called faulty nothing is promised.
 #![tactic(auto)]
 

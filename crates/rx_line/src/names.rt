@@ -24,8 +24,7 @@ pub struct Twice {
 /// A space of names, each of which stands for one number: from the name to where that lies, and from the
 /// number to its name.
 ///
-/// Contracts see it as those two functions (`specs/Names.antt`). Either way takes a number of steps that does not grow with
-/// how many names are bound.
+/// Contracts see it as those two functions (`specs/Names.antt`).
 #[derive(Drop)]
 pub struct Names {
     by_name: HashMap<String, Spot>,
@@ -123,20 +122,5 @@ impl Names {
         let name = self.by_number.remove(&number)?;
         self.by_name.remove(name.as_str());
         Some(name)
-    }
-
-    /// How many names are bound.
-    pub fn len(&self) -> usize {
-        self.by_name.len()
-    }
-
-    /// The numbers that have names, rising. Err where memory is refused.
-    pub fn numbers(&self, alloc: Global) -> Result<Vec<u64>, AllocError> {
-        let mut numbers = Vec::new(alloc);
-        for number in self.by_number.keys() {
-            numbers.push(*number)?;
-        }
-        numbers.sort()?;
-        Ok(numbers)
     }
 }

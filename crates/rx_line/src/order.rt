@@ -1,11 +1,11 @@
 //! What a line says.
 
-ghost use Rattle.std.specs.Prelude.{◌≡◌, ◌∷◌, [], codes, option_map, string_bytes, IfOk, IfErr, None, Some};
+ghost use Rattle.std.specs.Prelude.{◌≡◌, map, option_map, string_bytes, IfOk, IfErr, None, Some};
 ghost use Rattle.std.specs.List.{list_all};
 ghost use Rattle.std.specs.Map.{keys_of};
 ghost use Rattle.rx_scenario.specs.Scenario.{command_of};
-ghost use Rattle.rx_scenario.specs.Reading.{is_one_of};
-ghost use Rattle.serde_json.specs.View.{view};
+ghost use Rattle.rx_scenario.specs.Reading.{is_one_of, has_only, is_object_of};
+ghost use Rattle.serde_json.specs.View.{view, members_view};
 ghost use Rattle.serde_json.specs.Data.{Data};
 ghost use Rattle.rx_device.specs.Input.{IsJsonOf};
 ghost use Rattle.rx_line.specs.Orders.{is_word, is_timed, command_in, order_in, order_of, IsOrderOf, IsFaulty, IsUnread};
@@ -14,7 +14,7 @@ use crate::wanted::fault_of;
 use rx_device::ShapeError;
 use rx_scenario::{Action, Command, action_in};
 use serde_json::{Error, Map, Value};
-use std::alloc::{AllocError, AllocFailed, Global};
+use std::alloc::{AllocError, Global};
 
 /// What a line asks for.
 #[derive(Drop)]
@@ -70,11 +70,33 @@ fn value_of(alloc: Global, line: &[u8]) -> Result<Value, Unread>
     }
 }
 
-// Whether an object has no member but `do`.
-fn is_only_do(members: &Map<String, Value>) -> bool
-    ensures { result ≡ list_all (λ k. is_one_of (codes "do" ∷ []) (string_bytes k)) (keys_of members.now.entries) }
+fn is_one_of(key: &str, names: &[&str]) -> bool
+    ensures { result ≡ is_one_of (map (λ s. s.now) names.now) key.now }
 {
-    members.keys().all(|key| key.as_str() == "do")
+    names.contains(&key)
+}
+
+fn are_all_of(members: &Map<String, Value>, names: &[&str]) -> bool
+    ensures { result ≡ list_all (λ k. is_one_of (map (λ s. s.now) names.now) (string_bytes k)) (keys_of members.now.entries) }
+{
+    members.keys().all(|key| is_one_of(key.as_str(), names))
+}
+
+#[tactic(auto, unfolding(rx_scenario::specs::Reading::has_only))]
+fn has_only(members: &Map<String, Value>, names: &[&str]) -> bool
+    ensures { result ≡ has_only (map (λ s. s.now) names.now) (members_view members.now.entries) }
+{
+    are_all_of(members, names)
+}
+
+// Whether a value is an object with no member of another name.
+fn is_object_of(value: &Value, names: &[&str]) -> bool
+    ensures { result ≡ is_object_of (map (λ s. s.now) names.now) (view value.now) }
+{
+    match value {
+        Value::Object(members) => has_only(members, names),
+        _ => false,
+    }
 }
 
 // Whether a value is an object that has `do` alone, with this word.
@@ -82,12 +104,7 @@ fn is_only_do(members: &Map<String, Value>) -> bool
 fn is_word(value: &Value, word: &str) -> bool
     ensures { result ≡ is_word word.now (view value.now) }
 {
-    match value {
-        Value::Object(members) => {
-            is_only_do(members) && value.get("do").and_then(Value::as_str) == Some(word)
-        }
-        _ => false,
-    }
+    is_object_of(value, &["do"]) && value.get("do").and_then(Value::as_str) == Some(word)
 }
 
 // Whether a member is one of a step, and of no line.

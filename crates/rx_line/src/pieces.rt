@@ -2,7 +2,7 @@
 
 ghost use Rattle.std.specs.Prelude.{◌≡◌, ◌++◌, ◌+◌, ◌≤◌, length, string_bytes, IfOk, OnOk};
 ghost use Rattle.std.specs.String.{string_len, string_capacity};
-ghost use Rattle.rx_line.specs.Pieces.{refusal_name, cause_name, faulty_text, note_text, ok_text, refused_text};
+ghost use Rattle.rx_line.specs.Pieces.{refusal_name, cause_name, faulty_text, to_text, next_text, project_text, completed_text, error_text, note_text, ok_text, refused_text};
 
 use crate::outcome::Cause;
 use rx_event::{Refusal, Terminal};
@@ -71,20 +71,60 @@ pub fn ok_text(alloc: Global, place: u64) -> Result<String, AllocError>
     format!(in alloc; "{{\"ok\":{place}")
 }
 
+// The front of a note, which has the name of the node that it goes to.
+#[tactic(auto, unfolding(crate::specs::Pieces::to_text))]
+fn to_text(alloc: Global, to: &str) -> Result<String, AllocError>
+    ensures { IfOk result (λ s. string_bytes s ≡ to_text to.now) }
+{
+    format!(in alloc; "{{\"to\":\"{to}\"")
+}
+
+#[tactic(auto, unfolding(crate::specs::Pieces::next_text))]
+fn next_text(alloc: Global, to: &str, value: i64) -> Result<String, AllocError>
+    ensures { IfOk result (λ s. string_bytes s ≡ next_text to.now value) }
+{
+    let mut text = to_text(alloc, to)?;
+    write!(text, ",\"next\":{value}}}")?;
+    Ok(text)
+}
+
+#[tactic(auto, unfolding(crate::specs::Pieces::project_text))]
+fn project_text(alloc: Global, to: &str, value: i64) -> Result<String, AllocError>
+    ensures { IfOk result (λ s. string_bytes s ≡ project_text to.now value) }
+{
+    let mut text = to_text(alloc, to)?;
+    text.push_str(",\"project\":")?;
+    write!(text, "{value}}}")?;
+    Ok(text)
+}
+
+#[tactic(auto, unfolding(crate::specs::Pieces::completed_text))]
+fn completed_text(alloc: Global, to: &str) -> Result<String, AllocError>
+    ensures { IfOk result (λ s. string_bytes s ≡ completed_text to.now) }
+{
+    let mut text = to_text(alloc, to)?;
+    text.push_str(",\"completed\":true}")?;
+    Ok(text)
+}
+
+#[tactic(auto, unfolding(crate::specs::Pieces::error_text))]
+fn error_text(alloc: Global, to: &str, code: u32) -> Result<String, AllocError>
+    ensures { IfOk result (λ s. string_bytes s ≡ error_text to.now code) }
+{
+    let mut text = to_text(alloc, to)?;
+    write!(text, ",\"error\":{code}}}")?;
+    Ok(text)
+}
+
 /// What is told of a note, to the node of this name. Err where memory is refused.
-#[tactic(auto, unfolding(crate::specs::Pieces::note_text))]
 pub fn note_text(alloc: Global, to: &str, note: Note) -> Result<String, AllocError>
     ensures { IfOk result (λ s. string_bytes s ≡ note_text to.now note) }
 {
     match note {
-        Note::Next(value) => format!(in alloc; "{{\"to\":\"{to}\",\"next\":{value}}}"),
-        Note::Project(value) => format!(in alloc; "{{\"to\":\"{to}\",\"project\":{value}}}"),
-        Note::End(Terminal::Completed) => format!(in alloc;
-            "{{\"to\":\"{to}\",\"completed\":true}}"
-        ),
-        Note::End(Terminal::Error(code)) => format!(in alloc;
-            "{{\"to\":\"{to}\",\"error\":{code}}}"
-        ),
+        Note::Next(value) => next_text(alloc, to, value),
+        Note::Project(value) => project_text(alloc, to, value),
+        Note::End(Terminal::Completed) => completed_text(alloc, to),
+        Note::End(Terminal::Error(code)) => error_text(alloc, to, code),
     }
 }
 

@@ -1,0 +1,50 @@
+-- A session stays sound as its book goes on.
+use Rattle.std.proofs.Common.{◌≡◌, ℕ, ◌+◌, ◌≤◌, Bool, true, false, Option, Some, None, Result, Ok, Err, length, refl, sym, ap, ◌∙◌, arith, subst}
+use Rattle.std.specs.Prelude.{IfErr, OnOk, OnErr, is_some}
+use Rattle.rx_event.specs.declared.refusal.Refusal.{Refusal}
+use Rattle.rx_event.specs.Calls.{Call, outside_of}
+use Rattle.rx_book.specs.State.{State, IsPromised}
+use Rattle.rx_book.specs.Requests.{Request}
+use Rattle.rx_book.specs.Answers.{Accepts, IsCauseOrWant}
+use Rattle.rx_book.proofs.Laws.Going.{step_longer}
+use Rattle.rx_line.specs.declared.outcome.Cause.TheVariants.{Book}
+use Rattle.rx_line.specs.declared.outcome.Outcome.{Outcome}
+use Rattle.rx_line.specs.declared.outcome.Outcome.TheVariants.{Accepted, Refused}
+use Rattle.rx_live.specs.Session.{Session, IsSound}
+use Rattle.rx_live.specs.Carried.{outcome_of, Goes}
+use Rattle.rx_live.proofs.Remaining.{keeps_resources, keeps_leases, kept_same, out_same}
+
+pub accepted_longer : (old new : State) (asked : Request) → Accepts old asked new → length old.history ≤ length new.history
+accepted_longer old new asked accepts = let l = step_longer old.base old.history new.history asked.call accepts.step in omega arith
+
+-- a call that accepts and takes no resource, and gives and takes back no lease
+pub sound_on : (s : Session) (asked : Request) (book : State) → IsSound s → IsPromised book → Accepts s.book asked book → keeps_resources asked.call ≡ true → keeps_leases asked.call ≡ true →
+    IsSound (record s { book = book })
+sound_on s asked book sound kept accepts resources leases = record {
+  kept = kept;
+  node_pairs = sound.node_pairs;
+  hub_pairs = sound.hub_pairs;
+  resource_pairs = sound.resource_pairs;
+  lease_pairs = sound.lease_pairs;
+  nodes = λ n past. let l = accepted_longer s.book book asked accepts in sound.nodes n (omega arith);
+  hubs = λ n past. let l = accepted_longer s.book book asked accepts in sound.hubs n (omega arith);
+  resources = λ r. sound.resources r ∙ sym (kept_same s.book.base s.book.history book.history asked.call accepts.step resources r);
+  leases = λ l. sound.leases l ∙ sym (out_same s.book.base s.book.history book.history asked.call accepts.step leases l);
+  unnamed = sound.unnamed;
+}
+
+-- what such a call is answered
+pub goes_on : {A : Type 0} (s : Session) (asked : Request) (book : State) (answer : Result A Refusal) (outcome : Outcome) → IsSound s → IsPromised book →
+    keeps_resources asked.call ≡ true → keeps_leases asked.call ≡ true → OnOk answer (Accepts s.book asked book) → IfErr answer (IsCauseOrWant s.book asked) →
+    OnErr answer (book ≡ s.book) → outcome ≡ outcome_of answer → Goes s (Some asked) outcome (record s { book = book })
+goes_on s asked book (Ok a) outcome sound kept resources leases accepts refuses same is =
+    subst (λ (o : Outcome). Goes s (Some asked) o (record s { book = book })) (sym is)
+    (record { carries = (accepts, refl); sound = sound_on s asked book sound kept accepts resources leases })
+goes_on s asked book (Err why) outcome sound kept resources leases accepts refuses same is =
+    let stays : record s { book = book } ≡ s = ap (λ (b : State). record s { book = b }) same in
+    subst (λ (o : Outcome). Goes s (Some asked) o (record s { book = book })) (sym is)
+    (record { carries = (refuses, stays); sound = subst (λ (t : Session). IsSound t) (sym stays) sound })
+
+pub stays_refused : {A : Type 0} (s : Session) (book : State) (answer : Result A Refusal) (why : Refusal) → OnErr answer (book ≡ s.book) → answer ≡ Err why → record s { book = book } ≡ s
+stays_refused s book (Err w) why same is = ap (λ (b : State). record s { book = b }) same
+stays_refused s book (Ok a) why same is = cc
