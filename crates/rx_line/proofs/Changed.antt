@@ -1,5 +1,5 @@
 -- What is bound after a name more, and after one less.
-use Rattle.std.proofs.Common.{◌≡◌, ℕ, ◌==◌, List, Bool, true, false, cond, Option, Some, None, option_map, refl, sym, ap, ◌∙◌, String, Global, string_bytes}
+use Rattle.std.proofs.Common.{◌≡◌, ℕ, ◌==◌, List, Bool, true, false, cond, Option, Some, None, option_map, refl, ap, ◌∙◌, String, Global, string_bytes}
 use Rattle.std.proofs.lemmas.Map.Text.{hash_map_updates_text}
 use Rattle.std.specs.Bool.{nat_eq}
 use Rattle.std.specs.Str.{bytes_eq}
@@ -7,7 +7,7 @@ use Rattle.std.specs.String.{string_eq}
 use Rattle.std.specs.HashMap.{UpdatesBy}
 use Rattle.rx_line.specs.declared.names.Spot.{Spot}
 use Rattle.rx_line.specs.declared.names.Names.{Names}
-use Rattle.rx_line.specs.Names.{spot_of, name_of, ArePaired, IsPaired, AreSame, Binds, Forgets}
+use Rattle.rx_line.specs.Names.{spot_of, name_of, IsPaired, Binds, Forgets}
 use Rattle.rx_line.proofs.Pairing.{paired-bind, paired-forget}
 
 by_bytes : (b : Bool) (x : Option (String Global)) (y : Option (String Global)) → option_map string_bytes (cond b x y) ≡ cond b (option_map string_bytes x) (option_map string_bytes y)

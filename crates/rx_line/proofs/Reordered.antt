@@ -1,5 +1,5 @@
 -- The same names are bound where more room was made.
-use Rattle.std.proofs.Common.{◌≡◌, ℕ, List, [], ◌∷◌, Bool, true, false, cond, Option, Some, None, option_map, refl, sym, ap, ◌∙◌, subst, String, Global, string_bytes}
+use Rattle.std.proofs.Common.{◌≡◌, ℕ, List, [], ◌∷◌, Bool, true, false, cond, Option, Some, None, option_map, refl, sym, ap, ◌∙◌, String, Global, string_bytes}
 use Rattle.std.proofs.lemmas.Option.{none-some}
 use Rattle.std.proofs.lemmas.Slice.Eq.{bytes_eq-Decides}
 use Rattle.std.specs.Bool.{nat_eq}
@@ -9,7 +9,7 @@ use Rattle.std.specs.HashMap.{HashMap, get, get_by_text, IsReordered}
 use Rattle.std.specs.Map.{lookup}
 use Rattle.rx_line.specs.declared.names.Spot.{Spot}
 use Rattle.rx_line.specs.declared.names.Names.{Names}
-use Rattle.rx_line.specs.Names.{spot_of, name_of, ArePaired, IsPaired, AreSame}
+use Rattle.rx_line.specs.Names.{IsPaired, AreSame}
 
 -- what is found stands at a key
 found_at : {K X : Type 0} (test : K → Bool) (es : List (K × X)) (x : X) → lookup test es ≡ Some x → (k : K) × (test k ≡ true)

@@ -51,7 +51,7 @@ at_last made h e n makes = by_place (cases_order n (length h)) where
   by_place (inr (inr l)) =
       let apart : (length h == n) ≡ false = ne_eqb (length h) n (omega arith) in
       let new : at made (h ++ e ∷ []) n ≡ false = false_from_ne_true (at made (h ++ e ∷ []) n)
-              (λ there. let w = at_within made (h ++ e ∷ []) n there in omega (arith, length-append h (e ∷ []))) in
+      (λ there. let w = at_within made (h ++ e ∷ []) n there in omega (arith, length-append h (e ∷ []))) in
       let old : at made h n ≡ false = false_from_ne_true (at made h n) (λ there. let w = at_within made h n there in omega arith) in
       new ∙ sym (ap (λ (b : Bool). cond b true (at made h n)) apart ∙ old)
 
@@ -66,7 +66,7 @@ module _ (made : Event → Bool) (gone : ℕ → Event → Bool) (plain : Event 
   pub lasts_plain : (h : List Event) (e : Event) → plain e ≡ true → (n : ℕ) → lasts made gone (h ++ e ∷ []) n ≡ lasts made gone h n
   lasts_plain h e p n =
       let any : list_any (gone n) (h ++ e ∷ []) ≡ list_any (gone n) h =
-              list_any_push (gone n) h e ∙ or_none (list_any (gone n) h) (gone n e) (takes_none e n p) in
+      list_any_push (gone n) h e ∙ or_none (list_any (gone n) h) (gone n e) (takes_none e n p) in
       (λ i. at_same made h e n (makes_none e p) i && not (any i))
 
   lasts_all : (h es : List Event) → list_all plain es ≡ true → (n : ℕ) → lasts made gone (h ++ es) n ≡ lasts made gone h n
@@ -256,7 +256,7 @@ kept_used base h k place tag law step r =
     let longer : length opened ≡ length h + 1 = length-append h (Open place Pass ∷ []) in
     let both : h ++ Open place Pass ∷ accept ∷ [] ≡ opened ++ accept ∷ [] = sym (append_assoc h (Open place Pass ∷ []) (accept ∷ [])) in
     let untaken : list_any (is_take_of (length opened)) opened ≡ false = list_any_push (is_take_of (length opened)) h (Open place Pass)
-            ∙ or_none (list_any (is_take_of (length opened)) h) false refl ∙ no_take base h law (length opened) (omega arith) in
+    ∙ or_none (list_any (is_take_of (length opened)) h) false refl ∙ no_take base h law (length opened) (omega arith) in
     lasts_forced makes_resource is_take_of plain_for_resources accepts_none takes_none resource_forced (λ c. refl) base step.forced r
     ∙ ap (λ (es : List Event). lasts makes_resource is_take_of es r) both
     ∙ lasts_made makes_resource is_take_of opened accept refl (λ n. refl) untaken r
