@@ -1,10 +1,15 @@
 -- A session stays sound as its book goes on.
-use Rattle.std.proofs.Common.{◌≡◌, ℕ, ◌+◌, ◌≤◌, Bool, true, false, Option, Some, None, Result, Ok, Err, length, refl, sym, ap, ◌∙◌, arith, subst, inl, option_map}
+use Rattle.std.proofs.Common.{◌≡◌, ℕ, ◌+◌, ◌≤◌, Bool, true, false, Option, Some, None, Result, Ok, Err, length, refl, sym, ap, ◌∙◌, arith, subst, inl, option_map, List, []}
 use Rattle.std.specs.Prelude.{IfOk, IfErr, OnOk, OnErr, is_some}
 use Rattle.std.specs.declared.alloc.AllocError.{AllocError}
 use Rattle.rx_event.specs.declared.refusal.Refusal.{Refusal}
 use Rattle.rx_event.specs.declared.refusal.Refusal.TheVariants.{NoMemory}
+use Rattle.std.proofs.lemmas.Option.{none-some}
+use Rattle.rx_event.specs.declared.event.Event.{Event}
+use Rattle.rx_event.specs.Resources.{is_out}
 use Rattle.rx_event.specs.Calls.{Call, outside_of}
+use Rattle.rx_event.proofs.Laws.Leases.{is_out_past}
+use Rattle.rx_line.specs.Names.{IsPaired, AreNone}
 use Rattle.rx_book.specs.State.{State, IsPromised}
 use Rattle.rx_book.specs.Requests.{Request}
 use Rattle.rx_book.specs.Answers.{Accepts, IsCause, IsCauseOrWant}
@@ -12,7 +17,7 @@ use Rattle.rx_book.proofs.Laws.Going.{step_longer}
 use Rattle.rx_line.specs.declared.outcome.Cause.TheVariants.{NoName, Book}
 use Rattle.rx_line.specs.declared.outcome.Outcome.{Outcome}
 use Rattle.rx_line.specs.declared.outcome.Outcome.TheVariants.{Accepted, Refused}
-use Rattle.rx_live.specs.Session.{Session, IsSound}
+use Rattle.rx_live.specs.Session.{Session, IsSound, is_kept}
 use Rattle.rx_live.specs.Carried.{outcome_of, Goes}
 use Rattle.rx_live.proofs.Remaining.{keeps_resources, keeps_leases, kept_same, out_same}
 
@@ -72,3 +77,23 @@ call_err s book answer (Err e) same told = stays_refused s book answer NoMemory 
 -- and where it is not
 pub call_none : {K : Type 0} (s : Session) (f : K → Request) (key : Option K) → key ≡ None → IsSound s → Goes s (option_map f key) (Refused NoName) s
 call_none s f key none sound = subst (λ (j : Option _). Goes s (option_map f j) (Refused NoName) s) (sym none) (record { carries = (refl, refl); sound = sound })
+
+-- before the first line
+kept_none : (r : ℕ) → is_kept [] r ≡ false
+unfolding is_kept
+kept_none r = refl
+
+pub sound_start : (s : Session) → IsPromised s.book → s.book.history ≡ [] → IsPaired s.nodes → IsPaired s.hubs → IsPaired s.resources → IsPaired s.leases →
+    AreNone s.nodes → AreNone s.hubs → AreNone s.resources → AreNone s.leases → s.unnamed ≡ None → IsSound s
+sound_start s kept empty node_pairs hub_pairs resource_pairs lease_pairs nodes hubs resources leases unnamed = record {
+  kept = kept;
+  node_pairs = node_pairs;
+  hub_pairs = hub_pairs;
+  resource_pairs = resource_pairs;
+  lease_pairs = lease_pairs;
+  nodes = λ n past. nodes.1 n;
+  hubs = λ n past. hubs.1 n;
+  resources = λ r. ap is_some (resources.1 r) ∙ sym (ap (λ (h : List Event). is_kept h r) empty ∙ kept_none r);
+  leases = λ l. ap is_some (leases.1 l) ∙ sym (ap (λ (h : List Event). is_out h l) empty ∙ is_out_past [] l (omega arith));
+  unnamed = λ name is. absurd (none-some name (sym unnamed ∙ is));
+}

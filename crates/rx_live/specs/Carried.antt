@@ -1,5 +1,5 @@
 -- What a command that gives no name does: a call of the book, or nothing.
-use Rattle.std.specs.Prelude.{◌≡◌, ⊥, Option, Some, None, Result, Ok, Err}
+use Rattle.std.specs.Prelude.{◌≡◌, Option, Some, None, Result, Ok, Err}
 use Rattle.rx_event.specs.declared.refusal.Refusal.{Refusal}
 use Rattle.rx_book.specs.Requests.{Request}
 use Rattle.rx_book.specs.Answers.{Accepts, IsCauseOrWant}
