@@ -108,13 +108,15 @@ pub fn reached(
         count: 1,
     };
     let mut log = vec![in alloc; first]?;
+    let mut next = Vec::new(alloc);
     let mut total: u64 = 1;
     for i in 0..MOST_VISITS {
         if i >= log.len() {
             return Ok(Some(log));
         }
         let visit = log[i];
-        let next = onward(alloc, past, subs, visit.node)?;
+        next.clear();
+        onward(alloc, past, subs, visit.node, &mut next)?;
         let more = u128::from(visit.count) * next.len() as u128;
         if more > u128::from(1_048_576 - total) {
             return Ok(None);

@@ -17,16 +17,16 @@ returns c =
 
 pub returns-then-more-from : goal.returns-then-more-from
 returns-then-more-from c =
-    let next = c.in_ok-next.next in
+    let next = c.onward.new.next in
     let v = c.index-visit.result.now in
     let len : c.len-in-loop-i.result ≡ length next.items = c.len-in-loop-i.ensures ∙ next.ok.0 in
     let product : c.from.result * c.len-in-loop-i.result ≡ v.count * length next.items = rw (c.from.ensures, len) refl in
     flow_over c.args.past.now c.args.leaf c.loop-i.i c.loop-i.log.items c.loop-i.total v next.items
-    (omega arith) c.index-visit.ensures c.in_ok-next.ensures (omega arith) c.loop-i.invariant
+    (omega arith) c.index-visit.ensures c.in_ok-onward.ensures (omega arith) c.loop-i.invariant
 
 pub spread-requires-clause-few : goal.spread-requires-clause-few
 spread-requires-clause-few c =
-    let next = c.in_ok-next.next in
+    let next = c.onward.new.next in
     let v = c.index-visit.result.now in
     let len : c.len-in-loop-i.result ≡ length next.items = c.len-in-loop-i.ensures ∙ next.ok.0 in
     let product : c.from.result * c.len-in-loop-i.result ≡ v.count * length next.items = rw (c.from.ensures, len) refl in
@@ -40,7 +40,7 @@ spread-requires-clause-some c =
 
 pub loop-i-preserved : goal.loop-i-preserved
 loop-i-preserved c =
-    let next = c.in_ok-next.next in
+    let next = c.onward.new.next in
     let v = c.index-visit.result.now in
     let log = c.loop-i.log.items in
     let i = c.loop-i.i in
@@ -53,5 +53,5 @@ loop-i-preserved c =
     (drop (i + 1) log) + v.count * sum_by number next.items = λ number. c.in_ok-spread.ensures.more number
     ∙ ap (λ (xs : List ℕ). sum_by (times number) (drop (i + 1) log) + v.count * sum_by number xs) c.as_slice.ensures.value in
     rw product (flow_step c.args.past.now c.args.leaf i log c.spread.new.log.items c.loop-i.total v next.items
-    (omega arith) c.index-visit.ensures c.in_ok-next.ensures c.in_ok-spread.ensures.kept
+    (omega arith) c.index-visit.ensures c.in_ok-onward.ensures c.in_ok-spread.ensures.kept
     more c.in_ok-spread.ensures.often c.in_ok-spread.ensures.grows few inv)
