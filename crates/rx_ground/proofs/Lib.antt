@@ -28,4 +28,5 @@ pub mod Standing
 mod RisingNumbers
 mod KeptRecords
 mod Rebased
+mod Checkpointing
 pub mod Laws
