@@ -1,6 +1,6 @@
 //! The open subscribers of each hub, one after another.
 
-ghost use Rattle.std.specs.Prelude.{◌≡◌, ℕ, ◌+◌, ◌<◌, true, false, Some, None, [], ◌∷◌, ◌++◌, IfOk, length, slice_index_or, slice_set, sum_by};
+ghost use Rattle.std.specs.Prelude.{◌≡◌, ℕ, ◌+◌, ◌<◌, true, false, Some, None, [], ◌∷◌, ◌++◌, IfOk, OnOk, length, slice_index_or, slice_set, sum_by};
 ghost use Rattle.rx_event.specs.Events.{is_subscriber_of};
 ghost use Rattle.rx_event.specs.Tree.{open_subscribers};
 ghost use Rattle.rx_audit.specs.Latest.{table_with};
@@ -167,24 +167,24 @@ pub fn list_new(past: &[Event], event: Event, subs: &mut Subscribers)
     }
 }
 
-/// The open subscribers of hub `g`, from the last to the first.
+/// Puts the open subscribers of hub `g` into an empty list, from the last to the first.
 pub fn subscribers_of(
-    alloc: Global,
     past: &[Event],
     subs: &Subscribers,
     g: u64,
-) -> Result<Vec<u64>, AllocError>
+    found: &mut Vec<u64>,
+) -> Result<(), AllocError>
     requires linked { AreLinked past.now (length subs.now.listed.items) subs.now }
     requires listed { AreOpenListed past.now subs.now }
-    ensures { IfOk result (λ v. (number : ℕ → ℕ) → sum_by number v.items ≡ sum_by number (open_subscribers past.now g)) }
+    requires empty { found.old.items ≡ [] }
+    ensures { OnOk result ((number : ℕ → ℕ) → sum_by number found.new.items ≡ sum_by number (open_subscribers past.now g)) }
 {
     let _ = past;
-    let mut found = Vec::new(alloc);
     let mut next = value_at(&subs.last, g);
     while next > 0 {
         let s = (next - 1) as u64;
         found.push(s)?;
         next = value_at(&subs.before, s);
     }
-    Ok(found)
+    Ok(())
 }
