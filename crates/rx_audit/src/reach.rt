@@ -9,7 +9,6 @@ ghost use Rattle.rx_event.specs.Climb.{onward, visits};
 ghost use Rattle.rx_audit.specs.Listed.{AreLinked, AreOpenListed};
 ghost use Rattle.rx_audit.specs.Flow.{times, IsOften, IsReached};
 
-use crate::children::zeros;
 use crate::climb::{MOST_VISITS, onward};
 use crate::subscribers::Subscribers;
 use rx_event::Event;
@@ -29,7 +28,7 @@ pub struct Visit {
 #[derive(Drop)]
 pub struct Climb {
     /// By node: where in the log its last entry may be.
-    pub entries: Vec<usize>,
+    pub entries: Vec<u32>,
     /// The nodes that the last item visits, and how often.
     pub log: Vec<Visit>,
     /// The nodes above the one that is looked at.
@@ -39,7 +38,7 @@ pub struct Climb {
 /// Nothing was climbed for yet, with room for this many events.
 pub fn no_climb(alloc: Global, size: usize) -> Result<Climb, AllocError> {
     Ok(Climb {
-        entries: zeros(alloc, size)?,
+        entries: vec![in alloc; 0; size]?,
         log: Vec::new(alloc),
         next: Vec::new(alloc),
     })
@@ -47,16 +46,22 @@ pub fn no_climb(alloc: Global, size: usize) -> Result<Climb, AllocError> {
 
 /// Where in the log the last entry of a node may be. What stands there from items before does no
 /// harm, since the entry itself is looked at.
-fn entry_of(entries: &Vec<usize>, node: u64) -> usize {
-    let n = node as usize;
-    if n < entries.len() { entries[n] } else { 0 }
-}
-
-/// Remembers where in the log the last entry of a node is.
-fn note_entry(entries: &mut Vec<usize>, node: u64, at: usize) {
+fn entry_of(entries: &Vec<u32>, node: u64) -> usize {
     let n = node as usize;
     if n < entries.len() {
-        entries[n] = at;
+        entries[n] as usize
+    } else {
+        0
+    }
+}
+
+/// Remembers where in the log the last entry of a node is; no log is so long that this does not fit.
+fn note_entry(entries: &mut Vec<u32>, node: u64, at: usize) {
+    let n = node as usize;
+    if let Ok(at) = u32::try_from(at) {
+        if n < entries.len() {
+            entries[n] = at;
+        }
     }
 }
 
@@ -64,7 +69,7 @@ fn note_entry(entries: &mut Vec<usize>, node: u64, at: usize) {
 /// followed yet, else to a new one.
 fn reach(
     log: &mut Vec<Visit>,
-    entries: &mut Vec<usize>,
+    entries: &mut Vec<u32>,
     followed: usize,
     node: u64,
     count: u64,
@@ -92,7 +97,7 @@ fn reach(
 /// Reaches each of these nodes so often.
 fn spread(
     log: &mut Vec<Visit>,
-    entries: &mut Vec<usize>,
+    entries: &mut Vec<u32>,
     followed: usize,
     next: &[u64],
     count: u64,
