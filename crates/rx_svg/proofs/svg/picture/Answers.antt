@@ -1,5 +1,4 @@
-use Rattle.std.proofs.Common.{rules, ◌≡◌, ◌++◌, string_bytes, OnOk, IfOk, ℕ, length, List}
-use Rattle.rx_svg.specs.Page.{svg_text, IsPicture}
+use Rattle.std.proofs.Common.{rules}
 use Rattle.rx_svg.proofs.Laws.{picture_of}
 use Rattle.rx_svg.proofs.svg.picture.Goals as goal
 
