@@ -166,6 +166,7 @@ fn relink(
     requires listed { AreOpenListed past.now subs.old }
     requires hubs { AreHubs past.now (length children.old.youngest.items) hubs.old }
     requires room { length past.now < length children.old.youngest.items }
+    requires short { length past.now < 4294967295 }
     ensures children { AreChildren (past.now ++ event ∷ []) (length children.old.youngest.items) children.new }
     ensures linked { AreLinked (past.now ++ event ∷ []) (length children.old.youngest.items) subs.new }
     ensures listed { AreOpenListed (past.now ++ event ∷ []) subs.new }
@@ -193,6 +194,7 @@ pub fn advance(
     requires live { IsMarked live.old (is_open past.now) }
     requires live_count { live_count.old ≡ mark_count live.old }
     requires room { length past.now < length live.old }
+    requires short { length past.now < 4294967295 }
     requires followed { IsFollowed past.now (length live.old) nodes.old }
     ensures live { OnOk result (IsMarked live.new (is_open (past.now ++ event ∷ []))) }
     ensures live_count { OnOk result (live_count.new ≡ mark_count live.new) }

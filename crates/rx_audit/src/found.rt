@@ -31,7 +31,7 @@ pub struct Found {
     /// The lease was given back.
     pub returned: Vec<bool>,
     /// How many leases of the resource are out.
-    pub leases: Vec<usize>,
+    pub leases: Vec<u32>,
     /// The resource was handed out.
     pub taken: Vec<bool>,
 }
@@ -66,12 +66,13 @@ fn given_back(past: &[Event], event: Event) -> Option<u64>
 }
 
 /// Finds how many leases of each resource the event leaves out.
-fn find_leases(past: &[Event], event: Event, leases: &mut [usize])
+fn find_leases(past: &[Event], event: Event, leases: &mut [u32])
     requires lawful { IsLawful nothing_kept past.now }
     requires next { MayFollow nothing_kept past.now event }
     requires leases { IsTally leases.old (leases_of past.now) }
     requires few { (n : ℕ) → slice_index_or leases.old n 0 ≤ length past.now }
     requires room { length past.now < length leases.old }
+    requires short { length past.now < 4294967295 }
     ensures leases { IsTally leases.new (leases_of (past.now ++ event ∷ [])) }
     ensures len { length leases.new ≡ length leases.old }
     ensures few { (n : ℕ) → slice_index_or leases.new n 0 ≤ length past.now + 1 }
@@ -93,6 +94,7 @@ pub fn follow(
     requires followed { IsFollowed past.now (length found.old.live.items) nodes.old }
     requires found { IsFound past.now (length found.old.live.items) found.old }
     requires room { length past.now < length found.old.live.items }
+    requires short { length past.now < 4294967295 }
     requires climbed { IsClimbed past.now event log.now }
     ensures found { OnOk result (IsFound (past.now ++ event ∷ []) (length found.old.live.items) found.new) }
     ensures followed { OnOk result (IsFollowed (past.now ++ event ∷ []) (length found.old.live.items) nodes.new) }

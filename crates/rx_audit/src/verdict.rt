@@ -1,7 +1,7 @@
 //! The verdict on a list of events.
 
 ghost use Rattle.rx_event.specs.Kept.{nothing_kept};
-ghost use Rattle.std.specs.Prelude.{◌≡◌, ◌<◌, ◌&&◌, ◌↔◌, true, false, IsTrue, IfOk, [], Some, None, MatchOption, length};
+ghost use Rattle.std.specs.Prelude.{◌≡◌, ◌<◌, ◌≤◌, ◌&&◌, ◌↔◌, true, false, IsTrue, IfOk, [], Some, None, MatchOption, length};
 ghost use Rattle.rx_event.specs.declared.event.Event.{Event};
 ghost use Rattle.rx_event.specs.Tree.{open_nodes};
 ghost use Rattle.rx_event.specs.Resources.{held_resources, waiting_resources};
@@ -208,6 +208,7 @@ fn first_unlawful(
 ) -> Result<Option<u64>, AllocError>
     requires found { IsFound [] (length events.now) found.old }
     requires followed { IsFollowed [] (length events.now) nodes.old }
+    requires short { length events.now ≤ 4294967295 }
     ensures { IfOk result
         (λ place. MatchOption place (IsAllFound events.now found.new nodes.new) (IsFoundUnlawful events.now)) }
 {
@@ -273,10 +274,16 @@ fn judge_lawful(
     })
 }
 
+/// The longest list of events that is judged: their numbers take 32 bits.
+const MOST_EVENTS: usize = 4_294_967_295;
+
 /// The verdict on a list of events.
 fn judge(alloc: Global, events: &[Event]) -> Result<Verdict, AllocError>
     ensures { IfOk result (IsVerdict events.now) }
 {
+    if events.len() > MOST_EVENTS {
+        return Err(AllocError);
+    }
     let mut found = nothing_found(alloc, events.len())?;
     let mut nodes = no_nodes(alloc, events.len())?;
     let mut climb = no_climb(alloc, events.len())?;
@@ -291,7 +298,8 @@ fn judge(alloc: Global, events: &[Event]) -> Result<Verdict, AllocError>
 /// else `Lawful` with what is open, held and waiting. The rules are those of the Observable
 /// Contract, of the operators' pages at reactivex.io and of System.Reactive's disposables.
 ///
-/// Refused with `NoMemory` where memory was asked for and refused.
+/// Refused with `NoMemory` where memory was asked for and refused, and for more than 4,294,967,295 events,
+/// whose numbers the lists of the audit have no room for.
 pub fn audit(alloc: Global, events: &[Event]) -> Result<Verdict, NoMemory>
     ensures { IfOk result (IsVerdict events.now) }
 {
