@@ -88,14 +88,20 @@ event_is_plain (Open place kind) = plain_append (kind_text kind) (place_text pla
 event_is_plain (Hub Auto) = refl
 event_is_plain (Hub Manual) = refl
 event_is_plain (Connect g) = decimal_is_plain g
-event_is_plain (Accept n tag) = plain_append (codes " resource of " ++ decimal n ++ codes ", tag ") (decimal tag) (plain_append (codes " resource of " ++ decimal n) (codes ", tag ") (decimal_is_plain n) refl) (decimal_is_plain tag)
+event_is_plain (Accept n tag) =
+    let front = codes " resource of " ++ decimal n in
+    plain_append (front ++ codes ", tag ") (decimal tag) (plain_append front (codes ", tag ") (decimal_is_plain n) refl) (decimal_is_plain tag)
 event_is_plain (Use r) = decimal_is_plain r
 event_is_plain (Remove r) = decimal_is_plain r
 event_is_plain (Lease r) = decimal_is_plain r
 event_is_plain (Return l) = decimal_is_plain l
-event_is_plain (Item n value) = plain_append (codes " item " ++ signed_decimal value ++ codes " of ") (decimal n) (plain_append (codes " item " ++ signed_decimal value) (codes " of ") (signed_is_plain value) refl) (decimal_is_plain n)
+event_is_plain (Item n value) =
+    let front = codes " item " ++ signed_decimal value in
+    plain_append (front ++ codes " of ") (decimal n) (plain_append front (codes " of ") (signed_is_plain value) refl) (decimal_is_plain n)
 event_is_plain (Decline f) = decimal_is_plain f
-event_is_plain (End n t) = plain_append (codes " end of " ++ decimal n ++ codes ":") (terminal_text t) (plain_append (codes " end of " ++ decimal n) (codes ":") (decimal_is_plain n) refl) (terminal_is_plain t)
+event_is_plain (End n t) =
+    let front = codes " end of " ++ decimal n in
+    plain_append (front ++ codes ":") (terminal_text t) (plain_append front (codes ":") (decimal_is_plain n) refl) (terminal_is_plain t)
 event_is_plain (Close n) = decimal_is_plain n
 event_is_plain (Take r) = decimal_is_plain r
 

@@ -63,8 +63,9 @@ below_is_content : (y : ℕ) (text : List ℕ) → is_plain text ≡ true → Is
 unfolding below_text text_of
 below_is_content y text plain =
     let front : List Part = words (codes "<text x=\"10\" y=\"") ∷ number y ∷ words (codes "\">") ∷ [] in
+    let attributes : List Valued = valued (codes "x") (words (codes "10") ∷ []) ∷ valued (codes "y") (number y ∷ []) ∷ [] in
     subst IsContent (between front (words (codes "</text>\n") ∷ []) text)
-    (text_content (valued (codes "x") (words (codes "10") ∷ []) ∷ valued (codes "y") (number y ∷ []) ∷ []) (words text ∷ []) refl refl (and_from _ _ plain refl))
+    (text_content attributes (words text ∷ []) refl refl (and_from _ _ plain refl))
 
 three_and_three : (a b c d e f : List ℕ) → (a ++ b ++ c) ++ (d ++ e ++ f) ≡ a ++ b ++ c ++ d ++ e ++ f
 three_and_three a b c d e f = simp append_assoc
@@ -72,9 +73,13 @@ three_and_three a b c d e f = simp append_assoc
 under_is_content : (d : Drawing) (end height : ℕ) (verdict : Verdict) → IsContent (under_text d end height verdict)
 unfolding under_text
 under_is_content d end height verdict =
-    subst IsContent (three_and_three (below_text (height + 48)) (verdict_text verdict) (codes "</text>\n") (below_text (height + 72)) (shares_text d end) (codes "</text>\n"))
-    (content_append (below_text (height + 48) ++ verdict_text verdict ++ codes "</text>\n") (below_text (height + 72) ++ shares_text d end ++ codes "</text>\n")
-    (below_is_content (height + 48) (verdict_text verdict) (verdict_is_plain verdict)) (below_is_content (height + 72) (shares_text d end) (shares_is_plain d end)))
+    let ending = codes "</text>\n" in
+    let first = below_text (height + 48) in
+    let second = below_text (height + 72) in
+    subst IsContent (three_and_three first (verdict_text verdict) ending second (shares_text d end) ending)
+    (content_append (first ++ verdict_text verdict ++ ending) (second ++ shares_text d end ++ ending)
+    (below_is_content (height + 48) (verdict_text verdict) (verdict_is_plain verdict))
+    (below_is_content (height + 72) (shares_text d end) (shares_is_plain d end)))
 
 -- the lanes ---------------------------------------------------------------------------------------
 
@@ -94,28 +99,31 @@ lanes_are_content d end height verdict =
     let rows = flat_map (row_text d end) d.rows.items in
     let ticks = flat_map (tick_text d) d.points.items in
     let marbles = flat_map (told_text d) d.marbles.items in
-    content_append (points ++ rows ++ ticks ++ marbles) (break_text d height verdict)
-    (content_append (points ++ rows ++ ticks) marbles
-    (content_append (points ++ rows) ticks
-    (content_append points rows (contents (point_text d height) (point_is_content d height) d.points.items) (contents (row_text d end) (row_is_content d end) d.rows.items))
-    (contents (tick_text d) (tick_is_content d) d.points.items))
-    (contents (told_text d) (told_is_content d) d.marbles.items))
-    (break_is_content d height verdict)
+    let points_are = contents (point_text d height) (point_is_content d height) d.points.items in
+    let rows_are = contents (row_text d end) (row_is_content d end) d.rows.items in
+    let ticks_are = contents (tick_text d) (tick_is_content d) d.points.items in
+    let marbles_are = contents (told_text d) (told_is_content d) d.marbles.items in
+    let with_rows = content_append points rows points_are rows_are in
+    let with_ticks = content_append (points ++ rows) ticks with_rows ticks_are in
+    let with_marbles = content_append (points ++ rows ++ ticks) marbles with_ticks marbles_are in
+    content_append (points ++ rows ++ ticks ++ marbles) (break_text d height verdict) with_marbles (break_is_content d height verdict)
 
 -- the whole ---------------------------------------------------------------------------------------
 
--- what the style says, between its tags
+-- what the style says between its tags, of which the first has 7 characters, and the other 9 with the end of the line
 rules_text : List ℕ
 rules_text = take (length style_text - 16) (drop 7 style_text)
 
 style_is_content : IsContent style_text
 unfolding rules_text
-style_is_content = element_then (codes "style") [] (words rules_text ∷ []) (words (codes "\n") ∷ []) (tag_of (codes "style") [] refl refl refl) (plain_parts (words rules_text ∷ []) refl) newline
+style_is_content =
+    element_then (codes "style") [] (words rules_text ∷ []) (words (codes "\n") ∷ []) (tag_of (codes "style") [] refl refl refl)
+    (plain_parts (words rules_text ∷ []) refl) newline
 
 abbrev svg_attributes : ℕ → ℕ → List Valued
 svg_attributes width height =
-    valued (codes "xmlns") (words (codes "http://www.w3.org/2000/svg") ∷ []) ∷ valued (codes "width") (number width ∷ []) ∷ valued (codes "height") (number height ∷ [])
-    ∷ valued (codes "viewBox") (words (codes "0 0 ") ∷ number width ∷ words (codes " ") ∷ number height ∷ []) ∷ []
+    valued (codes "xmlns") (words (codes "http://www.w3.org/2000/svg") ∷ []) ∷ valued (codes "width") (number width ∷ [])
+    ∷ valued (codes "height") (number height ∷ []) ∷ valued (codes "viewBox") (words (codes "0 0 ") ∷ number width ∷ words (codes " ") ∷ number height ∷ []) ∷ []
 
 abbrev svg_inside : List ℕ → List ℕ → List Part
 svg_inside lanes under = words (codes "\n") ∷ words style_text ∷ words lanes ∷ words under ∷ []
@@ -136,7 +144,8 @@ document_reads width height lanes under =
     let front : List Part =
     words (codes "<svg xmlns=\"http://www.w3.org/2000/svg\" width=\"") ∷ number width ∷ words (codes "\" height=\"") ∷ number height
     ∷ words (codes "\" viewBox=\"0 0 ") ∷ number width ∷ words (codes " ") ∷ number height ∷ words (codes "\">\n") ∷ words style_text ∷ [] in
-    sym (four (text_from front) lanes under (codes "</svg>\n")) ∙ sym (text_from-append front (words lanes ∷ words under ∷ words (codes "</svg>\n") ∷ []))
+    sym (four (text_from front) lanes under (codes "</svg>\n"))
+    ∙ sym (text_from-append front (words lanes ∷ words under ∷ words (codes "</svg>\n") ∷ []))
     ∙ text_from-append (element_parts (codes "svg") (svg_attributes width height) (svg_inside lanes under)) (words (codes "\n") ∷ [])
 
 document_is_well_formed : (width height : ℕ) (lanes under : List ℕ) → IsContent lanes → IsContent under
@@ -158,5 +167,6 @@ document_is_well_formed width height lanes under p q =
 pub svg_is_well_formed : (d : Drawing) (end : ℕ) (verdict : Verdict) → IsWellFormed (svg_text d end verdict)
 unfolding svg_text
 svg_is_well_formed d end verdict =
-    document_is_well_formed (x_of d end + 50) (height_of d end + 84) (lanes_text d end (height_of d end) verdict) (under_text d end (height_of d end) verdict)
-    (lanes_are_content d end (height_of d end) verdict) (under_is_content d end (height_of d end) verdict)
+    let height = height_of d end in
+    document_is_well_formed (x_of d end + 50) (height + 84) (lanes_text d end height verdict) (under_text d end height verdict)
+    (lanes_are_content d end height verdict) (under_is_content d end height verdict)

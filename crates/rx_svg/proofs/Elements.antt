@@ -71,7 +71,8 @@ bar_is_content class title above height from to y after until end c t a h =
     ∷ words (codes "m0 -") ∷ words above ∷ words (codes "H") ∷ number to ∷ words (codes "v") ∷ words height ∷ words (codes "H") ∷ number from
     ∷ words (codes "z\"><title>") ∷ words title ∷ words (codes " from event ") ∷ number after ∷ [] in
     subst IsContent (text_from-append front (words (until_text until end) ∷ words (codes "</title></path>\n") ∷ []))
-    (path_then class drawn told (words (codes "\n") ∷ []) c (and_from _ _ a (and_from _ _ h refl)) (and_from _ _ t (and_from _ _ (until_is_plain until end) refl)) newline)
+    (path_then class drawn told (words (codes "\n") ∷ []) c (and_from _ _ a (and_from _ _ h refl))
+    (and_from _ _ t (and_from _ _ (until_is_plain until end) refl)) newline)
 
 -- marks -------------------------------------------------------------------------------------------
 
@@ -98,16 +99,18 @@ broken_is_content x height place =
 pub code_is_content : (x y code : ℕ) → IsContent (code_text x y code)
 unfolding code_text text_of
 code_is_content x y code =
-    text_content
-    (valued (codes "x") (number x ∷ []) ∷ valued (codes "y") (number y ∷ []) ∷ valued (codes "dx") (words (codes "10") ∷ []) ∷ valued (codes "dy") (words (codes "4") ∷ []) ∷ [])
-    (number code ∷ []) refl refl refl
+    let attributes : List Valued =
+    valued (codes "x") (number x ∷ []) ∷ valued (codes "y") (number y ∷ []) ∷ valued (codes "dx") (words (codes "10") ∷ [])
+    ∷ valued (codes "dy") (words (codes "4") ∷ []) ∷ [] in
+    text_content attributes (number code ∷ []) refl refl refl
 
 above_is_content : (x y : ℕ) (value : ℤ) → IsContent (above_text x y value)
 unfolding above_text text_of
 above_is_content x y value =
-    text_content
-    (valued (codes "class") (words (codes "value") ∷ []) ∷ valued (codes "x") (number x ∷ []) ∷ valued (codes "y") (number y ∷ []) ∷ valued (codes "dy") (words (codes "-9") ∷ []) ∷ [])
-    (signed value ∷ []) refl refl refl
+    let attributes : List Valued =
+    valued (codes "class") (words (codes "value") ∷ []) ∷ valued (codes "x") (number x ∷ []) ∷ valued (codes "y") (number y ∷ [])
+    ∷ valued (codes "dy") (words (codes "-9") ∷ []) ∷ [] in
+    text_content attributes (signed value ∷ []) refl refl refl
 
 value_is_content : (x y : ℕ) (note : Note) → IsContent (value_text x y note)
 value_is_content x y (Next value) = above_is_content x y value
@@ -134,7 +137,9 @@ marble_is_content x y at to note =
     words (codes "<path class=\"marble\" d=\"M") ∷ number x ∷ words (codes " ") ∷ number y ∷ words (marble_shape note)
     ∷ words (codes "\"><title>") ∷ number to ∷ words (codes " was told") ∷ [] in
     let ending : List Part = words (codes " by event ") ∷ number at ∷ words (codes "</title></path>\n") ∷ [] in
-    let path = path_then (codes "marble") drawn told (words (codes "\n") ∷ []) refl (and_from _ _ (shape_is_plain note) refl) (and_from _ _ (note_is_plain note) refl) newline in
+    let path =
+    path_then (codes "marble") drawn told (words (codes "\n") ∷ []) refl (and_from _ _ (shape_is_plain note) refl)
+    (and_from _ _ (note_is_plain note) refl) newline in
     content_append (text_from front ++ note_text note ++ text_from ending) (value_text x y note)
     (subst IsContent (between front ending (note_text note)) path) (value_is_content x y note)
 
@@ -149,7 +154,8 @@ column_is_content x height place event =
     let ending : List Part =
     words (codes "</title></path>\n<text class=\"axis\" x=\"") ∷ number x ∷ words (codes "\" y=\"20\">") ∷ number place
     ∷ words (codes "</text>\n") ∷ [] in
-    let axis : List Valued = valued (codes "class") (words (codes "axis") ∷ []) ∷ valued (codes "x") (number x ∷ []) ∷ valued (codes "y") (words (codes "20") ∷ []) ∷ [] in
+    let axis : List Valued =
+    valued (codes "class") (words (codes "axis") ∷ []) ∷ valued (codes "x") (number x ∷ []) ∷ valued (codes "y") (words (codes "20") ∷ []) ∷ [] in
     let beside : List Part = element_parts (codes "text") axis (number place ∷ []) ++ words (codes "\n") ∷ [] in
     subst IsContent (between front ending (event_text event))
     (path_then (codes "place") drawn told (words (codes "\n") ∷ beside) refl refl (and_from _ _ (event_is_plain event) refl)

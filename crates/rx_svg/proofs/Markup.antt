@@ -60,7 +60,8 @@ attribute_parts a = words (codes " ") ∷ words a.name ∷ words (codes "=\"") �
 
 abbrev pub element_parts : List ℕ → List Valued → List Part → List Part
 element_parts name attributes inside =
-    words (codes "<") ∷ words name ∷ (flat_map attribute_parts attributes ++ words (codes ">") ∷ (inside ++ words (codes "</") ∷ words name ∷ words (codes ">") ∷ []))
+    words (codes "<") ∷ words name
+    ∷ (flat_map attribute_parts attributes ++ words (codes ">") ∷ (inside ++ words (codes "</") ∷ words name ∷ words (codes ">") ∷ []))
 
 -- how they read -----------------------------------------------------------------------------------
 

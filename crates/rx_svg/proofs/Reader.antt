@@ -13,6 +13,7 @@ pub record Tag : Type 0 where
   pub name : List ℕ
   pub seen : List (List ℕ)
 
+-- where one stands in a text: inside of these elements, innermost first, or in a tag, with the letters of its name so far
 pub data Standing : Type 0 where
   before : Standing
   content : List (List ℕ) → Standing
@@ -96,7 +97,8 @@ name_read around (c ∷ rest) p =
 -- attributes --------------------------------------------------------------------------------------
 
 apart : (m n : List ℕ) → bytes_eq m n ≡ false → bytes_eq n m ≡ false
-apart m n p = false_from_ne_true (bytes_eq n m) (λ same. both_ways (bytes_eq m n) p ((bytes_eq-Decides m n).1 (sym ((bytes_eq-Decides n m).0 same))))
+apart m n p =
+    false_from_ne_true (bytes_eq n m) (λ same. both_ways (bytes_eq m n) p ((bytes_eq-Decides m n).1 (sym ((bytes_eq-Decides n m).0 same))))
 
 still_new : (seen : List (List ℕ)) (name : List ℕ) (names : List (List ℕ)) → list_all (is_new seen) names ≡ true
     → not (list_any (bytes_eq name) names) ≡ true → list_all (is_new (name ∷ seen)) names ≡ true
@@ -119,7 +121,8 @@ attribute_read t a rest p new =
     let quoted = codes "\"" ++ rest in
     ap (λ text. fold step (after_value t) text) (bracketed (codes " ") a.name (codes "=\"") a.value (codes "\"") rest)
     ∙ fold-append step (in_attribute t []) a.name (codes "=\"" ++ (a.value ++ quoted))
-    ∙ ap (λ (r : Standing). fold step r (codes "=\"" ++ (a.value ++ quoted))) (letters_read (in_attribute t) (λ name c letter. cond-true _ _ _ letter) [] a.name named.1)
+    ∙ ap (λ (r : Standing). fold step r (codes "=\"" ++ (a.value ++ quoted)))
+    (letters_read (in_attribute t) (λ name c letter. cond-true _ _ _ letter) [] a.name named.1)
     ∙ ap (λ (r : Standing). fold step r (codes "\"" ++ (a.value ++ quoted))) (cond-true _ (at_value u) refused (and_from _ _ named.0 new))
     ∙ fold-append step (in_value u) a.value quoted
     ∙ ap (λ (r : Standing). fold step r quoted) (kept is_plain_character (in_value u) (λ c plain. cond-true _ _ _ plain) a.value both.1)
@@ -142,7 +145,8 @@ none_seen (n ∷ names) = none_seen names
 
 -- after the name of a tag one stands as after a value
 as_after_value : (around : List (List ℕ)) (name : List ℕ) (attributes : List Attribute)
-    → fold step (in_name around name) (flat_map attribute_text attributes ++ codes ">") ≡ fold step (after_value (bare around name)) (flat_map attribute_text attributes ++ codes ">")
+    → fold step (in_name around name) (flat_map attribute_text attributes ++ codes ">")
+    ≡ fold step (after_value (bare around name)) (flat_map attribute_text attributes ++ codes ">")
 as_after_value around name [] = refl
 as_after_value around name (a ∷ attributes) = refl
 
@@ -151,7 +155,8 @@ as_after_value around name (a ∷ attributes) = refl
 bracketed_element : (a b c d e f g h : List ℕ) → (a ++ b ++ c ++ d) ++ e ++ (f ++ g ++ h) ≡ a ++ (b ++ ((c ++ d) ++ (e ++ (f ++ (g ++ h)))))
 bracketed_element a b c d e f g h = simp append_assoc
 
-end_read : (around : List (List ℕ)) (name : List ℕ) → is_name name ≡ true → fold step (content (name ∷ around)) (codes "</" ++ (name ++ codes ">")) ≡ left_in around
+end_read : (around : List (List ℕ)) (name : List ℕ) → is_name name ≡ true
+    → fold step (content (name ∷ around)) (codes "</" ++ (name ++ codes ">")) ≡ left_in around
 end_read around name p =
     let named = and_parts (nat_lt 0 (length name)) (list_all is_letter name) p in
     fold-append step (in_end (name ∷ around) []) name (codes ">")
@@ -161,7 +166,8 @@ end_read around name p =
 -- from behind the bracket of its start tag
 rest_read : (around : List (List ℕ)) (name : List ℕ) (attributes : List Attribute) (inside : List ℕ) → IsTag name attributes
     → fold step (content (name ∷ around)) inside ≡ content (name ∷ around)
-    → fold step (bracket around) (name ++ ((flat_map attribute_text attributes ++ codes ">") ++ (inside ++ (codes "</" ++ (name ++ codes ">"))))) ≡ left_in around
+    → fold step (bracket around) (name ++ ((flat_map attribute_text attributes ++ codes ">") ++ (inside ++ (codes "</" ++ (name ++ codes ">")))))
+    ≡ left_in around
 rest_read around name attributes inside tag within =
     let ending = codes "</" ++ (name ++ codes ">") in
     let tags = flat_map attribute_text attributes ++ codes ">" in
@@ -169,16 +175,19 @@ rest_read around name attributes inside tag within =
     ∙ ap (λ (r : Standing). fold step r (tags ++ (inside ++ ending))) (name_read around name tag.named)
     ∙ fold-append step (in_name around name) tags (inside ++ ending)
     ∙ ap (λ (r : Standing). fold step r (inside ++ ending))
-    (as_after_value around name attributes ∙ attributes_read (bare around name) attributes tag.each (none_seen (map (λ a. a.name) attributes)) tag.once)
+    (as_after_value around name attributes
+    ∙ attributes_read (bare around name) attributes tag.each (none_seen (map (λ a. a.name) attributes)) tag.once)
     ∙ fold-append step (content (name ∷ around)) inside ending
     ∙ ap (λ (r : Standing). fold step r ending) within
     ∙ end_read around name tag.named
 
 element_shape : (name : List ℕ) (attributes : List Attribute) (inside : List ℕ) → element_text name attributes inside
     ≡ codes "<" ++ (name ++ ((flat_map attribute_text attributes ++ codes ">") ++ (inside ++ (codes "</" ++ (name ++ codes ">")))))
-element_shape name attributes inside = bracketed_element (codes "<") name (flat_map attribute_text attributes) (codes ">") inside (codes "</") name (codes ">")
+element_shape name attributes inside =
+    bracketed_element (codes "<") name (flat_map attribute_text attributes) (codes ">") inside (codes "</") name (codes ">")
 
-content_read : (text : List ℕ) → IsContent text → (top : List ℕ) (around : List (List ℕ)) → fold step (content (top ∷ around)) text ≡ content (top ∷ around)
+content_read : (text : List ℕ) → IsContent text → (top : List ℕ) (around : List (List ℕ))
+    → fold step (content (top ∷ around)) text ≡ content (top ∷ around)
 content_read text nothing = λ top around. refl
 content_read text (text_first plain rest p more) = λ top around.
     fold-append step (content (top ∷ around)) plain rest
