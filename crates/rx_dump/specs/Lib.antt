@@ -1,5 +1,6 @@
 pub mod History
 pub mod Dump
+pub mod Tokens
 pub mod Verdict
 pub mod Checking
 pub mod Claims
