@@ -1,5 +1,5 @@
 -- The items of an array, one after the other: those that were read, and those that are left.
-use Rattle.std.proofs.Common.{◌≡◌, ℕ, ◌-◌, ◌<◌, ◌≤◌, List, [], ◌∷◌, ◌++◌, length, Some, None, refl, sym, ap, ◌∙◌, subst, arith}
+use Rattle.std.proofs.Common.{◌≡◌, ℕ, ◌-◌, ◌<◌, ◌≤◌, List, [], ◌∷◌, ◌++◌, length, Some, None, refl, ap, ◌∙◌, subst, arith}
 use Rattle.json.specs.Token.{Token}
 use Rattle.json.specs.Json.{Json, Items as JsonItems, no_items as no_json, item as json_item, parse_map, after_end_array, items, value}
 use Rattle.json.proofs.Grammar.{left, items_end, items_more, skip_value-shorter}

@@ -1,6 +1,5 @@
 use Rattle.std.proofs.Common.{◌≡◌, [], ◌∷◌, subst, sym, ◌∙◌, arith, rules}
 use Rattle.json.specs.Token.{Token, begin_array}
-use Rattle.json.specs.Lex.{tokens}
 use Rattle.std.proofs.Common.{List}
 use Rattle.rx_dump.specs.Tokens.{AreEvents}
 use Rattle.rx_dump.proofs.Openings.{text_opened}

@@ -5,7 +5,7 @@ use Rattle.json.specs.Reads.{token_of}
 use Rattle.serde_json.specs.View.{view, items_view}
 use Rattle.serde_json.specs.declared.value.Value.{Value}
 use Rattle.rx_dump.specs.Tokens.{in_event, IsValue}
-use Rattle.rx_dump.proofs.Arrays.{AreBefore, none_yet, one_more, all_read, value_takes, joined-view}
+use Rattle.rx_dump.proofs.Arrays.{AreBefore, none_yet, one_more, all_read, joined-view}
 use Rattle.rx_dump.proofs.reading.parts_of.Goals as goal
 
 pub parts-init : goal.parts-init
