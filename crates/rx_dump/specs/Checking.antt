@@ -5,7 +5,7 @@ use Rattle.serde_json.specs.Data.{Data}
 use Rattle.rx_event.specs.declared.event.Event.{Event}
 use Rattle.rx_audit.specs.declared.verdict.Verdict.{Verdict}
 use Rattle.rx_audit.specs.Verdict.{IsVerdict}
-use Rattle.rx_device.specs.Input.{IsJsonOf, GivesJson}
+use Rattle.rx_device.specs.Input.{GivesJson}
 use Rattle.rx_dump.specs.History.{history_of}
 use Rattle.rx_dump.specs.Verdict.{verdict_text}
 
@@ -14,24 +14,6 @@ pub record IsVerdictOn (d : Data) (v : Verdict) : Type 0 where
   pub history : List Event
   pub reading : history_of d ≡ Some history
   pub verdict : IsVerdict history v
-
--- the input is the text of a dump of this history
-pub record IsDumpOf (input : List ℕ) (h : List Event) : Type 0 where
-  pub value : Data
-  pub json : IsJsonOf input value
-  pub reading : history_of value ≡ Some h
-
--- the input is the text of a dump, and the verdict is that on its history
-pub record IsVerdictOf (input : List ℕ) (v : Verdict) : Type 0 where
-  pub value : Data
-  pub json : IsJsonOf input value
-  pub verdict : IsVerdictOn value v
-
--- the input is JSON that is no dump
-pub record IsNoDump (input : List ℕ) : Type 0 where
-  pub value : Data
-  pub json : IsJsonOf input value
-  pub no_dump : history_of value ≡ None
 
 -- the reader gave a dump, the verdict is that on its history, and the text was written in this way:
 -- whole, or a front of it

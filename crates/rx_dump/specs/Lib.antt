@@ -3,4 +3,5 @@ pub mod Dump
 pub mod Tokens
 pub mod Verdict
 pub mod Checking
+pub mod Inputs
 pub mod Claims

@@ -7,7 +7,7 @@ use Rattle.serde_json.specs.Read.{of_json, of_items, read}
 use Rattle.rx_event.specs.declared.event.Event.{Event}
 use Rattle.rx_dump.specs.History.{event_of, each_event, history_of}
 
--- how deep arrays and objects nest in a dump, and how deep in an event of one
+-- a text nests 127 deep at most, of which so many are left within a dump, and within an event of it
 abbrev pub in_dump : ℕ
 in_dump = 126
 

@@ -7,7 +7,8 @@ ghost use Rattle.rx_audit.specs.declared.verdict.Verdict.{Verdict};
 ghost use Rattle.rx_device.specs.Device.{device_of, KeepsDevice, has_failed, has_stopped, HasReadFault, HasWriteFault, IsFresh, AppendsPrefix};
 ghost use Rattle.rx_device.specs.Input.{IsJsonOf, GivesTooMuch, GivesNoJson};
 ghost use Rattle.rx_dump.specs.Verdict.{is_lawful};
-ghost use Rattle.rx_dump.specs.Checking.{IsDumpOf, IsVerdictOf, IsNoDump, Judges, GivesNoDump};
+ghost use Rattle.rx_dump.specs.Checking.{Judges, GivesNoDump};
+ghost use Rattle.rx_dump.specs.Inputs.{IsDumpOf, IsVerdictOf, IsNoDump};
 
 use crate::history::history_of;
 use crate::reading::history_of_input;

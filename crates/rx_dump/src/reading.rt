@@ -6,7 +6,7 @@ ghost use Rattle.serde_json.specs.Data.{array};
 ghost use Rattle.serde_json.specs.View.{items_view};
 ghost use Rattle.rx_dump.specs.History.{event_of};
 ghost use Rattle.rx_dump.specs.Tokens.{in_event, AreItems, IsEvent, AreEvents, IsTextOf};
-ghost use Rattle.rx_dump.specs.Checking.{IsDumpOf};
+ghost use Rattle.rx_dump.specs.Inputs.{IsDumpOf};
 
 mod tokens;
 
@@ -70,6 +70,7 @@ fn events_of(alloc: Global, reader: &mut Reader<'_>) -> Result<Vec<Event>, Shape
     Ok(history)
 }
 
+// The history of which the text is a dump, and nothing stands behind that.
 fn history_of_text(
     alloc: Global,
     text: &str,
@@ -88,8 +89,8 @@ fn history_of_text(
     Ok(history)
 }
 
-/// The history of which the input is a dump. `Shape` comes where it is not read as one: it is then no
-/// dump, or no JSON text, or not in UTF-8.
+/// The history of which the input is a dump. `Shape` says no more than that it was not read so: whether
+/// it is JSON at all, a value of the whole tells.
 ///
 /// Beside the input and the events this takes as much memory as the input is long.
 pub fn history_of_input(alloc: Global, input: &[u8]) -> Result<Vec<Event>, ShapeError>
