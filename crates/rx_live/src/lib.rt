@@ -1,0 +1,6 @@
+//! A live book.
+#![tactic(auto)]
+
+mod calls;
+mod engine;
+mod token;
