@@ -274,3 +274,10 @@ unfolding is_out
 out_returned base h k q step l =
     lasts_one makes_lease is_return_of plain_for_leases leases_none returns_none lease_forced (λ c. refl) base h k (Return q) (GivingBack q) step refl l
     ∙ lasts_gone makes_lease is_return_of h (Return q) q refl (λ n. refl) l
+
+-- what has no place yet is not kept
+pub kept_past : (h : List Event) (r : ℕ) → length h ≤ r → is_kept h r ≡ false
+unfolding is_kept
+kept_past h r past =
+    let none : at makes_resource h r ≡ false = false_from_ne_true (at makes_resource h r) (λ there. let w = at_within makes_resource h r there in omega arith) in
+    ap (λ (b : Bool). b && not (list_any (is_take_of r) h)) none

@@ -48,8 +48,11 @@ abbrev pub if_open : State → Key → Option Key
 if_open book k = if has_key book.keys k then Some k else None
 
 -- the open node of this name; the name of a closed one is free
-unfoldable pub node_of : Session → Name → Option Key
-node_of s name = option_and_then (λ spot. if_open s.book (key_at spot)) (spot_of s.nodes name)
+unfoldable pub node_in : State → Names → Name → Option Key
+node_in book nodes name = option_and_then (λ spot. if_open book (key_at spot)) (spot_of nodes name)
+
+abbrev pub node_of : Session → Name → Option Key
+node_of s name = node_in s.book s.nodes name
 
 -- the resource of this name, that is held or waits
 abbrev pub resource_of : Session → Name → Option ResKey

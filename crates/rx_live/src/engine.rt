@@ -1,13 +1,12 @@
 //! A session: its book, and what names stand for.
 
 ghost use Rattle.std.specs.Prelude.{◌≡◌, ◌≤◌};
-ghost use Rattle.rx_live.specs.Session.{session_of, node_of, resource_of, lease_of, hub_of, IsSound};
+ghost use Rattle.rx_live.specs.Session.{session_of, node_of, resource_of, lease_of, hub_of, has_resource, IsSound};
 
 use crate::token::Token;
 use rx_book::{Book, Key, LeaseKey, Mail, ResKey};
 use rx_line::Names;
 use std::alloc::Global;
-use std::collections::HashMap;
 
 /// A book, and the names of its nodes, of its hubs, of its resources and of its leases.
 #[derive(Drop)]
@@ -18,8 +17,6 @@ pub struct Engine {
     pub hubs: Names,
     pub resources: Names,
     pub leases: Names,
-    /// The connection that was made last of each hub that is connected by hand.
-    pub connections: HashMap<u64, Key>,
     /// A note that was taken from the book and, in want of memory, is still to be told.
     pub untold: Option<Mail>,
     /// The name of a resource that was taken from the book and is still to be told.
@@ -41,14 +38,13 @@ impl Engine {
             hubs: Names::new(alloc),
             resources: Names::new(alloc),
             leases: Names::new(alloc),
-            connections: HashMap::new(alloc),
             untold: None,
             unnamed: None,
         }
     }
 
     /// The open node that has the name.
-    #[tactic(auto, unfolding(crate::specs::Session::node_of))]
+    #[tactic(auto, unfolding(crate::specs::Session::node_in))]
     pub fn node(&self, name: &str) -> Option<Key>
         ensures { result ≡ node_of (session_of self.now) name.now }
     {
@@ -73,6 +69,19 @@ impl Engine {
             slot: spot.slot,
             number: spot.number,
         })
+    }
+
+    /// Whether a resource of this name was handed in, and is not yet told to be released.
+    pub fn has_resource(&self, name: &str) -> bool
+        ensures { result ≡ has_resource (session_of self.now) name.now }
+    {
+        if self.resources.get(name).is_some() {
+            return true;
+        }
+        match &self.unnamed {
+            Some(unnamed) => name == unnamed.as_str(),
+            None => false,
+        }
     }
 
     /// The lease that has the name.
