@@ -160,6 +160,10 @@ pub given_none : {K : Type 0} (s : Session) (f : K → Request) (key : Option K)
 given_none s f key taken bound none sound =
     subst (λ (j : Option _). GivesNames s (option_map f j) taken bound (Refused NoName) s) (sym none) (record { gives = (refl, alike_same s); sound = sound })
 
+pub given_nothing : (s : Session) (asked : Option Request) (taken : Bool) (bound : Session → Type 0) → asked ≡ None → IsSound s → GivesNames s asked taken bound (Refused NoName) s
+given_nothing s asked taken bound none sound =
+    subst (λ (j : Option Request). GivesNames s j taken bound (Refused NoName) s) (sym none) (record { gives = (refl, alike_same s); sound = sound })
+
 -- one that is given is bound
 pub given_taken : (s t : Session) (asked : Option Request) (why : Request) (taken : Bool) (bound : Session → Type 0) → asked ≡ Some why → taken ≡ true → IsUnchanged s t →
     GivesNames s asked taken bound (Refused NameTaken) t

@@ -1,6 +1,7 @@
 -- Nodes that are opened and connected, and the names that they get.
 use Rattle.std.proofs.Common.{◌≡◌, ℕ, ◌+◌, ◌==◌, ◌<◌, ◌≤◌, Bool, true, false, cond, List, length, Option, Some, None, option_map, Result, Ok, Err, refl, sym, ap, ◌∙◌, arith, subst}
-use Rattle.std.specs.Prelude.{IfSome, OnErr, is_some, IsTrue}
+use Rattle.std.specs.declared.alloc.AllocError.{AllocError}
+use Rattle.std.specs.Prelude.{IfSome, IfOk, OnErr, is_some, IsTrue}
 use Rattle.std.proofs.Math.Bool.{◌||◌}
 use Rattle.std.specs.Str.{bytes_eq}
 use Rattle.std.specs.Option.{option_map_or, option_and_then}
@@ -24,7 +25,7 @@ use Rattle.rx_line.specs.Names.{spot_of, name_of, IsPaired, AreSame, Binds}
 use Rattle.rx_line.specs.declared.outcome.Outcome.{Outcome}
 use Rattle.rx_live.specs.Session.{Session, IsSound, IsPlaced, is_kept, has_resource}
 use Rattle.rx_live.specs.Given.{AreOpenSame, IsAlike, IsUnchanged, GivesNames, NamesOne}
-use Rattle.rx_live.specs.Openings.{kind_of, place_at, open_asked, using_at, is_node, BindsMade, BindsNode, BindsUsing, BindsConnection}
+use Rattle.rx_live.specs.Openings.{kind_of, place_at, open_asked, using_at, is_node, is_open_taken, BindsMade, BindsNode, BindsUsing, BindsConnection}
 use Rattle.rx_live.proofs.Remaining.{keeps_resources, keeps_leases, kept_same, out_same, kept_used, kept_past}
 use Rattle.rx_live.proofs.Soundness.{accepted_longer}
 use Rattle.rx_live.proofs.Binding.{same_names, bound_after, none_of, some_cond, or_false, free_resource, not_unnamed, placed_longer, placed_bound, sound_alike}
@@ -223,3 +224,12 @@ on_err (Err e) P p = p
 pub with_book : (s : Session) (book : State) (nodes resources : Names) → book ≡ s.book → IsUnchanged s (record s { nodes = nodes; resources = resources }) →
     IsUnchanged s (record s { book = book; nodes = nodes; resources = resources })
 with_book s book nodes resources same unchanged = subst (λ (b : State). IsUnchanged s (record s { book = b; nodes = nodes; resources = resources })) (sym same) unchanged
+
+-- an opening as it is asked for
+pub opened_as : (s t : Session) (asked : Option Request) (call : Request) (name : Name) (here there : Option Name) (result : Result Outcome AllocError) → asked ≡ Some call → here ≡ there →
+    IfOk result (λ o. GivesNames s (Some call) (is_open_taken s name here) (BindsNode s name here) o t) →
+    IfOk result (λ o. GivesNames s asked (is_open_taken s name there) (BindsNode s name there) o t)
+opened_as s t asked call name here there (Err e) known same gives = gives
+opened_as s t asked call name here there (Ok o) known same gives =
+    subst (λ (j : Option Request). GivesNames s j (is_open_taken s name there) (BindsNode s name there) o t) (sym known)
+    (subst (λ (c : Option Name). GivesNames s (Some call) (is_open_taken s name c) (BindsNode s name c) o t) same gives)

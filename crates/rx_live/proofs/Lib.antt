@@ -6,3 +6,6 @@ pub mod Tellings
 pub mod Drops
 pub mod Bound
 pub mod Listings
+pub mod Acts
+pub mod Ended
+pub mod Sent

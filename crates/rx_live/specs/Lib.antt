@@ -7,4 +7,5 @@ pub mod Answers
 pub mod Steps
 pub mod Listed
 pub mod Lines
+pub mod Sessions
 pub mod Room

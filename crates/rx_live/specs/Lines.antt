@@ -66,6 +66,12 @@ pub record IsCarried (old : Session) (c : Command) (text : List ℕ) (acts : Lis
   pub alike : IsAlike left new
   pub acts_are : acts ≡ handed_by c ++ map released tells.names
 
+-- what a command comes to: it is refused, or carried out
+pub data CarriesOut (old : Session) (c : Command) (text : List ℕ) (new : Session) : Type 0 where
+  refuses : (why : Cause) → Runs old c (Refused why) new → text ≡ refused_text why → CarriesOut old c text new
+  carries : (acts : List Act) → IsCarried old c text acts new → CarriesOut old c text new
+
+-- a line, with what its answer hands in and releases
 pub data IsAnswer (old : Session) (line text : List ℕ) : List Act → Session → Type 0 where
   is_faulty : (told : List ℕ) → IsFaulty line → text ≡ faulty_text told → IsAnswer old line text [] old
   is_refused : {new : Session} (c : Command) (why : Cause) → IsOrderOf line (command c) → Runs old c (Refused why) new → text ≡ refused_text why → IsAnswer old line text [] new

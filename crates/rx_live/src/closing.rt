@@ -2,6 +2,7 @@
 
 ghost use Rattle.std.specs.Prelude.{◌≡◌, ◌++◌, ◌&&◌, codes, map, option_map, is_some, string_bytes, IfOk, OnOk};
 ghost use Rattle.std.proofs.Math.Bool.{not};
+ghost use Rattle.std.specs.Option.{option_to_list};
 ghost use Rattle.rx_line.specs.Names.{name_of};
 ghost use Rattle.rx_line.specs.Pieces.{name_text, member_text};
 ghost use Rattle.rx_live.specs.Session.{session_of, IsSound};
@@ -20,12 +21,17 @@ fn lead_of(is_first: bool) -> &'static str
     if is_first { ",\"release\":[" } else { "," }
 }
 
-// Writes a name, where there is one. Answers whether the next is still the first.
-fn push_listed(text: &mut String, is_first: bool, name: Option<&str>) -> Result<bool, AllocError>
-    ensures first { IfOk result (λ b. b ≡ (is_first && not (is_some name))) }
-    ensures text { OnOk result (string_bytes text.new ≡ string_bytes text.old ++ led_text is_first (option_map (λ s. s.now) name)) }
+// Writes the name of the resource of this number, where it has one. Answers whether the next is still the first.
+fn push_number(
+    engine: &Engine,
+    text: &mut String,
+    is_first: bool,
+    number: u64,
+) -> Result<bool, AllocError>
+    ensures first { IfOk result (λ b. b ≡ (is_first && not (is_some (name_of engine.now.resources number)))) }
+    ensures text { OnOk result (string_bytes text.new ≡ string_bytes text.old ++ led_text is_first (name_of engine.now.resources number)) }
 {
-    match name {
+    match engine.resources.name_of(number) {
         Some(name) => {
             push_quoted(text, lead_of(is_first), name)?;
             Ok(false)
@@ -36,12 +42,15 @@ fn push_listed(text: &mut String, is_first: bool, name: Option<&str>) -> Result<
 
 // Writes the name that was taken and is still to be told.
 fn push_unnamed(engine: &Engine, text: &mut String) -> Result<bool, AllocError>
-    ensures first { IfOk result (λ b. b ≡ not (is_some engine.now.unnamed)) }
-    ensures text { OnOk result (string_bytes text.new ≡ string_bytes text.old ++ open_text (Rattle.std.specs.Option.option_to_list (option_map string_bytes engine.now.unnamed))) }
+    ensures first { IfOk result (λ b. b ≡ is_nil (option_to_list (option_map string_bytes engine.now.unnamed))) }
+    ensures text { OnOk result (string_bytes text.new ≡ string_bytes text.old ++ open_text (option_to_list (option_map string_bytes engine.now.unnamed))) }
 {
     match &engine.unnamed {
-        Some(name) => push_listed(text, true, Some(name.as_str())),
-        None => push_listed(text, true, None),
+        Some(name) => {
+            push_quoted(text, lead_of(true), name.as_str())?;
+            Ok(false)
+        }
+        None => Ok(true),
     }
 }
 
@@ -52,8 +61,7 @@ fn push_all(engine: &Engine, text: &mut String) -> Result<bool, AllocError>
 {
     let mut is_first = push_unnamed(engine, text)?;
     'numbers: for number in 0..engine.book.len() {
-        let name = engine.resources.name_of(number);
-        is_first = push_listed(text, is_first, name)?;
+        is_first = push_number(engine, text, is_first, number)?;
     }
     Ok(is_first)
 }
