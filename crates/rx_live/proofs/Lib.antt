@@ -9,3 +9,4 @@ pub mod Listings
 pub mod Acts
 pub mod Ended
 pub mod Sent
+pub mod Ties

@@ -68,3 +68,9 @@ ended old left new front after text sound is notes closing closed = record {
   written = closing ∙ ap (λ (t : List ℕ). t ++ codes "}") (notes.written ∙ ap (λ (t : List ℕ). t ++ member_text (codes "notes") (map told_text notes.told)) is);
   closed = closed;
 }
+
+-- one that is refused
+pub refused_out : (old new : Session) (c : Command) (why : Cause) (result : Result (String Global) AllocError) → Runs old c (Refused why) new →
+    IfOk result (λ s. string_bytes s ≡ refused_text why) → IfOk result (λ s. CarriesOut old c (string_bytes s) new)
+refused_out old new c why (Err e) runs is = is
+refused_out old new c why (Ok s) runs is = refuses why runs is

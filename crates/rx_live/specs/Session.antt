@@ -92,3 +92,15 @@ pub record IsSound (s : Session) : Type 0 where
   pub leases : (l : ℕ) → is_some (name_of s.leases l) ≡ is_out s.book.history l
   -- a name that is still to be told is not given again
   pub unnamed : (name : Name) → s.unnamed ≡ Some name → spot_of s.resources name ≡ None
+
+-- how names are tied to the history, without what the book promises by itself
+pub record IsTied (s : Session) : Type 0 where
+  pub node_pairs : IsPaired s.nodes
+  pub hub_pairs : IsPaired s.hubs
+  pub resource_pairs : IsPaired s.resources
+  pub lease_pairs : IsPaired s.leases
+  pub nodes : IsPlaced s.book.history s.nodes
+  pub hubs : IsPlaced s.book.history s.hubs
+  pub resources : (r : ℕ) → is_some (name_of s.resources r) ≡ is_kept s.book.history r
+  pub leases : (l : ℕ) → is_some (name_of s.leases l) ≡ is_out s.book.history l
+  pub unnamed : (name : Name) → s.unnamed ≡ Some name → spot_of s.resources name ≡ None

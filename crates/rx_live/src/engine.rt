@@ -1,6 +1,7 @@
 //! A session: its book, and what names stand for.
 
 ghost use Rattle.std.specs.Prelude.{◌≡◌, ◌≤◌};
+ghost use Rattle.rx_live.specs.Lines.{IsFresh};
 ghost use Rattle.rx_live.specs.Session.{session_of, node_of, resource_of, lease_of, hub_of, has_resource, IsSound};
 
 use crate::token::Token;
@@ -28,6 +29,7 @@ impl Engine {
     pub fn new(alloc: Global, max_events: u64) -> Self
         requires { max_events ≤ 4294967295 }
         ensures sound { IsSound (session_of result) }
+        ensures fresh { IsFresh (session_of result) }
     {
         let book = Book::new(alloc, max_events);
         book.promise();

@@ -1,6 +1,7 @@
 //! A live book: a line in, a line out.
 
 ghost use Rattle.std.specs.Prelude.{◌≡◌, ◌≤◌, string_bytes, IfOk, OnErr};
+ghost use Rattle.rx_live.specs.Session.{session_of, IsTied};
 ghost use Rattle.rx_live.specs.Given.{IsAlike};
 ghost use Rattle.rx_live.specs.Lines.{Sends, Ends, IsFresh};
 
@@ -9,27 +10,17 @@ use crate::listing::list_text;
 use crate::sending::{carry_out, end};
 use rx_line::{Order, Unread, faulty_text, order_of};
 use std::alloc::{AllocError, Global};
-use std::marker::Model;
 
 /// A book that takes its commands as lines of text, and answers each with one.
 ///
 /// A resource stays with the caller: the book holds a token in its place, and tells the caller by its name
 /// when it is to be released.
 ///
-/// A contract sees it as a `Session`: its book, and which names are bound (`specs/Session.antt`).
+/// Contracts speak of its `Session`: its book, and which names are bound (`specs/Session.antt`).
 #[derive(Drop)]
 pub struct Live {
-    engine: Engine,
-}
-
-impl Model for Live {
-    ghost use Rattle.rx_live.specs.Session.{Session, session_of, IsSound};
-
-    ghost Value = { Session };
-
-    ghost view = { λ l. session_of l.engine };
-
-    ghost invariant = { λ l. IsSound (session_of l.engine) };
+    pub(crate) engine: Engine,
+    ghost tied: { IsTied (session_of engine) },
 }
 
 impl Live {
@@ -37,7 +28,7 @@ impl Live {
     /// 4,294,967,295. It takes no memory.
     pub fn new(alloc: Global, max_events: u64) -> Self
         requires { max_events ≤ 4294967295 }
-        ensures { IsFresh result }
+        ensures { IsFresh (session_of result.engine) }
     {
         Live {
             engine: Engine::new(alloc, max_events),
@@ -52,9 +43,10 @@ impl Live {
     ///
     /// Where memory is refused: the line was not taken then, and nothing has changed.
     pub fn send(&mut self, line: &[u8]) -> Result<String, AllocError>
-        ensures ok { IfOk result (λ s. Sends self.old line.now (string_bytes s) self.new) }
-        ensures err { OnErr result (IsAlike self.old self.new) }
+        ensures ok { IfOk result (λ s. Sends (session_of self.old.engine) line.now (string_bytes s) (session_of self.new.engine)) }
+        ensures err { OnErr result (IsAlike (session_of self.old.engine) (session_of self.new.engine)) }
     {
+        self.engine.book.promise();
         match order_of(self.engine.alloc, line) {
             Ok(Order::Command(command)) => carry_out(&mut self.engine, command),
             Ok(Order::List) => list_text(&self.engine),
@@ -72,9 +64,10 @@ impl Live {
     ///
     /// Where memory is refused, and then nothing has changed.
     pub fn end(&mut self) -> Result<String, AllocError>
-        ensures ok { IfOk result (λ s. Ends self.old (string_bytes s) self.new) }
-        ensures err { OnErr result (self.new ≡ self.old) }
+        ensures ok { IfOk result (λ s. Ends (session_of self.old.engine) (string_bytes s) (session_of self.new.engine)) }
+        ensures err { OnErr result (session_of self.new.engine ≡ session_of self.old.engine) }
     {
+        self.engine.book.promise();
         end(&mut self.engine)
     }
 }

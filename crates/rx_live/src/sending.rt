@@ -2,10 +2,10 @@
 
 ghost use Rattle.std.specs.Prelude.{◌≡◌, length, string_bytes, IfOk, OnErr};
 ghost use Rattle.rx_scenario.specs.Scenario.{command_of};
-ghost use Rattle.rx_line.specs.Orders.{IsFaulty};
+ghost use Rattle.rx_line.specs.Pieces.{ok_text};
 ghost use Rattle.rx_live.specs.Session.{session_of, IsSound};
 ghost use Rattle.rx_live.specs.Given.{IsUnchanged};
-ghost use Rattle.rx_live.specs.Lines.{TellsAll, CarriesOut, Sends, Ends};
+ghost use Rattle.rx_live.specs.Lines.{TellsAll, CarriesOut, Ends};
 ghost use Rattle.rx_live.specs.Room.{HasRoom};
 
 use crate::closing::{close, push_names};
@@ -32,7 +32,7 @@ fn tell(engine: &mut Engine, text: String) -> String
 
 // The front of an answer at this place, with room for what closes it.
 fn front(engine: &Engine) -> Result<String, AllocError>
-    ensures text { IfOk result (λ s. string_bytes s ≡ Rattle.rx_line.specs.Pieces.ok_text (length engine.now.book.history)) }
+    ensures text { IfOk result (λ s. string_bytes s ≡ ok_text (length engine.now.book.history)) }
     ensures room { IfOk result (λ s. HasRoom 3 s) }
 {
     let mut text = ok_text(engine.alloc, engine.book.len())?;

@@ -12,4 +12,14 @@ returns c =
       sound = sound_start s c.promise.ensures (ap (λ (b : State). b.history) c.new-book.ensures)
           c.new.ensures.paired c.new-2.ensures.paired c.new-3.ensures.paired c.new-4.ensures.paired
           c.new.ensures.none c.new-2.ensures.none c.new-3.ensures.none c.new-4.ensures.none refl;
+      fresh = record {
+        history = ap (λ (b : State). b.history) c.new-book.ensures;
+        given = ap (λ (b : State). b.given) c.new-book.ensures;
+        nodes = c.new.ensures.none;
+        hubs = c.new-2.ensures.none;
+        resources = c.new-3.ensures.none;
+        leases = c.new-4.ensures.none;
+        untold = refl;
+        unnamed = refl;
+      };
     }
