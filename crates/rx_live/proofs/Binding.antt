@@ -91,26 +91,46 @@ same_open book t = record { nodes = λ n. refl; spots = λ n. inl refl; names = 
 
 pub alike_same : (s : Session) → IsAlike s s
 alike_same s = record {
-  book = refl; nodes = same_open s.book s.nodes; hubs = same_names s.hubs; resources = same_names s.resources;
-  leases = same_names s.leases; untold = refl; unnamed = refl;
+  book = refl;
+  nodes = same_open s.book s.nodes;
+  hubs = same_names s.hubs;
+  resources = same_names s.resources;
+  leases = same_names s.leases;
+  untold = refl;
+  unnamed = refl;
 }
 
 pub alike_resources : (s : Session) (t : Names) → AreSame s.resources t → IsAlike s (record s { resources = t })
 alike_resources s t same = record {
-  book = refl; nodes = same_open s.book s.nodes; hubs = same_names s.hubs; resources = same;
-  leases = same_names s.leases; untold = refl; unnamed = refl;
+  book = refl;
+  nodes = same_open s.book s.nodes;
+  hubs = same_names s.hubs;
+  resources = same;
+  leases = same_names s.leases;
+  untold = refl;
+  unnamed = refl;
 }
 
 pub alike_leases : (s : Session) (t : Names) → AreSame s.leases t → IsAlike s (record s { leases = t })
 alike_leases s t same = record {
-  book = refl; nodes = same_open s.book s.nodes; hubs = same_names s.hubs; resources = same_names s.resources;
-  leases = same; untold = refl; unnamed = refl;
+  book = refl;
+  nodes = same_open s.book s.nodes;
+  hubs = same_names s.hubs;
+  resources = same_names s.resources;
+  leases = same;
+  untold = refl;
+  unnamed = refl;
 }
 
 pub alike_hubs : (s : Session) (t : Names) → AreSame s.hubs t → IsAlike s (record s { hubs = t })
 alike_hubs s t same = record {
-  book = refl; nodes = same_open s.book s.nodes; hubs = same; resources = same_names s.resources;
-  leases = same_names s.leases; untold = refl; unnamed = refl;
+  book = refl;
+  nodes = same_open s.book s.nodes;
+  hubs = same;
+  resources = same_names s.resources;
+  leases = same_names s.leases;
+  untold = refl;
+  unnamed = refl;
 }
 
 lost : (a b : Option Name) → (a ≡ b) ⊎ (a ≡ None) → b ≡ None → a ≡ None

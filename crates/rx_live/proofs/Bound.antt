@@ -35,7 +35,13 @@ use Rattle.rx_live.proofs.Opened.{open_same, open_on, placed_open, made_placed, 
 
 pub alike_nodes : (s : Session) (t : Names) → AreOpenSame s.book s.nodes t → IsAlike s (record s { nodes = t })
 alike_nodes s t same = record {
-  book = refl; nodes = same; hubs = same_names s.hubs; resources = same_names s.resources; leases = same_names s.leases; untold = refl; unnamed = refl;
+  book = refl;
+  nodes = same;
+  hubs = same_names s.hubs;
+  resources = same_names s.resources;
+  leases = same_names s.leases;
+  untold = refl;
+  unnamed = refl;
 }
 
 pub unchanged_nodes : (s : Session) (t : Names) → IsSound s → AreOpenSame s.book s.nodes t → IsPaired t → IsUnchanged s (record s { nodes = t })
@@ -52,7 +58,13 @@ pub unchanged_rooms : (s : Session) (mid t r : Names) → IsSound s → AreOpenS
     IsUnchanged s (record s { nodes = t; resources = r })
 unchanged_rooms s mid t r sound same room more paired pairs =
     let alike : IsAlike s (record s { nodes = t; resources = r }) = record {
-      book = refl; nodes = open_on s.book s.nodes mid t same (open_same s.book mid t room); hubs = same_names s.hubs; resources = more; leases = same_names s.leases; untold = refl; unnamed = refl;
+      book = refl;
+      nodes = open_on s.book s.nodes mid t same (open_same s.book mid t room);
+      hubs = same_names s.hubs;
+      resources = more;
+      leases = same_names s.leases;
+      untold = refl;
+      unnamed = refl;
     } in
     record { alike = alike; sound = sound_alike s (record s { nodes = t; resources = r }) sound alike paired sound.hub_pairs pairs sound.lease_pairs }
 

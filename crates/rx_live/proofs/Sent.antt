@@ -74,3 +74,17 @@ pub refused_out : (old new : Session) (c : Command) (why : Cause) (result : Resu
     IfOk result (λ s. string_bytes s ≡ refused_text why) → IfOk result (λ s. CarriesOut old c (string_bytes s) new)
 refused_out old new c why (Err e) runs is = is
 refused_out old new c why (Ok s) runs is = refuses why runs is
+
+-- a line, by what it asks for
+pub listed_line : (old : Session) (line : List ℕ) (result : Result (String Global) AllocError) → IsOrderOf line list → IfOk result (λ s. Sends old line (string_bytes s) old)
+listed_line old line (Err e) order = tt
+listed_line old line (Ok s) order = sends_listed old line (string_bytes s) order
+
+pub dumped_line : (old : Session) (line : List ℕ) (result : Result (String Global) AllocError) → IsOrderOf line dump → IfOk result (λ s. Sends old line (string_bytes s) old)
+dumped_line old line (Err e) order = tt
+dumped_line old line (Ok s) order = sends_dumped old line (string_bytes s) order
+
+pub faulty_line : (old : Session) (line told : List ℕ) (result : Result (String Global) AllocError) → IsFaulty line → IfOk result (λ s. string_bytes s ≡ faulty_text told) →
+    IfOk result (λ s. Sends old line (string_bytes s) old)
+faulty_line old line told (Err e) faulty is = is
+faulty_line old line told (Ok s) faulty is = sends_faulty old line told (string_bytes s) faulty is

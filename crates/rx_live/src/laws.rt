@@ -6,5 +6,4 @@ ghost use Rattle.rx_live.specs.Sessions.{AreNamesKept};
 /// `release` behind that, before it is handed in again, up to the last line; and no other name does.
 pub fn names_are_released_once()
     ensures { AreNamesKept }
-{
-}
+{}

@@ -176,12 +176,7 @@ fn push_nodes(engine: &Engine, text: &mut String) -> Result<(), AllocError> {
 }
 
 // Writes the node and the uses of a resource. One whose node is closed has no node; a lease holds it.
-fn push_held(
-    engine: &Engine,
-    text: &mut String,
-    number: u64,
-    uses: u64,
-) -> Result<(), AllocError> {
+fn push_held(engine: &Engine, text: &mut String, number: u64, uses: u64) -> Result<(), AllocError> {
     if let Some(Event::Accept(node, _)) = engine.book.event(number) {
         push_member(text, "node", open_name(engine, node))?;
     }

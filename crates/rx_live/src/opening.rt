@@ -176,12 +176,7 @@ fn open_at(
         (BindsNode (session_of engine.old) (string_bytes name) (option_map string_bytes connection)) o (session_of engine.new)) }
     ensures err { OnErr result (IsUnchanged (session_of engine.old) (session_of engine.new)) }
 {
-    if are_taken(
-        &engine.book,
-        &mut engine.nodes,
-        name.as_str(),
-        &connection,
-    ) {
+    if are_taken(&engine.book, &mut engine.nodes, name.as_str(), &connection) {
         return Ok(Outcome::Refused(Cause::NameTaken));
     }
     let name = Twice::new(name)?;
@@ -200,7 +195,12 @@ fn open_at(
 
 /// A node is opened. Where it is a subscriber for which its hub is connected, the connection gets the name
 /// that the command gives it, if it gives one.
-pub fn open(engine: &mut Engine, name: String, site: &Site, sort: Sort) -> Result<Outcome, AllocError>
+pub fn open(
+    engine: &mut Engine,
+    name: String,
+    site: &Site,
+    sort: Sort,
+) -> Result<Outcome, AllocError>
     requires { IsSound (session_of engine.old) }
     ensures ok { IfOk result (λ o. GivesNames (session_of engine.old)
         (open_asked (session_of engine.old) (site_of site.now) (sort_of sort))
@@ -218,7 +218,12 @@ pub fn open(engine: &mut Engine, name: String, site: &Site, sort: Sort) -> Resul
 }
 
 /// A mirroring node is opened with a resource of the caller's.
-pub fn using(engine: &mut Engine, name: String, site: &Site, res: String) -> Result<Outcome, AllocError>
+pub fn using(
+    engine: &mut Engine,
+    name: String,
+    site: &Site,
+    res: String,
+) -> Result<Outcome, AllocError>
     requires { IsSound (session_of engine.old) }
     ensures ok { IfOk result (λ o. GivesNames (session_of engine.old)
         (using_asked (session_of engine.old) (site_of site.now))

@@ -39,12 +39,7 @@ fn mail_text(engine: &Engine, mail: &Mail) -> Result<String, AllocError>
 }
 
 // Writes a note, and what leads to it.
-fn push_mail(
-    engine: &Engine,
-    text: &mut String,
-    lead: &str,
-    mail: &Mail,
-) -> Result<(), AllocError>
+fn push_mail(engine: &Engine, text: &mut String, lead: &str, mail: &Mail) -> Result<(), AllocError>
     ensures ok { OnOk result (string_bytes text.new ≡ string_bytes text.old ++ lead.now ++ told_text (told_of engine.now.nodes mail.now)) }
     ensures err { OnErr result (string_bytes text.new ≡ string_bytes text.old) }
     ensures room { KeepsRoom text.old text.new }
