@@ -5,6 +5,7 @@ ghost use Rattle.rx_live.specs.Session.{session_of, IsTied};
 ghost use Rattle.rx_live.specs.Given.{IsAlike};
 ghost use Rattle.rx_live.specs.Lines.{Sends, Ends, IsFresh};
 
+use crate::dumping::dump_text;
 use crate::engine::Engine;
 use crate::listing::list_text;
 use crate::sending::{carry_out, end};
@@ -50,7 +51,7 @@ impl Live {
         match order_of(self.engine.alloc, line) {
             Ok(Order::Command(command)) => carry_out(&mut self.engine, command),
             Ok(Order::List) => list_text(&self.engine),
-            Ok(Order::Dump) => list_text(&self.engine),
+            Ok(Order::Dump) => dump_text(&self.engine),
             Err(Unread::Faulty(told)) => faulty_text(self.engine.alloc, told),
             Err(Unread::Memory) => Err(AllocError),
         }
