@@ -97,21 +97,37 @@ fn answer_all<W: Write>(
     Ok(())
 }
 
+// Answers what one read of the input brings, and flushes it. False at the end of the input.
+fn answer_some<R: Read, W: Write>(
+    alloc: Global,
+    live: &mut Live,
+    line: &mut Line,
+    piece: &mut [u8],
+    input: &mut R,
+    output: &mut W,
+) -> IoResult<bool> {
+    let count = input.read(piece)?;
+    if count == 0 {
+        return Ok(false);
+    }
+    answer_all(alloc, live, line, output, &piece[..count])?;
+    output.flush()?;
+    Ok(true)
+}
+
 // Answers all lines to the end of the input. What was answered is flushed before more is read.
 fn answer_input<R: Read, W: Write>(
     alloc: Global,
     live: &mut Live,
+    line: &mut Line,
+    piece: &mut [u8],
     input: &mut R,
     output: &mut W,
-    (line, piece): (&mut Line, &mut [u8]),
 ) -> IoResult<()> {
     for _turn in 0..u64::MAX {
-        let count = input.read(piece)?;
-        if count == 0 {
+        if !answer_some(alloc, live, line, piece, input, output)? {
             break;
         }
-        answer_all(alloc, live, line, output, &piece[..count])?;
-        output.flush()?;
     }
     if !line.is_empty() {
         let told = "the input ends in this line, which was not carried out";
@@ -131,8 +147,8 @@ pub fn serve<R: Read, W: Write>(alloc: Global, input: &mut R, output: &mut W) ->
         return 4;
     };
     let mut live = Live::new(alloc, MOST_EVENTS);
-    let lines = (&mut line, piece.as_mut_slice());
-    let served = answer_input(alloc, &mut live, input, output, lines);
+    let piece = piece.as_mut_slice();
+    let served = answer_input(alloc, &mut live, &mut line, piece, input, output);
     let closed = live.end();
     if write_line(output, closed).is_ok() && output.flush().is_ok() && served.is_ok() {
         0
