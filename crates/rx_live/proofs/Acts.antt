@@ -1,23 +1,20 @@
 -- What a command hands in, and what the lines of a session come to.
-use Rattle.std.proofs.Common.{◌≡◌, ℕ, Bool, true, false, cond, List, [], ◌∷◌, ◌++◌, map, Option, Some, None, option_map, refl, sym, ap, ◌∙◌, subst, append_assoc}
+use Rattle.std.proofs.Common.{◌≡◌, ℕ, Bool, true, false, cond, List, [], ◌++◌, map, Option, Some, None, refl, sym, ap, ◌∙◌, subst}
 use Rattle.std.specs.Prelude.{is_some}
 use Rattle.std.proofs.Math.Bool.{◌||◌}
 use Rattle.std.specs.Str.{bytes_eq}
 use Rattle.std.specs.Option.{option_map_or}
-use Rattle.std.proofs.lemmas.Option.{none-some}
 use Rattle.rx_scenario.specs.Scenario.{Name, Command, using, open_node, hold, apply, remove, lease, give_back, next, end, abort, decline, fail, dispose, make_hub, connect, disconnect, drain}
 use Rattle.rx_book.specs.Requests.{Request, hub_request}
-use Rattle.rx_line.specs.declared.names.Spot.{Spot}
-use Rattle.rx_line.specs.declared.names.Names.{Names}
 use Rattle.rx_line.specs.declared.outcome.Cause.{Cause}
 use Rattle.rx_line.specs.declared.outcome.Cause.TheVariants.{NoName, NameTaken, Book}
 use Rattle.rx_line.specs.declared.outcome.Outcome.TheVariants.{Accepted, Refused}
-use Rattle.rx_line.specs.Names.{spot_of, AreSame}
-use Rattle.rx_live.specs.Session.{Session, IsSound, hub_of, has_resource}
+use Rattle.rx_line.specs.Names.{spot_of}
+use Rattle.rx_live.specs.Session.{Session, hub_of, has_resource}
 use Rattle.rx_live.specs.Carried.{Carries, Goes}
-use Rattle.rx_live.specs.Given.{IsAlike, Gives, GivesNames, NamesOne, BindsHub}
-use Rattle.rx_live.specs.Promise.{Act, handed_in, released, with_held, Leads, no_act, hands_in, IsKept}
-use Rattle.rx_live.specs.Lines.{Runs, handed_by, TellsAll, IsCarried, IsAnswer, is_faulty, is_refused, is_carried, is_listed, is_dumped, Sends, Ends, GoesOn, no_line, one_line, IsFresh}
+use Rattle.rx_live.specs.Given.{IsAlike, Gives, NamesOne, BindsHub}
+use Rattle.rx_live.specs.Promise.{Act, released, with_held, Leads, no_act, hands_in, IsKept}
+use Rattle.rx_live.specs.Lines.{Runs, handed_by, IsCarried, Ends, GoesOn, no_line, one_line, IsFresh}
 use Rattle.rx_live.proofs.Binding.{or_false, alike_same}
 use Rattle.rx_live.proofs.Drops.{leads_on, leads_same}
 

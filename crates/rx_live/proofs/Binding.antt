@@ -1,6 +1,6 @@
 -- Names that are bound where a call is accepted, and a session that stays alike where one is refused.
 use Rattle.std.proofs.Common.{◌≡◌, ℕ, ◌==◌, ◌<◌, ◌≤◌, Bool, true, false, cond, List, length, Option, Some, None, option_map, Result, Ok, Err, refl, sym, ap, ◌∙◌, arith, subst, inl, inr, ◌⊎◌, String, Global, string_bytes}
-use Rattle.std.specs.Prelude.{IfOk, IfErr, OnErr, IfSome, is_some}
+use Rattle.std.specs.Prelude.{IfOk, IfSome, is_some}
 use Rattle.std.proofs.Math.Bool.{◌||◌, ◌&&◌}
 use Rattle.std.specs.Str.{bytes_eq}
 use Rattle.std.specs.Option.{option_map_or}
@@ -19,7 +19,6 @@ use Rattle.rx_book.specs.declared.key.LeaseKey.{LeaseKey}
 use Rattle.rx_book.specs.State.{State, IsPromised}
 use Rattle.rx_book.specs.Requests.{Request, is_live}
 use Rattle.rx_book.specs.Answers.{Accepts, IsCauseOrWant}
-use Rattle.rx_book.proofs.Laws.Going.{step_longer}
 use Rattle.rx_line.specs.declared.names.Spot.{Spot}
 use Rattle.rx_line.specs.declared.names.Names.{Names}
 use Rattle.rx_line.specs.Names.{spot_of, name_of, IsPaired, AreSame, Binds, Forgets}
@@ -27,8 +26,7 @@ use Rattle.rx_line.specs.declared.outcome.Cause.TheVariants.{NoName, NameTaken, 
 use Rattle.rx_line.specs.declared.outcome.Outcome.{Outcome}
 use Rattle.rx_line.specs.declared.outcome.Outcome.TheVariants.{Accepted, Refused}
 use Rattle.rx_live.specs.Session.{Session, IsSound, IsPlaced, is_kept, has_resource, lease_of, lease_key_at}
-use Rattle.rx_live.specs.Carried.{outcome_of}
-use Rattle.rx_live.specs.Given.{AreOpenSame, IsAlike, Gives, GivesNames, IsUnchanged, NamesOne, BindsResource, BindsLease, BindsHub, FreesLease}
+use Rattle.rx_live.specs.Given.{AreOpenSame, IsAlike, GivesNames, IsUnchanged, BindsResource, BindsLease, BindsHub}
 use Rattle.rx_live.proofs.Remaining.{keeps_resources, keeps_leases, kept_same, out_same, kept_held, kept_past, out_leased, out_returned}
 use Rattle.rx_live.proofs.Soundness.{accepted_longer}
 

@@ -1,7 +1,7 @@
 -- Nodes that are opened and connected, and the names that they get.
 use Rattle.std.proofs.Common.{◌≡◌, ℕ, ◌+◌, ◌==◌, ◌<◌, ◌≤◌, Bool, true, false, cond, List, length, Option, Some, None, option_map, Result, Ok, Err, refl, sym, ap, ◌∙◌, arith, subst}
 use Rattle.std.specs.declared.alloc.AllocError.{AllocError}
-use Rattle.std.specs.Prelude.{IfSome, IfOk, OnErr, is_some, IsTrue}
+use Rattle.std.specs.Prelude.{IfSome, IfOk, OnErr, is_some}
 use Rattle.std.proofs.Math.Bool.{◌||◌}
 use Rattle.std.specs.Str.{bytes_eq}
 use Rattle.std.specs.Option.{option_map_or, option_and_then}
@@ -10,7 +10,6 @@ use Rattle.std.proofs.lemmas.Option.{none-some, same_Some}
 use Rattle.rx_event.specs.declared.event.Event.{Event}
 use Rattle.rx_event.specs.declared.event.Kind.{Kind}
 use Rattle.rx_event.specs.Tree.{at}
-use Rattle.rx_event.specs.Calls.{Call, Opening, OpeningUsing, Connecting}
 use Rattle.rx_scenario.specs.Scenario.{Name, Site, Sort}
 use Rattle.rx_book.specs.declared.key.Key.{Key}
 use Rattle.rx_book.specs.declared.answer.At.{At}
@@ -23,12 +22,12 @@ use Rattle.rx_line.specs.declared.names.Spot.{Spot}
 use Rattle.rx_line.specs.declared.names.Names.{Names}
 use Rattle.rx_line.specs.Names.{spot_of, name_of, IsPaired, AreSame, Binds}
 use Rattle.rx_line.specs.declared.outcome.Outcome.{Outcome}
-use Rattle.rx_live.specs.Session.{Session, IsSound, IsPlaced, is_kept, has_resource}
-use Rattle.rx_live.specs.Given.{AreOpenSame, IsAlike, IsUnchanged, GivesNames, NamesOne}
-use Rattle.rx_live.specs.Openings.{kind_of, place_at, open_asked, using_at, is_node, is_open_taken, BindsMade, BindsNode, BindsUsing, BindsConnection}
+use Rattle.rx_live.specs.Session.{Session, IsSound, IsPlaced, has_resource}
+use Rattle.rx_live.specs.Given.{AreOpenSame, IsAlike, IsUnchanged, GivesNames}
+use Rattle.rx_live.specs.Openings.{kind_of, place_at, open_asked, using_at, is_open_taken, BindsMade, BindsNode, BindsUsing, BindsConnection}
 use Rattle.rx_live.proofs.Remaining.{keeps_resources, keeps_leases, kept_same, out_same, kept_used, kept_past}
 use Rattle.rx_live.proofs.Soundness.{accepted_longer}
-use Rattle.rx_live.proofs.Binding.{same_names, bound_after, none_of, some_cond, or_false, free_resource, not_unnamed, placed_longer, placed_bound, sound_alike}
+use Rattle.rx_live.proofs.Binding.{same_names, bound_after, none_of, some_cond, or_false, not_unnamed, placed_longer, placed_bound, sound_alike}
 use Rattle.rx_live.proofs.Opened.{open_same, open_on, placed_open, made_placed, made_within}
 
 -- sessions that differ in the names of nodes --------------------------------------------------------

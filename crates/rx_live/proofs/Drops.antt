@@ -1,11 +1,10 @@
 -- Names that are released one after another.
-use Rattle.std.proofs.Common.{◌≡◌, ℕ, ◌+◌, ◌<◌, ◌≤◌, ◌==◌, zero, suc, Bool, true, false, cond, List, [], ◌∷◌, ◌++◌, codes, length, map, Option, Some, None, option_map, refl, sym, ap, ◌∙◌, arith, subst, append_assoc, String, Global, string_bytes}
+use Rattle.std.proofs.Common.{◌≡◌, ℕ, ◌≤◌, ◌==◌, zero, suc, Bool, true, false, cond, List, [], ◌∷◌, ◌++◌, codes, length, map, Option, Some, None, option_map, refl, sym, ap, ◌∙◌, arith, subst, String, Global, string_bytes}
 use Rattle.std.specs.Prelude.{IfSome, IfNone, is_some, IsTrue}
 use Rattle.std.proofs.Math.Bool.{not, ◌&&◌, ◌||◌}
 use Rattle.std.specs.Str.{bytes_eq}
-use Rattle.std.specs.List.{All, Contains, list_any}
+use Rattle.std.specs.List.{Contains, list_any}
 use Rattle.std.specs.Option.{option_map_or}
-use Rattle.std.proofs.lemmas.Bool.{and_parts}
 use Rattle.std.proofs.lemmas.List.{append-nil, map-append}
 use Rattle.std.proofs.lemmas.List.Elements.{All-contains}
 use Rattle.std.proofs.lemmas.Option.{none-some, same_Some}
@@ -22,11 +21,11 @@ use Rattle.rx_book.specs.Answers.{Accepts}
 use Rattle.rx_line.specs.declared.names.Spot.{Spot}
 use Rattle.rx_line.specs.declared.names.Names.{Names}
 use Rattle.rx_line.specs.Names.{spot_of, name_of, IsPaired, Forgets}
-use Rattle.rx_line.specs.Pieces.{name_text, joined, member_text}
+use Rattle.rx_line.specs.Pieces.{name_text, joined}
 use Rattle.rx_live.specs.Session.{Session, IsSound, is_kept, has_resource}
-use Rattle.rx_live.specs.Promise.{Act, released, with_held, Leads, no_act, hands_in, releases}
-use Rattle.rx_live.specs.Answers.{Takes, none_taken, one_taken, ReleasesNames, WritesNames}
-use Rattle.rx_live.specs.Steps.{TakesName, DropsName, names_left, WritesName, WritesNoName, AreNamesWritten}
+use Rattle.rx_live.specs.Promise.{Act, released, Leads, no_act, hands_in, releases}
+use Rattle.rx_live.specs.Answers.{Takes, none_taken, one_taken, WritesNames}
+use Rattle.rx_live.specs.Steps.{TakesName, DropsName, WritesName, WritesNoName, AreNamesWritten}
 use Rattle.rx_live.proofs.Remaining.{kept_taken, out_same}
 use Rattle.rx_live.proofs.Soundness.{accepted_longer}
 use Rattle.rx_live.proofs.Binding.{placed_longer, some_gone}

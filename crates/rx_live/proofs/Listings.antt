@@ -1,10 +1,10 @@
 -- All names that are bound, as a session ends.
-use Rattle.std.proofs.Common.{◌≡◌, ℕ, ◌+◌, ◌<◌, ◌≤◌, zero, suc, Bool, true, false, cond, List, [], ◌∷◌, ◌++◌, codes, length, map, Option, Some, None, option_map, refl, sym, ap, ◌∙◌, arith, subst, append_assoc, add-one, inl, inr, ◌⊎◌}
+use Rattle.std.proofs.Common.{◌≡◌, ℕ, ◌+◌, ◌<◌, zero, suc, Bool, true, false, cond, List, [], ◌∷◌, ◌++◌, codes, length, map, Option, Some, None, option_map, refl, sym, ap, ◌∙◌, arith, subst, append_assoc, add-one, inl, inr, ◌⊎◌}
 use Rattle.std.specs.Prelude.{is_some, nat_lt}
-use Rattle.std.proofs.Math.Bool.{not, ◌||◌, ◌&&◌}
+use Rattle.std.proofs.Math.Bool.{not, ◌&&◌}
 use Rattle.std.specs.Str.{bytes_eq}
 use Rattle.std.specs.Option.{option_map_or, option_to_list}
-use Rattle.std.proofs.lemmas.Bool.{ltb-true, lt-ltb, ltb-false, le-ltb, cases_order}
+use Rattle.std.proofs.lemmas.Bool.{lt-ltb, ltb-false, le-ltb, cases_order}
 use Rattle.std.proofs.lemmas.List.{append-nil, map-append}
 use Rattle.std.proofs.lemmas.Option.{none-some, same_Some}
 use Rattle.std.proofs.lemmas.Slice.Eq.{bytes_eq-Decides}
@@ -13,8 +13,8 @@ use Rattle.rx_line.specs.declared.names.Spot.{Spot}
 use Rattle.rx_line.specs.Names.{spot_of, name_of}
 use Rattle.rx_line.specs.Pieces.{name_text, joined, member_text}
 use Rattle.rx_live.specs.Session.{Session, IsSound, is_kept, has_resource}
-use Rattle.rx_live.specs.Promise.{Act, released, with_held, Leads, no_act, hands_in, releases}
-use Rattle.rx_live.specs.Listed.{names_below, all_names, is_nil, lead_of, led_text, open_text}
+use Rattle.rx_live.specs.Promise.{Act, released, with_held, Leads, no_act, releases}
+use Rattle.rx_live.specs.Listed.{names_below, all_names, is_nil, led_text, open_text}
 use Rattle.rx_live.proofs.Remaining.{kept_past}
 use Rattle.rx_live.proofs.Tellings.{joined_more}
 use Rattle.rx_live.proofs.Drops.{leads_on, leads_same, dropped_unnamed, or_none}

@@ -1,10 +1,8 @@
 -- Names of nodes, as those of closed ones are forgotten and new ones bound.
-use Rattle.std.proofs.Common.{◌≡◌, ℕ, ◌+◌, ◌==◌, ◌<◌, ◌≤◌, Bool, true, false, cond, List, length, Option, Some, None, option_map, refl, sym, ap, ◌∙◌, arith, subst, inl, inr, ◌⊎◌, String, Global, string_bytes}
-use Rattle.std.specs.Prelude.{IfSome, is_some}
-use Rattle.std.proofs.Math.Bool.{◌||◌}
+use Rattle.std.proofs.Common.{◌≡◌, ℕ, ◌+◌, ◌==◌, ◌<◌, ◌≤◌, Bool, true, false, cond, List, length, Option, Some, None, refl, sym, ap, ◌∙◌, arith, inl, inr, ◌⊎◌}
+use Rattle.std.specs.Prelude.{is_some}
 use Rattle.std.specs.Str.{bytes_eq}
-use Rattle.std.specs.Option.{option_map_or, option_and_then}
-use Rattle.std.proofs.lemmas.Bool.{eqb-true}
+use Rattle.std.specs.Option.{option_and_then}
 use Rattle.std.proofs.lemmas.Option.{none-some, same_Some}
 use Rattle.std.proofs.lemmas.Slice.Eq.{bytes_eq-Decides}
 use Rattle.rx_event.specs.declared.event.Event.{Event}
@@ -15,9 +13,9 @@ use Rattle.rx_book.specs.State.{State, has_key}
 use Rattle.rx_book.specs.Answers.{makes_connection, connection_made}
 use Rattle.rx_line.specs.declared.names.Spot.{Spot}
 use Rattle.rx_line.specs.declared.names.Names.{Names}
-use Rattle.rx_line.specs.Names.{spot_of, name_of, IsPaired, AreSame, Forgets}
+use Rattle.rx_line.specs.Names.{spot_of, name_of, AreSame, Forgets}
 use Rattle.rx_live.specs.Session.{IsPlaced, node_in, if_open, key_at}
-use Rattle.rx_live.specs.Given.{AreOpenSame, NamesOne}
+use Rattle.rx_live.specs.Given.{AreOpenSame}
 use Rattle.rx_live.specs.Openings.{BindsMade}
 use Rattle.rx_live.proofs.Binding.{placed_bound}
 

@@ -1,18 +1,17 @@
 -- What a line's answer says of the session.
-use Rattle.std.proofs.Common.{◌≡◌, ℕ, List, [], ◌∷◌, ◌++◌, codes, length, map, Option, Some, None, Result, Ok, Err, refl, sym, ap, ◌∙◌, subst, String, Global, string_bytes}
-use Rattle.std.specs.Prelude.{IfOk, OnErr}
+use Rattle.std.proofs.Common.{◌≡◌, ℕ, List, [], ◌++◌, codes, length, map, Result, Ok, Err, refl, ap, ◌∙◌, subst, String, Global, string_bytes}
+use Rattle.std.specs.Prelude.{IfOk}
 use Rattle.std.specs.declared.alloc.AllocError.{AllocError}
-use Rattle.rx_scenario.specs.Scenario.{Name, Command}
-use Rattle.rx_line.specs.Orders.{Order, command, list, dump, IsOrderOf, IsFaulty}
+use Rattle.rx_scenario.specs.Scenario.{Command}
+use Rattle.rx_line.specs.Orders.{command, list, dump, IsOrderOf, IsFaulty}
 use Rattle.rx_line.specs.Pieces.{ok_text, refused_text, faulty_text, name_text, member_text}
 use Rattle.rx_line.specs.declared.outcome.Cause.{Cause}
 use Rattle.rx_line.specs.declared.outcome.Outcome.TheVariants.{Accepted, Refused}
-use Rattle.rx_live.specs.Session.{Session, IsSound, has_resource}
-use Rattle.rx_live.specs.Given.{IsAlike, GivesNames}
-use Rattle.rx_live.specs.Promise.{Act, released, Leads, no_act}
-use Rattle.rx_live.specs.Answers.{told_text, TellsNotes, WritesNotes, WritesNames}
+use Rattle.rx_live.specs.Session.{Session, IsSound}
+use Rattle.rx_live.specs.Promise.{released, no_act}
+use Rattle.rx_live.specs.Answers.{told_text, WritesNotes, WritesNames}
 use Rattle.rx_live.specs.Listed.{all_names}
-use Rattle.rx_live.specs.Lines.{Runs, handed_by, TellsAll, IsCarried, CarriesOut, refuses, carries, IsAnswer, is_faulty, is_refused, is_carried, is_listed, is_dumped, Sends, Ends, IsClosed}
+use Rattle.rx_live.specs.Lines.{Runs, handed_by, TellsAll, CarriesOut, refuses, carries, is_faulty, is_refused, is_carried, is_listed, is_dumped, Sends, Ends, IsClosed}
 use Rattle.rx_live.proofs.Binding.{alike_same}
 use Rattle.rx_live.proofs.Acts.{alike_held, carried_leads, refused_alike}
 use Rattle.rx_live.proofs.Listings.{leads_all}

@@ -1,5 +1,5 @@
 -- A session stays sound as its book goes on.
-use Rattle.std.proofs.Common.{◌≡◌, ℕ, ◌+◌, ◌≤◌, Bool, true, false, Option, Some, None, Result, Ok, Err, length, refl, sym, ap, ◌∙◌, arith, subst, inl, option_map, List, []}
+use Rattle.std.proofs.Common.{◌≡◌, ℕ, ◌≤◌, true, false, Option, Some, None, Result, Ok, Err, length, refl, sym, ap, ◌∙◌, arith, subst, inl, option_map, List, []}
 use Rattle.std.specs.Prelude.{IfOk, IfErr, OnOk, OnErr, is_some}
 use Rattle.std.specs.declared.alloc.AllocError.{AllocError}
 use Rattle.rx_event.specs.declared.refusal.Refusal.{Refusal}
@@ -7,16 +7,15 @@ use Rattle.rx_event.specs.declared.refusal.Refusal.TheVariants.{NoMemory}
 use Rattle.std.proofs.lemmas.Option.{none-some}
 use Rattle.rx_event.specs.declared.event.Event.{Event}
 use Rattle.rx_event.specs.Resources.{is_out}
-use Rattle.rx_event.specs.Calls.{Call, outside_of}
 use Rattle.rx_event.proofs.Laws.Leases.{is_out_past}
 use Rattle.rx_line.specs.Names.{IsPaired, AreNone}
 use Rattle.rx_book.specs.State.{State, IsPromised}
 use Rattle.rx_book.specs.Requests.{Request}
 use Rattle.rx_book.specs.Answers.{Accepts, IsCause, IsCauseOrWant}
 use Rattle.rx_book.proofs.Laws.Going.{step_longer}
-use Rattle.rx_line.specs.declared.outcome.Cause.TheVariants.{NoName, Book}
+use Rattle.rx_line.specs.declared.outcome.Cause.TheVariants.{NoName}
 use Rattle.rx_line.specs.declared.outcome.Outcome.{Outcome}
-use Rattle.rx_line.specs.declared.outcome.Outcome.TheVariants.{Accepted, Refused}
+use Rattle.rx_line.specs.declared.outcome.Outcome.TheVariants.{Refused}
 use Rattle.rx_live.specs.Session.{Session, IsSound, is_kept}
 use Rattle.rx_live.specs.Carried.{outcome_of, Goes}
 use Rattle.rx_live.proofs.Remaining.{keeps_resources, keeps_leases, kept_same, out_same}

@@ -1,6 +1,6 @@
 -- Notes that are told one after another.
-use Rattle.std.proofs.Common.{◌≡◌, ℕ, ◌+◌, ◌<◌, ◌≤◌, suc, zero, Bool, true, false, List, [], ◌∷◌, ◌++◌, codes, length, map, drop, Option, Some, None, refl, sym, ap, ◌∙◌, arith, subst, append_assoc, add-one, drop-cons}
-use Rattle.std.specs.Prelude.{IfSome, is_some, slice_get, get_or, if◌then◌else◌}
+use Rattle.std.proofs.Common.{◌≡◌, ℕ, ◌+◌, ◌<◌, suc, List, [], ◌∷◌, ◌++◌, codes, length, map, drop, Option, Some, None, refl, sym, ap, ◌∙◌, arith, append_assoc, add-one, drop-cons}
+use Rattle.std.specs.Prelude.{IfSome, is_some, slice_get, if◌then◌else◌}
 use Rattle.std.specs.List.{flat_map}
 use Rattle.std.specs.Option.{option_to_list}
 use Rattle.std.proofs.lemmas.Grind.{flat_map-append}
@@ -10,9 +10,9 @@ use Rattle.rx_event.specs.declared.mail.Mail.{Mail}
 use Rattle.rx_event.specs.Notes.{notes}
 use Rattle.rx_book.specs.State.{State}
 use Rattle.rx_line.specs.declared.names.Names.{Names}
-use Rattle.rx_line.specs.Pieces.{joined, member_text}
+use Rattle.rx_line.specs.Pieces.{joined}
 use Rattle.rx_live.specs.Session.{Session}
-use Rattle.rx_live.specs.Answers.{Told, told_of, told_text, to_tell, IsTelling, TellsNotes, WritesNotes}
+use Rattle.rx_live.specs.Answers.{Told, told_of, told_text, to_tell, IsTelling, WritesNotes}
 use Rattle.rx_live.specs.Steps.{TellsOne, WritesNote, WritesNoNote, AreNotesWritten}
 
 pub dropped_one : (xs : List Mail) (k : ℕ) (x : Mail) → slice_get xs k ≡ Some x → drop k xs ≡ x ∷ drop (k + 1) xs

@@ -1,19 +1,18 @@
 -- What an answer tells beside its outcome: notes, and names to be released.
-use Rattle.std.specs.Prelude.{◌≡◌, ℕ, ◌+◌, ◌<◌, Bool, true, false, List, [], ◌∷◌, ◌++◌, codes, map, length, drop, Option, Some, None}
+use Rattle.std.specs.Prelude.{◌≡◌, ℕ, List, [], ◌++◌, codes, map, drop}
 use Rattle.std.specs.Option.{option_map_or, option_to_list}
 use Rattle.rx_note.specs.declared.note.Note.{Note}
 use Rattle.rx_event.specs.declared.mail.Mail.{Mail}
 use Rattle.rx_event.specs.Notes.{notes}
-use Rattle.rx_event.specs.Lawful.{IsLawful}
 use Rattle.rx_scenario.specs.Scenario.{Name}
 use Rattle.rx_book.specs.State.{State}
 use Rattle.rx_book.specs.Requests.{take_request}
 use Rattle.rx_book.specs.Answers.{Accepts}
 use Rattle.rx_line.specs.declared.names.Names.{Names}
-use Rattle.rx_line.specs.Names.{spot_of, name_of, Forgets}
-use Rattle.rx_line.specs.Pieces.{note_text, name_text, joined, member_text}
+use Rattle.rx_line.specs.Names.{name_of}
+use Rattle.rx_line.specs.Pieces.{note_text, name_text, member_text}
 use Rattle.rx_live.specs.Session.{Session, has_resource}
-use Rattle.rx_live.specs.Promise.{Act, released, Leads, with_held}
+use Rattle.rx_live.specs.Promise.{released, Leads}
 
 -- a note, and the name of the node that it goes to
 pub record Told : Type 0 where

@@ -1,9 +1,9 @@
 -- What a line is answered, and what the last line says.
-use Rattle.std.specs.Prelude.{◌≡◌, ℕ, Bool, false, List, [], ◌∷◌, ◌++◌, codes, map, length, Option, Some, None, is_some, option_map}
+use Rattle.std.specs.Prelude.{◌≡◌, ℕ, false, List, [], ◌∷◌, ◌++◌, codes, map, length, Some, None, is_some, option_map}
 use Rattle.std.specs.Option.{option_map_or}
 use Rattle.rx_scenario.specs.Scenario.{Name, Command, using, open_node, hold, apply, remove, lease, give_back, next, end, abort, decline, fail, dispose, make_hub, connect, disconnect, drain}
 use Rattle.rx_book.specs.Requests.{apply_request, remove_request, lease_request, give_back_request, next_request, end_request, abort_request, decline_request, fail_request, dispose_request, hub_request, connect_request, disconnect_request}
-use Rattle.rx_line.specs.Orders.{Order, command, list, dump, IsOrderOf, IsFaulty}
+use Rattle.rx_line.specs.Orders.{command, list, dump, IsOrderOf, IsFaulty}
 use Rattle.rx_line.specs.Names.{AreNone}
 use Rattle.rx_line.specs.Pieces.{ok_text, refused_text, faulty_text, name_text, member_text}
 use Rattle.rx_line.specs.declared.outcome.Cause.{Cause}

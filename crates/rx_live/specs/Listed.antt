@@ -1,6 +1,5 @@
 -- The names that are left to be released when a session ends.
-use Rattle.std.specs.Prelude.{ℕ, zero, suc, Bool, true, false, ◌&&◌, List, [], ◌∷◌, ◌++◌, codes, map, length, Option, Some, None, is_some}
-use Rattle.std.proofs.Math.Bool.{not}
+use Rattle.std.specs.Prelude.{ℕ, zero, suc, Bool, true, false, List, [], ◌∷◌, ◌++◌, codes, map, length, Option, Some, None}
 use Rattle.std.specs.Option.{option_to_list}
 use Rattle.rx_scenario.specs.Scenario.{Name}
 use Rattle.rx_line.specs.Names.{name_of}

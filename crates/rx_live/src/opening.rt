@@ -1,6 +1,6 @@
 //! Commands that open a node.
 
-ghost use Rattle.std.specs.Prelude.{◌≡◌, ◌+◌, ◌<◌, ◌≤◌, ◌||◌, Some, None, false, is_some, length, option_map, string_bytes, IfOk, IfSome, OnErr};
+ghost use Rattle.std.specs.Prelude.{◌≡◌, ◌<◌, ◌||◌, Some, None, false, is_some, option_map, string_bytes, IfOk, IfSome, OnErr};
 ghost use Rattle.std.specs.Str.{bytes_eq};
 ghost use Rattle.std.specs.Option.{option_map_or};
 ghost use Rattle.rx_scenario.specs.Scenario.{site_of, sort_of};
@@ -8,7 +8,7 @@ ghost use Rattle.rx_book.specs.Requests.{open_request, connect_request};
 ghost use Rattle.rx_line.specs.Names.{spot_of, name_of, room_of, IsPaired};
 ghost use Rattle.rx_live.specs.Session.{session_of, node_in, hub_of, IsSound};
 ghost use Rattle.rx_live.specs.Given.{AreOpenSame, GivesNames, IsUnchanged};
-ghost use Rattle.rx_live.specs.Openings.{place_at, kind_of, connection_of, open_asked, using_asked, using_at, is_node, is_open_taken, is_using_taken};
+ghost use Rattle.rx_live.specs.Openings.{place_at, kind_of, connection_of, open_asked, using_asked, is_node, is_open_taken, is_using_taken};
 ghost use Rattle.rx_live.specs.Openings.{BindsMade, BindsNode, BindsUsing, BindsConnection};
 
 use crate::calls::answered;

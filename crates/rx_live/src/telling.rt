@@ -1,9 +1,9 @@
 //! What an answer tells beside its outcome: notes, and what is to be released.
 
-ghost use Rattle.std.specs.Prelude.{◌≡◌, ◌++◌, ◌∷◌, [], None, codes, string_bytes, IfOk, IfSome, IfNone, OnOk, OnErr};
+ghost use Rattle.std.specs.Prelude.{◌≡◌, ◌++◌, None, string_bytes, IfOk, IfSome, IfNone, OnOk, OnErr};
 ghost use Rattle.rx_line.specs.Pieces.{name_text};
 ghost use Rattle.rx_live.specs.Session.{session_of, IsSound};
-ghost use Rattle.rx_live.specs.Answers.{told_of, told_text, to_tell, WritesNotes, WritesNames};
+ghost use Rattle.rx_live.specs.Answers.{told_of, told_text, WritesNotes, WritesNames};
 ghost use Rattle.rx_live.specs.Steps.{TellsOne, MayWriteNote, TakesName, DropsName, MayWriteName};
 ghost use Rattle.rx_live.specs.Room.{HasRoom, KeepsRoom};
 

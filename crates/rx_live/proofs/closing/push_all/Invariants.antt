@@ -1,4 +1,4 @@
-use Rattle.std.proofs.Common.{◌≡◌, ℕ, List, ◌++◌, option_map, string_bytes}
+use Rattle.std.proofs.Common.{◌≡◌, ◌++◌, option_map, string_bytes}
 use Rattle.std.specs.Option.{option_to_list}
 use Rattle.rx_live.specs.Session.{session_of}
 use Rattle.rx_live.specs.Listed.{names_below, is_nil, open_text}

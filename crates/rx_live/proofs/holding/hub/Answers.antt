@@ -1,12 +1,11 @@
-use Rattle.std.proofs.Common.{◌≡◌, ℕ, ◌<◌, Bool, true, false, Some, List, length, sym, ap, ◌∙◌, subst, refl, arith, option_map, string_bytes}
+use Rattle.std.proofs.Common.{◌≡◌, ◌<◌, false, Some, length, sym, ap, ◌∙◌, subst, refl, arith, string_bytes}
 use Rattle.std.specs.Prelude.{is_some}
 use Rattle.rx_scenario.specs.Scenario.{Name}
 use Rattle.rx_book.specs.Requests.{hub_request}
 use Rattle.rx_book.specs.Answers.{Accepts}
 use Rattle.rx_book.proofs.Laws.Going.{step_longer}
 use Rattle.rx_line.specs.declared.names.Spot.{Spot}
-use Rattle.rx_line.specs.declared.names.Names.{Names}
-use Rattle.rx_line.specs.Names.{name_of, Binds}
+use Rattle.rx_line.specs.Names.{Binds}
 use Rattle.rx_live.specs.Session.{Session, session_of, hub_of}
 use Rattle.rx_live.specs.Given.{BindsHub}
 use Rattle.rx_live.proofs.Binding.{given_accepted, hub_bound, hub_sound}

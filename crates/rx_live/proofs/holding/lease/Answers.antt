@@ -1,11 +1,10 @@
-use Rattle.std.proofs.Common.{◌≡◌, ℕ, Bool, true, false, Some, List, length, sym, ap, ◌∙◌, subst, option_map, string_bytes}
+use Rattle.std.proofs.Common.{◌≡◌, false, Some, length, sym, ap, ◌∙◌, subst, option_map, string_bytes}
 use Rattle.std.specs.Prelude.{is_some}
 use Rattle.rx_scenario.specs.Scenario.{Name}
 use Rattle.rx_book.specs.State.{has_res_key}
 use Rattle.rx_book.specs.Requests.{lease_request}
 use Rattle.rx_book.specs.Answers.{Accepts}
 use Rattle.rx_line.specs.declared.names.Spot.{Spot}
-use Rattle.rx_line.specs.declared.names.Names.{Names}
 use Rattle.rx_line.specs.Names.{name_of, Binds}
 use Rattle.rx_live.specs.Session.{Session, session_of, resource_of, lease_of}
 use Rattle.rx_live.specs.Given.{BindsLease}

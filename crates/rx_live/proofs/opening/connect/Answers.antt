@@ -1,9 +1,9 @@
-use Rattle.std.proofs.Common.{◌≡◌, ℕ, Bool, false, Option, Some, List, length, sym, ap, ◌∙◌, subst, option_map, string_bytes}
+use Rattle.std.proofs.Common.{◌≡◌, ℕ, false, Option, Some, length, sym, ap, ◌∙◌, subst, option_map, string_bytes}
 use Rattle.std.specs.Option.{option_map_or}
 use Rattle.rx_scenario.specs.Scenario.{Name}
 use Rattle.rx_book.specs.Requests.{connect_request}
 use Rattle.rx_book.specs.Answers.{Accepts}
-use Rattle.rx_live.specs.Session.{Session, session_of, hub_of}
+use Rattle.rx_live.specs.Session.{session_of, hub_of}
 use Rattle.rx_live.specs.Openings.{is_node, BindsMade, BindsConnection}
 use Rattle.rx_live.proofs.Binding.{given_accepted, given_refused}
 use Rattle.rx_live.proofs.Bound.{unchanged_room, on_err, with_book, connected_bound, connected_sound}

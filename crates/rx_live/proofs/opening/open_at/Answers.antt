@@ -1,11 +1,11 @@
-use Rattle.std.proofs.Common.{◌≡◌, ℕ, Bool, false, Option, Some, List, length, refl, sym, ap, ◌∙◌, subst, option_map, string_bytes}
+use Rattle.std.proofs.Common.{◌≡◌, false, Option, Some, length, refl, sym, ap, ◌∙◌, subst, option_map, string_bytes}
 use Rattle.rx_scenario.specs.Scenario.{Name}
 use Rattle.rx_book.specs.declared.key.Key.{Key}
 use Rattle.rx_book.specs.Requests.{open_request}
 use Rattle.rx_book.specs.Answers.{Accepts}
 use Rattle.rx_line.specs.declared.names.Spot.{Spot}
 use Rattle.rx_line.specs.Names.{Binds}
-use Rattle.rx_live.specs.Session.{Session, session_of}
+use Rattle.rx_live.specs.Session.{session_of}
 use Rattle.rx_live.specs.Openings.{is_open_taken, BindsMade, BindsNode}
 use Rattle.rx_live.proofs.Binding.{given_accepted, given_refused}
 use Rattle.rx_live.proofs.Bound.{unchanged_room, on_err, with_book, opened_bound, opened_sound}

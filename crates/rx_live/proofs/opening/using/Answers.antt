@@ -1,4 +1,4 @@
-use Rattle.std.proofs.Common.{◌≡◌, ℕ, ◌+◌, Bool, false, Option, Some, List, length, sym, ap, ◌∙◌, subst, option_map, string_bytes}
+use Rattle.std.proofs.Common.{◌≡◌, Bool, false, Some, length, sym, ap, ◌∙◌, subst, option_map, string_bytes}
 use Rattle.std.proofs.Math.Bool.{◌||◌}
 use Rattle.rx_event.specs.Calls.{OpeningUsing}
 use Rattle.rx_scenario.specs.Scenario.{Name, site_of}
@@ -6,7 +6,7 @@ use Rattle.rx_book.specs.Requests.{place_of, is_known_place}
 use Rattle.rx_book.specs.Answers.{Accepts, IsCauseOrWant}
 use Rattle.rx_line.specs.declared.names.Spot.{Spot}
 use Rattle.rx_line.specs.Names.{name_of, Binds}
-use Rattle.rx_live.specs.Session.{Session, session_of, has_resource}
+use Rattle.rx_live.specs.Session.{session_of, has_resource}
 use Rattle.rx_live.specs.Openings.{place_at, using_asked, using_at, is_node, is_using_taken, BindsUsing}
 use Rattle.rx_live.proofs.Binding.{is_new, given_accepted, given_refused}
 use Rattle.rx_live.proofs.Bound.{unchanged_room, unchanged_rooms, unnamed_used, on_err, with_book, used_bound, used_sound}

@@ -1,4 +1,4 @@
-use Rattle.std.proofs.Common.{◌≡◌, None, sym, ◌∙◌}
+use Rattle.std.proofs.Common.{sym, ◌∙◌}
 use Rattle.rx_live.specs.Session.{session_of}
 use Rattle.rx_live.proofs.Tellings.{next_told}
 use Rattle.rx_live.proofs.telling.next_mail.Goals as goal

@@ -1,4 +1,4 @@
-use Rattle.std.proofs.Common.{◌≡◌, ℕ, true, ap, sym, subst}
+use Rattle.std.proofs.Common.{◌≡◌, ℕ, true, sym, subst}
 use Rattle.rx_book.specs.Requests.{take_request}
 use Rattle.rx_book.specs.Answers.{Accepts}
 use Rattle.std.specs.Prelude.{is_some}

@@ -1,4 +1,4 @@
-use Rattle.std.proofs.Common.{ℕ, length, string_bytes}
+use Rattle.std.proofs.Common.{length, string_bytes}
 use Rattle.rx_live.specs.Session.{session_of, IsSound}
 use Rattle.rx_live.specs.Answers.{to_tell}
 use Rattle.rx_live.specs.Steps.{AreNotesWritten}

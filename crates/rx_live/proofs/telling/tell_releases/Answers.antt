@@ -1,4 +1,4 @@
-use Rattle.std.proofs.Common.{◌≡◌, ℕ, List, ◌++◌, codes, sym, subst, arith, string_bytes}
+use Rattle.std.proofs.Common.{ℕ, List, sym, subst, arith, string_bytes}
 use Rattle.rx_live.specs.Session.{session_of}
 use Rattle.rx_live.specs.Answers.{WritesNames}
 use Rattle.rx_live.specs.Room.{HasRoom}

@@ -1,4 +1,4 @@
-use Rattle.std.proofs.Common.{ℕ, string_bytes}
+use Rattle.std.proofs.Common.{string_bytes}
 use Rattle.rx_live.specs.Session.{session_of, IsSound}
 use Rattle.rx_live.specs.Steps.{AreNamesWritten, names_left}
 use Rattle.rx_live.specs.Room.{HasRoom}
