@@ -1,5 +1,5 @@
 -- What is kept of slots that are seen through a function, and lists by rising number.
-use Rattle.std.proofs.Common.{◌≡◌, ℕ, List, Option, Some, None, option_map, refl, sym, ap, ◌∙◌}
+use Rattle.std.proofs.Common.{◌≡◌, ℕ, Option, Some, None, option_map, refl, sym, ap, ◌∙◌}
 use Rattle.std.specs.List.{range_with_len, filter_map}
 use Rattle.std.proofs.lemmas.List.{length-map}
 use Rattle.rx_slots.specs.declared.Entry.{Entry}
