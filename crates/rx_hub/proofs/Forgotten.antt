@@ -28,7 +28,7 @@ kept_from (hub ∷ hubs) all k same =
     ap (λ ks. hub_as_kept hub ∷ ks) (kept_from hubs all (k + 1) (λ i. ap (slice_get all) (let e : k + 1 + i ≡ k + suc i = omega arith in e) ∙ same (suc i)))
 
 pub kept_of_all : (hubs : List Hub) → filter_map (λ i. option_map hub_as_kept (slice_get hubs i)) (range_with_len 0 (length hubs)) ≡ map hub_as_kept hubs
-kept_of_all hubs = kept_from hubs hubs 0 (λ i. refl)
+kept_of_all hubs = kept_from hubs hubs 0 (λ i. ap (slice_get hubs) (let e : 0 + i ≡ i = omega arith in e))
 
 -- nothing is due once ends are forgotten ----------------------------------------------------------------
 
@@ -106,3 +106,22 @@ changed_more f [] zero x at_i = absurd (none-some x at_i)
 changed_more f [] (suc i) x at_i = absurd (none-some x at_i)
 changed_more f (y ∷ ys) zero x at_i = ap (λ z. f z ∷ ys) (sym (same_Some y x at_i))
 changed_more f (y ∷ ys) (suc i) x at_i = ap (λ zs. f y ∷ zs) (changed_more f ys i x at_i)
+
+-- the next one stands where it stood
+stands_at : {X : Type 0} (f : X → X) (xs : List X) (i : ℕ) (d : X) → get_or (map f (take i xs) ++ drop i xs) i d ≡ get_or xs i d
+stands_at f [] zero d = refl
+stands_at f [] (suc i) d = refl
+stands_at f (y ∷ ys) zero d = refl
+stands_at f (y ∷ ys) (suc i) d = stands_at f ys i d
+
+is_there : {X : Type 0} (xs : List X) (i : ℕ) (d : X) → i < length xs → slice_get xs i ≡ Some (get_or xs i d)
+is_there [] i d l = absurd (omega arith)
+is_there (x ∷ xs) zero d l = refl
+is_there (x ∷ xs) (suc i) d l = is_there xs i d (omega arith)
+
+-- and is the next to be changed
+pub next_changed : {X : Type 0} (f : X → X) (xs items : List X) (i : ℕ) (d : X) → items ≡ map f (take i xs) ++ drop i xs → i < length xs →
+    set items i (f (get_or items i d)) ≡ map f (take (i + 1) xs) ++ drop (i + 1) xs
+next_changed f xs items i d is l =
+    (λ j. set (is j) i (f (get_or (is j) i d))) ∙ ap (λ x. set (map f (take i xs) ++ drop i xs) i (f x)) (stands_at f xs i d) ∙
+    changed_more f xs i (get_or xs i d) (is_there xs i d l) ∙ ap (λ n. map f (take n xs) ++ drop n xs) (let e : suc i ≡ i + 1 = omega arith in e)

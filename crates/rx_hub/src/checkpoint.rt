@@ -33,7 +33,6 @@ impl Hubs {
     }
 
     /// What a checkpoint keeps of the hubs, by rising number. Refused only where memory was refused.
-    #[tactic(auto, using(crate::proofs::Forgotten::kept_of_all))]
     pub fn base_hubs(&self, alloc: Global) -> Result<Vec<BaseHub>, AllocError>
         ensures { IfOk result (λ kept. kept.items ≡ map hub_as_kept self.now.hubs) }
     {

@@ -15,7 +15,7 @@ use Rattle.rx_hub.specs.Hubs.{Hub, without_end}
 use Rattle.rx_hub.specs.Records.{IsHubOf, HasHub, AreHubsOf}
 
 -- the hubs one by one
-pub forgot_get : (hubs : List Hub) (i : ℕ) (hub : Hub) → slice_get (map without_end hubs) i ≡ Some hub → (before : Hub) × ((slice_get hubs i ≡ Some before) × (hub ≡ without_end before))
+pub forgot_get : (hubs : List Hub) (i : ℕ) (hub : Hub) → slice_get (map without_end hubs) i ≡ Some hub → (before : Hub) × (slice_get hubs i ≡ Some before) × (hub ≡ without_end before)
 forgot_get [] zero hub at_i = absurd (none-some hub at_i)
 forgot_get [] (suc i) hub at_i = absurd (none-some hub at_i)
 forgot_get (h ∷ hubs) zero hub at_i = (h, refl, sym (same_Some (without_end h) hub at_i))
