@@ -25,6 +25,7 @@ use Rattle.rx_ground.specs.Shown.{Ground}
 use Rattle.rx_ground.specs.Ties.{IsStanding}
 use Rattle.rx_ground.specs.Checkpoints.{IsCheckpoint}
 use Rattle.rx_ground.proofs.KeptRecords.{hubs_kept, nodes_kept, resources_kept, leases_kept, base_built}
+use Rattle.rx_ground.proofs.Rebased.{standing_still}
 
 -- what is kept of all that is there is the base of the history
 pub whole_base : {T : Type 0} (g : Ghosts T) (b : Ground T) → IsStanding g b → IsRegisterPromised b.register → IsTreePromised b.tree → IsHubsPromised b.hubs →
@@ -74,6 +75,16 @@ checkpoint_made old new reserved rebases same tree hubs leases space = record {
   leases = leases;
   space = space;
 }
+
+-- so it stands, whose parts are those of a ground that stood
+pub standing_after : {T : Type 0} (g : Ghosts T) (parts old new : Ground T) (reserved : ℕ) → parts ≡ old → IsRegisterPromised old.register → IsStanding g old →
+    Rebases parts.register new.register reserved → reserved ≡ debt old.register.base old.register.history → new.tree ≡ parts.tree →
+    new.hubs ≡ record parts.hubs { hubs = map without_end parts.hubs.hubs } → new.leases ≡ parts.leases → new.space ≡ parts.space → IsStanding g new
+standing_after {T = T} g parts old new reserved seen promised standing rebases debts tree hubs leases space =
+    standing_still g old new promised (subst (λ (b : Ground T). IsCheckpoint b new) seen made) standing
+  where
+    made : IsCheckpoint parts new
+    made = checkpoint_made parts new reserved rebases (debts ∙ ap (λ (b : Ground T). debt b.register.base b.register.history) (sym seen)) tree hubs leases space
 
 -- a route that has room for all hubs has it still
 pub route_still : (old new : Hubs) (room : ℕ) → new ≡ record old { hubs = map without_end old.hubs } → length old.hubs + old.room ≤ room → length new.hubs + new.room ≤ room

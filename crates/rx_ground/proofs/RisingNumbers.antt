@@ -11,7 +11,7 @@ use Rattle.rx_ground.proofs.Laws.Members.{Contains-head, Contains-later, Contain
 use Rattle.rx_ground.proofs.Laws.Numbers.{ListsJust}
 
 -- each number is less than all after it
-pub Rising : List ℕ → Type 0
+abbrev pub Rising : List ℕ → Type 0
 Rising [] = Unit {0}
 Rising (n ∷ ns) = ((k : ℕ) → Contains ns k → n < k) × Rising ns
 

@@ -26,10 +26,7 @@ impl<R: Resource> Ground<R> {
         requires standing { IsStanding R.Resource self.now }
         ensures { IfOk result (λ base. base ≡ base_of self.now.register.base self.now.register.history) }
     {
-        self.tree.promise();
-        self.hubs.promise();
-        self.leases.promise();
-        self.register.promise();
+        self.promise();
         let alloc = *self.closed.allocator();
         let hubs = self.hubs.base_hubs(alloc)?;
         let nodes = self.tree.base_nodes(alloc)?;
