@@ -1,6 +1,6 @@
 -- From the tests to the verdict.
 use Rattle.std.proofs.Common.{◌≡◌, ℕ, ℤ, zero, suc, ◌+◌, ◌<◌, ◌≤◌, Bool, true, false, List, [], ◌∷◌, ◌++◌, length}
-use Rattle.std.proofs.Common.{take, Option, Some, None, refl, sym, ap, ◌∙◌, arith, ◌==◌, slice_get, get_or, IsTrue, ◌↔◌, length-append}
+use Rattle.std.proofs.Common.{take, Option, Some, None, refl, sym, ap, subst, ◌∙◌, arith, ◌==◌, slice_get, get_or, IsTrue, ◌↔◌, length-append}
 use Rattle.std.proofs.Math.Bool.{◌&&◌}
 use Rattle.std.specs.Option.{option_map_or}
 use Rattle.std.proofs.lemmas.Bool.{and_parts, both_ways, false≢true, eqb-true, eq-eqb}
@@ -16,11 +16,14 @@ use Rattle.rx_event.specs.Allowed.{IsAllowed, emitted, accepted}
 use Rattle.rx_event.specs.Lawful.{IsLawful, MayFollow, forced, allowed, opened_with as accepted_with}
 use Rattle.rx_event.proofs.Laws.Lawful.{IsLawful-push}
 use Rattle.std.proofs.lemmas.List.{take_more}
+use Rattle.std.proofs.lemmas.Option.{none-some, same_Some}
 use Rattle.rx_audit.specs.declared.found.Found.{Found}
 use Rattle.rx_audit.specs.declared.advance.Nodes.{Nodes}
 use Rattle.rx_audit.specs.Standing.{IsFollowed, IsKnown}
-use Rattle.rx_audit.specs.Found.{IsFound, HasFewVisits}
-use Rattle.rx_event.specs.Climb.{visits, most_visits}
+use Rattle.rx_audit.specs.Found.{IsFound, IsClimbed}
+use Rattle.rx_audit.specs.Flow.{IsReached}
+use Rattle.rx_audit.specs.Marking.{leaf_of}
+use Rattle.rx_audit.specs.declared.reach.Visit.{Visit}
 use Rattle.rx_audit.specs.Verdict.{IsFoundUnlawful}
 use Rattle.rx_audit.specs.Allowing.{opens_pass, opened_with}
 use Rattle.std.proofs.Common.{drop, take-append-drop}
@@ -137,13 +140,18 @@ pub found_more : (h : List Event) (i : ℕ) (d : Event) (size : ℕ) (found : Fo
     → IsFound (take i h ++ get_or h i d ∷ []) size found → IsFound (take (i + 1) h) (length h) found
 found_more h i d size found l same f = rw (take_more h i d l, ← same) f
 
-few_visits : (h : List Event) (l : ℕ) (v : ℤ) → MayFollow nothing_kept h (Item l v) → visits h l ≤ 1048576
-unfolding most_visits
-few_visits h l v (forced (due n d)) = elim d [ ]
-few_visits h l v (allowed s (emitted o m few)) = few
+-- what is climbed for is an item
+pub item_climbs : (h : List Event) (e : Event) (l : ℕ) (v : ℤ) (log : List Visit) → e ≡ Item l v → IsReached h l log → IsClimbed h e log
+item_climbs h e l v log is r m w at = subst (λ (k : ℕ). IsReached h k log) (same_Some l m (ap leaf_of (sym is ∙ at))) r
 
-pub has_few_visits : (h : List Event) (e : Event) (b : Bool) → b ≡ true → (IsTrue b) ↔ MayFollow nothing_kept h e → HasFewVisits h e
-has_few_visits h e b follows w l v is = few_visits h l v (rw is at (w.0 follows))
+pub no_item_climbs : (h : List Event) (e : Event) (log : List Visit) → leaf_of e ≡ None → IsClimbed h e log
+no_item_climbs h e log none l v is = absurd (none-some l (sym none ∙ ap leaf_of is))
+
+pub unsettled_climbs : (h : List Event) (e : Event) (log : List Visit) → ¬ IsSettled nothing_kept h → MayFollow nothing_kept h e → IsClimbed h e log
+unsettled_climbs h e log unsettled m l v is = by_way l v (rw is at m) where
+  by_way : (l : ℕ) (v : ℤ) → MayFollow nothing_kept h (Item l v) → IsReached h l log
+  by_way l v (forced (due n d)) = elim d [ ]
+  by_way l v (allowed s a) = absurd (unsettled s)
 
 pub followed_more : (h : List Event) (i : ℕ) (d : Event) (size : ℕ) (nodes : Nodes) → i < length h → size ≡ length h
     → IsFollowed (take i h ++ get_or h i d ∷ []) size nodes → IsFollowed (take (i + 1) h) (length h) nodes

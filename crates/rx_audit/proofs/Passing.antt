@@ -30,7 +30,7 @@ use Rattle.rx_audit.proofs.Finding.{same_any, firing_stops, projection_stops, ti
 use Rattle.rx_audit.proofs.Visiting.{with_two, same_two}
 use Rattle.rx_audit.proofs.Covering.{due_parts, due_made_at}
 
-item_of : (e : Event) (leaf : ℕ) → leaf_of e ≡ Some leaf → (v : ℤ) × (e ≡ Item leaf v)
+pub item_of : (e : Event) (leaf : ℕ) → leaf_of e ≡ Some leaf → (v : ℤ) × (e ≡ Item leaf v)
 item_of (Item l v) leaf is = (v, ap (λ k. Item k v) (same_Some l leaf is))
 item_of (Open place kind) leaf is = absurd (none-some leaf is)
 item_of (Hub mode) leaf is = absurd (none-some leaf is)

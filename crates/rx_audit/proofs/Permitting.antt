@@ -1,6 +1,7 @@
 -- The tests that compute decide which events callers may add.
 use Rattle.std.proofs.Common.{◌≡◌, ℕ, ℤ, zero, suc, cond, count_by, get_or, ◌+◌, ◌<◌, ◌≤◌, Bool, true, false, List, [], ◌∷◌, ◌++◌, length, Option}
-use Rattle.std.proofs.Common.{Some, None, refl, sym, ap, ◌∙◌, arith, ◌==◌, slice_get, inl, inr, ◌⊎◌, nat_lt, nat_le, is_some, MatchOption}
+use Rattle.std.proofs.Common.{Some, None, refl, sym, ap, ◌∙◌, arith, ◌==◌, slice_get, inl, inr, ◌⊎◌, nat_lt, nat_le, IsTrue}
+use Rattle.std.specs.Bool.{MatchBool}
 use Rattle.std.proofs.Math.Bool.{not, ◌&&◌, ◌||◌}
 use Rattle.std.specs.List.{list_any, list_all, range_with_len}
 use Rattle.std.proofs.lemmas.List.Sums.{sum_by-cons, length-filter}
@@ -34,11 +35,15 @@ use Rattle.rx_audit.proofs.Due.{child_closed, no_child_open}
 
 -- items ------------------------------------------------------------------------------------------------
 
-pub item_test : {X : Type 0} (h : List Event) (l : ℕ) (o : Option X) (P : X → Type 0) → ((x : X) → P x → visits h l ≤ 1048576)
-    → MatchOption o (1048576 < visits h l) P → (is_open h l && at is_leaf h l) ≡ true → is_some o ≡ item_allowed h l
+pub item_test : (h : List Event) (l : ℕ) (b : Bool) (P : Type 0) → (P → visits h l ≤ 1048576)
+    → MatchBool b P (1048576 < visits h l) → (is_open h l && at is_leaf h l) ≡ true → b ≡ item_allowed h l
 unfolding item_allowed
-item_test h l None P few m leaf = rw leaf (sym (lt-leb (visits h l) 1048576 m))
-item_test h l (Some x) P few m leaf = rw leaf (sym (le-leb (visits h l) 1048576 (few x m)))
+item_test h l false P few m leaf = rw leaf (sym (lt-leb (visits h l) 1048576 m))
+item_test h l true P few m leaf = rw leaf (sym (le-leb (visits h l) 1048576 (few m)))
+
+pub climb_test : (b : Bool) (P Q : Type 0) → MatchBool b P Q → IsTrue b → P
+climb_test true P Q p t = p
+climb_test false P Q q t = absurd (false≢true t)
 
 pub no_item : (h : List Event) (l : ℕ) → (is_open h l && at is_leaf h l) ≡ false → false ≡ item_allowed h l
 unfolding item_allowed

@@ -2,10 +2,11 @@
 use Rattle.std.specs.Prelude.{◌≡◌, ℕ, ◌≤◌, ℤ, List, length, slice_index_or}
 use Rattle.rx_event.specs.declared.event.Event.{Event}
 use Rattle.rx_event.specs.declared.event.Event.TheVariants.{Item}
-use Rattle.rx_event.specs.Climb.{visits}
 use Rattle.rx_event.specs.Tree.{is_open}
 use Rattle.rx_event.specs.Resources.{leases_of}
 use Rattle.rx_audit.specs.declared.found.Found.{Found}
+use Rattle.rx_audit.specs.declared.reach.Visit.{Visit}
+use Rattle.rx_audit.specs.Flow.{IsReached}
 use Rattle.rx_audit.specs.Tables.{IsMarked, IsTable, IsTally, mark_count}
 use Rattle.rx_audit.specs.Rules.{was_removed, was_returned, was_taken}
 
@@ -24,6 +25,6 @@ pub record IsFound (h : List Event) (size : ℕ) (found : Found) : Type 0 where
   pub taken : IsTable found.taken.items (was_taken h)
   pub taken_size : length found.taken.items ≡ size
 
--- the event, if it is an item, makes no more visits than it may
-abbrev pub HasFewVisits : List Event → Event → Type 0
-HasFewVisits h e = (leaf : ℕ) (value : ℤ) → e ≡ Item leaf value → visits h leaf ≤ 1048576
+-- if the event is an item, the log has the nodes that it visits
+abbrev pub IsClimbed : List Event → Event → List Visit → Type 0
+IsClimbed h e log = (leaf : ℕ) (value : ℤ) → e ≡ Item leaf value → IsReached h leaf log

@@ -6,7 +6,8 @@ ghost use Rattle.rx_event.specs.Tree.{is_open};
 ghost use Rattle.rx_event.specs.Lawful.{IsLawful, MayFollow};
 ghost use Rattle.rx_audit.specs.Tables.{IsMarked, mark_count};
 ghost use Rattle.rx_audit.specs.Latest.{AreChildren, AreClosed};
-ghost use Rattle.rx_audit.specs.Found.{HasFewVisits};
+ghost use Rattle.rx_audit.specs.Flow.{IsReached};
+ghost use Rattle.rx_audit.specs.Found.{IsClimbed};
 ghost use Rattle.rx_audit.specs.Marking.{IsKept, IsCovered, leaf_of};
 ghost use Rattle.rx_audit.specs.DueList.{Keeps};
 ghost use Rattle.rx_audit.specs.HubTables.{AreHubs};
@@ -18,7 +19,7 @@ use crate::closing::{mark_open, shut_top};
 use crate::duties::{note_cut, note_left, note_touched};
 use crate::hubs::{Hubs, no_hubs, note_hubs};
 use crate::nodes::{remark, remark_visits};
-use crate::reach::reached;
+use crate::reach::Visit;
 use crate::subscribers::{Subscribers, let_go, list_new, no_subscribers};
 use rx_event::{Event, Marks};
 use std::alloc::{AllocError, Global};
@@ -64,20 +65,19 @@ pub fn no_nodes(alloc: Global, size: usize) -> Result<Nodes, AllocError>
     })
 }
 
-/// Keeps what an item of this leaf changes.
+/// Keeps what an item of this leaf changes, which visits the nodes in the log.
 fn keep_item(
-    alloc: Global,
     past: &[Event],
     event: Event,
+    log: &[Visit],
     live: &[bool],
     leaf: u64,
     nodes: &mut Nodes,
-    entries: &mut Vec<usize>,
 ) -> Result<(), AllocError>
     requires lawful { IsLawful nothing_kept past.now }
     requires next { MayFollow nothing_kept past.now event }
     requires item { leaf_of event ≡ Some leaf }
-    requires visits { HasFewVisits past.now event }
+    requires reached { IsReached past.now leaf log.now }
     requires room { length past.now < length live.now }
     requires followed { IsFollowed past.now (length live.now) nodes.old }
     ensures kept { OnOk result (IsKept (past.now ++ event ∷ []) nodes.new.marks.items) }
@@ -90,13 +90,8 @@ fn keep_item(
 {
     let _ = event;
     let _ = live;
-    match reached(alloc, past, &nodes.subscribers, entries, leaf)? {
-        Some(log) => {
-            remark_visits(past, log.as_slice(), &mut nodes.marks, &mut nodes.due)?;
-            Ok(())
-        }
-        None => unreachable!(),
-    }
+    let _ = leaf;
+    remark_visits(past, log, &mut nodes.marks, &mut nodes.due)
 }
 
 /// Keeps what an event changes that is no item.
@@ -127,16 +122,15 @@ fn keep_other(
 
 /// Keeps what the event changes in what nodes remember.
 fn keep(
-    alloc: Global,
     past: &[Event],
     event: Event,
+    log: &[Visit],
     live: &[bool],
     nodes: &mut Nodes,
-    entries: &mut Vec<usize>,
 ) -> Result<(), AllocError>
     requires lawful { IsLawful nothing_kept past.now }
     requires next { MayFollow nothing_kept past.now event }
-    requires visits { HasFewVisits past.now event }
+    requires climbed { IsClimbed past.now event log.now }
     requires live { IsMarked live.now (is_open past.now) }
     requires room { length past.now < length live.now }
     requires followed { IsFollowed past.now (length live.now) nodes.old }
@@ -149,7 +143,7 @@ fn keep(
     ensures hubs { nodes.new.hubs ≡ nodes.old.hubs }
 {
     match leaf_of(event) {
-        Some(leaf) => keep_item(alloc, past, event, live, leaf, nodes, entries),
+        Some(leaf) => keep_item(past, event, log, live, leaf, nodes),
         None => keep_other(past, event, live, nodes),
     }
 }
@@ -172,6 +166,7 @@ fn relink(
     requires listed { AreOpenListed past.now subs.old }
     requires hubs { AreHubs past.now (length children.old.youngest.items) hubs.old }
     requires room { length past.now < length children.old.youngest.items }
+    requires short { length past.now < 4294967295 }
     ensures children { AreChildren (past.now ++ event ∷ []) (length children.old.youngest.items) children.new }
     ensures linked { AreLinked (past.now ++ event ∷ []) (length children.old.youngest.items) subs.new }
     ensures listed { AreOpenListed (past.now ++ event ∷ []) subs.new }
@@ -183,29 +178,30 @@ fn relink(
     link_child(past, event, children);
 }
 
-/// The marks of the open nodes, their number and what is kept of them, with one event more.
+/// The marks of the open nodes, their number and what is kept of them, with one event more. Of an item,
+/// `log` has the nodes that it visits.
 pub fn advance(
-    alloc: Global,
     past: &[Event],
     event: Event,
+    log: &[Visit],
     live: &mut [bool],
     live_count: &mut usize,
     nodes: &mut Nodes,
-    entries: &mut Vec<usize>,
 ) -> Result<(), AllocError>
     requires lawful { IsLawful nothing_kept past.now }
     requires next { MayFollow nothing_kept past.now event }
-    requires visits { HasFewVisits past.now event }
+    requires climbed { IsClimbed past.now event log.now }
     requires live { IsMarked live.old (is_open past.now) }
     requires live_count { live_count.old ≡ mark_count live.old }
     requires room { length past.now < length live.old }
+    requires short { length past.now < 4294967295 }
     requires followed { IsFollowed past.now (length live.old) nodes.old }
     ensures live { OnOk result (IsMarked live.new (is_open (past.now ++ event ∷ []))) }
     ensures live_count { OnOk result (live_count.new ≡ mark_count live.new) }
     ensures followed { OnOk result (IsFollowed (past.now ++ event ∷ []) (length live.old) nodes.new) }
     ensures len { length live.new ≡ length live.old }
 {
-    keep(alloc, past, event, live, nodes, entries)?;
+    keep(past, event, log, live, nodes)?;
     note_cut(past, event, &nodes.subscribers, &mut nodes.due)?;
     mark_open(
         past,

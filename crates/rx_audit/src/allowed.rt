@@ -1,6 +1,6 @@
 //! What callers may do.
 
-ghost use Rattle.std.specs.Prelude.{◌≡◌, ◌<◌, ◌&&◌, ◌||◌, IfOk, false, true, Some, None, nat_lt, length, slice_get};
+ghost use Rattle.std.specs.Prelude.{◌≡◌, ◌<◌, ◌&&◌, ◌||◌, IfOk, IsTrue, false, true, Some, None, nat_lt, length, slice_get};
 ghost use Rattle.std.specs.Option.{option_and_then};
 ghost use Rattle.std.proofs.Math.Bool.{not};
 ghost use Rattle.std.specs.List.{list_any};
@@ -11,6 +11,7 @@ ghost use Rattle.rx_audit.specs.Known.{IsFoundHere};
 ghost use Rattle.rx_audit.specs.Standing.{IsKnown};
 ghost use Rattle.rx_audit.specs.Marking.{IsKept};
 ghost use Rattle.rx_audit.specs.Listed.{AreLinked, AreOpenListed};
+ghost use Rattle.rx_audit.specs.Flow.{IsReached};
 ghost use Rattle.rx_audit.specs.Rules.{is_owing, was_removed, was_taken};
 ghost use Rattle.rx_audit.specs.Allowing.{connects_later, is_in_order_at, is_in_order, is_hubbed, is_free};
 ghost use Rattle.rx_audit.specs.Allowing.{failure_allowed, end_allowed, close_allowed, connect_allowed};
@@ -23,10 +24,10 @@ use crate::found::{self, Found};
 use crate::marks::is_marked;
 use crate::nodes::marks_at;
 use crate::openness::parent_of;
-use crate::reach::reached;
+use crate::reach::{Climb, reached};
 use crate::subscribers::{Subscribers, hub_connected_at};
 use rx_event::{Event, Kind, Marks, Place, Terminal};
-use std::alloc::{AllocError, Global};
+use std::alloc::AllocError;
 
 /// How many nodes may be open.
 pub const MOST_NODES: usize = 1_048_576;
@@ -386,25 +387,24 @@ fn decline_allowed(past: &[Event], found: &Found, marks: &Vec<Marks>, f: u64) ->
     owes_inner(past, found, marks, f)
 }
 
-/// Whether a caller may emit an item of leaf `l`.
+/// Whether a caller may emit an item of leaf `l`, and where it may, the nodes that the item visits.
 pub fn is_item_allowed(
-    alloc: Global,
     past: &[Event],
     found: &Found,
     subs: &Subscribers,
-    entries: &mut Vec<usize>,
+    climb: &mut Climb,
     l: u64,
 ) -> Result<bool, AllocError>
     requires found { IsFoundHere past.now found.now }
     requires linked { AreLinked past.now (length subs.now.listed.items) subs.now }
     requires listed { AreOpenListed past.now subs.now }
-    ensures { IfOk result (λ b. b ≡ item_allowed past.now l) }
+    ensures value { IfOk result (λ b. b ≡ item_allowed past.now l) }
+    ensures climbed { IfOk result (λ b. IsTrue b → IsReached past.now l climb.new.log.items) }
 {
     if !is_open_leaf(past, found, l) {
         return Ok(false);
     }
-    let log = reached(alloc, past, subs, entries, l)?;
-    Ok(log.is_some())
+    reached(past, subs, climb, l)
 }
 
 /// Whether `l` is an open leaf.

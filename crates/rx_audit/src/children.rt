@@ -13,15 +13,15 @@ use std::alloc::{AllocError, Global};
 #[derive(Drop)]
 pub struct Children {
     /// By node: its youngest child.
-    pub youngest: Vec<usize>,
+    pub youngest: Vec<u32>,
     /// By node: the next older child of its parent.
-    pub older: Vec<usize>,
+    pub older: Vec<u32>,
     /// By node: its youngest inner observable.
-    pub inner: Vec<usize>,
+    pub inner: Vec<u32>,
 }
 
 /// A list of so many zeros.
-pub fn zeros(alloc: Global, size: usize) -> Result<Vec<usize>, AllocError>
+pub fn zeros(alloc: Global, size: usize) -> Result<Vec<u32>, AllocError>
     ensures { IfOk result (λ v. v.items ≡ replicate size 0) }
 {
     Ok(vec![in alloc; 0; size]?)
@@ -39,7 +39,7 @@ pub fn no_children(alloc: Global, size: usize) -> Result<Children, AllocError>
 }
 
 /// Writes the value at the place of the key, if there is a key and the list has it.
-pub fn put(table: &mut Vec<usize>, key: Option<u64>, value: usize)
+pub fn put(table: &mut Vec<u32>, key: Option<u64>, value: u32)
     ensures { table.new.items ≡ table_with table.old.items key value }
 {
     if let Some(p) = key {
@@ -50,21 +50,36 @@ pub fn put(table: &mut Vec<usize>, key: Option<u64>, value: usize)
     }
 }
 
-/// The value at this place of the list.
-pub fn value_at(table: &Vec<usize>, p: u64) -> usize
+/// The value at this place of the list, as it stands there.
+pub fn word_at(table: &Vec<u32>, p: u64) -> u32
     ensures { result ≡ slice_index_or table.now.items p 0 }
 {
     let p = p as usize;
     if p < table.len() { table[p] } else { 0 }
 }
 
+/// The value at this place of the list.
+pub fn value_at(table: &Vec<u32>, p: u64) -> usize
+    ensures { result ≡ slice_index_or table.now.items p 0 }
+{
+    word_at(table, p) as usize
+}
+
+/// One more than a number of an event.
+pub fn one_more(n: usize) -> u32
+    requires { n < 4294967295 }
+    ensures { result ≡ n + 1 }
+{
+    n as u32 + 1
+}
+
 /// Links number `n`, if it has a key, to the last before it with the same key.
-fn put_link(next: &mut Vec<usize>, last: &Vec<usize>, key: Option<u64>, n: usize)
+fn put_link(next: &mut Vec<u32>, last: &Vec<u32>, key: Option<u64>, n: usize)
     requires { n < length next.old.items }
     ensures { next.new.items ≡ link_with next.old.items last.now.items key n }
 {
     if let Some(p) = key {
-        next[n] = value_at(last, p);
+        next[n] = word_at(last, p);
     }
 }
 
@@ -72,11 +87,13 @@ fn put_link(next: &mut Vec<usize>, last: &Vec<usize>, key: Option<u64>, n: usize
 pub fn link_child(past: &[Event], event: Event, children: &mut Children)
     requires children { AreChildren past.now (length children.old.youngest.items) children.old }
     requires room { length past.now < length children.old.youngest.items }
+    requires short { length past.now < 4294967295 }
     ensures { AreChildren (past.now ++ event ∷ []) (length children.old.youngest.items) children.new }
 {
     let n = past.len();
     let above = parent_of_new(event, n as u64);
     put_link(&mut children.older, &children.youngest, above, n);
-    put(&mut children.youngest, above, n + 1);
-    put(&mut children.inner, event.inner_of(), n + 1);
+    let next = one_more(n);
+    put(&mut children.youngest, above, next);
+    put(&mut children.inner, event.inner_of(), next);
 }

@@ -1,6 +1,6 @@
 //! Where an item goes.
 
-ghost use Rattle.std.specs.Prelude.{◌≡◌, ℕ, ◌-◌, ◌<◌, false, true, Some, None, IfOk, length, is_some, sum_by};
+ghost use Rattle.std.specs.Prelude.{◌≡◌, ℕ, ◌-◌, ◌<◌, false, true, [], Some, None, OnOk, length, is_some, sum_by};
 ghost use Rattle.std.specs.Option.{option_and_then, option_to_list};
 ghost use Rattle.rx_event.specs.Tree.{at, parent};
 ghost use Rattle.rx_event.specs.Climb.{stop_at, onward_from, onward};
@@ -11,7 +11,7 @@ use crate::event_tests::{at, event_at};
 use crate::openness::parent_of;
 use crate::subscribers::{Subscribers, subscribers_of};
 use rx_event::{Event, Place};
-use std::alloc::{AllocError, Global};
+use std::alloc::AllocError;
 
 /// How many visits one item may make.
 pub const MOST_VISITS: usize = 1_048_576;
@@ -66,53 +66,53 @@ fn stops_at(past: &[Event], n: u64) -> bool
     }
 }
 
-/// The node above node `n`, if there is one.
-fn parents(alloc: Global, past: &[Event], n: u64) -> Result<Vec<u64>, AllocError>
-    ensures { IfOk result (λ v. v.items ≡ option_to_list (parent past.now n)) }
+/// Puts the node above node `n` into the list, if there is one.
+fn parents(past: &[Event], n: u64, next: &mut Vec<u64>) -> Result<(), AllocError>
+    requires empty { next.old.items ≡ [] }
+    ensures { OnOk result (next.new.items ≡ option_to_list (parent past.now n)) }
 {
-    match parent_of(past, n as usize) {
-        Some(p) => Ok(vec![in alloc; p]?),
-        None => Ok(Vec::new(alloc)),
+    if let Some(p) = parent_of(past, n as usize) {
+        next.push(p)?;
     }
+    Ok(())
 }
 
 /// Where an item goes on from node `n`, which the event made.
 fn onward_from(
-    alloc: Global,
     past: &[Event],
     subs: &Subscribers,
     n: u64,
     event: Event,
-) -> Result<Vec<u64>, AllocError>
+    next: &mut Vec<u64>,
+) -> Result<(), AllocError>
     requires linked { AreLinked past.now (length subs.now.listed.items) subs.now }
     requires listed { AreOpenListed past.now subs.now }
-    ensures { IfOk result (λ v. (number : ℕ → ℕ) → sum_by number v.items ≡ sum_by number (onward_from past.now n event)) }
+    requires empty { next.old.items ≡ [] }
+    ensures { OnOk result ((number : ℕ → ℕ) → sum_by number next.new.items ≡ sum_by number (onward_from past.now n event)) }
 {
     match event {
-        Event::Connect(g) => subscribers_of(alloc, past, subs, g),
-        _ => parents(alloc, past, n),
+        Event::Connect(g) => subscribers_of(past, subs, g, next),
+        _ => parents(past, n, next),
     }
 }
 
-/// Where an item goes on from node `n`, in some order.
+/// Where an item goes on from node `n`, in some order, put into an empty list.
 pub fn onward(
-    alloc: Global,
     past: &[Event],
     subs: &Subscribers,
     n: u64,
-) -> Result<Vec<u64>, AllocError>
+    next: &mut Vec<u64>,
+) -> Result<(), AllocError>
     requires linked { AreLinked past.now (length subs.now.listed.items) subs.now }
     requires listed { AreOpenListed past.now subs.now }
-    ensures { IfOk result (λ v. (number : ℕ → ℕ) → sum_by number v.items ≡ sum_by number (onward past.now n)) }
+    requires empty { next.old.items ≡ [] }
+    ensures { OnOk result ((number : ℕ → ℕ) → sum_by number next.new.items ≡ sum_by number (onward past.now n)) }
 {
     if stops_at(past, n) {
-        return Ok(Vec::new(alloc));
+        return Ok(());
     }
     match event_at(past, n as usize) {
-        Some(event) => {
-            let next = onward_from(alloc, past, subs, n, event)?;
-            Ok(next)
-        }
-        None => Ok(Vec::new(alloc)),
+        Some(event) => onward_from(past, subs, n, event, next),
+        None => Ok(()),
     }
 }

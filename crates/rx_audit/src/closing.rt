@@ -28,14 +28,14 @@ fn close_children(
     requires within { p < length past.now }
     ensures { OnOk result (IsClosingBelow past.now p 0 marks.old marks.new todo.old.items todo.new.items) }
 {
-    let mut next = children.youngest[p];
+    let mut next = children.youngest[p] as usize;
     while next > 0 {
         let c = next - 1;
         if marks[c] {
             marks[c] = false;
             todo.push(c)?;
         }
-        next = children.older[c];
+        next = children.older[c] as usize;
     }
     Ok(())
 }
@@ -95,7 +95,7 @@ fn open_inner(past: &[Event], children: &Children, marks: &[bool], f: u64) -> Op
     if !is_switch_at(past, f) {
         return None;
     }
-    let youngest = children.inner[f as usize];
+    let youngest = children.inner[f as usize] as usize;
     if youngest == 0 {
         return None;
     }

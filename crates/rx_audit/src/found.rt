@@ -6,7 +6,7 @@ ghost use Rattle.std.specs.Option.{option_and_then};
 ghost use Rattle.rx_event.specs.Events.{returned_of};
 ghost use Rattle.rx_event.specs.Resources.{leases_of};
 ghost use Rattle.rx_event.specs.Lawful.{IsLawful, MayFollow};
-ghost use Rattle.rx_audit.specs.Found.{IsFound, HasFewVisits};
+ghost use Rattle.rx_audit.specs.Found.{IsFound, IsClimbed};
 ghost use Rattle.rx_audit.specs.Rules.{resource_of, was_removed, was_returned, was_taken};
 ghost use Rattle.rx_audit.specs.Standing.{IsFollowed};
 ghost use Rattle.rx_audit.specs.Tables.{IsTally};
@@ -14,6 +14,7 @@ ghost use Rattle.rx_audit.specs.Tables.{IsTally};
 use crate::advance::{Nodes, advance};
 use crate::children::zeros;
 use crate::marks::{count, count_less, count_of, is_marked, mark};
+use crate::reach::Visit;
 use rx_event::Event;
 use std::alloc::{AllocError, Global};
 
@@ -30,7 +31,7 @@ pub struct Found {
     /// The lease was given back.
     pub returned: Vec<bool>,
     /// How many leases of the resource are out.
-    pub leases: Vec<usize>,
+    pub leases: Vec<u32>,
     /// The resource was handed out.
     pub taken: Vec<bool>,
 }
@@ -65,12 +66,13 @@ fn given_back(past: &[Event], event: Event) -> Option<u64>
 }
 
 /// Finds how many leases of each resource the event leaves out.
-fn find_leases(past: &[Event], event: Event, leases: &mut [usize])
+fn find_leases(past: &[Event], event: Event, leases: &mut [u32])
     requires lawful { IsLawful nothing_kept past.now }
     requires next { MayFollow nothing_kept past.now event }
     requires leases { IsTally leases.old (leases_of past.now) }
     requires few { (n : ℕ) → slice_index_or leases.old n 0 ≤ length past.now }
     requires room { length past.now < length leases.old }
+    requires short { length past.now < 4294967295 }
     ensures leases { IsTally leases.new (leases_of (past.now ++ event ∷ [])) }
     ensures len { length leases.new ≡ length leases.old }
     ensures few { (n : ℕ) → slice_index_or leases.new n 0 ≤ length past.now + 1 }
@@ -79,32 +81,31 @@ fn find_leases(past: &[Event], event: Event, leases: &mut [usize])
     count_less(leases, given_back(past, event));
 }
 
-/// Finds what the event adds, and keeps what it changes.
+/// Finds what the event adds, and keeps what it changes. Of an item, `log` has the nodes that it visits.
 pub fn follow(
-    alloc: Global,
     past: &[Event],
     event: Event,
+    log: &[Visit],
     found: &mut Found,
     nodes: &mut Nodes,
-    entries: &mut Vec<usize>,
 ) -> Result<(), AllocError>
     requires lawful { IsLawful nothing_kept past.now }
     requires next { MayFollow nothing_kept past.now event }
     requires followed { IsFollowed past.now (length found.old.live.items) nodes.old }
     requires found { IsFound past.now (length found.old.live.items) found.old }
     requires room { length past.now < length found.old.live.items }
-    requires visits { HasFewVisits past.now event }
+    requires short { length past.now < 4294967295 }
+    requires climbed { IsClimbed past.now event log.now }
     ensures found { OnOk result (IsFound (past.now ++ event ∷ []) (length found.old.live.items) found.new) }
     ensures followed { OnOk result (IsFollowed (past.now ++ event ∷ []) (length found.old.live.items) nodes.new) }
 {
     advance(
-        alloc,
         past,
         event,
+        log,
         found.live.as_mut_slice(),
         &mut found.live_count,
         nodes,
-        entries,
     )?;
     mark(found.removed.as_mut_slice(), event.removed());
     mark(found.returned.as_mut_slice(), event.returned());

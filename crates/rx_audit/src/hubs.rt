@@ -6,7 +6,7 @@ ghost use Rattle.rx_event.specs.Lawful.{IsLawful, MayFollow};
 ghost use Rattle.rx_audit.specs.HubTables.{AreHubs};
 ghost use Rattle.rx_audit.specs.Rules.{hub_ended};
 
-use crate::children::{put, zeros};
+use crate::children::{one_more, put, zeros};
 use crate::marks::one_if;
 use crate::subscribers::hub_connected_at;
 use rx_event::Event;
@@ -17,9 +17,9 @@ use std::alloc::{AllocError, Global};
 #[derive(Drop)]
 pub struct Hubs {
     /// Its last connection.
-    pub connection: Vec<usize>,
+    pub connection: Vec<u32>,
     /// The last end of a connection of it.
-    pub ended: Vec<usize>,
+    pub ended: Vec<u32>,
     /// The hub that may wait for its connection (RefCount).
     pub waiting: Option<u64>,
     /// How many hubs there are.
@@ -54,11 +54,12 @@ pub fn note_hubs(past: &[Event], event: Event, known: &mut Hubs)
     requires next { MayFollow nothing_kept past.now event }
     requires known { AreHubs past.now (length known.old.connection.items) known.old }
     requires room { length past.now < length known.old.connection.items }
+    requires short { length past.now < 4294967295 }
     ensures { AreHubs (past.now ++ event ∷ []) (length known.old.connection.items) known.new }
 {
-    let n = past.len();
-    put(&mut known.connection, event.connects(), n + 1);
-    put(&mut known.ended, hub_ended(past, event), n + 1);
+    let next = one_more(past.len());
+    put(&mut known.connection, event.connects(), next);
+    put(&mut known.ended, hub_ended(past, event), next);
     known.waiting = event.subscribes_to().or(known.waiting);
     known.count += one_if(event.makes_hub());
 }

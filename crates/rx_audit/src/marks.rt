@@ -24,7 +24,7 @@ pub fn mark(marks: &mut [bool], key: Option<u64>)
 }
 
 /// The count of number `n`.
-pub fn count_of(counts: &[usize], n: u64) -> usize
+pub fn count_of(counts: &[u32], n: u64) -> u32
     ensures { result ≡ slice_index_or counts.now n 0 }
 {
     let n = n as usize;
@@ -32,8 +32,8 @@ pub fn count_of(counts: &[usize], n: u64) -> usize
 }
 
 /// Makes the count of the number one more, if there is a number and the list has it.
-pub fn count(counts: &mut [usize], key: Option<u64>)
-    requires { (n : ℕ) → slice_index_or counts.old n 0 + 1 < 2 ^ 64 }
+pub fn count(counts: &mut [u32], key: Option<u64>)
+    requires { (n : ℕ) → slice_index_or counts.old n 0 + 1 < 2 ^ 32 }
     ensures { counts.new ≡ counts_with counts.old key }
 {
     if let Some(n) = key {
@@ -45,7 +45,7 @@ pub fn count(counts: &mut [usize], key: Option<u64>)
 }
 
 /// Makes the count of the number one less, if there is a number and the list has it and it is not 0.
-pub fn count_less(counts: &mut [usize], key: Option<u64>)
+pub fn count_less(counts: &mut [u32], key: Option<u64>)
     ensures { counts.new ≡ counts_less counts.old key }
 {
     if let Some(n) = key {

@@ -3,7 +3,8 @@
 //! Nodes are counted and not listed one by one, so that an item that takes many paths costs no
 //! more than the nodes on them.
 
-ghost use Rattle.std.specs.Prelude.{◌≡◌, ℕ, ◌+◌, ◌*◌, ◌^◌, ◌<◌, ◌≤◌, Some, None, IfOk, OnOk, MatchOption, length, take, drop, sum_by};
+ghost use Rattle.std.specs.Prelude.{◌≡◌, ℕ, ◌+◌, ◌*◌, ◌^◌, ◌<◌, ◌≤◌, IfOk, OnOk, length, take, drop, sum_by};
+ghost use Rattle.std.specs.Bool.{MatchBool};
 ghost use Rattle.rx_event.specs.Climb.{onward, visits};
 ghost use Rattle.rx_audit.specs.Listed.{AreLinked, AreOpenListed};
 ghost use Rattle.rx_audit.specs.Flow.{times, IsOften, IsReached};
@@ -22,18 +23,45 @@ pub struct Visit {
     pub count: u64,
 }
 
-/// Where in the log the last entry of a node may be. What stands there from items before does no
-/// harm, since the entry itself is looked at.
-fn entry_of(entries: &Vec<usize>, node: u64) -> usize {
-    let n = node as usize;
-    if n < entries.len() { entries[n] } else { 0 }
+/// What a climb for an item takes, kept for the next one, so that it asks for memory only where it
+/// grows.
+#[derive(Drop)]
+pub struct Climb {
+    /// By node: where in the log its last entry may be.
+    pub entries: Vec<u32>,
+    /// The nodes that the last item visits, and how often.
+    pub log: Vec<Visit>,
+    /// The nodes above the one that is looked at.
+    pub next: Vec<u64>,
 }
 
-/// Remembers where in the log the last entry of a node is.
-fn note_entry(entries: &mut Vec<usize>, node: u64, at: usize) {
+/// Nothing was climbed for yet, with room for this many events.
+pub fn no_climb(alloc: Global, size: usize) -> Result<Climb, AllocError> {
+    Ok(Climb {
+        entries: vec![in alloc; 0; size]?,
+        log: Vec::new(alloc),
+        next: Vec::new(alloc),
+    })
+}
+
+/// Where in the log the last entry of a node may be. What stands there from items before does no
+/// harm, since the entry itself is looked at.
+fn entry_of(entries: &Vec<u32>, node: u64) -> usize {
     let n = node as usize;
     if n < entries.len() {
-        entries[n] = at;
+        entries[n] as usize
+    } else {
+        0
+    }
+}
+
+/// Remembers where in the log the last entry of a node is; no log is so long that this does not fit.
+fn note_entry(entries: &mut Vec<u32>, node: u64, at: usize) {
+    let n = node as usize;
+    if let Ok(at) = u32::try_from(at) {
+        if n < entries.len() {
+            entries[n] = at;
+        }
     }
 }
 
@@ -41,7 +69,7 @@ fn note_entry(entries: &mut Vec<usize>, node: u64, at: usize) {
 /// followed yet, else to a new one.
 fn reach(
     log: &mut Vec<Visit>,
-    entries: &mut Vec<usize>,
+    entries: &mut Vec<u32>,
     followed: usize,
     node: u64,
     count: u64,
@@ -69,7 +97,7 @@ fn reach(
 /// Reaches each of these nodes so often.
 fn spread(
     log: &mut Vec<Visit>,
-    entries: &mut Vec<usize>,
+    entries: &mut Vec<u32>,
     followed: usize,
     next: &[u64],
     count: u64,
@@ -90,37 +118,44 @@ fn spread(
     Ok(())
 }
 
-/// How often an item of this leaf reaches each node; `None` where it makes more visits than it may.
+/// Finds how often an item of this leaf reaches each node, in the log, and whether it makes no more visits
+/// than it may.
 pub fn reached(
-    alloc: Global,
     past: &[Event],
     subs: &Subscribers,
-    entries: &mut Vec<usize>,
+    climb: &mut Climb,
     leaf: u64,
-) -> Result<Option<Vec<Visit>>, AllocError>
+) -> Result<bool, AllocError>
     requires linked { AreLinked past.now (length subs.now.listed.items) subs.now }
     requires listed { AreOpenListed past.now subs.now }
-    ensures { IfOk result
-        (λ o. MatchOption o (1048576 < visits past.now leaf) (λ log. IsReached past.now leaf log.items)) }
+    ensures { IfOk result (λ b. MatchBool b
+        (IsReached past.now leaf climb.new.log.items) (1048576 < visits past.now leaf)) }
 {
-    let first = Visit {
+    climb.log.clear();
+    climb.log.push(Visit {
         node: leaf,
         count: 1,
-    };
-    let mut log = vec![in alloc; first]?;
+    })?;
     let mut total: u64 = 1;
     for i in 0..MOST_VISITS {
-        if i >= log.len() {
-            return Ok(Some(log));
+        if i >= climb.log.len() {
+            return Ok(true);
         }
-        let visit = log[i];
-        let next = onward(alloc, past, subs, visit.node)?;
-        let more = u128::from(visit.count) * next.len() as u128;
+        let visit = climb.log[i];
+        climb.next.clear();
+        onward(past, subs, visit.node, &mut climb.next)?;
+        let more = u128::from(visit.count) * climb.next.len() as u128;
         if more > u128::from(1_048_576 - total) {
-            return Ok(None);
+            return Ok(false);
         }
         total += more as u64;
-        spread(&mut log, entries, i, next.as_slice(), visit.count)?;
+        spread(
+            &mut climb.log,
+            &mut climb.entries,
+            i,
+            climb.next.as_slice(),
+            visit.count,
+        )?;
     }
-    Ok(Some(log))
+    Ok(true)
 }

@@ -1,13 +1,13 @@
 //! The open subscribers of each hub, one after another.
 
-ghost use Rattle.std.specs.Prelude.{◌≡◌, ℕ, ◌+◌, ◌<◌, true, false, Some, None, [], ◌∷◌, ◌++◌, IfOk, length, slice_index_or, slice_set, sum_by};
+ghost use Rattle.std.specs.Prelude.{◌≡◌, ℕ, ◌+◌, ◌<◌, true, false, Some, None, [], ◌∷◌, ◌++◌, IfOk, OnOk, length, slice_index_or, slice_set, sum_by};
 ghost use Rattle.rx_event.specs.Events.{is_subscriber_of};
 ghost use Rattle.rx_event.specs.Tree.{open_subscribers};
 ghost use Rattle.rx_audit.specs.Latest.{table_with};
 ghost use Rattle.rx_audit.specs.Rules.{hub_subscribed_at, hub_connected_at};
 ghost use Rattle.rx_audit.specs.Listed.{number_of, hub_if_last, listed_hub, AreLinked, AreOpenListed, AreLetGo};
 
-use crate::children::{put, value_at, zeros};
+use crate::children::{one_more, put, value_at, word_at, zeros};
 use crate::found::unmarked;
 use crate::marks::is_marked;
 use rx_event::Event;
@@ -21,11 +21,11 @@ pub struct Subscribers {
     /// By node: it is an open subscriber.
     pub listed: Vec<bool>,
     /// By hub: its last open subscriber.
-    pub last: Vec<usize>,
+    pub last: Vec<u32>,
     /// By open subscriber: the one of its hub before it.
-    pub before: Vec<usize>,
+    pub before: Vec<u32>,
     /// By open subscriber: the one of its hub after it.
-    pub after: Vec<usize>,
+    pub after: Vec<u32>,
 }
 
 /// The hub that node `k` subscribes to.
@@ -106,11 +106,11 @@ fn join_neighbours(subs: &mut Subscribers, g: u64, s: u64)
     ensures after { subs.new.after.items ≡ table_with subs.old.after.items (number_of (slice_index_or subs.old.before.items s 0)) (slice_index_or subs.old.after.items s 0) }
     ensures listed { subs.new.listed.items ≡ subs.old.listed.items }
 {
-    let below = value_at(&subs.before, s);
-    let above = value_at(&subs.after, s);
-    put(&mut subs.last, hub_if_last(above, g), below);
-    put(&mut subs.before, number_of(above), below);
-    put(&mut subs.after, number_of(below), above);
+    let below = word_at(&subs.before, s);
+    let above = word_at(&subs.after, s);
+    put(&mut subs.last, hub_if_last(above as usize, g), below);
+    put(&mut subs.before, number_of(above as usize), below);
+    put(&mut subs.after, number_of(below as usize), above);
 }
 
 /// Takes node `s` off the list of its hub, if it is on one.
@@ -138,17 +138,18 @@ pub fn let_go(past: &[Event], closed: &[usize], subs: &mut Subscribers)
 
 /// Puts node `n` on the list of hub `g`, as the last.
 fn put_last(subs: &mut Subscribers, g: u64, n: usize)
-    requires { n + 1 < 18446744073709551616 }
+    requires { n < 4294967295 }
     ensures last { subs.new.last.items ≡ table_with subs.old.last.items (Some g) (n + 1) }
     ensures before { subs.new.before.items ≡ table_with subs.old.before.items (Some n) (slice_index_or subs.old.last.items g 0) }
     ensures after { subs.new.after.items ≡ table_with (table_with subs.old.after.items (Some n) 0) (number_of (slice_index_or subs.old.last.items g 0)) (n + 1) }
     ensures listed { subs.new.listed.items ≡ slice_set subs.old.listed.items n true }
 {
-    let below = value_at(&subs.last, g);
-    put(&mut subs.last, Some(g), n + 1);
+    let below = word_at(&subs.last, g);
+    let next = one_more(n);
+    put(&mut subs.last, Some(g), next);
     put(&mut subs.before, Some(n as u64), below);
     put(&mut subs.after, Some(n as u64), 0);
-    put(&mut subs.after, number_of(below), n + 1);
+    put(&mut subs.after, number_of(below as usize), next);
     put_mark(&mut subs.listed, n as u64, true);
 }
 
@@ -156,6 +157,7 @@ fn put_last(subs: &mut Subscribers, g: u64, n: usize)
 pub fn list_new(past: &[Event], event: Event, subs: &mut Subscribers)
     requires linked { AreLinked past.now (length subs.old.listed.items) subs.old }
     requires room { length past.now < length subs.old.listed.items }
+    requires short { length past.now < 4294967295 }
     requires hubbed { (g : ℕ) → is_subscriber_of g event ≡ true → g < length subs.old.listed.items }
     ensures linked { AreLinked (past.now ++ event ∷ []) (length subs.old.listed.items) subs.new }
     ensures others { (k : ℕ) → k < length past.now → slice_index_or subs.new.listed.items k false ≡ slice_index_or subs.old.listed.items k false }
@@ -167,24 +169,24 @@ pub fn list_new(past: &[Event], event: Event, subs: &mut Subscribers)
     }
 }
 
-/// The open subscribers of hub `g`, from the last to the first.
+/// Puts the open subscribers of hub `g` into an empty list, from the last to the first.
 pub fn subscribers_of(
-    alloc: Global,
     past: &[Event],
     subs: &Subscribers,
     g: u64,
-) -> Result<Vec<u64>, AllocError>
+    found: &mut Vec<u64>,
+) -> Result<(), AllocError>
     requires linked { AreLinked past.now (length subs.now.listed.items) subs.now }
     requires listed { AreOpenListed past.now subs.now }
-    ensures { IfOk result (λ v. (number : ℕ → ℕ) → sum_by number v.items ≡ sum_by number (open_subscribers past.now g)) }
+    requires empty { found.old.items ≡ [] }
+    ensures { OnOk result ((number : ℕ → ℕ) → sum_by number found.new.items ≡ sum_by number (open_subscribers past.now g)) }
 {
     let _ = past;
-    let mut found = Vec::new(alloc);
     let mut next = value_at(&subs.last, g);
     while next > 0 {
         let s = (next - 1) as u64;
         found.push(s)?;
         next = value_at(&subs.before, s);
     }
-    Ok(found)
+    Ok(())
 }

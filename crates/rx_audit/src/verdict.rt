@@ -1,7 +1,7 @@
 //! The verdict on a list of events.
 
 ghost use Rattle.rx_event.specs.Kept.{nothing_kept};
-ghost use Rattle.std.specs.Prelude.{◌≡◌, ◌<◌, ◌&&◌, ◌↔◌, true, false, IsTrue, IfOk, [], Some, None, MatchOption, length};
+ghost use Rattle.std.specs.Prelude.{◌≡◌, ◌<◌, ◌≤◌, ◌&&◌, ◌↔◌, true, false, IsTrue, IfOk, [], Some, None, MatchOption, length};
 ghost use Rattle.rx_event.specs.declared.event.Event.{Event};
 ghost use Rattle.rx_event.specs.Tree.{open_nodes};
 ghost use Rattle.rx_event.specs.Resources.{held_resources, waiting_resources};
@@ -11,7 +11,7 @@ ghost use Rattle.rx_event.specs.Lawful.{MayFollow};
 ghost use Rattle.rx_audit.specs.Allowing.{needs_connection, leaves_room, open_allowed, opens_pass, opened_with};
 ghost use Rattle.rx_audit.specs.Known.{IsFoundHere};
 ghost use Rattle.rx_audit.specs.Standing.{IsFollowed, IsKnown, IsAllFound};
-ghost use Rattle.rx_audit.specs.Found.{IsFound};
+ghost use Rattle.rx_audit.specs.Found.{IsFound, IsClimbed};
 ghost use Rattle.rx_audit.specs.Verdict.{IsVerdict, IsFoundUnlawful};
 
 use crate::advance::{Nodes, no_nodes};
@@ -19,12 +19,12 @@ use crate::allowed::{
     MOST_NODES, is_allowed_simply, is_held, is_item_allowed, is_open_allowed, is_waiting,
     open_count,
 };
-use crate::children::zeros;
 use crate::duties::settle;
 use crate::event_tests::at;
 use crate::forced::{is_connected, is_forced};
 use crate::found::{Found, follow, nothing_found};
 use crate::marks::is_marked;
+use crate::reach::{Climb, no_climb};
 use rx_event::{Event, Kind, Place};
 use std::alloc::{AllocError, Global};
 
@@ -111,27 +111,26 @@ fn is_opening_allowed(
     opening_fits(past, event, place, kind, found, nodes)
 }
 
-/// Whether a caller's event may come next, where operators have nothing left to do.
+/// Whether a caller's event may come next, where operators have nothing left to do. Where an item may, the
+/// climb has the nodes that it visits.
 fn is_allowed(
-    alloc: Global,
     past: &[Event],
     event: Event,
     found: &Found,
     nodes: &Nodes,
-    entries: &mut Vec<usize>,
+    climb: &mut Climb,
 ) -> Result<bool, AllocError>
     requires settled { IsSettled nothing_kept past.now }
     requires found { IsFoundHere past.now found.now }
     requires known { IsKnown past.now found.now.live.items nodes.now }
-    ensures { IfOk result (λ b. IsTrue b ↔ IsAllowed nothing_kept past.now event) }
+    ensures allows { IfOk result (λ b. IsTrue b ↔ IsAllowed nothing_kept past.now event) }
+    ensures climbed { IfOk result (λ b. IsTrue b → IsClimbed past.now event climb.new.log.items) }
 {
     match event {
         Event::Open { place, kind } => {
             Ok(is_opening_allowed(past, event, place, kind, found, nodes))
         }
-        Event::Item(leaf, _) => {
-            is_item_allowed(alloc, past, found, &nodes.subscribers, entries, leaf)
-        }
+        Event::Item(leaf, _) => is_item_allowed(past, found, &nodes.subscribers, climb, leaf),
         _ => Ok(is_allowed_simply(past, found, nodes, event)),
     }
 }
@@ -178,23 +177,23 @@ fn may_follow_unsettled(past: &[Event], event: Event, found: &Found, nodes: &Nod
     is_opened_with(past, found, event)
 }
 
-/// Whether the event may come next.
+/// Whether the event may come next. Where an item may, the climb has the nodes that it visits.
 fn may_follow(
-    alloc: Global,
     past: &[Event],
     event: Event,
     found: &Found,
     nodes: &Nodes,
     settled: bool,
-    entries: &mut Vec<usize>,
+    climb: &mut Climb,
 ) -> Result<bool, AllocError>
     requires found { IsFoundHere past.now found.now }
     requires known { IsKnown past.now found.now.live.items nodes.now }
     requires settled { IsTrue settled ↔ IsSettled nothing_kept past.now }
-    ensures { IfOk result (λ b. IsTrue b ↔ MayFollow nothing_kept past.now event) }
+    ensures follows { IfOk result (λ b. IsTrue b ↔ MayFollow nothing_kept past.now event) }
+    ensures climbed { IfOk result (λ b. IsTrue b → IsClimbed past.now event climb.new.log.items) }
 {
     if settled {
-        return is_allowed(alloc, past, event, found, nodes, entries);
+        return is_allowed(past, event, found, nodes, climb);
     }
     Ok(may_follow_unsettled(past, event, found, nodes))
 }
@@ -202,14 +201,14 @@ fn may_follow(
 /// The first place whose event may not follow those before it, if there is one. Where there is
 /// none, `found` is what was found of all events, and `nodes` what is kept of them.
 fn first_unlawful(
-    alloc: Global,
     events: &[Event],
     found: &mut Found,
     nodes: &mut Nodes,
-    entries: &mut Vec<usize>,
+    climb: &mut Climb,
 ) -> Result<Option<u64>, AllocError>
     requires found { IsFound [] (length events.now) found.old }
     requires followed { IsFollowed [] (length events.now) nodes.old }
+    requires short { length events.now ≤ 4294967295 }
     ensures { IfOk result
         (λ place. MatchOption place (IsAllFound events.now found.new nodes.new) (IsFoundUnlawful events.now)) }
 {
@@ -217,10 +216,10 @@ fn first_unlawful(
         let past = &events[..i];
         let event = events[i];
         let settled = settle(past, found.live.as_slice(), nodes);
-        if !may_follow(alloc, past, event, found, nodes, settled, entries)? {
+        if !may_follow(past, event, found, nodes, settled, climb)? {
             return Ok(Some(i as u64));
         }
-        follow(alloc, past, event, found, nodes, entries)?;
+        follow(past, event, climb.log.as_slice(), found, nodes)?;
     }
     Ok(None)
 }
@@ -275,14 +274,20 @@ fn judge_lawful(
     })
 }
 
+/// The longest list of events that is judged: their numbers take 32 bits.
+const MOST_EVENTS: usize = 4_294_967_295;
+
 /// The verdict on a list of events.
 fn judge(alloc: Global, events: &[Event]) -> Result<Verdict, AllocError>
     ensures { IfOk result (IsVerdict events.now) }
 {
+    if events.len() > MOST_EVENTS {
+        return Err(AllocError);
+    }
     let mut found = nothing_found(alloc, events.len())?;
     let mut nodes = no_nodes(alloc, events.len())?;
-    let mut entries = zeros(alloc, events.len())?;
-    match first_unlawful(alloc, events, &mut found, &mut nodes, &mut entries)? {
+    let mut climb = no_climb(alloc, events.len())?;
+    match first_unlawful(events, &mut found, &mut nodes, &mut climb)? {
         Some(place) => Ok(Verdict::Unlawful { place }),
         None => judge_lawful(alloc, events, &found, &mut nodes),
     }
@@ -293,7 +298,8 @@ fn judge(alloc: Global, events: &[Event]) -> Result<Verdict, AllocError>
 /// else `Lawful` with what is open, held and waiting. The rules are those of the Observable
 /// Contract, of the operators' pages at reactivex.io and of System.Reactive's disposables.
 ///
-/// Refused with `NoMemory` where memory was asked for and refused.
+/// Refused with `NoMemory` where memory was asked for and refused, and for more than 4,294,967,295 events,
+/// whose numbers the lists of the audit have no room for.
 pub fn audit(alloc: Global, events: &[Event]) -> Result<Verdict, NoMemory>
     ensures { IfOk result (IsVerdict events.now) }
 {

@@ -5,8 +5,9 @@
 //! - A [`Watched`] reader or writer notes how often the device behind it was called, whether a call
 //!   failed, and whether one moved no byte, so that a contract can say whose fault a fault is
 //!   (`specs/Device.antt`).
-//! - [`read_all`] reads a device to its end, and [`read_value`] gives the JSON value that its bytes are; what
-//!   a device gave is said in `specs/Input.antt`. [`write_text`] writes a whole text.
+//! - [`read_all`] reads a device to its end, [`value_of`] gives the JSON value of which bytes are the text,
+//!   and [`read_value`] does both; what a device gave is said in `specs/Input.antt`. [`write_text`] writes
+//!   a whole text.
 //! - A [`ScriptError`] says why a text was not read or written, a [`ShapeError`] why a JSON value is not
 //!   what was asked for (`specs/Gives.antt`).
 //!
@@ -28,6 +29,6 @@ mod writing;
 pub use fault::ScriptError;
 pub use reading::{MOST_BYTES, MOST_TURNS, read_all};
 pub use shape::ShapeError;
-pub use value::read_value;
+pub use value::{read_value, value_of};
 pub use watched::Watched;
 pub use writing::{WriteFault, write_text};

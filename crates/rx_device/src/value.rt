@@ -13,8 +13,9 @@ use serde_json::Value;
 use std::alloc::Global;
 use std::io::Read;
 
-// The JSON value whose text the input is.
-fn parse(alloc: Global, input: &[u8]) -> Result<Value, ScriptError>
+/// The JSON value whose text the input is. `Syntax` comes where it is no JSON text, and `Memory` where
+/// there was none.
+pub fn value_of(alloc: Global, input: &[u8]) -> Result<Value, ScriptError>
     ensures ok { IfOk result (λ v. IsJsonOf input.now (view v)) }
     ensures syntax { IsErrOf result ScriptError.Syntax → (d : Data) → ¬ IsJsonOf input.now d }
     ensures never { IfErr result (λ e. (e ≢ ScriptError.Read) × (e ≢ ScriptError.Write) × (e ≢ ScriptError.Shape)) }
@@ -49,5 +50,5 @@ pub fn read_value<R: Read>(alloc: Global, reader: &mut Watched<'_, R>) -> Result
     ensures never { IfErr result (λ e. (e ≢ ScriptError.Write) × (e ≢ ScriptError.Shape)) }
 {
     let input = read_all(alloc, reader)?;
-    parse(alloc, input.as_slice())
+    value_of(alloc, input.as_slice())
 }

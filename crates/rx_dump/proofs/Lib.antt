@@ -1,4 +1,8 @@
+pub mod Alone
+pub mod Arrays
 pub mod Counts
+pub mod EventsRead
 pub mod Histories
+pub mod Openings
 pub mod ReadBack
 pub mod Compact

@@ -1,32 +1,67 @@
 //! From a dump's bytes to the text of its verdict.
 
-ghost use Rattle.std.specs.Prelude.{◌≡◌, ◌≢◌, ◌⊎◌, None, false, true, IfOk, IfErr, OnOk, IsErrOf};
+ghost use Rattle.std.specs.Prelude.{◌≡◌, ◌≢◌, ◌⊎◌, false, true, IfOk, IfErr, OnOk, IsErrOf};
 ghost use Rattle.std.specs.Io.KnownBytes.{Appends};
-ghost use Rattle.serde_json.specs.View.{view};
+ghost use Rattle.serde_json.specs.Data.{Data};
 ghost use Rattle.rx_audit.specs.declared.verdict.Verdict.{Verdict};
 ghost use Rattle.rx_device.specs.Device.{device_of, KeepsDevice, has_failed, has_stopped, HasReadFault, HasWriteFault, IsFresh, AppendsPrefix};
-ghost use Rattle.rx_device.specs.Input.{GivesTooMuch, GivesNoJson};
-ghost use Rattle.rx_dump.specs.History.{history_of};
+ghost use Rattle.rx_device.specs.Input.{IsJsonOf, GivesTooMuch, GivesNoJson};
 ghost use Rattle.rx_dump.specs.Verdict.{is_lawful};
-ghost use Rattle.rx_dump.specs.Checking.{IsVerdictOn, Judges, GivesNoDump};
+ghost use Rattle.rx_dump.specs.Checking.{Judges, GivesNoDump};
+ghost use Rattle.rx_dump.specs.Inputs.{IsDumpOf, IsVerdictOf, IsNoDump};
 
 use crate::history::history_of;
+use crate::reading::history_of_input;
 use crate::verdict::{is_lawful, verdict_text};
 use rx_audit::{Verdict, audit};
-use rx_device::{ScriptError, ShapeError, Watched, read_value, write_text};
-use serde_json::Value;
+use rx_device::{ScriptError, ShapeError, Watched, read_all, value_of, write_text};
+use rx_event::Event;
 use std::alloc::Global;
 use std::io::{Read, Write};
 
-// The verdict on the history of which the value is a dump.
-fn verdict_on(alloc: Global, value: &Value) -> Result<Verdict, ShapeError>
-    ensures ok { IfOk result (IsVerdictOn (view value.now)) }
-    ensures shape { IsErrOf result ShapeError.Shape → history_of (view value.now) ≡ None }
+// The history of which the input is a dump, by the JSON value of the whole, which tells what is wrong
+// where there is none.
+fn history_by_value(alloc: Global, input: &[u8]) -> Result<Vec<Event>, ScriptError>
+    ensures ok { IfOk result (λ v. IsDumpOf input.now v.items) }
+    ensures syntax { IsErrOf result ScriptError.Syntax → (d : Data) → ¬ IsJsonOf input.now d }
+    ensures shape { IsErrOf result ScriptError.Shape → IsNoDump input.now }
+    ensures never { IfErr result (λ e. (e ≢ ScriptError.Read) × (e ≢ ScriptError.Write)) }
 {
-    let history = history_of(alloc, value)?;
+    let value = value_of(alloc, input)?;
+    match history_of(alloc, &value) {
+        Ok(history) => Ok(history),
+        Err(ShapeError::Shape) => Err(ScriptError::Shape),
+        Err(ShapeError::Memory) => Err(ScriptError::Memory),
+    }
+}
+
+// The history of which the input is a dump. The value of the whole is made only where the input is not
+// read event by event, and so is at fault.
+fn history_from(alloc: Global, input: &[u8]) -> Result<Vec<Event>, ScriptError>
+    ensures ok { IfOk result (λ v. IsDumpOf input.now v.items) }
+    ensures syntax { IsErrOf result ScriptError.Syntax → (d : Data) → ¬ IsJsonOf input.now d }
+    ensures shape { IsErrOf result ScriptError.Shape → IsNoDump input.now }
+    ensures never { IfErr result (λ e. (e ≢ ScriptError.Read) × (e ≢ ScriptError.Write)) }
+{
+    match history_of_input(alloc, input) {
+        Ok(history) => Ok(history),
+        Err(ShapeError::Shape) => history_by_value(alloc, input),
+        Err(ShapeError::Memory) => Err(ScriptError::Memory),
+    }
+}
+
+// The verdict on the history of which the input is a dump. The input is dropped before the audit begins.
+fn verdict_on(alloc: Global, input: Vec<u8>) -> Result<Verdict, ScriptError>
+    ensures ok { IfOk result (IsVerdictOf input.items) }
+    ensures syntax { IsErrOf result ScriptError.Syntax → (d : Data) → ¬ IsJsonOf input.items d }
+    ensures shape { IsErrOf result ScriptError.Shape → IsNoDump input.items }
+    ensures never { IfErr result (λ e. (e ≢ ScriptError.Read) × (e ≢ ScriptError.Write)) }
+{
+    let history = history_from(alloc, input.as_slice())?;
+    drop(input);
     match audit(alloc, history.as_slice()) {
         Ok(verdict) => Ok(verdict),
-        Err(_) => Err(ShapeError::Memory),
+        Err(_) => Err(ScriptError::Memory),
     }
 }
 
@@ -70,12 +105,8 @@ pub fn check<R: Read, W: Write>(
     ensures same_reader { KeepsDevice reader.old reader.new }
     ensures same_writer { KeepsDevice writer.old writer.new }
 {
-    let value = read_value(alloc, reader)?;
-    let verdict = match verdict_on(alloc, &value) {
-        Ok(verdict) => verdict,
-        Err(ShapeError::Shape) => return Err(ScriptError::Shape),
-        Err(ShapeError::Memory) => return Err(ScriptError::Memory),
-    };
+    let input = read_all(alloc, reader)?;
+    let verdict = verdict_on(alloc, input)?;
     let Ok(text) = verdict_text(alloc, &verdict) else {
         return Err(ScriptError::Memory);
     };

@@ -8,6 +8,7 @@ ghost use Rattle.rx_dump.specs.History.{each_event, history_of};
 mod events;
 mod parts;
 
+pub(crate) use events::event_of;
 use rx_device::ShapeError;
 use rx_event::Event;
 use serde_json::Value;

@@ -9,6 +9,13 @@
 //! - [`history_of`] gives the history of which a JSON value is a dump.
 //! - [`check`] reads a dump from a device and writes the verdict on its history (`specs/Checking.antt`).
 //!
+//! # How a dump is read
+//!
+//! [`check`] takes the events one after the other from the tokens of the text (`specs/Tokens.antt`), with
+//! no JSON value of the whole. So beside the text and the events it needs a buffer as long as the text,
+//! and text and buffer are given back before the audit begins. Only an input that is not read so, and
+//! thus is at fault, is read once more as a value, which tells JSON from what is none.
+//!
 //! # Promised, and not
 //!
 //! - Where [`check`] answers Ok, no call of a device failed, the reader was read to its end, what was
@@ -26,6 +33,7 @@ mod checking;
 mod dump;
 mod history;
 mod laws;
+mod reading;
 mod verdict;
 
 pub use checking::check;

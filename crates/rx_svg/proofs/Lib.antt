@@ -1,0 +1,9 @@
+mod Characters
+mod Contents
+mod Markup
+mod Elements
+mod Rows
+mod Documents
+pub mod Laws
+mod Reader
+mod Refused

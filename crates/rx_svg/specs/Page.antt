@@ -10,6 +10,7 @@ use Rattle.rx_picture.specs.Drawn.{IsDrawing}
 use Rattle.rx_svg.specs.Parts.{words, number, text_of}
 use Rattle.rx_svg.specs.Stroke.{column_text, broken_text}
 use Rattle.rx_svg.specs.Lane.{x_of, row_text, tick_text, told_text}
+use Rattle.rx_svg.specs.WellFormed.{IsWellFormed}
 
 -- how many lanes and places are shown
 abbrev pub lanes_shown : Drawing → ℕ → ℕ
@@ -89,10 +90,11 @@ svg_text d end verdict =
     head_text (x_of d end + 50) (height_of d end + 84) ++ lanes_text d end (height_of d end) verdict
     ++ under_text d end (height_of d end) verdict ++ codes "</svg>\n"
 
--- the text is the document of the drawing of these events, with the verdict on them
+-- the text is the document of the drawing of these events, with the verdict on them, and a well-formed one
 pub record IsPicture (h : List Event) (text : List ℕ) : Type 0 where
   pub drawing : Drawing
   pub is : IsDrawing h drawing
   pub verdict : Verdict
   pub judges : IsVerdict h verdict
   pub reads : text ≡ svg_text drawing (length h) verdict
+  pub well_formed : IsWellFormed text

@@ -4,8 +4,10 @@
 //! places beside one another.
 //!
 //! Promised: the text of [`picture`] is the document that `specs` tells of the drawing of the events
-//! and of the verdict that the audit gives on them. Nothing is asked of the events. All that the text
-//! takes from them are numbers, so that whatever they are it is the same kind of document.
+//! and of the verdict that the audit gives on them. It is well formed: one element, in which each
+//! element is closed in order by a tag of its own name, no tag has an attribute twice, and no text and
+//! no value has a character of markup. Nothing is asked of the events, and all that the text takes
+//! from them are numbers.
 //!
 //! Not promised: what a browser makes of it.
 //!

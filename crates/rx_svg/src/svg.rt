@@ -309,8 +309,8 @@ pub fn push_svg(
     text.push_str("</svg>\n")
 }
 
-/// The picture of the events, which need not be lawful, with the verdict of the audit, as an SVG
-/// document. The error comes where memory is refused.
+/// The picture of the events, which need not be lawful, with the verdict of the audit, as a well-formed
+/// SVG document. The error comes where memory is refused.
 pub fn picture(alloc: Global, events: &[Event]) -> Result<String, AllocError>
     ensures { IfOk result (λ s. IsPicture events.now (string_bytes s)) }
 {

@@ -12,10 +12,10 @@ pub loop-next-init : goal.loop-next-init
 loop-next-init c =
     let h = c.args.past.now in
     let p = c.args.p in
-    let v = c.index-next.result.now in
+    let v = c.index.result.now in
     let r = c.requires.children in
     let size = r.youngest_size in
-    let is : v ≡ last_below (keyed (parent h) p) (length h) = get_or_read c.args.children.now.youngest.items p v (omega arith) c.index-next.ensures 0
+    let is : v ≡ last_below (keyed (parent h) p) (length h) = get_or_read c.args.children.now.youngest.items p v (omega arith) c.index.ensures 0
     ∙ r.youngest p (omega arith) in
     record {
       closing = closing_none h p v c.args.marks.now c.args.todo.now.items (λ d below. child_below h p (length h) v is d below (parent_within h d p below));
@@ -28,12 +28,12 @@ loop-next-smaller c =
     let h = c.args.past.now in
     let p = c.args.p in
     let k = c.loop-next.next - 1 in
-    let v = c.index-next-in-loop-next.result.now in
+    let v = c.index-in-loop-next.result.now in
     let r = c.requires.children in
     let size = r.older_size in
     let w = c.loop-next.invariant.within in
     let below : parent h k ≡ Some p = c.loop-next.invariant.here (omega arith) in
-    let is : v ≡ last_below (keyed (parent h) p) k = get_or_read c.args.children.now.older.items k v (omega arith) c.index-next-in-loop-next.ensures 0
+    let is : v ≡ last_below (keyed (parent h) p) k = get_or_read c.args.children.now.older.items k v (omega arith) c.index-in-loop-next.ensures 0
     ∙ r.older k p (omega arith) below in
     let l = last_le (keyed (parent h) p) k in
     omega arith
@@ -44,12 +44,12 @@ loop-next-preserved c =
     let p = c.args.p in
     let k = c.loop-next.next - 1 in
     let next : c.loop-next.next ≡ suc k = omega arith in
-    let v = c.index-next-in-loop-next.result.now in
+    let v = c.index-in-loop-next.result.now in
     let r = c.requires.children in
     let size = r.older_size in
     let w = c.loop-next.invariant.within in
     let below : parent h k ≡ Some p = c.loop-next.invariant.here (omega arith) in
-    let is : v ≡ last_below (keyed (parent h) p) k = get_or_read c.args.children.now.older.items k v (omega arith) c.index-next-in-loop-next.ensures 0
+    let is : v ≡ last_below (keyed (parent h) p) k = get_or_read c.args.children.now.older.items k v (omega arith) c.index-in-loop-next.ensures 0
     ∙ r.older k p (omega arith) below in
     let so_far : IsClosingBelow h p (suc k) c.args.marks.now c.loop-next.marks c.args.todo.now.items c.loop-next.todo.items = rw (← next)
     c.loop-next.invariant.closing in

@@ -12,20 +12,20 @@ use Rattle.rx_audit.proofs.closing.open_inner.Goals.{else-f-c-via-then-f-c+else-
 pub returns-then-youngest-eq0 : goal.returns-then-youngest-eq0
 returns-then-youngest-eq0 c =
     let h = c.args.past.now in
-    let v = c.index-youngest.result.now in
+    let v = c.index.result.now in
     let size = c.requires.children.inner_size in
     let inside = at_within is_switch h c.args.f (sym c.if-not-is_switch_at.ensures) in
-    let is = get_or_read c.args.children.now.inner.items c.args.f v (omega arith) c.index-youngest.ensures 0
+    let is = get_or_read c.args.children.now.inner.items c.args.f v (omega arith) c.index.ensures 0
     ∙ c.requires.children.inner c.args.f (omega arith) in
     inner_none h c.args.f v is (λ some below. absurd (omega arith))
 
 pub bounds-marks-c : goal.bounds-marks-c
 bounds-marks-c c =
     let h = c.args.past.now in
-    let v = c.index-youngest.result.now in
+    let v = c.index.result.now in
     let size = c.requires.children.inner_size in
     let inside = at_within is_switch h c.args.f (sym c.if-not-is_switch_at.ensures) in
-    let is = get_or_read c.args.children.now.inner.items c.args.f v (omega arith) c.index-youngest.ensures 0
+    let is = get_or_read c.args.children.now.inner.items c.args.f v (omega arith) c.index.ensures 0
     ∙ c.requires.children.inner c.args.f (omega arith) in
     let l = last_le (keyed (inner_named_at h) c.args.f) (length h) in
     omega arith
@@ -33,21 +33,21 @@ bounds-marks-c c =
 pub returns-then-marks-c : goal.returns-then-marks-c
 returns-then-marks-c c =
     let h = c.args.past.now in
-    let v = c.index-youngest.result.now in
+    let v = c.index.result.now in
     let size = c.requires.children.inner_size in
     let switch : at is_switch h c.args.f ≡ true = sym c.if-not-is_switch_at.ensures in
     let inside = at_within is_switch h c.args.f switch in
-    let is = get_or_read c.args.children.now.inner.items c.args.f v (omega arith) c.index-youngest.ensures 0
+    let is = get_or_read c.args.children.now.inner.items c.args.f v (omega arith) c.index.ensures 0
     ∙ c.requires.children.inner c.args.f (omega arith) in
     inner_alone h c.args.f v switch is (omega arith) (omega arith) (sym (c.requires.tied (v - 1)) ∙ c.if-marks-c.true)
 
 pub returns-else-f-c : goal.returns-else-f-c
 returns-else-f-c c =
     let h = c.args.past.now in
-    let v = c.index-youngest.result.now in
+    let v = c.index.result.now in
     let size = c.requires.children.inner_size in
     let inside = at_within is_switch h c.args.f (sym c.if-not-is_switch_at.ensures) in
-    let is = get_or_read c.args.children.now.inner.items c.args.f v (omega arith) c.index-youngest.ensures 0
+    let is = get_or_read c.args.children.now.inner.items c.args.f v (omega arith) c.index.ensures 0
     ∙ c.requires.children.inner c.args.f (omega arith) in
     elim c.else-f-c.branch [
       | else-f-c-via-then-f-c+else-marks-c w ↦ inner_none h c.args.f v is (λ some below. sym (c.requires.tied (v - 1)) ∙ w.if-marks-c.false)

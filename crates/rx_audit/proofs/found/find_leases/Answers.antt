@@ -18,4 +18,4 @@ returns-clause-few c =
     (leases_few c.args.leases.now c.leased.result c.given_back.result (length c.args.past.now) c.requires.few)
 
 pub count-requires : goal.count-requires
-count-requires c = λ n. let few = c.requires.few n in let room = c.requires.room in omega arith
+count-requires c = λ n. let few = c.requires.few n in let short = c.requires.short in omega arith

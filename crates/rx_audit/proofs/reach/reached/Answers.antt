@@ -6,43 +6,43 @@ use Rattle.rx_audit.proofs.Counting.{flow_ends, flow_step, flow_over, length_few
 use Rattle.rx_audit.proofs.reach.reached.Goals as goal
 
 pub returns-then-i-len : goal.returns-then-i-len
-returns-then-i-len c = flow_ends c.args.past.now c.args.leaf c.loop-i.i c.loop-i.log.items c.loop-i.total (omega arith) c.loop-i.invariant
+returns-then-i-len c = flow_ends c.args.past.now c.args.leaf c.loop-i.i c.loop-i.climb.log.items c.loop-i.total (omega arith) c.loop-i.invariant
 
 pub returns : goal.returns
 returns c =
-    let few = length_few c.loop-i.log.items c.loop-i.invariant.often in
+    let few = length_few c.loop-i.climb.log.items c.loop-i.invariant.often in
     let t = c.loop-i.invariant.total in
     let f = c.loop-i.invariant.few in
-    flow_ends c.args.past.now c.args.leaf c.loop-i.i c.loop-i.log.items c.loop-i.total (omega arith) c.loop-i.invariant
+    flow_ends c.args.past.now c.args.leaf c.loop-i.i c.loop-i.climb.log.items c.loop-i.total (omega arith) c.loop-i.invariant
 
 pub returns-then-more-from : goal.returns-then-more-from
 returns-then-more-from c =
-    let next = c.in_ok-next.next in
+    let next = c.onward.new.next in
     let v = c.index-visit.result.now in
     let len : c.len-in-loop-i.result ≡ length next.items = c.len-in-loop-i.ensures ∙ next.ok.0 in
     let product : c.from.result * c.len-in-loop-i.result ≡ v.count * length next.items = rw (c.from.ensures, len) refl in
-    flow_over c.args.past.now c.args.leaf c.loop-i.i c.loop-i.log.items c.loop-i.total v next.items
-    (omega arith) c.index-visit.ensures c.in_ok-next.ensures (omega arith) c.loop-i.invariant
+    flow_over c.args.past.now c.args.leaf c.loop-i.i c.loop-i.climb.log.items c.loop-i.total v next.items
+    (omega arith) c.index-visit.ensures c.in_ok-onward.ensures (omega arith) c.loop-i.invariant
 
 pub spread-requires-clause-few : goal.spread-requires-clause-few
 spread-requires-clause-few c =
-    let next = c.in_ok-next.next in
+    let next = c.onward.new.next in
     let v = c.index-visit.result.now in
     let len : c.len-in-loop-i.result ≡ length next.items = c.len-in-loop-i.ensures ∙ next.ok.0 in
     let product : c.from.result * c.len-in-loop-i.result ≡ v.count * length next.items = rw (c.from.ensures, len) refl in
-    let left = few_left c.args.past.now c.args.leaf c.loop-i.i c.loop-i.log.items c.loop-i.total c.loop-i.invariant in
+    let left = few_left c.args.past.now c.args.leaf c.loop-i.i c.loop-i.climb.log.items c.loop-i.total c.loop-i.invariant in
     rw c.as_slice.ensures.value (omega arith)
 
 pub spread-requires-clause-some : goal.spread-requires-clause-some
 spread-requires-clause-some c =
     c.loop-i.invariant.often c.loop-i.i c.index-visit.result.now
-    (read_at c.loop-i.log.items c.loop-i.i c.index-visit.result.now (omega arith) c.index-visit.ensures)
+    (read_at c.loop-i.climb.log.items c.loop-i.i c.index-visit.result.now (omega arith) c.index-visit.ensures)
 
 pub loop-i-preserved : goal.loop-i-preserved
 loop-i-preserved c =
-    let next = c.in_ok-next.next in
+    let next = c.onward.new.next in
     let v = c.index-visit.result.now in
-    let log = c.loop-i.log.items in
+    let log = c.loop-i.climb.log.items in
     let i = c.loop-i.i in
     let inv = c.loop-i.invariant in
     let len : c.len-in-loop-i.result ≡ length next.items = c.len-in-loop-i.ensures ∙ next.ok.0 in
@@ -53,5 +53,5 @@ loop-i-preserved c =
     (drop (i + 1) log) + v.count * sum_by number next.items = λ number. c.in_ok-spread.ensures.more number
     ∙ ap (λ (xs : List ℕ). sum_by (times number) (drop (i + 1) log) + v.count * sum_by number xs) c.as_slice.ensures.value in
     rw product (flow_step c.args.past.now c.args.leaf i log c.spread.new.log.items c.loop-i.total v next.items
-    (omega arith) c.index-visit.ensures c.in_ok-next.ensures c.in_ok-spread.ensures.kept
+    (omega arith) c.index-visit.ensures c.in_ok-onward.ensures c.in_ok-spread.ensures.kept
     more c.in_ok-spread.ensures.often c.in_ok-spread.ensures.grows few inv)

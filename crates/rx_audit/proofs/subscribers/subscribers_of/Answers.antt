@@ -7,8 +7,8 @@ loop-next-init c =
     let h = c.args.past.now in
     let subs = c.args.subs.now in
     record {
-      rest = walk_starts h (length subs.listed.items) subs c.args.g c.requires.linked c.value_at-next.result c.new-found.result.items c.requires.listed
-          c.value_at-next.ensures c.new-found.ensures.items;
+      rest = walk_starts h (length subs.listed.items) subs c.args.g c.requires.linked c.value_at-next.result c.args.found.now.items c.requires.listed
+          c.value_at-next.ensures c.requires.empty;
       here = walk_first h (length subs.listed.items) subs c.args.g c.requires.linked c.value_at-next.result c.value_at-next.ensures;
     }
 

@@ -4,7 +4,7 @@ use Rattle.rx_event.specs.declared.event.Kind.TheVariants.{Leaf}
 use Rattle.rx_event.specs.declared.event.Event.{Event}
 use Rattle.rx_event.specs.declared.event.Event.TheVariants.{Open}
 use Rattle.rx_event.proofs.Laws.Begin.{IsLawful_nothing}
-use Rattle.rx_audit.proofs.Judging.{unlawful_here, lawful_more, found_more, followed_more, has_few_visits, known_from}
+use Rattle.rx_audit.proofs.Judging.{unlawful_here, lawful_more, found_more, followed_more, known_from}
 use Rattle.rx_audit.proofs.verdict.first_unlawful.Goals as goal
 
 any_event : Event
@@ -25,21 +25,19 @@ pub returns-then-not-branch : goal.returns-then-not-branch
 unfolding any_event
 returns-then-not-branch c =
     unlawful_here c.args.events.now c.loop-i.i any_event c.in_ok-may_follow.field-0
-    (omega arith) c.loop-i.invariant.lawful c.if-not-branch.true c.in_ok-may_follow.ensures
+    (omega arith) c.loop-i.invariant.lawful c.if-not-branch.true c.in_ok-may_follow.ensures.follows
 
 pub loop-i-preserved : goal.loop-i-preserved
 unfolding any_event
 loop-i-preserved c = record {
   lawful = lawful_more c.args.events.now c.loop-i.i any_event c.in_ok-may_follow.field-0
-      (omega arith) c.loop-i.invariant.lawful c.if-not-branch.false c.in_ok-may_follow.ensures;
+      (omega arith) c.loop-i.invariant.lawful c.if-not-branch.false c.in_ok-may_follow.ensures.follows;
   found = found_more c.args.events.now c.loop-i.i any_event (length c.loop-i.found.live.items) c.follow.new.found
       (omega arith) c.loop-i.invariant.found.live_size c.in_ok-follow.ensures.found;
   followed = followed_more c.args.events.now c.loop-i.i any_event (length c.loop-i.found.live.items) c.follow.new.nodes
       (omega arith) c.loop-i.invariant.found.live_size c.in_ok-follow.ensures.followed;
 }
 
-pub follow-requires-clause-visits : goal.follow-requires-clause-visits
+pub follow-requires-clause-climbed : goal.follow-requires-clause-climbed
 unfolding any_event
-follow-requires-clause-visits c =
-    has_few_visits (take c.loop-i.i c.args.events.now) (get_or c.args.events.now c.loop-i.i any_event)
-    c.in_ok-may_follow.field-0 c.if-not-branch.false c.in_ok-may_follow.ensures
+follow-requires-clause-climbed c = rw c.as_slice-in-loop-i.ensures.value (c.in_ok-may_follow.ensures.climbed c.if-not-branch.false)

@@ -1,19 +1,34 @@
-use Rattle.std.proofs.Common.{◌≡◌, Bool, IsTrue, ◌↔◌}
+use Rattle.std.proofs.Common.{◌≡◌, Bool, IsTrue, ◌↔◌, refl}
 use Rattle.std.proofs.lemmas.Result.{IfOk-weaker}
 use Rattle.rx_event.specs.Kept.{nothing_kept}
 use Rattle.rx_event.specs.Allowed.{IsAllowed}
 use Rattle.rx_audit.specs.Allowing.{item_allowed}
-use Rattle.rx_audit.proofs.Judging.{item_answer, simple_answer}
+use Rattle.rx_audit.specs.Flow.{IsReached}
+use Rattle.rx_audit.specs.Found.{IsClimbed}
+use Rattle.rx_audit.proofs.Judging.{item_answer, simple_answer, item_climbs, no_item_climbs}
 use Rattle.rx_audit.proofs.verdict.is_allowed.Goals as goal
 
-pub returns-in-Item : goal.returns-in-Item
-returns-in-Item c =
+pub returns-in-Item-clause-allows : goal.returns-in-Item-clause-allows
+returns-in-Item-clause-allows c =
     IfOk-weaker c.is_item_allowed.result (λ (b : Bool). b ≡ item_allowed c.args.past.now c.in-Item.leaf)
     (λ (b : Bool). (IsTrue b) ↔ IsAllowed nothing_kept c.args.past.now c.args.event)
-    (λ b w. item_answer c.args.past.now c.args.event c.in-Item.leaf c.in-Item.field-1 b c.in-Item.is w) c.is_item_allowed.ensures
+    (λ b w. item_answer c.args.past.now c.args.event c.in-Item.leaf c.in-Item.field-1 b c.in-Item.is w) c.is_item_allowed.ensures.value
 
-pub returns-in_default : goal.returns-in_default
-returns-in_default c =
+pub returns-in-Item-clause-climbed : goal.returns-in-Item-clause-climbed
+returns-in-Item-clause-climbed c =
+    let h = c.args.past.now in
+    let log = c.is_item_allowed.new.climb.log.items in
+    IfOk-weaker c.is_item_allowed.result (λ (b : Bool). IsTrue b → IsReached h c.in-Item.leaf log) (λ (b : Bool). IsTrue b → IsClimbed h c.args.event log)
+    (λ b w t. item_climbs h c.args.event c.in-Item.leaf c.in-Item.field-1 log c.in-Item.is (w t)) c.is_item_allowed.ensures.climbed
+
+pub returns-in-Open-clause-climbed : goal.returns-in-Open-clause-climbed
+returns-in-Open-clause-climbed c = λ t. no_item_climbs c.args.past.now c.args.event c.args.climb.now.log.items (rw c.in-Open.is refl)
+
+pub returns-in_default-clause-climbed : goal.returns-in_default-clause-climbed
+returns-in_default-clause-climbed c = λ t l v is. absurd (c.in_default.not-Item l v is)
+
+pub returns-in_default-clause-allows : goal.returns-in_default-clause-allows
+returns-in_default-clause-allows c =
     simple_answer c.args.past.now c.args.event c.is_allowed_simply.result c.in_default.not-Open c.in_default.not-Item c.is_allowed_simply.ensures
 
 pub is_item_allowed-requires-clause-linked : goal.is_item_allowed-requires-clause-linked

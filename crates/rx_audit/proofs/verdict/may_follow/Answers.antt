@@ -1,14 +1,21 @@
-use Rattle.std.proofs.Common.{Bool, IsTrue, ◌↔◌}
+use Rattle.std.proofs.Common.{Bool, IsTrue, ◌↔◌, sym, ◌∙◌}
+use Rattle.std.proofs.lemmas.Bool.{false≢true}
 use Rattle.std.proofs.lemmas.Result.{IfOk-weaker}
 use Rattle.rx_event.specs.Kept.{nothing_kept}
 use Rattle.rx_event.specs.Allowed.{IsAllowed}
 use Rattle.rx_event.specs.Lawful.{MayFollow}
-use Rattle.rx_audit.proofs.Judging.{settled_answer}
+use Rattle.rx_audit.proofs.Judging.{settled_answer, unsettled_climbs}
 use Rattle.rx_audit.proofs.verdict.may_follow.Goals as goal
 
-pub returns-then-settled : goal.returns-then-settled
-returns-then-settled c =
+pub returns-then-settled-clause-follows : goal.returns-then-settled-clause-follows
+returns-then-settled-clause-follows c =
     let h = c.args.past.now in
     IfOk-weaker c.is_allowed.result (λ (b : Bool). (IsTrue b) ↔ IsAllowed nothing_kept h c.args.event)
     (λ (b : Bool). (IsTrue b) ↔ MayFollow nothing_kept h c.args.event)
-    (λ b w. settled_answer h c.args.event b (c.requires.settled.0 c.if-settled.true) w) c.is_allowed.ensures
+    (λ b w. settled_answer h c.args.event b (c.requires.settled.0 c.if-settled.true) w) c.is_allowed.ensures.allows
+
+pub returns-clause-climbed : goal.returns-clause-climbed
+returns-clause-climbed c t =
+    let b = c.requires.settled.1 in
+    unsettled_climbs c.args.past.now c.args.event c.args.climb.now.log.items (λ s. false≢true (sym c.if-settled.false ∙ b s))
+    (c.may_follow_unsettled.ensures.0 t)

@@ -7,5 +7,5 @@ returns-clause-syntax g c is =
     inr (record {
       input = c.in_ok-input.input.items;
       whole = c.in_ok-input.ensures.ok;
-      no_json = λ d json. c.parse.ensures.syntax is d (subst (λ s. IsJsonOf s d) (sym c.as_slice.ensures.value) json);
+      no_json = λ d json. c.value_of.ensures.syntax is d (subst (λ s. IsJsonOf s d) (sym c.as_slice.ensures.value) json);
     })

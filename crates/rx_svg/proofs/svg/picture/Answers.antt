@@ -1,7 +1,7 @@
-use Rattle.std.proofs.Common.{rules, ◌≡◌, ◌++◌, string_bytes, OnOk, IfOk, ℕ, length, List}
-use Rattle.rx_svg.specs.Page.{svg_text, IsPicture}
+use Rattle.std.proofs.Common.{rules}
+use Rattle.rx_svg.proofs.Laws.{picture_of}
 use Rattle.rx_svg.proofs.svg.picture.Goals as goal
 
 -- src/svg.rt:272:1
 pub returns : goal.returns
-returns c = record { drawing = c.in_ok-drawing.drawing; is = search rules; verdict = c.in-Ok.verdict; judges = search rules; reads = search rules }
+returns c = picture_of _ c.in_ok-drawing.drawing c.in-Ok.verdict _ (search rules) (search rules) (search rules)

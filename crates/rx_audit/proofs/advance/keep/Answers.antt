@@ -1,0 +1,8 @@
+use Rattle.std.proofs.Common.{sym, ◌∙◌}
+use Rattle.rx_audit.proofs.Passing.{item_of}
+use Rattle.rx_audit.proofs.advance.keep.Goals as goal
+
+pub keep_item-requires-clause-reached : goal.keep_item-requires-clause-reached
+keep_item-requires-clause-reached c =
+    let made = item_of c.args.event c.in-Some.leaf (sym c.leaf_of.ensures ∙ c.in-Some.is) in
+    c.requires.climbed c.in-Some.leaf made.0 made.1

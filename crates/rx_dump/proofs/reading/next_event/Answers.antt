@@ -1,0 +1,13 @@
+use Rattle.std.proofs.Common.{◌≡◌, ◌∷◌, Some, arith}
+use Rattle.json.specs.Token.{begin_array}
+use Rattle.serde_json.specs.Data.{array}
+use Rattle.serde_json.specs.View.{items_view}
+use Rattle.rx_dump.specs.History.{event_of}
+use Rattle.rx_dump.proofs.Openings.{event_opened}
+use Rattle.rx_dump.proofs.reading.next_event.Goals as goal
+
+pub returns : goal.returns
+returns c =
+    let opens : c.args.reader.now ≡ begin_array ∷ c.opens_array.new.reader = grind arith in
+    let is : event_of (array (items_view c.in_ok-parts.parts.items)) ≡ Some c.in_ok-event.event = grind arith in
+    event_opened _ _ _ _ _ opens c.in_ok-parts.ensures is

@@ -1,0 +1,26 @@
+-- What the bytes of an input are.
+use Rattle.std.specs.Prelude.{◌≡◌, ℕ, None, Some, List}
+use Rattle.serde_json.specs.Data.{Data}
+use Rattle.rx_event.specs.declared.event.Event.{Event}
+use Rattle.rx_audit.specs.declared.verdict.Verdict.{Verdict}
+use Rattle.rx_device.specs.Input.{IsJsonOf}
+use Rattle.rx_dump.specs.History.{history_of}
+use Rattle.rx_dump.specs.Checking.{IsVerdictOn}
+
+-- the text of a dump of this history
+pub record IsDumpOf (input : List ℕ) (h : List Event) : Type 0 where
+  pub value : Data
+  pub json : IsJsonOf input value
+  pub reading : history_of value ≡ Some h
+
+-- the text of a dump, and the verdict is that on its history
+pub record IsVerdictOf (input : List ℕ) (v : Verdict) : Type 0 where
+  pub value : Data
+  pub json : IsJsonOf input value
+  pub verdict : IsVerdictOn value v
+
+-- JSON that is no dump
+pub record IsNoDump (input : List ℕ) : Type 0 where
+  pub value : Data
+  pub json : IsJsonOf input value
+  pub no_dump : history_of value ≡ None

@@ -1,0 +1,148 @@
+-- What a command hands in, and what the lines of a session come to.
+use Rattle.std.proofs.Common.{◌≡◌, ℕ, Bool, true, false, cond, List, [], ◌++◌, map, Option, Some, None, refl, sym, ap, ◌∙◌, subst}
+use Rattle.std.specs.Prelude.{is_some}
+use Rattle.std.proofs.Math.Bool.{◌||◌}
+use Rattle.std.specs.Str.{bytes_eq}
+use Rattle.std.specs.Option.{option_map_or}
+use Rattle.rx_scenario.specs.Scenario.{Name, Command, using, open_node, hold, apply, remove, lease, give_back, next, end, abort, decline, fail, dispose, make_hub, connect, disconnect, drain}
+use Rattle.rx_book.specs.Requests.{Request, hub_request}
+use Rattle.rx_line.specs.declared.outcome.Cause.{Cause}
+use Rattle.rx_line.specs.declared.outcome.Cause.TheVariants.{NoName, NameTaken, Book}
+use Rattle.rx_line.specs.declared.outcome.Outcome.TheVariants.{Accepted, Refused}
+use Rattle.rx_line.specs.Names.{spot_of}
+use Rattle.rx_live.specs.Session.{Session, hub_of, has_resource}
+use Rattle.rx_live.specs.Carried.{Carries, Goes}
+use Rattle.rx_live.specs.Given.{IsAlike, Gives, NamesOne, BindsHub}
+use Rattle.rx_live.specs.Promise.{Act, released, with_held, Leads, no_act, hands_in, IsKept}
+use Rattle.rx_live.specs.Lines.{Runs, handed_by, IsCarried, Ends, GoesOn, no_line, one_line, IsFresh}
+use Rattle.rx_live.proofs.Binding.{or_false, alike_same}
+use Rattle.rx_live.proofs.Drops.{leads_on, leads_same}
+
+-- what an accepted command says -----------------------------------------------------------------------
+
+pub record HasGiven (taken : Bool) (bound : Type 0) : Type 0 where
+  pub free : taken ≡ false
+  pub binds : bound
+
+gave : (old new : Session) (asked : Option Request) (taken : Bool) (bound : Session → Type 0) → Gives old asked taken bound Accepted new → HasGiven taken (bound new)
+gave old new None taken bound gives = let e = gives.0 in absurd (cc)
+gave old new (Some call) true bound gives = let e = gives.0 in absurd (cc)
+gave old new (Some call) false bound gives = record { free = refl; binds = gives.1 }
+
+went : (old new : Session) (asked : Option Request) → Carries old asked Accepted new → new ≡ record old { book = new.book }
+went old new None carries = let e = carries.0 in absurd (cc)
+went old new (Some call) carries = carries.1
+
+-- the same names are held -----------------------------------------------------------------------------
+
+same_held : (old new : Session) → new.resources ≡ old.resources → new.unnamed ≡ old.unnamed → (n : Name) → has_resource new n ≡ has_resource old n
+same_held old new resources unnamed n = λ i. is_some (spot_of (resources i) n) || option_map_or (bytes_eq n) (unnamed i) false
+
+pub alike_held : (old new : Session) → IsAlike old new → (n : Name) → has_resource new n ≡ has_resource old n
+alike_held old new alike n = λ i. is_some (alike.resources.spots n i) || option_map_or (bytes_eq n) (alike.unnamed i) false
+
+one_held : (old new : Session) (name : Name) (number : ℕ) → NamesOne old.resources name number new.resources → new.unnamed ≡ old.unnamed →
+    (n : Name) → has_resource new n ≡ with_held true name (has_resource old) n
+one_held old new name number one unnamed n = (λ i. is_some (one.binds.spots n i) || option_map_or (bytes_eq n) (unnamed i) false) ∙ shape (bytes_eq name n) where
+  shape : (b : Bool) → (is_some (cond b (Some one.spot) (spot_of old.resources n)) || option_map_or (bytes_eq n) old.unnamed false) ≡ cond b true (has_resource old n)
+  shape true = refl
+  shape false = refl
+
+keeps : (old new : Session) → ((n : Name) → has_resource new n ≡ has_resource old n) → Leads (has_resource old) [] (has_resource new)
+keeps old new same = no_act same
+
+by_goes : (old new : Session) (asked : Option Request) → Goes old asked Accepted new → Leads (has_resource old) [] (has_resource new)
+by_goes old new asked goes =
+    let is = went old new asked goes.carries in
+    no_act (same_held old new (ap (λ (s : Session). s.resources) is) (ap (λ (s : Session). s.unnamed) is))
+
+-- a command that is carried out hands in what it is to hand in, which was not held
+pub runs_hands : (old new : Session) (c : Command) → Runs old c Accepted new → Leads (has_resource old) (handed_by c) (has_resource new)
+runs_hands old new (using name site res) runs =
+    let given = gave old new _ _ _ runs.gives in
+    let free = (or_false _ (has_resource old res) given.free).1 in
+    hands_in res free (no_act (one_held old new res _ given.binds.resource (ap (λ (s : Session). s.unnamed) given.binds.rest)))
+runs_hands old new (hold node res) runs =
+    let given = gave old new _ _ _ runs.gives in
+    hands_in res given.free (no_act (one_held old new res _ given.binds.resource (ap (λ (s : Session). s.unnamed) given.binds.rest)))
+runs_hands old new (open_node name site sort) runs =
+    let is = (gave old new _ _ _ runs.gives).binds.rest in no_act (same_held old new (ap (λ (s : Session). s.resources) is) (ap (λ (s : Session). s.unnamed) is))
+runs_hands old new (lease res name) runs =
+    let is = (gave old new _ _ _ runs.gives).binds.rest in no_act (same_held old new (ap (λ (s : Session). s.resources) is) (ap (λ (s : Session). s.unnamed) is))
+runs_hands old new (give_back name) runs =
+    let is = (gave old new _ _ _ runs.gives).binds.rest in no_act (same_held old new (ap (λ (s : Session). s.resources) is) (ap (λ (s : Session). s.unnamed) is))
+runs_hands old new (make_hub name mode) runs =
+    let is = (gave old new (Some (hub_request mode)) (is_some (hub_of old name)) (BindsHub old name) runs.gives).binds.rest in no_act (same_held old new (ap (λ (s : Session). s.resources) is) (ap (λ (s : Session). s.unnamed) is))
+runs_hands old new (connect hub name) runs =
+    let is = (gave old new _ _ _ runs.gives).binds.rest in no_act (same_held old new (ap (λ (s : Session). s.resources) is) (ap (λ (s : Session). s.unnamed) is))
+runs_hands old new (apply res word) runs = by_goes old new _ runs
+runs_hands old new (remove res) runs = by_goes old new _ runs
+runs_hands old new (next node value) runs = by_goes old new _ runs
+runs_hands old new (end node terminal) runs = by_goes old new _ runs
+runs_hands old new (abort node code) runs = by_goes old new _ runs
+runs_hands old new (decline node) runs = by_goes old new _ runs
+runs_hands old new (fail node code) runs = by_goes old new _ runs
+runs_hands old new (dispose node) runs = by_goes old new _ runs
+runs_hands old new (disconnect hub) runs = by_goes old new _ runs
+runs_hands old new drain runs = no_act (λ n. ap (λ (s : Session). has_resource s n) runs.1)
+
+-- all of a carried line
+pub carried_leads : (old new : Session) (c : Command) (text : List ℕ) (acts : List Act) → IsCarried old c text acts new → Leads (has_resource old) acts (has_resource new)
+carried_leads old new c text acts carried =
+    let tells = carried.tells in
+    let told : (n : Name) → has_resource tells.mid n ≡ has_resource carried.done n = λ n. ap (λ (s : Session). has_resource s n) tells.tells.rest in
+    let after = leads_same (has_resource carried.done) (has_resource tells.mid) (has_resource carried.left) (map released tells.names) told tells.releases.leads in
+    let all = leads_on (runs_hands old carried.done c carried.runs) after in
+    subst (λ (done : List Act). Leads (has_resource old) done (has_resource new)) (sym carried.acts_are)
+    (subst (λ (last : Name → Bool). Leads (has_resource old) (handed_by c ++ map released tells.names) last) (λ i n. sym (alike_held carried.left new carried.alike n) i) all)
+
+-- sessions --------------------------------------------------------------------------------------------
+
+pub goes_leads : {old last : Session} {acts : List Act} → GoesOn old acts last → Leads (has_resource old) acts (has_resource last)
+goes_leads no_line = no_act (λ n. refl)
+goes_leads (one_line line text new sent rest) = leads_on sent.leads (goes_leads rest)
+
+fresh_held : (s : Session) → IsFresh s → (n : Name) → has_resource s n ≡ false
+fresh_held s fresh n = λ i. is_some (fresh.resources.0 n i) || option_map_or (bytes_eq n) (fresh.unnamed i) false
+
+-- every name that is handed in is released once, to the last line
+pub session_kept : (first last new : Session) (acts : List Act) (text : List ℕ) → IsFresh first → GoesOn first acts last → (ends : Ends last text new) → IsKept (acts ++ map released ends.names)
+session_kept first last new acts text fresh goes ends =
+    leads_same (λ n. false) (has_resource first) (λ n. false) (acts ++ map released ends.names) (fresh_held first fresh) (leads_on (goes_leads goes) ends.leads)
+
+-- a refused command ----------------------------------------------------------------------------------
+
+gave_none : (old new : Session) (asked : Option Request) (taken : Bool) (bound : Session → Type 0) (why : Cause) → Gives old asked taken bound (Refused why) new → IsAlike old new
+gave_none old new None taken bound why gives = gives.1
+gave_none old new (Some call) true bound why gives = gives.1
+gave_none old new (Some call) false bound NoName gives = absurd gives
+gave_none old new (Some call) false bound NameTaken gives = absurd gives
+gave_none old new (Some call) false bound (Book cause) gives = gives.1
+
+went_none : (old new : Session) (asked : Option Request) (why : Cause) → Carries old asked (Refused why) new → new ≡ old
+went_none old new None why carries = carries.1
+went_none old new (Some call) NoName carries = absurd carries
+went_none old new (Some call) NameTaken carries = absurd carries
+went_none old new (Some call) (Book cause) carries = carries.1
+
+same_alike : (old new : Session) → new ≡ old → IsAlike old new
+same_alike old new same = subst (λ (s : Session). IsAlike old s) (sym same) (alike_same old)
+
+pub refused_alike : (old new : Session) (c : Command) (why : Cause) → Runs old c (Refused why) new → IsAlike old new
+refused_alike old new (using name site res) why runs = gave_none old new _ _ _ why runs.gives
+refused_alike old new (open_node name site sort) why runs = gave_none old new _ _ _ why runs.gives
+refused_alike old new (hold node res) why runs = gave_none old new _ _ _ why runs.gives
+refused_alike old new (lease res name) why runs = gave_none old new _ _ _ why runs.gives
+refused_alike old new (give_back name) why runs = gave_none old new _ _ _ why runs.gives
+refused_alike old new (make_hub name mode) why runs = gave_none old new (Some (hub_request mode)) (is_some (hub_of old name)) (BindsHub old name) why runs.gives
+refused_alike old new (connect hub name) why runs = gave_none old new _ _ _ why runs.gives
+refused_alike old new (apply res word) why runs = same_alike old new (went_none old new _ why runs.carries)
+refused_alike old new (remove res) why runs = same_alike old new (went_none old new _ why runs.carries)
+refused_alike old new (next node value) why runs = same_alike old new (went_none old new _ why runs.carries)
+refused_alike old new (end node terminal) why runs = same_alike old new (went_none old new _ why runs.carries)
+refused_alike old new (abort node code) why runs = same_alike old new (went_none old new _ why runs.carries)
+refused_alike old new (decline node) why runs = same_alike old new (went_none old new _ why runs.carries)
+refused_alike old new (fail node code) why runs = same_alike old new (went_none old new _ why runs.carries)
+refused_alike old new (dispose node) why runs = same_alike old new (went_none old new _ why runs.carries)
+refused_alike old new (disconnect hub) why runs = same_alike old new (went_none old new _ why runs.carries)
+refused_alike old new drain why runs = same_alike old new runs.1

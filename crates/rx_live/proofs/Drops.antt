@@ -1,0 +1,274 @@
+-- Names that are released one after another.
+use Rattle.std.proofs.Common.{◌≡◌, ℕ, ◌≤◌, ◌==◌, zero, suc, Bool, true, false, cond, List, [], ◌∷◌, ◌++◌, codes, length, map, Option, Some, None, option_map, refl, sym, ap, ◌∙◌, arith, subst, String, Global, string_bytes}
+use Rattle.std.specs.Prelude.{IfSome, IfNone, is_some, IsTrue}
+use Rattle.std.proofs.Math.Bool.{not, ◌&&◌, ◌||◌}
+use Rattle.std.specs.Str.{bytes_eq}
+use Rattle.std.specs.List.{Contains, list_any}
+use Rattle.std.specs.Option.{option_map_or}
+use Rattle.std.proofs.lemmas.List.{append-nil, map-append}
+use Rattle.std.proofs.lemmas.List.Elements.{All-contains}
+use Rattle.std.proofs.lemmas.Option.{none-some, same_Some}
+use Rattle.std.proofs.lemmas.Slice.Eq.{bytes_eq-Decides}
+use Rattle.rx_event.specs.declared.event.Event.{Event}
+use Rattle.rx_event.specs.Events.{makes_resource, is_take_of}
+use Rattle.rx_event.specs.Tree.{at}
+use Rattle.rx_event.specs.Resources.{is_waiting, is_held, is_taken}
+use Rattle.rx_event.specs.Calls.{Taking}
+use Rattle.rx_scenario.specs.Scenario.{Name}
+use Rattle.rx_book.specs.State.{State, IsPromised}
+use Rattle.rx_book.specs.Requests.{take_request}
+use Rattle.rx_book.specs.Answers.{Accepts}
+use Rattle.rx_line.specs.declared.names.Spot.{Spot}
+use Rattle.rx_line.specs.declared.names.Names.{Names}
+use Rattle.rx_line.specs.Names.{spot_of, name_of, IsPaired, Forgets}
+use Rattle.rx_line.specs.Pieces.{name_text, joined}
+use Rattle.rx_live.specs.Session.{Session, IsSound, is_kept, has_resource}
+use Rattle.rx_live.specs.Promise.{Act, released, Leads, no_act, hands_in, releases}
+use Rattle.rx_live.specs.Answers.{Takes, none_taken, one_taken, WritesNames}
+use Rattle.rx_live.specs.Steps.{TakesName, DropsName, WritesName, WritesNoName, AreNamesWritten}
+use Rattle.rx_live.proofs.Remaining.{kept_taken, out_same}
+use Rattle.rx_live.proofs.Soundness.{accepted_longer}
+use Rattle.rx_live.proofs.Binding.{placed_longer, some_gone}
+use Rattle.rx_live.proofs.Opened.{free_forgot}
+use Rattle.rx_live.proofs.Tellings.{array_more, array_end}
+
+-- what waits is kept, and so has a name --------------------------------------------------------------
+
+kept_shape : (made held gone : Bool) → (made && not held && not (made && gone)) ≡ true → (made && not gone) ≡ true
+kept_shape true true gone p = absurd (cc)
+kept_shape true false true p = absurd (cc)
+kept_shape true false false p = refl
+kept_shape false held gone p = absurd (cc)
+
+waiting_kept : (h : List Event) (r : ℕ) → is_waiting h r ≡ true → is_kept h r ≡ true
+unfolding is_waiting is_taken is_kept
+waiting_kept h r waits = kept_shape (at makes_resource h r) (is_held h r) (list_any (is_take_of r) h) waits
+
+Contains-map : {X Y : Type 0} (f : X → Y) (xs : List X) (x : X) → Contains xs x → Contains (map f xs) (f x)
+Contains-map f [] x c = absurd (omega (arith, c.1))
+Contains-map f (y ∷ xs) x (zero, within, at) = (0, omega arith, ap f at)
+Contains-map f (y ∷ xs) x (suc k, within, at) = let c = Contains-map f xs x (k, omega arith, at) in (suc c.0, (let l = c.1 in omega arith), c.2)
+
+pub contains_number : {L : Type 0} (number : L → ℕ) (ls : List L) (l : L) (r : ℕ) → Contains ls l → r ≡ number l → Contains (map number ls) r
+contains_number number ls l r within is = subst (λ (n : ℕ). Contains (map number ls) n) (sym is) (Contains-map number ls l within)
+
+pub waiting_named : (s : Session) (r : ℕ) → IsSound s → Contains (map (λ l. l.number) s.book.waiting) r → is_some (name_of s.resources r) ≡ true
+waiting_named s r sound member =
+    sound.resources r ∙ waiting_kept s.book.history r (All-contains (λ (n : ℕ). IsTrue (is_waiting s.book.history n)) (map (λ l. l.number) s.book.waiting) r sound.kept.waiting.each member)
+
+pub never_none : (result : Option (String Global)) (named : Option Name) (P : Type 0) → option_map string_bytes result ≡ named → is_some named ≡ true → IfNone result P
+never_none None named P value some = let e : false ≡ true = ap is_some value ∙ some in absurd (cc)
+never_none (Some n) named P value some = tt
+
+pub taken_sound : (s : Session) (book : State) (q : ℕ) (t : Names) (result : Option (String Global)) → IsSound s → IsPromised book → IsPaired t → Accepts s.book (take_request q) book →
+    is_some (name_of s.resources q) ≡ true → option_map string_bytes result ≡ name_of s.resources q → IfSome result (λ n. Forgets s.resources q (string_bytes n) t) →
+    IsSound (record s { book = book; resources = t })
+taken_sound s book q t None sound kept paired accepts named value forgets = let e : false ≡ true = ap is_some value ∙ named in absurd (cc)
+taken_sound s book q t (Some n) sound kept paired accepts named value forgets =
+    let name : Name = string_bytes n in
+    let longer : length s.book.history ≤ length book.history = accepted_longer s.book book (take_request q) accepts in
+    record {
+      kept = kept;
+      node_pairs = sound.node_pairs;
+      hub_pairs = sound.hub_pairs;
+      resource_pairs = paired;
+      lease_pairs = sound.lease_pairs;
+      nodes = placed_longer s.book.history book.history s.nodes sound.nodes longer;
+      hubs = placed_longer s.book.history book.history s.hubs sound.hubs longer;
+      resources = λ r. ap is_some (forgets.names r) ∙ some_gone (q == r) (name_of s.resources r) ∙ ap (λ (b : Bool). cond (q == r) false b) (sound.resources r)
+          ∙ sym (kept_taken s.book.base s.book.history book.history q accepts.step r);
+      leases = λ l. sound.leases l ∙ sym (out_same s.book.base s.book.history book.history (Taking q) accepts.step refl l);
+      unnamed = λ m is. free_after m (bytes_eq name m) refl (sound.unnamed m is);
+    }
+  where
+    free_after : (m : Name) (b : Bool) → bytes_eq (string_bytes n) m ≡ b → spot_of s.resources m ≡ None → spot_of t m ≡ None
+    free_after m true same free = forgets.spots m ∙ ap (λ (b : Bool). cond b None (spot_of s.resources m)) same
+    free_after m false apart free = forgets.spots m ∙ ap (λ (b : Bool). cond b None (spot_of s.resources m)) apart ∙ free
+
+-- one name ------------------------------------------------------------------------------------------
+
+eq_sym : (m n : Name) → bytes_eq m n ≡ true → bytes_eq n m ≡ true
+eq_sym m n same = (bytes_eq-Decides n m).1 (sym ((bytes_eq-Decides m n).0 same))
+
+apart_sym : (m n : Name) → bytes_eq m n ≡ false → bytes_eq n m ≡ false
+apart_sym m n apart = by_test (bytes_eq n m) refl where
+  by_test : (b : Bool) → bytes_eq n m ≡ b → bytes_eq n m ≡ false
+  by_test true same = let e : false ≡ true = sym apart ∙ eq_sym n m same in absurd (cc)
+  by_test false is = is
+
+or_true : (a b : Bool) → b ≡ true → (a || b) ≡ true
+or_true true b p = refl
+or_true false b p = p
+
+pub or_none : (a b : Bool) → b ≡ false → (a || b) ≡ a
+or_none true b p = refl
+or_none false b p = p
+
+-- the name of a resource that was taken before
+pub dropped_unnamed : (s : Session) (name : Name) (rest : Option Name) → IsSound s → s.unnamed ≡ Some name → rest ≡ None → DropsName s name (record s { unnamed = rest })
+dropped_unnamed s name rest sound is none = record {
+  was = or_true (is_some (spot_of s.resources name)) _ (ap (λ (o : Option Name). option_map_or (bytes_eq name) o false) is ∙ (bytes_eq-Decides name name).1 refl);
+  held = λ n. by_name n (bytes_eq name n) refl;
+  free = free;
+  gone = none;
+  takes = none_taken;
+  rest = refl;
+  fewer = let one : ◌≡◌ {A = ℕ} (option_map_or (λ (n : Name). 1) s.unnamed 0) 1 = ap (λ (o : Option Name). option_map_or (λ (n : Name). 1) o 0) is in
+      let none_there : ◌≡◌ {A = ℕ} (option_map_or (λ (n : Name). 1) rest 0) 0 = ap (λ (o : Option Name). option_map_or (λ (n : Name). 1) o 0) none in omega (arith, one, none_there);
+} where
+  free : spot_of s.resources name ≡ None
+  free = sound.unnamed name is
+
+  by_name : (n : Name) (b : Bool) → bytes_eq name n ≡ b → (is_some (spot_of s.resources n) || option_map_or (bytes_eq n) rest false) ≡ cond (bytes_eq name n) false (has_resource s n)
+  by_name n true same =
+      let there : spot_of s.resources n ≡ None = ap (spot_of s.resources) (sym ((bytes_eq-Decides name n).0 same)) ∙ free in
+      (λ i. is_some (there i) || option_map_or (bytes_eq n) (none i) false) ∙ sym (ap (λ (b : Bool). cond b false (has_resource s n)) same)
+  by_name n false apart =
+      let other : option_map_or (bytes_eq n) s.unnamed false ≡ false = ap (λ (o : Option Name). option_map_or (bytes_eq n) o false) is ∙ apart_sym name n apart in
+      let gone : option_map_or (bytes_eq n) rest false ≡ false = ap (λ (o : Option Name). option_map_or (bytes_eq n) o false) none in
+      or_none (is_some (spot_of s.resources n)) _ gone ∙ sym (or_none (is_some (spot_of s.resources n)) _ other) ∙ sym (ap (λ (b : Bool). cond b false (has_resource s n)) apart)
+
+known_spot : (s : Session) (number : ℕ) (name : Name) → IsSound s → name_of s.resources number ≡ Some name → is_some (spot_of s.resources name) ≡ true
+known_spot s number name sound known = by_spot (spot_of s.resources name) (sound.resource_pairs.numbered number name known) where
+  by_spot : (o : Option Spot) → option_map (λ (p : Spot). p.number) o ≡ Some number → is_some o ≡ true
+  by_spot None is = absurd (none-some number is)
+  by_spot (Some p) is = refl
+
+or_first : (a b : Bool) → a ≡ true → (a || b) ≡ true
+or_first true b p = refl
+or_first false b p = absurd (cc)
+
+-- that of one which is taken now
+dropped_one : (s new : Session) (name : Name) → s.unnamed ≡ None → IsSound s → TakesName s name new → DropsName s name new
+dropped_one s new name none sound taken = record {
+  was = or_first (is_some (spot_of s.resources name)) _ (known_spot s taken.number name sound taken.known);
+  held = λ n. by_name n (bytes_eq name n) refl;
+  free = free_forgot s.resources new.resources taken.number name taken.forgets;
+  gone = unnamed;
+  takes = one_taken s.book taken.number none_taken taken.accepts;
+  rest = taken.rest ∙ (λ i. record s { book = new.book; resources = new.resources; unnamed = (none ∙ sym unnamed) i });
+  fewer = let fewer = taken.fewer in
+      let before : ◌≡◌ {A = ℕ} (option_map_or (λ (n : Name). 1) s.unnamed 0) 0 = ap (λ (o : Option Name). option_map_or (λ (n : Name). 1) o 0) none in
+      let after : ◌≡◌ {A = ℕ} (option_map_or (λ (n : Name). 1) new.unnamed 0) 0 = ap (λ (o : Option Name). option_map_or (λ (n : Name). 1) o 0) unnamed in omega (arith, before, after);
+} where
+  unnamed : new.unnamed ≡ None
+  unnamed = ap (λ (t : Session). t.unnamed) taken.rest ∙ none
+
+  by_name : (n : Name) (b : Bool) → bytes_eq name n ≡ b → has_resource new n ≡ cond (bytes_eq name n) false (has_resource s n)
+  by_name n b test =
+      let gone : option_map_or (bytes_eq n) new.unnamed false ≡ false = ap (λ (o : Option Name). option_map_or (bytes_eq n) o false) unnamed in
+      let other : option_map_or (bytes_eq n) s.unnamed false ≡ false = ap (λ (o : Option Name). option_map_or (bytes_eq n) o false) none in
+      or_none (is_some (spot_of new.resources n)) _ gone ∙ ap is_some (taken.forgets.spots n) ∙ gone_spot (bytes_eq name n) (spot_of s.resources n)
+      ∙ ap (λ (c : Bool). cond (bytes_eq name n) false c) (sym (or_none (is_some (spot_of s.resources n)) _ other))
+    where
+      gone_spot : (c : Bool) (o : Option Spot) → is_some (cond c None o) ≡ cond c false (is_some o)
+      gone_spot true o = refl
+      gone_spot false o = refl
+
+pub dropped_taken : (s mid new : Session) (result : Option (String Global)) → mid ≡ s → s.unnamed ≡ None → IsSound s → IfSome result (λ n. TakesName mid (string_bytes n) new) →
+    IfSome result (λ n. DropsName s (string_bytes n) new)
+dropped_taken s mid new None same none sound taken = tt
+dropped_taken s mid new (Some n) same none sound taken =
+    dropped_one s new (string_bytes n) none sound (subst (λ (t : Session). TakesName t (string_bytes n) new) same taken)
+
+-- one that is not told for want of memory
+pub stashed_held : (s mid : Session) (name : Name) → DropsName s name mid → (n : Name) → has_resource (record mid { unnamed = Some name }) n ≡ has_resource s n
+stashed_held s mid name drops n = by_name (bytes_eq name n) refl where
+  now : has_resource mid n ≡ is_some (spot_of mid.resources n)
+  now = or_none (is_some (spot_of mid.resources n)) _ (ap (λ (o : Option Name). option_map_or (bytes_eq n) o false) drops.gone)
+
+  by_name : (b : Bool) → bytes_eq name n ≡ b → (is_some (spot_of mid.resources n) || bytes_eq n name) ≡ has_resource s n
+  by_name true same =
+      or_true (is_some (spot_of mid.resources n)) (bytes_eq n name) (eq_sym name n same) ∙ sym (ap (has_resource s) (sym ((bytes_eq-Decides name n).0 same)) ∙ drops.was)
+  by_name false apart =
+      or_none (is_some (spot_of mid.resources n)) (bytes_eq n name) (apart_sym name n apart) ∙ sym now ∙ drops.held n ∙ ap (λ (b : Bool). cond b false (has_resource s n)) apart
+
+pub stashed_sound : (s mid : Session) (name : Name) → DropsName s name mid → IsSound mid → IsSound (record mid { unnamed = Some name })
+stashed_sound s mid name drops sound = record {
+  kept = sound.kept;
+  node_pairs = sound.node_pairs;
+  hub_pairs = sound.hub_pairs;
+  resource_pairs = sound.resource_pairs;
+  lease_pairs = sound.lease_pairs;
+  nodes = sound.nodes;
+  hubs = sound.hubs;
+  resources = sound.resources;
+  leases = sound.leases;
+  unnamed = λ n is. ap (spot_of mid.resources) (sym (same_Some name n is)) ∙ drops.free;
+}
+
+pub wrote_no_name : (s new : Session) (begun : List ℕ) → new ≡ s → WritesNoName s begun new begun
+wrote_no_name s new begun same =
+    subst (λ (t : Session). WritesNoName s begun t begun) (sym same) (record { held = λ n. refl; takes = none_taken; rest = refl; written = refl })
+
+pub wrote_stashed : (s mid : Session) (name : Name) (begun text : List ℕ) → DropsName s name mid → text ≡ begun → WritesNoName s begun (record mid { unnamed = Some name }) text
+wrote_stashed s mid name begun text drops same = record {
+  held = stashed_held s mid name drops;
+  takes = drops.takes;
+  rest = ap (λ (t : Session). record t { unnamed = Some name }) drops.rest;
+  written = same;
+}
+
+-- many ------------------------------------------------------------------------------------------------
+
+pub leads_same : (a b c : Name → Bool) (acts : List Act) → ((n : Name) → b n ≡ a n) → Leads b acts c → Leads a acts c
+leads_same a b c acts same leads = subst (λ (held : Name → Bool). Leads held acts c) (λ i n. same n i) leads
+
+pub leads_on : {a b c : Name → Bool} {xs ys : List Act} → Leads a xs b → Leads b ys c → Leads a (xs ++ ys) c
+leads_on {a} {b} {c} {xs} {ys} (no_act same) q = leads_same a b c ys same q
+leads_on (hands_in name free rest) q = hands_in name free (leads_on rest q)
+leads_on (releases name was rest) q = releases name was (leads_on rest q)
+
+takes_on : {a b c : State} → Takes a b → Takes b c → Takes a c
+takes_on p none_taken = p
+takes_on p (one_taken mid r before accepts) = one_taken mid r (takes_on p before) accepts
+
+names_rest : (a b c : Session) → b ≡ record a { book = b.book; resources = b.resources; unnamed = b.unnamed } → c ≡ record b { book = c.book; resources = c.resources; unnamed = c.unnamed } →
+    c ≡ record a { book = c.book; resources = c.resources; unnamed = c.unnamed }
+names_rest a b c p q = q ∙ ap (λ (s : Session). record s { book = c.book; resources = c.resources; unnamed = c.unnamed }) p
+
+drop_leads : (a b : Session) (name : Name) → DropsName a name b → Leads (has_resource a) (released name ∷ []) (has_resource b)
+drop_leads a b name drops = releases name drops.was (no_act drops.held)
+
+pub names_begun : (old now : Session) (begun text : List ℕ) → WritesName old begun (codes ",\"release\":[") now text → AreNamesWritten old begun now text
+names_begun old now begun text one = record {
+  first = one.name;
+  more = [];
+  releases = record { leads = drop_leads old now one.name one.drops; takes = one.drops.takes; rest = one.drops.rest };
+  written = one.written ∙ ap (λ (t : List ℕ). begun ++ codes ",\"release\":[" ++ t) (sym (append-nil (name_text one.name)));
+}
+
+pub names_more : (old mid now : Session) (begun before text : List ℕ) → AreNamesWritten old begun mid before → WritesName mid before (codes ",") now text → AreNamesWritten old begun now text
+names_more old mid now begun before text so_far one =
+    let all = so_far.first ∷ so_far.more in
+    record {
+      first = so_far.first;
+      more = so_far.more ++ one.name ∷ [];
+      releases = record {
+        leads = subst (λ (acts : List Act). Leads (has_resource old) acts (has_resource now)) (sym (map-append released all (one.name ∷ [])))
+            (leads_on so_far.releases.leads (drop_leads mid now one.name one.drops));
+        takes = takes_on so_far.releases.takes one.drops.takes;
+        rest = names_rest old mid now so_far.releases.rest one.drops.rest;
+      };
+      written = one.written ∙ array_more name_text begun (codes ",\"release\":[") so_far.first so_far.more one.name before so_far.written;
+    }
+
+pub names_ended : (old mid now : Session) (begun before text : List ℕ) → AreNamesWritten old begun mid before → WritesNoName mid before now text → WritesNames old begun now (text ++ codes "]")
+names_ended old mid now begun before text so_far none =
+    let all = so_far.first ∷ so_far.more in
+    record {
+      names = all;
+      releases = record {
+        leads = subst (λ (acts : List Act). Leads (has_resource old) acts (has_resource now)) (append-nil (map released all)) (leads_on so_far.releases.leads (no_act none.held));
+        takes = takes_on so_far.releases.takes none.takes;
+        rest = names_rest old mid now so_far.releases.rest none.rest;
+      };
+      written = ap (λ (t : List ℕ). t ++ codes "]") none.written ∙ array_end begun (codes ",\"release\":[") (joined (map name_text all)) before so_far.written;
+    }
+
+pub names_none : (old now : Session) (begun text : List ℕ) → WritesNoName old begun now text → WritesNames old begun now text
+names_none old now begun text none = record {
+  names = [];
+  releases = record { leads = no_act none.held; takes = none.takes; rest = none.rest };
+  written = none.written ∙ sym (append-nil begun);
+}

@@ -1,0 +1,12 @@
+pub mod Remaining
+pub mod Soundness
+pub mod Binding
+pub mod Opened
+pub mod Tellings
+pub mod Drops
+pub mod Bound
+pub mod Listings
+pub mod Acts
+pub mod Ended
+pub mod Sent
+pub mod Ties

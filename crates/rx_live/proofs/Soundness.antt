@@ -1,0 +1,98 @@
+-- A session stays sound as its book goes on.
+use Rattle.std.proofs.Common.{◌≡◌, ℕ, ◌≤◌, true, false, Option, Some, None, Result, Ok, Err, length, refl, sym, ap, ◌∙◌, arith, subst, inl, option_map, List, []}
+use Rattle.std.specs.Prelude.{IfOk, IfErr, OnOk, OnErr, is_some}
+use Rattle.std.specs.declared.alloc.AllocError.{AllocError}
+use Rattle.rx_event.specs.declared.refusal.Refusal.{Refusal}
+use Rattle.rx_event.specs.declared.refusal.Refusal.TheVariants.{NoMemory}
+use Rattle.std.proofs.lemmas.Option.{none-some}
+use Rattle.rx_event.specs.declared.event.Event.{Event}
+use Rattle.rx_event.specs.Resources.{is_out}
+use Rattle.rx_event.proofs.Laws.Leases.{is_out_past}
+use Rattle.rx_line.specs.Names.{IsPaired, AreNone}
+use Rattle.rx_book.specs.State.{State, IsPromised}
+use Rattle.rx_book.specs.Requests.{Request}
+use Rattle.rx_book.specs.Answers.{Accepts, IsCause, IsCauseOrWant}
+use Rattle.rx_book.proofs.Laws.Going.{step_longer}
+use Rattle.rx_line.specs.declared.outcome.Cause.TheVariants.{NoName}
+use Rattle.rx_line.specs.declared.outcome.Outcome.{Outcome}
+use Rattle.rx_line.specs.declared.outcome.Outcome.TheVariants.{Refused}
+use Rattle.rx_live.specs.Session.{Session, IsSound, is_kept}
+use Rattle.rx_live.specs.Carried.{outcome_of, Goes}
+use Rattle.rx_live.proofs.Remaining.{keeps_resources, keeps_leases, kept_same, out_same}
+
+pub accepted_longer : (old new : State) (asked : Request) → Accepts old asked new → length old.history ≤ length new.history
+accepted_longer old new asked accepts = let l = step_longer old.base old.history new.history asked.call accepts.step in omega arith
+
+-- a call that accepts and takes no resource, and gives and takes back no lease
+pub sound_on : (s : Session) (asked : Request) (book : State) → IsSound s → IsPromised book → Accepts s.book asked book → keeps_resources asked.call ≡ true → keeps_leases asked.call ≡ true →
+    IsSound (record s { book = book })
+sound_on s asked book sound kept accepts resources leases = record {
+  kept = kept;
+  node_pairs = sound.node_pairs;
+  hub_pairs = sound.hub_pairs;
+  resource_pairs = sound.resource_pairs;
+  lease_pairs = sound.lease_pairs;
+  nodes = λ n past. let l = accepted_longer s.book book asked accepts in sound.nodes n (omega arith);
+  hubs = λ n past. let l = accepted_longer s.book book asked accepts in sound.hubs n (omega arith);
+  resources = λ r. sound.resources r ∙ sym (kept_same s.book.base s.book.history book.history asked.call accepts.step resources r);
+  leases = λ l. sound.leases l ∙ sym (out_same s.book.base s.book.history book.history asked.call accepts.step leases l);
+  unnamed = sound.unnamed;
+}
+
+-- what such a call is answered
+pub goes_on : {A : Type 0} (s : Session) (asked : Request) (book : State) (answer : Result A Refusal) (outcome : Outcome) → IsSound s → IsPromised book →
+    keeps_resources asked.call ≡ true → keeps_leases asked.call ≡ true → OnOk answer (Accepts s.book asked book) → IfErr answer (IsCauseOrWant s.book asked) →
+    OnErr answer (book ≡ s.book) → outcome ≡ outcome_of answer → Goes s (Some asked) outcome (record s { book = book })
+goes_on s asked book (Ok a) outcome sound kept resources leases accepts refuses same is =
+    subst (λ (o : Outcome). Goes s (Some asked) o (record s { book = book })) (sym is)
+    (record { carries = (accepts, refl); sound = sound_on s asked book sound kept accepts resources leases })
+goes_on s asked book (Err why) outcome sound kept resources leases accepts refuses same is =
+    let stays : record s { book = book } ≡ s = ap (λ (b : State). record s { book = b }) same in
+    subst (λ (o : Outcome). Goes s (Some asked) o (record s { book = book })) (sym is)
+    (record { carries = (refuses, stays); sound = subst (λ (t : Session). IsSound t) (sym stays) sound })
+
+pub stays_refused : {A : Type 0} (s : Session) (book : State) (answer : Result A Refusal) (why : Refusal) → OnErr answer (book ≡ s.book) → answer ≡ Err why → record s { book = book } ≡ s
+stays_refused s book (Err w) why same is = ap (λ (b : State). record s { book = b }) same
+stays_refused s book (Ok a) why same is = cc
+
+-- a call that takes no memory is refused for its first cause
+pub of_cause : {A : Type 0} (old : State) (asked : Request) (answer : Result A Refusal) → IfErr answer (IsCause old asked) → IfErr answer (IsCauseOrWant old asked)
+of_cause old asked (Ok a) refuses = refuses
+of_cause old asked (Err why) refuses = inl refuses
+
+-- the whole answer, where the name is bound
+pub call_ok : {A K : Type 0} (s : Session) (f : K → Request) (k : K) (key : Option K) → key ≡ Some k → (book : State) (answer : Result A Refusal) (result : Result Outcome AllocError) →
+    IsSound s → IsPromised book → keeps_resources (f k).call ≡ true → keeps_leases (f k).call ≡ true → OnOk answer (Accepts s.book (f k) book) → IfErr answer (IsCauseOrWant s.book (f k)) →
+    OnErr answer (book ≡ s.book) → IfOk result (λ o. o ≡ outcome_of answer) → IfOk result (λ o. Goes s (option_map f key) o (record s { book = book }))
+call_ok s f k key found book answer (Err e) sound kept resources leases accepts refuses same told = told
+call_ok s f k key found book answer (Ok o) sound kept resources leases accepts refuses same told =
+    subst (λ (j : Option _). Goes s (option_map f j) o (record s { book = book })) (sym found) (goes_on s (f k) book answer o sound kept resources leases accepts refuses same told)
+
+pub call_err : {A : Type 0} (s : Session) (book : State) (answer : Result A Refusal) (result : Result Outcome AllocError) → OnErr answer (book ≡ s.book) →
+    OnErr result (answer ≡ Err NoMemory) → OnErr result (record s { book = book } ≡ s)
+call_err s book answer (Ok o) same told = told
+call_err s book answer (Err e) same told = stays_refused s book answer NoMemory same told
+
+-- and where it is not
+pub call_none : {K : Type 0} (s : Session) (f : K → Request) (key : Option K) → key ≡ None → IsSound s → Goes s (option_map f key) (Refused NoName) s
+call_none s f key none sound = subst (λ (j : Option _). Goes s (option_map f j) (Refused NoName) s) (sym none) (record { carries = (refl, refl); sound = sound })
+
+-- before the first line
+kept_none : (r : ℕ) → is_kept [] r ≡ false
+unfolding is_kept
+kept_none r = refl
+
+pub sound_start : (s : Session) → IsPromised s.book → s.book.history ≡ [] → IsPaired s.nodes → IsPaired s.hubs → IsPaired s.resources → IsPaired s.leases →
+    AreNone s.nodes → AreNone s.hubs → AreNone s.resources → AreNone s.leases → s.unnamed ≡ None → IsSound s
+sound_start s kept empty node_pairs hub_pairs resource_pairs lease_pairs nodes hubs resources leases unnamed = record {
+  kept = kept;
+  node_pairs = node_pairs;
+  hub_pairs = hub_pairs;
+  resource_pairs = resource_pairs;
+  lease_pairs = lease_pairs;
+  nodes = λ n past. nodes.1 n;
+  hubs = λ n past. hubs.1 n;
+  resources = λ r. ap is_some (resources.1 r) ∙ sym (ap (λ (h : List Event). is_kept h r) empty ∙ kept_none r);
+  leases = λ l. ap is_some (leases.1 l) ∙ sym (ap (λ (h : List Event). is_out h l) empty ∙ is_out_past [] l (omega arith));
+  unnamed = λ name is. absurd (none-some name (sym unnamed ∙ is));
+}

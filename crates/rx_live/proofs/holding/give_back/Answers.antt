@@ -1,0 +1,23 @@
+use Rattle.std.proofs.Common.{◌≡◌, false, Some, sym, ap, ◌∙◌, refl, option_map}
+use Rattle.rx_book.specs.State.{has_lease_key}
+use Rattle.rx_book.specs.Requests.{give_back_request}
+use Rattle.rx_line.specs.Names.{name_of}
+use Rattle.rx_live.specs.Session.{session_of, lease_of}
+use Rattle.rx_live.specs.Given.{FreesLease}
+use Rattle.rx_live.proofs.Binding.{given_accepted, lease_named, forgot, returned_sound}
+use Rattle.rx_live.proofs.holding.give_back.Goals as goal
+
+pub returns-in-Ok-clause-ok : goal.returns-in-Ok-clause-ok
+returns-in-Ok-clause-ok c =
+    let s = session_of c.args.engine.now in
+    let name = c.args.lease.now in
+    let key = c.in-Some.key in
+    let book = c.give_back.new.self in
+    let new = c.forget-name.new.self in
+    let found : lease_of s name ≡ Some key = sym c.lease_of.ensures ∙ c.in-Some.is in
+    let known : name_of s.leases key.number ≡ Some name = lease_named s name key c.requires found in
+    let forgets = forgot s.leases new key.number name c.forget-name.result known c.forget-name.ensures.value c.forget-name.ensures.some in
+    given_accepted s (record s { book = book; leases = new }) (option_map (give_back_request s.book) (lease_of s name)) (give_back_request s.book key) false (FreesLease s name)
+    (ap (option_map (give_back_request s.book)) found) refl c.in-Ok.ensures.accepted
+    (record { number = key.number; known = known; forgets = forgets; rest = refl })
+    (returned_sound s book key.number (has_lease_key s.book.lease_keys key) name new c.requires c.promise.ensures c.forget-name.ensures.paired forgets c.in-Ok.ensures.accepted)

@@ -1,0 +1,39 @@
+use Rattle.std.proofs.Common.{◌≡◌, Bool, false, Some, length, sym, ap, ◌∙◌, subst, option_map, string_bytes}
+use Rattle.rx_event.specs.Calls.{Holding}
+use Rattle.rx_scenario.specs.Scenario.{Name}
+use Rattle.rx_book.specs.State.{has_key}
+use Rattle.rx_book.specs.Answers.{Accepts}
+use Rattle.rx_line.specs.declared.names.Spot.{Spot}
+use Rattle.rx_line.specs.Names.{name_of, Binds}
+use Rattle.rx_live.specs.Session.{Session, session_of, node_of, has_resource}
+use Rattle.rx_live.specs.Given.{hold_asked, BindsResource}
+use Rattle.rx_live.proofs.Binding.{unnamed_resource, is_new, given_accepted, held_bound, held_sound}
+use Rattle.rx_live.proofs.holding.hold.Goals as goal
+
+pub bind-requires-clause-unnamed : goal.bind-requires-clause-unnamed
+bind-requires-clause-unnamed c =
+    let s = session_of c.args.engine.now in
+    c.make_room.ensures.same.names c.in-Ok.held.number ∙ ap (name_of s.resources) c.in-Ok.ensures.ok.number ∙ unnamed_resource s c.requires
+
+pub returns-in-Ok-clause-ok : goal.returns-in-Ok-clause-ok
+returns-in-Ok-clause-ok c =
+    let s = session_of c.args.engine.now in
+    let key = c.in-Some.key in
+    let name : Name = string_bytes c.args.res in
+    let mid = c.make_room.new.self in
+    let new = c.bind.new.self in
+    let book = c.hold.new.self in
+    let spot : Spot = record { slot = c.in-Ok.held.slot; number = c.in-Ok.held.number } in
+    let t : Session = record s { book = book; resources = new } in
+    let number : spot.number ≡ length s.book.history = c.in-Ok.ensures.ok.number in
+    let found : node_of s c.args.node.now ≡ Some key = sym c.node.ensures ∙ c.in-Some.is in
+    let free : has_resource s name ≡ false = ap (has_resource s) (sym c.as_str.ensures.value) ∙ sym c.has_resource.ensures ∙ c.if-has_resource.false in
+    let binds : Binds mid name spot new = subst (λ (n : Name). Binds mid n spot new) c.in_ok-res.ensures c.bind.ensures.binds in
+    let fresh = is_new c.new-2.result.life c.new-2.result.uses c.new-2.ensures.live c.new-2.ensures.unused in
+    let accepts : Accepts s.book (hold_asked s.book key) book =
+    subst (λ (b : Bool). Accepts s.book (record { call = Holding key.number 0; is_known = has_key s.book.keys key; is_fresh = b }) book) fresh c.in-Ok.ensures.accepted in
+    let paired = c.bind.ensures.paired (c.make_room.ensures.paired c.requires.resource_pairs) in
+    given_accepted s t (option_map (hold_asked s.book) (node_of s c.args.node.now)) (hold_asked s.book key) (has_resource s name) (BindsResource s name)
+    (ap (option_map (hold_asked s.book)) found) free accepts
+    (held_bound s book name spot mid new c.requires c.promise.ensures paired c.make_room.ensures.same binds number)
+    (held_sound s book name spot mid new c.requires c.promise.ensures paired key.number 0 (has_key s.book.keys key) c.make_room.ensures.same binds number free accepts)

@@ -1,0 +1,38 @@
+use Rattle.std.proofs.Common.{◌≡◌, false, Some, length, sym, ap, ◌∙◌, subst, option_map, string_bytes}
+use Rattle.std.specs.Prelude.{is_some}
+use Rattle.rx_scenario.specs.Scenario.{Name}
+use Rattle.rx_book.specs.State.{has_res_key}
+use Rattle.rx_book.specs.Requests.{lease_request}
+use Rattle.rx_book.specs.Answers.{Accepts}
+use Rattle.rx_line.specs.declared.names.Spot.{Spot}
+use Rattle.rx_line.specs.Names.{name_of, Binds}
+use Rattle.rx_live.specs.Session.{Session, session_of, resource_of, lease_of}
+use Rattle.rx_live.specs.Given.{BindsLease}
+use Rattle.rx_live.proofs.Binding.{unnamed_lease, given_accepted, leased_bound, leased_sound}
+use Rattle.rx_live.proofs.holding.lease.Goals as goal
+
+pub bind-requires-clause-unnamed : goal.bind-requires-clause-unnamed
+bind-requires-clause-unnamed c =
+    let s = session_of c.args.engine.now in
+    c.make_room.ensures.same.names c.in-Ok.lease.number ∙ ap (name_of s.leases) c.in-Ok.ensures.ok.number ∙ unnamed_lease s c.requires
+
+pub returns-in-Ok-clause-ok : goal.returns-in-Ok-clause-ok
+returns-in-Ok-clause-ok c =
+    let s = session_of c.args.engine.now in
+    let key = c.in-Some.key in
+    let name : Name = string_bytes c.args.name in
+    let mid = c.make_room.new.self in
+    let new = c.bind.new.self in
+    let book = c.lease.new.self in
+    let spot : Spot = record { slot = c.in-Ok.lease.slot; number = c.in-Ok.lease.number } in
+    let t : Session = record s { book = book; leases = new } in
+    let number : spot.number ≡ length s.book.history = c.in-Ok.ensures.ok.number in
+    let found : resource_of s c.args.res.now ≡ Some key = sym c.resource.ensures ∙ c.in-Some.is in
+    let free : is_some (lease_of s name) ≡ false = ap is_some (ap (lease_of s) (sym c.as_str.ensures.value) ∙ sym c.lease_of.ensures) ∙ sym c.is_some.ensures ∙ c.if-is_some.false in
+    let binds : Binds mid name spot new = subst (λ (n : Name). Binds mid n spot new) c.in_ok-name.ensures c.bind.ensures.binds in
+    let accepts : Accepts s.book (lease_request s.book key) book = c.in-Ok.ensures.accepted in
+    let paired = c.bind.ensures.paired (c.make_room.ensures.paired c.requires.lease_pairs) in
+    given_accepted s t (option_map (lease_request s.book) (resource_of s c.args.res.now)) (lease_request s.book key) (is_some (lease_of s name)) (BindsLease s name)
+    (ap (option_map (lease_request s.book)) found) free accepts
+    (leased_bound s book name spot mid new c.requires c.promise.ensures paired c.make_room.ensures.same binds number)
+    (leased_sound s book name spot mid new c.requires c.promise.ensures paired key.number (has_res_key s.book.res_keys key) c.make_room.ensures.same binds number accepts)

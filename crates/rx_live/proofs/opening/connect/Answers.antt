@@ -1,0 +1,58 @@
+use Rattle.std.proofs.Common.{◌≡◌, ℕ, false, Option, Some, length, sym, ap, ◌∙◌, subst, option_map, string_bytes}
+use Rattle.std.specs.Option.{option_map_or}
+use Rattle.rx_scenario.specs.Scenario.{Name}
+use Rattle.rx_book.specs.Requests.{connect_request}
+use Rattle.rx_book.specs.Answers.{Accepts}
+use Rattle.rx_live.specs.Session.{session_of, hub_of}
+use Rattle.rx_live.specs.Openings.{is_node, BindsMade, BindsConnection}
+use Rattle.rx_live.proofs.Binding.{given_accepted, given_refused}
+use Rattle.rx_live.proofs.Bound.{unchanged_room, on_err, with_book, connected_bound, connected_sound}
+use Rattle.rx_live.proofs.opening.connect.Goals as goal
+
+pub returns-in_err-make_room-clause-err : goal.returns-in_err-make_room-clause-err
+returns-in_err-make_room-clause-err c =
+    let s = session_of c.args.engine.now in
+    on_err c.from_residual-in_err-make_room.result _
+    (unchanged_room s c.is_other_taken.new.nodes c.make_room.new.self c.requires c.is_other_taken.ensures.same c.make_room.ensures.same
+    (c.make_room.ensures.paired c.is_other_taken.ensures.paired))
+
+pub returns-in-Err-clause-err : goal.returns-in-Err-clause-err
+returns-in-Err-clause-err c =
+    let s = session_of c.args.engine.now in
+    let t = c.make_room.new.self in
+    on_err c.answered.result _ (with_book s c.connect.new.self t s.resources c.in-Err.ensures.kept
+    (unchanged_room s c.is_other_taken.new.nodes t c.requires c.is_other_taken.ensures.same c.make_room.ensures.same (c.make_room.ensures.paired c.is_other_taken.ensures.paired)))
+
+pub returns-in-Err-clause-ok : goal.returns-in-Err-clause-ok
+returns-in-Err-clause-ok c =
+    let s = session_of c.args.engine.now in
+    let t = c.make_room.new.self in
+    let name : Option Name = option_map string_bytes c.args.name in
+    let found : hub_of s c.args.hub.now ≡ Some c.in-Some.number = sym c.hub_of.ensures ∙ c.in-Some.is in
+    let free : option_map_or (is_node s) name false ≡ false = sym c.is_other_taken.ensures.answer ∙ c.if-is_other_taken.false in
+    given_refused s (record s { book = c.connect.new.self; nodes = t }) (option_map connect_request (hub_of s c.args.hub.now)) (connect_request c.in-Some.number)
+    (option_map_or (is_node s) name false) (BindsConnection s name) c.in-Err.why c.answered.result
+    (ap (option_map connect_request) found) free c.in-Err.ensures.refused
+    (with_book s c.connect.new.self t s.resources c.in-Err.ensures.kept
+    (unchanged_room s c.is_other_taken.new.nodes t c.requires c.is_other_taken.ensures.same c.make_room.ensures.same (c.make_room.ensures.paired c.is_other_taken.ensures.paired)))
+    c.answered.ensures.ok
+
+pub returns-in-Ok-clause-ok : goal.returns-in-Ok-clause-ok
+returns-in-Ok-clause-ok c =
+    let s = session_of c.args.engine.now in
+    let mid = c.is_other_taken.new.nodes in
+    let t = c.make_room.new.self in
+    let new = c.bind_made.new.nodes in
+    let book = c.connect.new.self in
+    let name : Option Name = option_map string_bytes c.args.name in
+    let found : hub_of s c.args.hub.now ≡ Some c.in-Some.number = sym c.hub_of.ensures ∙ c.in-Some.is in
+    let free : option_map_or (is_node s) name false ≡ false = sym c.is_other_taken.ensures.answer ∙ c.if-is_other_taken.false in
+    let named : BindsMade t name (Some c.in-Ok.connection.number) new =
+    subst (λ (n : Option Name). BindsMade t n (Some c.in-Ok.connection.number) new) c.in_ok-name.ensures c.bind_made.ensures.binds in
+    let made : BindsMade t name (Some (length s.book.history)) new = subst (λ (k : ℕ). BindsMade t name (Some k) new) c.in-Ok.ensures.ok.number named in
+    let paired = c.bind_made.ensures.paired (c.make_room.ensures.paired c.is_other_taken.ensures.paired) in
+    let accepts : Accepts s.book (connect_request c.in-Some.number) book = c.in-Ok.ensures.accepted in
+    given_accepted s (record s { book = book; nodes = new }) (option_map connect_request (hub_of s c.args.hub.now)) (connect_request c.in-Some.number)
+    (option_map_or (is_node s) name false) (BindsConnection s name) (ap (option_map connect_request) found) free accepts
+    (connected_bound s mid t c.requires c.is_other_taken.ensures.same c.make_room.ensures.same book new c.promise.ensures paired name made)
+    (connected_sound s mid t c.requires c.is_other_taken.ensures.same c.make_room.ensures.same book new c.promise.ensures paired name made c.in-Some.number accepts)

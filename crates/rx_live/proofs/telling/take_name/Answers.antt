@@ -1,0 +1,23 @@
+use Rattle.std.proofs.Common.{◌≡◌, ℕ, true, sym, subst}
+use Rattle.rx_book.specs.Requests.{take_request}
+use Rattle.rx_book.specs.Answers.{Accepts}
+use Rattle.std.specs.Prelude.{is_some}
+use Rattle.rx_line.specs.Names.{name_of}
+use Rattle.rx_live.specs.Session.{session_of}
+use Rattle.rx_live.proofs.Drops.{contains_number, waiting_named, never_none, taken_sound}
+use Rattle.rx_live.proofs.telling.take_name.Goals as goal
+
+pub returns-clause-none : goal.returns-clause-none
+returns-clause-none c =
+    let s = session_of c.args.engine.now in
+    let named : is_some (name_of s.resources c.number-number.result) ≡ true =
+    waiting_named s c.number-number.result c.requires (contains_number (λ l. l.number) s.book.waiting _ c.number-number.result c.in_ok-handed.ensures.cases c.number-number.ensures) in
+    never_none c.forget.result (name_of s.resources c.number-number.result) _ c.forget.ensures.value named
+
+pub returns-clause-sound : goal.returns-clause-sound
+returns-clause-sound c =
+    let s = session_of c.args.engine.now in
+    let named : is_some (name_of s.resources c.number-number.result) ≡ true =
+    waiting_named s c.number-number.result c.requires (contains_number (λ l. l.number) s.book.waiting _ c.number-number.result c.in_ok-handed.ensures.cases c.number-number.ensures) in
+    taken_sound s c.take.new.self c.number-number.result c.forget.new.self c.forget.result c.requires c.promise-2.ensures c.forget.ensures.paired
+    (subst (λ (q : ℕ). Accepts s.book (take_request q) c.take.new.self) (sym c.number-number.ensures) c.in_ok-handed.ensures.accepted) named c.forget.ensures.value c.forget.ensures.some

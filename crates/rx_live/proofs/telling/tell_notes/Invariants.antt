@@ -1,0 +1,16 @@
+use Rattle.std.proofs.Common.{length, string_bytes}
+use Rattle.rx_live.specs.Session.{session_of, IsSound}
+use Rattle.rx_live.specs.Answers.{to_tell}
+use Rattle.rx_live.specs.Steps.{AreNotesWritten}
+use Rattle.rx_live.specs.Room.{HasRoom}
+use Rattle.rx_live.proofs.telling.tell_notes.Given as goal
+
+abbrev pub invariant-notes : goal.invariant-notes
+invariant-notes l = record {
+  written : AreNotesWritten (session_of l.fn.engine) (string_bytes l.fn.text) (session_of l.engine) (string_bytes l.text);
+  sound : IsSound (session_of l.engine);
+  room : HasRoom 3 l.text;
+}
+
+abbrev pub decreases-notes : goal.decreases-notes
+decreases-notes l = length (to_tell (session_of l.engine))

@@ -1,0 +1,46 @@
+use Rattle.std.proofs.Common.{ℕ, List, sym, subst, arith, string_bytes}
+use Rattle.rx_live.specs.Session.{session_of}
+use Rattle.rx_live.specs.Answers.{WritesNames}
+use Rattle.rx_live.specs.Room.{HasRoom}
+use Rattle.rx_live.proofs.Drops.{names_begun, names_more, names_ended, names_none}
+use Rattle.rx_live.proofs.telling.tell_releases.Goals as goal
+
+pub names-init : goal.names-init
+names-init c = record {
+  written = names_begun (session_of c.args.engine.now) (session_of c.push_name.new.engine) (string_bytes c.args.text.now) (string_bytes c.push_name.new.text) c.if-not-push_name.ensures.told;
+  sound = c.push_name.ensures.sound;
+  room = c.push_name.ensures.room 2 (omega arith) c.requires.room;
+}
+
+pub names-preserved : goal.names-preserved
+names-preserved c = record {
+  written = names_more (session_of c.args.engine.now) (session_of c.names.engine) (session_of c.push_name-in-names.new.engine) (string_bytes c.args.text.now) (string_bytes c.names.text)
+      (string_bytes c.push_name-in-names.new.text) c.names.invariant.written c.names-test.ensures.told;
+  sound = c.push_name-in-names.ensures.sound;
+  room = c.push_name-in-names.ensures.room 2 (omega arith) c.names.invariant.room;
+}
+
+pub returns-clause-told : goal.returns-clause-told
+returns-clause-told c =
+    let old = session_of c.args.engine.now in
+    let now = session_of c.push_name-in-names.new.engine in
+    let begun : List ℕ = string_bytes c.args.text.now in
+    subst (λ (t : List ℕ). WritesNames old begun now t) (sym c.put.ensures.bytes)
+    (names_ended old (session_of c.names.engine) now begun (string_bytes c.names.text) (string_bytes c.push_name-in-names.new.text) c.names.invariant.written c.names-test.ensures.told)
+
+pub returns-then-not-push_name-clause-room : goal.returns-then-not-push_name-clause-room
+returns-then-not-push_name-clause-room c = let r : HasRoom 2 c.args.text.now = c.requires.room in c.push_name.ensures.room 1 (omega arith) (omega (arith, r))
+
+pub put-requires : goal.put-requires
+put-requires c =
+    let r : HasRoom 2 c.push_name-in-names.new.text = c.push_name-in-names.ensures.room 2 (omega arith) c.names.invariant.room in
+    record { room = omega (arith, r) }
+
+pub returns-clause-room : goal.returns-clause-room
+returns-clause-room c =
+    let r : HasRoom 2 c.push_name-in-names.new.text = c.push_name-in-names.ensures.room 2 (omega arith) c.names.invariant.room in
+    omega (arith, r, c.put.ensures.len, c.put.ensures.capacity)
+
+pub returns-then-not-push_name-clause-told : goal.returns-then-not-push_name-clause-told
+returns-then-not-push_name-clause-told c =
+    names_none (session_of c.args.engine.now) (session_of c.push_name.new.engine) (string_bytes c.args.text.now) (string_bytes c.push_name.new.text) c.if-not-push_name.ensures.told

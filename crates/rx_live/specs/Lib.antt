@@ -1,0 +1,11 @@
+pub mod Session
+pub mod Carried
+pub mod Given
+pub mod Openings
+pub mod Promise
+pub mod Answers
+pub mod Steps
+pub mod Listed
+pub mod Lines
+pub mod Sessions
+pub mod Room

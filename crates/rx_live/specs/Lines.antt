@@ -1,0 +1,128 @@
+-- What a line is answered, and what the last line says.
+use Rattle.std.specs.Prelude.{◌≡◌, ℕ, false, List, [], ◌∷◌, ◌++◌, codes, map, length, Some, None, is_some, option_map}
+use Rattle.std.specs.Option.{option_map_or}
+use Rattle.rx_scenario.specs.Scenario.{Name, Command, using, open_node, hold, apply, remove, lease, give_back, next, end, abort, decline, fail, dispose, make_hub, connect, disconnect, drain}
+use Rattle.rx_book.specs.Requests.{apply_request, remove_request, lease_request, give_back_request, next_request, end_request, abort_request, decline_request, fail_request, dispose_request, hub_request, connect_request, disconnect_request}
+use Rattle.rx_line.specs.Orders.{command, list, dump, IsOrderOf, IsFaulty}
+use Rattle.rx_line.specs.Names.{AreNone}
+use Rattle.rx_line.specs.Pieces.{ok_text, refused_text, faulty_text, name_text, member_text}
+use Rattle.rx_line.specs.declared.outcome.Cause.{Cause}
+use Rattle.rx_line.specs.declared.outcome.Outcome.{Outcome}
+use Rattle.rx_line.specs.declared.outcome.Outcome.TheVariants.{Accepted, Refused}
+use Rattle.rx_live.specs.Session.{Session, node_of, resource_of, lease_of, hub_of, has_resource}
+use Rattle.rx_live.specs.Carried.{Goes}
+use Rattle.rx_live.specs.Given.{IsAlike, GivesNames, BindsResource, BindsLease, BindsHub, FreesLease, hold_asked}
+use Rattle.rx_live.specs.Openings.{open_asked, using_asked, connection_of, is_node, is_open_taken, is_using_taken, BindsNode, BindsUsing, BindsConnection}
+use Rattle.rx_live.specs.Promise.{Act, handed_in, released, Leads}
+use Rattle.rx_live.specs.Answers.{Told, told_text, TellsNotes, ReleasesNames}
+
+-- a command -------------------------------------------------------------------------------------------
+
+-- what a command comes to, by its own relation
+abbrev pub Runs : Session → Command → Outcome → Session → Type 0
+Runs old (using name site res) o new = GivesNames old (using_asked old site) (is_using_taken old name res) (BindsUsing old name res) o new
+Runs old (open_node name site sort) o new = GivesNames old (open_asked old site sort) (is_open_taken old name (connection_of sort)) (BindsNode old name (connection_of sort)) o new
+Runs old (hold node res) o new = GivesNames old (option_map (hold_asked old.book) (node_of old node)) (has_resource old res) (BindsResource old res) o new
+Runs old (apply res word) o new = Goes old (option_map (apply_request old.book) (resource_of old res)) o new
+Runs old (remove res) o new = Goes old (option_map (remove_request old.book) (resource_of old res)) o new
+Runs old (lease res name) o new =
+    GivesNames old (option_map (lease_request old.book) (resource_of old res)) (is_some (lease_of old name)) (BindsLease old name) o new
+Runs old (give_back name) o new = GivesNames old (option_map (give_back_request old.book) (lease_of old name)) false (FreesLease old name) o new
+Runs old (next node value) o new = Goes old (option_map (λ k. next_request old.book k value) (node_of old node)) o new
+Runs old (end node terminal) o new = Goes old (option_map (λ k. end_request old.book k terminal) (node_of old node)) o new
+Runs old (abort node code) o new = Goes old (option_map (λ k. abort_request old.book k code) (node_of old node)) o new
+Runs old (decline node) o new = Goes old (option_map (λ k. decline_request old.book k) (node_of old node)) o new
+Runs old (fail node code) o new = Goes old (option_map (λ k. fail_request old.book k code) (node_of old node)) o new
+Runs old (dispose node) o new = Goes old (option_map (λ k. dispose_request old.book k) (node_of old node)) o new
+Runs old (make_hub name mode) o new = GivesNames old (Some (hub_request mode)) (is_some (hub_of old name)) (BindsHub old name) o new
+Runs old (connect hub name) o new = GivesNames old (option_map connect_request (hub_of old hub)) (option_map_or (is_node old) name false) (BindsConnection old name) o new
+Runs old (disconnect hub) o new = Goes old (option_map (λ g. disconnect_request g) (hub_of old hub)) o new
+-- nothing waits between two lines
+Runs old drain o new = (o ≡ Accepted) × (new ≡ old)
+
+-- what it hands in where it is carried out
+abbrev pub handed_by : Command → List Act
+handed_by (using name site res) = handed_in res ∷ []
+handed_by (hold node res) = handed_in res ∷ []
+handed_by _ = []
+
+-- its answer ------------------------------------------------------------------------------------------
+
+-- behind what was written, all notes and names for which there was memory
+pub record TellsAll (old : Session) (begun : List ℕ) (new : Session) (text : List ℕ) : Type 0 where
+  pub mid : Session
+  pub told : List Told
+  pub tells : TellsNotes old told mid
+  pub names : List Name
+  pub releases : ReleasesNames mid names new
+  pub written : text ≡ begun ++ member_text (codes "notes") (map told_text told) ++ member_text (codes "release") (map name_text names) ++ codes "}"
+
+-- a command that was carried out, what was told, and the names that it hands in and that are released
+pub record IsCarried (old : Session) (c : Command) (text : List ℕ) (acts : List Act) (new : Session) : Type 0 where
+  pub done : Session
+  pub runs : Runs old c Accepted done
+  pub left : Session
+  pub tells : TellsAll done (ok_text (length old.book.history)) left text
+  pub alike : IsAlike left new
+  pub acts_are : acts ≡ handed_by c ++ map released tells.names
+
+-- what a command comes to: it is refused, or carried out
+pub data CarriesOut (old : Session) (c : Command) (text : List ℕ) (new : Session) : Type 0 where
+  refuses : (why : Cause) → Runs old c (Refused why) new → text ≡ refused_text why → CarriesOut old c text new
+  carries : (acts : List Act) → IsCarried old c text acts new → CarriesOut old c text new
+
+-- a line, with what its answer hands in and releases
+pub data IsAnswer (old : Session) (line text : List ℕ) : List Act → Session → Type 0 where
+  is_faulty : (told : List ℕ) → IsFaulty line → text ≡ faulty_text told → IsAnswer old line text [] old
+  is_refused : {new : Session} (c : Command) (why : Cause) → IsOrderOf line (command c) → Runs old c (Refused why) new → text ≡ refused_text why → IsAnswer old line text [] new
+  is_carried : {new : Session} {acts : List Act} (c : Command) → IsOrderOf line (command c) → IsCarried old c text acts new → IsAnswer old line text acts new
+  is_listed : IsOrderOf line list → IsAnswer old line text [] old
+  is_dumped : IsOrderOf line dump → IsAnswer old line text [] old
+
+-- a line's answer, and the names that it hands in and releases
+pub record Sends (old : Session) (line text : List ℕ) (new : Session) : Type 0 where
+  pub acts : List Act
+  pub answer : IsAnswer old line text acts new
+  pub leads : Leads (has_resource old) acts (has_resource new)
+
+-- the last line ---------------------------------------------------------------------------------------
+
+-- nothing is open, held, waiting or leased, and no name is bound
+pub record IsClosed (s : Session) : Type 0 where
+  pub none_open : s.book.keys ≡ []
+  pub none_held : s.book.held ≡ []
+  pub none_waits : s.book.waiting ≡ []
+  pub none_out : s.book.lease_keys ≡ []
+  pub nodes : AreNone s.nodes
+  pub hubs : AreNone s.hubs
+  pub resources : AreNone s.resources
+  pub leases : AreNone s.leases
+  pub unnamed : s.unnamed ≡ None
+
+-- all that is held is released
+pub record Ends (old : Session) (text : List ℕ) (new : Session) : Type 0 where
+  pub names : List Name
+  pub leads : Leads (has_resource old) (map released names) (λ name. false)
+  pub told : List Told
+  pub left : Session
+  pub tells : TellsNotes old told left
+  pub written : text ≡ codes "{\"closed\":true" ++ member_text (codes "release") (map name_text names) ++ member_text (codes "notes") (map told_text told) ++ codes "}"
+  pub closed : IsClosed new
+
+-- sessions --------------------------------------------------------------------------------------------
+
+-- lines that are sent one after another, and what they hand in and release
+pub data GoesOn : Session → List Act → Session → Type 0 where
+  no_line : {s : Session} → GoesOn s [] s
+  one_line : {old last : Session} {more : List Act} (line text : List ℕ) (new : Session) → (sent : Sends old line text new) → GoesOn new more last → GoesOn old (sent.acts ++ more) last
+
+-- before the first line no name is bound
+pub record IsFresh (s : Session) : Type 0 where
+  pub history : s.book.history ≡ []
+  pub given : s.book.given ≡ 0
+  pub nodes : AreNone s.nodes
+  pub hubs : AreNone s.hubs
+  pub resources : AreNone s.resources
+  pub leases : AreNone s.leases
+  pub untold : s.untold ≡ None
+  pub unnamed : s.unnamed ≡ None

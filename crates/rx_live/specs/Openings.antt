@@ -1,0 +1,94 @@
+-- What a command asks that opens a node or connects a hub, and which names it gives.
+use Rattle.std.specs.Prelude.{◌≡◌, ℕ, ◌+◌, ◌||◌, Bool, false, true, Option, Some, None, length, is_some, option_map, option_and_then}
+use Rattle.std.specs.Str.{bytes_eq}
+use Rattle.std.specs.Option.{option_map_or}
+use Rattle.rx_event.specs.declared.event.Kind.{Kind}
+use Rattle.rx_event.specs.declared.event.Kind.TheVariants.{Leaf, Pass, Flat, Switch, Until, Sub}
+use Rattle.rx_event.specs.Calls.{OpeningUsing}
+use Rattle.rx_scenario.specs.Scenario.{Name, Site, root, source, inner, notifier, Sort, leaf, pass, flat, switch, until, sub}
+use Rattle.rx_book.specs.declared.answer.At.{At}
+use Rattle.rx_book.specs.declared.answer.At.TheVariants.{Root as AtRoot, Source as AtSource, Inner as AtInner, Notifier as AtNotifier}
+use Rattle.rx_book.specs.State.{State}
+use Rattle.rx_book.specs.Requests.{Request, open_request, place_of, is_known_place}
+use Rattle.rx_book.specs.Answers.{connection_made}
+use Rattle.rx_line.specs.declared.names.Names.{Names}
+use Rattle.rx_live.specs.Session.{Session, node_of, hub_of, has_resource}
+use Rattle.rx_live.specs.Given.{IsAlike, NamesOne}
+
+-- the place that a site stands for
+abbrev pub place_at : Session → Site → Option At
+place_at s root = Some AtRoot
+place_at s (source name) = option_map AtSource (node_of s name)
+place_at s (inner name) = option_map AtInner (node_of s name)
+place_at s (notifier name) = option_map AtNotifier (node_of s name)
+
+-- the kind that a sort stands for
+abbrev pub kind_of : Session → Sort → Option Kind
+kind_of s leaf = Some Leaf
+kind_of s pass = Some Pass
+kind_of s flat = Some Flat
+kind_of s switch = Some Switch
+kind_of s until = Some Until
+kind_of s (sub hub connection) = option_map Sub (hub_of s hub)
+
+-- the name for the connection that a subscriber's opening may make
+abbrev pub connection_of : Sort → Option Name
+connection_of leaf = None
+connection_of pass = None
+connection_of flat = None
+connection_of switch = None
+connection_of until = None
+connection_of (sub hub connection) = connection
+
+-- what is asked ---------------------------------------------------------------------------------------
+
+abbrev pub open_asked : Session → Site → Sort → Option Request
+open_asked s site sort = option_and_then (λ at. option_map (open_request s.book at) (kind_of s sort)) (place_at s site)
+
+-- what the book holds in the place of a resource is fresh, and has the tag 0
+abbrev pub using_at : State → At → Request
+using_at book at = record { call = OpeningUsing (place_of at) 0; is_known = is_known_place book.keys at; is_fresh = true }
+
+abbrev pub using_asked : Session → Site → Option Request
+using_asked s site = option_map (using_at s.book) (place_at s site)
+
+-- which names are taken --------------------------------------------------------------------------------
+
+abbrev pub is_node : Session → Name → Bool
+is_node s name = is_some (node_of s name)
+
+abbrev pub is_open_taken : Session → Name → Option Name → Bool
+is_open_taken s name connection = is_node s name || option_map_or (bytes_eq name) connection false || option_map_or (is_node s) connection false
+
+abbrev pub is_using_taken : Session → (name res : Name) → Bool
+is_using_taken s name res = is_node s name || has_resource s res
+
+-- what is bound ----------------------------------------------------------------------------------------
+
+-- a name for a node that was made, where there are both
+abbrev pub BindsMade : Names → Option Name → Option ℕ → Names → Type 0
+BindsMade old (Some name) (Some number) new = NamesOne old name number new
+BindsMade old (Some name) None new = new ≡ old
+BindsMade old None made new = new ≡ old
+
+pub record BindsNode (old : Session) (name : Name) (connection : Option Name) (new : Session) : Type 0 where
+  -- the names that are left as some of closed nodes are forgotten
+  pub nodes : Names
+  pub alike : IsAlike old (record old { nodes = nodes })
+  pub with_node : Names
+  pub node : NamesOne nodes name (length old.book.history) with_node
+  pub made : BindsMade with_node connection (connection_made old.book.history new.book.history) new.nodes
+  pub rest : new ≡ record old { book = new.book; nodes = new.nodes }
+
+pub record BindsUsing (old : Session) (name res : Name) (new : Session) : Type 0 where
+  pub nodes : Names
+  pub alike : IsAlike old (record old { nodes = nodes })
+  pub node : NamesOne nodes name (length old.book.history) new.nodes
+  pub resource : NamesOne old.resources res (length old.book.history + 1) new.resources
+  pub rest : new ≡ record old { book = new.book; nodes = new.nodes; resources = new.resources }
+
+pub record BindsConnection (old : Session) (name : Option Name) (new : Session) : Type 0 where
+  pub nodes : Names
+  pub alike : IsAlike old (record old { nodes = nodes })
+  pub made : BindsMade nodes name (Some (length old.book.history)) new.nodes
+  pub rest : new ≡ record old { book = new.book; nodes = new.nodes }

@@ -1,0 +1,12 @@
+-- Room in a text for what closes an answer. No public clause cites this module.
+use Rattle.std.specs.Prelude.{ℕ, ◌+◌, ◌≤◌, String}
+use Rattle.std.specs.String.{string_len, string_capacity}
+use Rattle.std.specs.declared.alloc.Global.{Global}
+
+-- so many bytes may still be put behind it without any memory being asked for
+abbrev pub HasRoom : ℕ → String Global → Type 0
+HasRoom n text = string_len text + n ≤ string_capacity text
+
+-- what closes an answer still finds room
+abbrev pub KeepsRoom : String Global → String Global → Type 0
+KeepsRoom old new = (n : ℕ) → n ≤ 32 → HasRoom n old → HasRoom n new

@@ -1,0 +1,92 @@
+//! The end of a session.
+
+ghost use Rattle.std.specs.Prelude.{◌≡◌, ◌++◌, ◌&&◌, codes, map, option_map, is_some, string_bytes, IfOk, OnOk};
+ghost use Rattle.std.proofs.Math.Bool.{not};
+ghost use Rattle.std.specs.Option.{option_to_list};
+ghost use Rattle.rx_line.specs.Names.{name_of};
+ghost use Rattle.rx_line.specs.Pieces.{name_text, member_text};
+ghost use Rattle.rx_live.specs.Session.{session_of, IsSound};
+ghost use Rattle.rx_live.specs.Lines.{IsClosed};
+ghost use Rattle.rx_live.specs.Listed.{all_names, is_nil, lead_of, led_text, open_text};
+
+use crate::engine::Engine;
+use crate::telling::push_quoted;
+use rx_line::Names;
+use std::alloc::AllocError;
+
+// What leads to a name in an array.
+fn lead_of(is_first: bool) -> &'static str
+    ensures { result.now ≡ lead_of is_first }
+{
+    if is_first { ",\"release\":[" } else { "," }
+}
+
+// Writes the name of the resource of this number, where it has one. Answers whether the next is still the first.
+fn push_number(
+    engine: &Engine,
+    text: &mut String,
+    is_first: bool,
+    number: u64,
+) -> Result<bool, AllocError>
+    ensures first { IfOk result (λ b. b ≡ (is_first && not (is_some (name_of engine.now.resources number)))) }
+    ensures text { OnOk result (string_bytes text.new ≡ string_bytes text.old ++ led_text is_first (name_of engine.now.resources number)) }
+{
+    match engine.resources.name_of(number) {
+        Some(name) => {
+            push_quoted(text, lead_of(is_first), name)?;
+            Ok(false)
+        }
+        None => Ok(is_first),
+    }
+}
+
+// Writes the name that was taken and is still to be told.
+fn push_unnamed(engine: &Engine, text: &mut String) -> Result<bool, AllocError>
+    ensures first { IfOk result (λ b. b ≡ is_nil (option_to_list (option_map string_bytes engine.now.unnamed))) }
+    ensures text { OnOk result (string_bytes text.new ≡ string_bytes text.old ++ open_text (option_to_list (option_map string_bytes engine.now.unnamed))) }
+{
+    match &engine.unnamed {
+        Some(name) => {
+            push_quoted(text, lead_of(true), name.as_str())?;
+            Ok(false)
+        }
+        None => Ok(true),
+    }
+}
+
+// Writes all names that are bound or still to be told, each once.
+fn push_all(engine: &Engine, text: &mut String) -> Result<bool, AllocError>
+    ensures first { IfOk result (λ b. b ≡ is_nil (all_names (session_of engine.now))) }
+    ensures text { OnOk result (string_bytes text.new ≡ string_bytes text.old ++ open_text (all_names (session_of engine.now))) }
+{
+    let mut is_first = push_unnamed(engine, text)?;
+    'numbers: for number in 0..engine.book.len() {
+        is_first = push_number(engine, text, is_first, number)?;
+    }
+    Ok(is_first)
+}
+
+/// Writes the member that names all that is left to be released. Err where memory is refused.
+pub fn push_names(engine: &Engine, text: &mut String) -> Result<(), AllocError>
+    ensures { OnOk result (string_bytes text.new ≡ string_bytes text.old ++ member_text (codes "release") (map name_text (all_names (session_of engine.now)))) }
+{
+    if push_all(engine, text)? {
+        return Ok(());
+    }
+    text.push_str("]")
+}
+
+/// Closes all, and forgets all names. It takes no memory.
+pub fn close(engine: &mut Engine)
+    requires { IsSound (session_of engine.old) }
+    ensures closed { IsClosed (session_of engine.new) }
+    ensures sound { IsSound (session_of engine.new) }
+{
+    let _closed = engine.book.close();
+    engine.book.promise();
+    engine.nodes = Names::new(engine.alloc);
+    engine.hubs = Names::new(engine.alloc);
+    engine.resources = Names::new(engine.alloc);
+    engine.leases = Names::new(engine.alloc);
+    engine.unnamed = None;
+}

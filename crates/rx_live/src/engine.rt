@@ -1,0 +1,107 @@
+//! A session: its book, and what names stand for.
+
+ghost use Rattle.std.specs.Prelude.{◌≡◌, ◌≤◌};
+ghost use Rattle.rx_live.specs.Lines.{IsFresh};
+ghost use Rattle.rx_live.specs.Session.{session_of, node_of, resource_of, lease_of, hub_of, has_resource, IsSound};
+
+use crate::token::Token;
+use rx_book::{Book, Key, LeaseKey, Mail, ResKey};
+use rx_line::Names;
+use std::alloc::Global;
+
+/// A book, and the names of its nodes, of its hubs, of its resources and of its leases.
+#[derive(Drop)]
+pub struct Engine {
+    pub alloc: Global,
+    pub book: Book<Token>,
+    pub nodes: Names,
+    pub hubs: Names,
+    pub resources: Names,
+    pub leases: Names,
+    /// A note that was taken from the book and, in want of memory, is still to be told.
+    pub untold: Option<Mail>,
+    /// The name of a resource that was taken from the book and is still to be told.
+    pub unnamed: Option<String>,
+}
+
+impl Engine {
+    /// Nothing is open, and no name is bound.
+    pub fn new(alloc: Global, max_events: u64) -> Self
+        requires { max_events ≤ 4294967295 }
+        ensures sound { IsSound (session_of result) }
+        ensures fresh { IsFresh (session_of result) }
+    {
+        let book = Book::new(alloc, max_events);
+        book.promise();
+        Engine {
+            alloc,
+            book,
+            nodes: Names::new(alloc),
+            hubs: Names::new(alloc),
+            resources: Names::new(alloc),
+            leases: Names::new(alloc),
+            untold: None,
+            unnamed: None,
+        }
+    }
+
+    /// The open node that has the name.
+    #[tactic(auto, unfolding(crate::specs::Session::node_in))]
+    pub fn node(&self, name: &str) -> Option<Key>
+        ensures { result ≡ node_of (session_of self.now) name.now }
+    {
+        let spot = self.nodes.get(name)?;
+        let key = Key {
+            slot: spot.slot,
+            number: spot.number,
+        };
+        if self.book.is_open(key) {
+            Some(key)
+        } else {
+            None
+        }
+    }
+
+    /// The held resource that has the name, or one that waits, whose key is nobody's.
+    pub fn resource(&self, name: &str) -> Option<ResKey>
+        ensures { result ≡ resource_of (session_of self.now) name.now }
+    {
+        let spot = self.resources.get(name)?;
+        Some(ResKey {
+            slot: spot.slot,
+            number: spot.number,
+        })
+    }
+
+    /// Whether a resource of this name was handed in, and is not yet told to be released.
+    pub fn has_resource(&self, name: &str) -> bool
+        ensures { result ≡ has_resource (session_of self.now) name.now }
+    {
+        if self.resources.get(name).is_some() {
+            return true;
+        }
+        match &self.unnamed {
+            Some(unnamed) => name == unnamed.as_str(),
+            None => false,
+        }
+    }
+
+    /// The lease that has the name.
+    pub fn lease_of(&self, name: &str) -> Option<LeaseKey>
+        ensures { result ≡ lease_of (session_of self.now) name.now }
+    {
+        let spot = self.leases.get(name)?;
+        Some(LeaseKey {
+            slot: spot.slot,
+            number: spot.number,
+        })
+    }
+
+    /// The number of the hub that has the name.
+    pub fn hub_of(&self, name: &str) -> Option<u64>
+        ensures { result ≡ hub_of (session_of self.now) name.now }
+    {
+        let spot = self.hubs.get(name)?;
+        Some(spot.number)
+    }
+}

@@ -1,0 +1,41 @@
+//! Commands, one after another.
+
+ghost use Rattle.std.specs.Prelude.{IfOk, OnErr};
+ghost use Rattle.rx_scenario.specs.Scenario.{command_of};
+ghost use Rattle.rx_live.specs.Session.{session_of, IsSound};
+ghost use Rattle.rx_live.specs.Given.{IsUnchanged};
+ghost use Rattle.rx_live.specs.Lines.{Runs};
+
+use crate::engine::Engine;
+use crate::{calls, holding, opening};
+use rx_line::Outcome;
+use rx_scenario::Command;
+use std::alloc::AllocError;
+
+/// Carries a command out. Err where memory is refused, and then nothing has changed.
+pub fn run(engine: &mut Engine, command: Command) -> Result<Outcome, AllocError>
+    requires { IsSound (session_of engine.old) }
+    ensures ok { IfOk result (λ o. Runs (session_of engine.old) (command_of command) o (session_of engine.new)) }
+    ensures err { OnErr result (IsUnchanged (session_of engine.old) (session_of engine.new)) }
+    ensures sound { IsSound (session_of engine.new) }
+{
+    match command {
+        Command::Using { name, place, res } => opening::using(engine, name, &place, res),
+        Command::Open { name, place, kind } => opening::open(engine, name, &place, kind),
+        Command::Hold { node, res } => holding::hold(engine, node.as_str(), res),
+        Command::Apply { res, word } => calls::apply(engine, res.as_str(), word),
+        Command::Remove { res } => calls::remove(engine, res.as_str()),
+        Command::Lease { res, name } => holding::lease(engine, res.as_str(), name),
+        Command::Return { lease } => holding::give_back(engine, lease.as_str()),
+        Command::Next { node, value } => calls::next(engine, node.as_str(), value),
+        Command::End { node, terminal } => calls::end(engine, node.as_str(), terminal),
+        Command::Abort { node, code } => calls::abort(engine, node.as_str(), code),
+        Command::Decline { node } => calls::decline(engine, node.as_str()),
+        Command::Fail { node, code } => calls::fail(engine, node.as_str(), code),
+        Command::Dispose { node } => calls::dispose(engine, node.as_str()),
+        Command::Hub { name, mode } => holding::hub(engine, name, mode),
+        Command::Connect { hub, name } => opening::connect(engine, hub.as_str(), name),
+        Command::Disconnect { hub } => calls::disconnect(engine, hub.as_str()),
+        Command::Drain => Ok(Outcome::Accepted),
+    }
+}

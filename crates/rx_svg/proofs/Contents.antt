@@ -1,0 +1,20 @@
+-- What may stand inside an element: one after the other, and where something is left out.
+use Rattle.std.proofs.Common.{ℕ, Bool, true, false, List, [], ◌∷◌, ◌++◌, flat_map, sym, subst, append_assoc}
+use Rattle.std.specs.Prelude.{if◌then◌else◌}
+use Rattle.rx_svg.specs.WellFormed.{element_text, IsContent, nothing, text_first, element_first}
+
+pub content_append : (a b : List ℕ) → IsContent a → IsContent b → IsContent (a ++ b)
+content_append a b nothing q = q
+content_append a b (text_first text rest plain p) q =
+    subst IsContent (sym (append_assoc text rest b)) (text_first text (rest ++ b) plain (content_append rest b p q))
+content_append a b (element_first name attributes inside rest tag within p) q =
+    subst IsContent (sym (append_assoc (element_text name attributes inside) rest b))
+    (element_first name attributes inside (rest ++ b) tag within (content_append rest b p q))
+
+pub contents : {X : Type 0} (f : X → List ℕ) → ((x : X) → IsContent (f x)) → (xs : List X) → IsContent (flat_map f xs)
+contents f each [] = nothing
+contents f each (x ∷ xs) = content_append (f x) (flat_map f xs) (each x) (contents f each xs)
+
+pub content_if : (b : Bool) (x y : List ℕ) → IsContent x → IsContent y → IsContent (if b then x else y)
+content_if true x y p q = p
+content_if false x y p q = q

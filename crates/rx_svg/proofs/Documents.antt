@@ -1,0 +1,172 @@
+-- The document of a drawing is well formed, whatever the drawing and the verdict are.
+use Rattle.std.proofs.Common.{◌≡◌, ℕ, ◌+◌, ◌-◌, true, List, [], ◌∷◌, ◌++◌, map, codes, flat_map, length, take, drop, refl, sym, ap, subst, ◌∙◌, append_assoc, append-nil}
+use Rattle.std.proofs.lemmas.Bool.{and_from}
+use Rattle.rx_audit.specs.declared.verdict.Verdict.{Verdict}
+use Rattle.rx_audit.specs.declared.verdict.Verdict.TheVariants.{Lawful, Unlawful, Unsettled}
+use Rattle.rx_picture.specs.declared.points.Point.{Point}
+use Rattle.rx_picture.specs.declared.drawing.Drawing.{Drawing}
+use Rattle.rx_svg.specs.Parts.{Part, words, number, text_of}
+use Rattle.rx_svg.specs.Lane.{x_of, row_text, tick_text, told_text}
+use Rattle.rx_svg.specs.Page.{lanes_shown, places_shown, height_of, style_text, head_text, point_text, below_text, listed_text, list_text, untaken_text, lawful_text, unlawful_text, unsettled_text, verdict_text, break_text, shares_text, under_text, lanes_text, svg_text}
+use Rattle.rx_svg.specs.WellFormed.{is_plain, IsContent, nothing, IsWellFormed}
+use Rattle.rx_svg.proofs.Characters.{plain_append, plain_flat_map}
+use Rattle.rx_svg.proofs.Contents.{content_append, contents}
+use Rattle.rx_svg.proofs.Markup.{Valued, text_from, text_from-append, attribute_of, element_parts, element_reads, tag_of, element_then, words_then, content_then, parts_are_plain, plain_parts, newline}
+use Rattle.rx_svg.proofs.Elements.{valued, text_content, between, broken_is_content, column_is_content}
+use Rattle.rx_svg.proofs.Rows.{row_is_content, tick_is_content, told_is_content}
+
+-- under the lanes ---------------------------------------------------------------------------------
+
+listed_is_plain : (n : ℕ) → is_plain (listed_text n) ≡ true
+unfolding listed_text text_of
+listed_is_plain n = parts_are_plain (words (codes " ") ∷ number n ∷ []) refl
+
+list_is_plain : (name numbers : List ℕ) → is_plain name ≡ true → is_plain (list_text name numbers) ≡ true
+unfolding list_text
+list_is_plain name numbers p = plain_append name (flat_map listed_text numbers) p (plain_flat_map listed_text listed_is_plain numbers)
+
+untaken_is_plain : (held waiting : List ℕ) → is_plain (untaken_text held waiting) ≡ true
+unfolding untaken_text
+untaken_is_plain held waiting =
+    plain_append (list_text (codes "; held:") held) (list_text (codes "; waiting:") waiting)
+    (list_is_plain (codes "; held:") held refl) (list_is_plain (codes "; waiting:") waiting refl)
+
+lawful_is_plain : (live held waiting : List ℕ) → is_plain (lawful_text live held waiting) ≡ true
+unfolding lawful_text
+lawful_is_plain live held waiting =
+    plain_append (codes "lawful" ++ list_text (codes "; open:") live) (untaken_text held waiting)
+    (plain_append (codes "lawful") (list_text (codes "; open:") live) refl (list_is_plain (codes "; open:") live refl))
+    (untaken_is_plain held waiting)
+
+unlawful_is_plain : (place : ℕ) → is_plain (unlawful_text place) ≡ true
+unfolding unlawful_text text_of
+unlawful_is_plain place =
+    parts_are_plain (words (codes "unlawful: event ") ∷ number place ∷ words (codes " may not follow those before it") ∷ []) refl
+
+unsettled_is_plain : is_plain unsettled_text ≡ true
+unfolding unsettled_text
+unsettled_is_plain = refl
+
+verdict_is_plain : (verdict : Verdict) → is_plain (verdict_text verdict) ≡ true
+verdict_is_plain (Lawful live held waiting) = lawful_is_plain live.items held.items waiting.items
+verdict_is_plain (Unlawful place) = unlawful_is_plain place
+verdict_is_plain Unsettled = unsettled_is_plain
+
+shares_is_plain : (d : Drawing) (end : ℕ) → is_plain (shares_text d end) ≡ true
+unfolding shares_text text_of
+shares_is_plain d end =
+    parts_are_plain
+    (number (lanes_shown d end) ∷ words (codes " of ") ∷ number d.all ∷ words (codes " lanes and ") ∷ number (places_shown d end)
+    ∷ words (codes " of ") ∷ number end ∷ words (codes " places are drawn") ∷ []) refl
+
+below_is_content : (y : ℕ) (text : List ℕ) → is_plain text ≡ true → IsContent (below_text y ++ text ++ codes "</text>\n")
+unfolding below_text text_of
+below_is_content y text plain =
+    let front : List Part = words (codes "<text x=\"10\" y=\"") ∷ number y ∷ words (codes "\">") ∷ [] in
+    let attributes : List Valued = valued (codes "x") (words (codes "10") ∷ []) ∷ valued (codes "y") (number y ∷ []) ∷ [] in
+    subst IsContent (between front (words (codes "</text>\n") ∷ []) text)
+    (text_content attributes (words text ∷ []) refl refl (and_from _ _ plain refl))
+
+three_and_three : (a b c d e f : List ℕ) → (a ++ b ++ c) ++ (d ++ e ++ f) ≡ a ++ b ++ c ++ d ++ e ++ f
+three_and_three a b c d e f = simp append_assoc
+
+under_is_content : (d : Drawing) (end height : ℕ) (verdict : Verdict) → IsContent (under_text d end height verdict)
+unfolding under_text
+under_is_content d end height verdict =
+    let ending = codes "</text>\n" in
+    let first = below_text (height + 48) in
+    let second = below_text (height + 72) in
+    subst IsContent (three_and_three first (verdict_text verdict) ending second (shares_text d end) ending)
+    (content_append (first ++ verdict_text verdict ++ ending) (second ++ shares_text d end ++ ending)
+    (below_is_content (height + 48) (verdict_text verdict) (verdict_is_plain verdict))
+    (below_is_content (height + 72) (shares_text d end) (shares_is_plain d end)))
+
+-- the lanes ---------------------------------------------------------------------------------------
+
+point_is_content : (d : Drawing) (height : ℕ) (point : Point) → IsContent (point_text d height point)
+unfolding point_text
+point_is_content d height point = column_is_content (x_of d point.place) height point.place point.event
+
+break_is_content : (d : Drawing) (height : ℕ) (verdict : Verdict) → IsContent (break_text d height verdict)
+break_is_content d height (Lawful live held waiting) = nothing
+break_is_content d height (Unlawful place) = broken_is_content (x_of d place) height place
+break_is_content d height Unsettled = nothing
+
+lanes_are_content : (d : Drawing) (end height : ℕ) (verdict : Verdict) → IsContent (lanes_text d end height verdict)
+unfolding lanes_text
+lanes_are_content d end height verdict =
+    let points = flat_map (point_text d height) d.points.items in
+    let rows = flat_map (row_text d end) d.rows.items in
+    let ticks = flat_map (tick_text d) d.points.items in
+    let marbles = flat_map (told_text d) d.marbles.items in
+    let points_are = contents (point_text d height) (point_is_content d height) d.points.items in
+    let rows_are = contents (row_text d end) (row_is_content d end) d.rows.items in
+    let ticks_are = contents (tick_text d) (tick_is_content d) d.points.items in
+    let marbles_are = contents (told_text d) (told_is_content d) d.marbles.items in
+    let with_rows = content_append points rows points_are rows_are in
+    let with_ticks = content_append (points ++ rows) ticks with_rows ticks_are in
+    let with_marbles = content_append (points ++ rows ++ ticks) marbles with_ticks marbles_are in
+    content_append (points ++ rows ++ ticks ++ marbles) (break_text d height verdict) with_marbles (break_is_content d height verdict)
+
+-- the whole ---------------------------------------------------------------------------------------
+
+-- what the style says between its tags, of which the first has 7 characters, and the other 9 with the end of the line
+rules_text : List ℕ
+rules_text = take (length style_text - 16) (drop 7 style_text)
+
+style_is_content : IsContent style_text
+unfolding rules_text
+style_is_content =
+    element_then (codes "style") [] (words rules_text ∷ []) (words (codes "\n") ∷ []) (tag_of (codes "style") [] refl refl refl)
+    (plain_parts (words rules_text ∷ []) refl) newline
+
+abbrev svg_attributes : ℕ → ℕ → List Valued
+svg_attributes width height =
+    valued (codes "xmlns") (words (codes "http://www.w3.org/2000/svg") ∷ []) ∷ valued (codes "width") (number width ∷ [])
+    ∷ valued (codes "height") (number height ∷ []) ∷ valued (codes "viewBox") (words (codes "0 0 ") ∷ number width ∷ words (codes " ") ∷ number height ∷ []) ∷ []
+
+abbrev svg_inside : List ℕ → List ℕ → List Part
+svg_inside lanes under = words (codes "\n") ∷ words style_text ∷ words lanes ∷ words under ∷ []
+
+inside_is_content : (lanes under : List ℕ) → IsContent lanes → IsContent under → IsContent (text_from (svg_inside lanes under))
+inside_is_content lanes under p q =
+    words_then (codes "\n") (words style_text ∷ words lanes ∷ words under ∷ []) refl
+    (content_then style_text (words lanes ∷ words under ∷ []) style_is_content
+    (content_then lanes (words under ∷ []) p (content_then under [] q nothing)))
+
+four : (a b c d : List ℕ) → a ++ (b ++ (c ++ (d ++ []))) ≡ a ++ b ++ c ++ d
+four a b c d = simp (append_assoc, append-nil)
+
+document_reads : (width height : ℕ) (lanes under : List ℕ) → head_text width height ++ lanes ++ under ++ codes "</svg>\n"
+    ≡ text_from (element_parts (codes "svg") (svg_attributes width height) (svg_inside lanes under)) ++ codes "\n"
+unfolding head_text text_of
+document_reads width height lanes under =
+    let front : List Part =
+    words (codes "<svg xmlns=\"http://www.w3.org/2000/svg\" width=\"") ∷ number width ∷ words (codes "\" height=\"") ∷ number height
+    ∷ words (codes "\" viewBox=\"0 0 ") ∷ number width ∷ words (codes " ") ∷ number height ∷ words (codes "\">\n") ∷ words style_text ∷ [] in
+    sym (four (text_from front) lanes under (codes "</svg>\n"))
+    ∙ sym (text_from-append front (words lanes ∷ words under ∷ words (codes "</svg>\n") ∷ []))
+    ∙ text_from-append (element_parts (codes "svg") (svg_attributes width height) (svg_inside lanes under)) (words (codes "\n") ∷ [])
+
+document_is_well_formed : (width height : ℕ) (lanes under : List ℕ) → IsContent lanes → IsContent under
+    → IsWellFormed (head_text width height ++ lanes ++ under ++ codes "</svg>\n")
+document_is_well_formed width height lanes under p q =
+    record {
+      name = codes "svg";
+      attributes = map attribute_of (svg_attributes width height);
+      tag = tag_of (codes "svg") (svg_attributes width height) refl refl refl;
+      inside = text_from (svg_inside lanes under);
+      content = inside_is_content lanes under p q;
+      space = codes "\n";
+      white = refl;
+      reads =
+          document_reads width height lanes under
+          ∙ ap (λ t. t ++ codes "\n") (element_reads (codes "svg") (svg_attributes width height) (svg_inside lanes under));
+    }
+
+pub svg_is_well_formed : (d : Drawing) (end : ℕ) (verdict : Verdict) → IsWellFormed (svg_text d end verdict)
+unfolding svg_text
+svg_is_well_formed d end verdict =
+    let height = height_of d end in
+    document_is_well_formed (x_of d end + 50) (height + 84) (lanes_text d end height verdict) (under_text d end height verdict)
+    (lanes_are_content d end height verdict) (under_is_content d end height verdict)

@@ -1,0 +1,162 @@
+-- The elements of a picture are content, whatever the numbers in them are.
+use Rattle.std.proofs.Common.{◌≡◌, ℕ, true, List, [], ◌∷◌, ◌++◌, map, ℤ, codes, refl, sym, subst, ◌∙◌, append_assoc}
+use Rattle.std.specs.Prelude.{◌==◌}
+use Rattle.std.specs.List.{list_all}
+use Rattle.std.proofs.lemmas.Bool.{and_from}
+use Rattle.rx_note.specs.declared.note.Note.{Note}
+use Rattle.rx_note.specs.declared.note.Note.TheVariants.{Next, Project, End}
+use Rattle.rx_event.specs.declared.event.Event.{Event}
+use Rattle.rx_svg.specs.Parts.{Part, words, number, signed, text_of}
+use Rattle.rx_svg.specs.Label.{event_text}
+use Rattle.rx_svg.specs.Said.{note_text}
+use Rattle.rx_svg.specs.Stroke.{until_text, stretch_end, line_front, line_text, bar_front, bar_text, mark_text, code_text, leak_text, marble_shape, above_text, value_text, marble_front, by_text, marble_text, column_front, axis_text, column_text, broken_text}
+use Rattle.rx_svg.specs.WellFormed.{is_plain, are_distinct, IsContent, nothing}
+use Rattle.rx_svg.proofs.Characters.{both_are_plain, event_is_plain, note_is_plain}
+use Rattle.rx_svg.proofs.Contents.{content_append}
+use Rattle.rx_svg.proofs.Markup.{Valued, text_from, text_from-append, are_plain, attribute_of, is_valued, element_parts, tag_of, element_then, words_then, parts_are_plain, plain_parts, newline}
+
+abbrev pub valued : List ℕ → List Part → Valued
+valued name value = record { name = name; value = value }
+
+-- a path of this class, with a title, at the end of a line
+abbrev path_parts : List ℕ → List Part → List Part → List Part
+path_parts class drawn title =
+    element_parts (codes "path") (valued (codes "class") (words class ∷ []) ∷ valued (codes "d") drawn ∷ []) (element_parts (codes "title") [] title ++ [])
+
+path_then : (class : List ℕ) (drawn title rest : List Part) → is_plain class ≡ true → are_plain drawn ≡ true → are_plain title ≡ true
+    → IsContent (text_from rest) → IsContent (text_from (path_parts class drawn title ++ rest))
+path_then class drawn title rest c d t after =
+    let attributes : List Valued = valued (codes "class") (words class ∷ []) ∷ valued (codes "d") drawn ∷ [] in
+    let titled : IsContent (text_from (element_parts (codes "title") [] title ++ [])) =
+    element_then (codes "title") [] title [] (tag_of (codes "title") [] refl refl refl) (plain_parts title t) nothing in
+    element_then (codes "path") attributes (element_parts (codes "title") [] title ++ []) rest
+    (tag_of (codes "path") attributes refl (and_from _ _ (and_from _ _ c refl) (and_from _ _ d refl)) refl) titled after
+
+-- a text of plain parts, at the end of a line
+pub text_content : (attributes : List Valued) (inside : List Part) → list_all is_valued attributes ≡ true
+    → are_distinct (map (λ a. a.name) (map attribute_of attributes)) ≡ true → are_plain inside ≡ true
+    → IsContent (text_from (element_parts (codes "text") attributes inside ++ words (codes "\n") ∷ []))
+text_content attributes inside each once plain =
+    element_then (codes "text") attributes inside (words (codes "\n") ∷ []) (tag_of (codes "text") attributes refl each once) (plain_parts inside plain) newline
+
+-- stretches ---------------------------------------------------------------------------------------
+
+until_is_plain : (until end : ℕ) → is_plain (until_text until end) ≡ true
+unfolding until_text text_of
+until_is_plain until end = both_are_plain (until == end) _ _ refl (parts_are_plain (words (codes ", until event ") ∷ number until ∷ []) refl)
+
+pub line_is_content : (class title : List ℕ) (from to y after until end : ℕ) → is_plain class ≡ true → is_plain title ≡ true
+    → IsContent (line_text class title from to y after until end)
+unfolding line_text line_front stretch_end text_of
+line_is_content class title from to y after until end c t =
+    let drawn : List Part = words (codes "M") ∷ number from ∷ words (codes " ") ∷ number y ∷ words (codes "H") ∷ number to ∷ [] in
+    let told : List Part = words title ∷ words (codes " from event ") ∷ number after ∷ words (until_text until end) ∷ [] in
+    let front : List Part =
+    words (codes "<path class=\"") ∷ words class ∷ words (codes "\" d=\"M") ∷ number from ∷ words (codes " ") ∷ number y
+    ∷ words (codes "H") ∷ number to ∷ words (codes "\"><title>") ∷ words title ∷ words (codes " from event ") ∷ number after ∷ [] in
+    subst IsContent (text_from-append front (words (until_text until end) ∷ words (codes "</title></path>\n") ∷ []))
+    (path_then class drawn told (words (codes "\n") ∷ []) c refl (and_from _ _ t (and_from _ _ (until_is_plain until end) refl)) newline)
+
+pub bar_is_content : (class title above height : List ℕ) (from to y after until end : ℕ)
+    → is_plain class ≡ true → is_plain title ≡ true → is_plain above ≡ true → is_plain height ≡ true
+    → IsContent (bar_text class title above height from to y after until end)
+unfolding bar_text bar_front stretch_end text_of
+bar_is_content class title above height from to y after until end c t a h =
+    let drawn : List Part =
+    words (codes "M") ∷ number from ∷ words (codes " ") ∷ number y ∷ words (codes "m0 -") ∷ words above ∷ words (codes "H") ∷ number to
+    ∷ words (codes "v") ∷ words height ∷ words (codes "H") ∷ number from ∷ words (codes "z") ∷ [] in
+    let told : List Part = words title ∷ words (codes " from event ") ∷ number after ∷ words (until_text until end) ∷ [] in
+    let front : List Part =
+    words (codes "<path class=\"") ∷ words class ∷ words (codes "\" d=\"M") ∷ number from ∷ words (codes " ") ∷ number y
+    ∷ words (codes "m0 -") ∷ words above ∷ words (codes "H") ∷ number to ∷ words (codes "v") ∷ words height ∷ words (codes "H") ∷ number from
+    ∷ words (codes "z\"><title>") ∷ words title ∷ words (codes " from event ") ∷ number after ∷ [] in
+    subst IsContent (text_from-append front (words (until_text until end) ∷ words (codes "</title></path>\n") ∷ []))
+    (path_then class drawn told (words (codes "\n") ∷ []) c (and_from _ _ a (and_from _ _ h refl))
+    (and_from _ _ t (and_from _ _ (until_is_plain until end) refl)) newline)
+
+-- marks -------------------------------------------------------------------------------------------
+
+pub mark_is_content : (class shape title : List ℕ) (x y at : ℕ) → is_plain class ≡ true → is_plain shape ≡ true → is_plain title ≡ true
+    → IsContent (mark_text class shape title x y at)
+unfolding mark_text text_of
+mark_is_content class shape title x y at c s t =
+    let drawn : List Part = words (codes "M") ∷ number x ∷ words (codes " ") ∷ number y ∷ words shape ∷ [] in
+    let told : List Part = words title ∷ words (codes " by event ") ∷ number at ∷ [] in
+    path_then class drawn told (words (codes "\n") ∷ []) c (and_from _ _ s refl) (and_from _ _ t refl) newline
+
+pub leak_is_content : (x y : ℕ) → IsContent (leak_text x y)
+unfolding leak_text text_of
+leak_is_content x y =
+    let drawn : List Part = words (codes "M") ∷ number x ∷ words (codes " ") ∷ number y ∷ words (codes "m0 -9l15 9l-15 9z") ∷ [] in
+    path_then (codes "leak") drawn (words (codes "never released") ∷ []) (words (codes "\n") ∷ []) refl refl refl newline
+
+pub broken_is_content : (x height place : ℕ) → IsContent (broken_text x height place)
+unfolding broken_text text_of
+broken_is_content x height place =
+    let drawn : List Part = words (codes "M") ∷ number x ∷ words (codes " 28v") ∷ number height ∷ [] in
+    path_then (codes "broken") drawn (words (codes "unlawful: event ") ∷ number place ∷ []) (words (codes "\n") ∷ []) refl refl refl newline
+
+pub code_is_content : (x y code : ℕ) → IsContent (code_text x y code)
+unfolding code_text text_of
+code_is_content x y code =
+    let attributes : List Valued =
+    valued (codes "x") (number x ∷ []) ∷ valued (codes "y") (number y ∷ []) ∷ valued (codes "dx") (words (codes "10") ∷ [])
+    ∷ valued (codes "dy") (words (codes "4") ∷ []) ∷ [] in
+    text_content attributes (number code ∷ []) refl refl refl
+
+above_is_content : (x y : ℕ) (value : ℤ) → IsContent (above_text x y value)
+unfolding above_text text_of
+above_is_content x y value =
+    let attributes : List Valued =
+    valued (codes "class") (words (codes "value") ∷ []) ∷ valued (codes "x") (number x ∷ []) ∷ valued (codes "y") (number y ∷ [])
+    ∷ valued (codes "dy") (words (codes "-9") ∷ []) ∷ [] in
+    text_content attributes (signed value ∷ []) refl refl refl
+
+value_is_content : (x y : ℕ) (note : Note) → IsContent (value_text x y note)
+value_is_content x y (Next value) = above_is_content x y value
+value_is_content x y (Project value) = above_is_content x y value
+value_is_content x y (End t) = nothing
+
+-- marbles and places ------------------------------------------------------------------------------
+
+shape_is_plain : (note : Note) → is_plain (marble_shape note) ≡ true
+shape_is_plain (Next value) = refl
+shape_is_plain (Project value) = refl
+shape_is_plain (End t) = refl
+
+-- a front, something plain, and an end
+pub between : (front ending : List Part) (text : List ℕ) → text_from (front ++ words text ∷ ending) ≡ text_from front ++ text ++ text_from ending
+between front ending text = text_from-append front (words text ∷ ending) ∙ sym (append_assoc (text_from front) text (text_from ending))
+
+pub marble_is_content : (x y at to : ℕ) (note : Note) → IsContent (marble_text x y at to note)
+unfolding marble_text marble_front by_text text_of
+marble_is_content x y at to note =
+    let drawn : List Part = words (codes "M") ∷ number x ∷ words (codes " ") ∷ number y ∷ words (marble_shape note) ∷ [] in
+    let told : List Part = number to ∷ words (codes " was told") ∷ words (note_text note) ∷ words (codes " by event ") ∷ number at ∷ [] in
+    let front : List Part =
+    words (codes "<path class=\"marble\" d=\"M") ∷ number x ∷ words (codes " ") ∷ number y ∷ words (marble_shape note)
+    ∷ words (codes "\"><title>") ∷ number to ∷ words (codes " was told") ∷ [] in
+    let ending : List Part = words (codes " by event ") ∷ number at ∷ words (codes "</title></path>\n") ∷ [] in
+    let path =
+    path_then (codes "marble") drawn told (words (codes "\n") ∷ []) refl (and_from _ _ (shape_is_plain note) refl)
+    (and_from _ _ (note_is_plain note) refl) newline in
+    content_append (text_from front ++ note_text note ++ text_from ending) (value_text x y note)
+    (subst IsContent (between front ending (note_text note)) path) (value_is_content x y note)
+
+pub column_is_content : (x height place : ℕ) (event : Event) → IsContent (column_text x height place event)
+unfolding column_text column_front axis_text text_of
+column_is_content x height place event =
+    let drawn : List Part = words (codes "M") ∷ number x ∷ words (codes " 28m-10 0h20v") ∷ number height ∷ words (codes "h-20z") ∷ [] in
+    let told : List Part = number place ∷ words (codes ":") ∷ words (event_text event) ∷ [] in
+    let front : List Part =
+    words (codes "<path class=\"place\" d=\"M") ∷ number x ∷ words (codes " 28m-10 0h20v") ∷ number height
+    ∷ words (codes "h-20z\"><title>") ∷ number place ∷ words (codes ":") ∷ [] in
+    let ending : List Part =
+    words (codes "</title></path>\n<text class=\"axis\" x=\"") ∷ number x ∷ words (codes "\" y=\"20\">") ∷ number place
+    ∷ words (codes "</text>\n") ∷ [] in
+    let axis : List Valued =
+    valued (codes "class") (words (codes "axis") ∷ []) ∷ valued (codes "x") (number x ∷ []) ∷ valued (codes "y") (words (codes "20") ∷ []) ∷ [] in
+    let beside : List Part = element_parts (codes "text") axis (number place ∷ []) ++ words (codes "\n") ∷ [] in
+    subst IsContent (between front ending (event_text event))
+    (path_then (codes "place") drawn told (words (codes "\n") ∷ beside) refl refl (and_from _ _ (event_is_plain event) refl)
+    (words_then (codes "\n") beside refl (text_content axis (number place ∷ []) refl refl refl)))

@@ -1,0 +1,158 @@
+//! Lines in, lines out.
+
+use rx_live::{Live, faulty_text};
+use std::alloc::{AllocError, Global};
+use std::io::{Read, Result as IoResult, Write};
+
+/// The most bytes of a line, without the byte that ends it.
+const MOST_BYTES: usize = 65_536;
+
+/// The most events of a history.
+const MOST_EVENTS: u64 = 4_294_967_295;
+
+/// What is answered in want of memory, where nothing has changed.
+const NO_MEMORY: &str = "{\"refused\":\"NoMemory\"}";
+
+/// The line that is being read.
+#[derive(Drop)]
+struct Line {
+    bytes: Vec<u8>,
+    is_long: bool,
+}
+
+impl Line {
+    // With room for a whole line.
+    fn new(alloc: Global) -> Result<Line, AllocError> {
+        Ok(Line {
+            bytes: Vec::with_capacity(alloc, MOST_BYTES)?,
+            is_long: false,
+        })
+    }
+
+    // Takes some more of the line. Of one that is too long nothing is kept.
+    fn take_in(&mut self, piece: &[u8]) {
+        let room = MOST_BYTES.saturating_sub(self.bytes.len());
+        self.is_long = self.is_long
+            || piece.len() > room
+            || self.bytes.extend_from_slice(piece).is_err();
+    }
+
+    fn clear(&mut self) {
+        self.bytes.clear();
+        self.is_long = false;
+    }
+
+    fn is_empty(&self) -> bool {
+        self.bytes.is_empty() && !self.is_long
+    }
+}
+
+// The answer to a faulty line.
+fn faulty(alloc: Global, told: &str) -> Result<String, AllocError> {
+    faulty_text(alloc, String::from_str(alloc, told)?)
+}
+
+// Writes an answer and the end of its line.
+fn write_line<W: Write>(output: &mut W, answer: Result<String, AllocError>) -> IoResult<()> {
+    match answer {
+        Ok(text) => output.write_all(text.as_str().as_bytes())?,
+        Err(_) => output.write_all(NO_MEMORY.as_bytes())?,
+    }
+    output.write_all(b"\n")
+}
+
+// Answers a line that has come whole.
+fn answer<W: Write>(
+    alloc: Global,
+    live: &mut Live,
+    line: &mut Line,
+    output: &mut W,
+) -> IoResult<()> {
+    let answer = if line.is_long {
+        faulty(alloc, "a line has at most 65536 bytes")
+    } else {
+        live.send(line.bytes.as_slice())
+    };
+    line.clear();
+    write_line(output, answer)
+}
+
+// Answers each line that ends in this piece of the input, and keeps what is left.
+fn answer_all<W: Write>(
+    alloc: Global,
+    live: &mut Live,
+    line: &mut Line,
+    output: &mut W,
+    piece: &[u8],
+) -> IoResult<()> {
+    let mut begin = 0;
+    for (place, byte) in piece.iter().enumerate() {
+        if *byte == b'\n' {
+            line.take_in(&piece[begin..place]);
+            answer(alloc, live, line, output)?;
+            begin = place + 1;
+        }
+    }
+    line.take_in(&piece[begin..]);
+    Ok(())
+}
+
+// Answers what one read of the input brings, and flushes it. False at the end of the input.
+fn answer_some<R: Read, W: Write>(
+    alloc: Global,
+    live: &mut Live,
+    line: &mut Line,
+    piece: &mut [u8],
+    input: &mut R,
+    output: &mut W,
+) -> IoResult<bool> {
+    let count = input.read(piece)?;
+    if count == 0 {
+        return Ok(false);
+    }
+    answer_all(alloc, live, line, output, &piece[..count])?;
+    output.flush()?;
+    Ok(true)
+}
+
+// Answers all lines to the end of the input. What was answered is flushed before more is read.
+fn answer_input<R: Read, W: Write>(
+    alloc: Global,
+    live: &mut Live,
+    line: &mut Line,
+    piece: &mut [u8],
+    input: &mut R,
+    output: &mut W,
+) -> IoResult<()> {
+    for _turn in 0..u64::MAX {
+        if !answer_some(alloc, live, line, piece, input, output)? {
+            break;
+        }
+    }
+    if !line.is_empty() {
+        let told = "the input ends in this line, which was not carried out";
+        write_line(output, faulty(alloc, told))?;
+    }
+    Ok(())
+}
+
+/// Serves a live book: a line in and a line out, and at the end of the input the line that closes it.
+/// Answers the exit status: 0, or 1 where the input or the output failed, or 4 where there was no memory to
+/// begin with. All is closed in every outcome.
+pub fn serve<R: Read, W: Write>(alloc: Global, input: &mut R, output: &mut W) -> u8 {
+    let Ok(mut line) = Line::new(alloc) else {
+        return 4;
+    };
+    let Ok(mut piece) = vec![in alloc; 0u8; MOST_BYTES] else {
+        return 4;
+    };
+    let mut live = Live::new(alloc, MOST_EVENTS);
+    let piece = piece.as_mut_slice();
+    let served = answer_input(alloc, &mut live, &mut line, piece, input, output);
+    let closed = live.end();
+    if write_line(output, closed).is_ok() && output.flush().is_ok() && served.is_ok() {
+        0
+    } else {
+        1
+    }
+}
