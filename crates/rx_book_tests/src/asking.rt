@@ -21,6 +21,7 @@ pub(super) enum Asking {
     Connect(u64),
     // At the root, to the hub of this number.
     Subscribe(u64),
+    Checkpoint,
 }
 
 // What came of a call: it was done, and opened a node or not; it was refused for want of memory, and its
@@ -68,6 +69,10 @@ pub(super) fn ask(book: &mut Probe<Sample>, asking: Asking) -> Outcome {
         },
         Asking::Subscribe(hub) => match book.open(At::Root, Kind::Sub(hub)) {
             Ok(opened) => Outcome::Done(opened.connected),
+            Err(why) => refused(why),
+        },
+        Asking::Checkpoint => match book.checkpoint() {
+            Ok(_) => Outcome::Done(None),
             Err(why) => refused(why),
         },
     }
@@ -118,6 +123,6 @@ fn is_there(book: &Probe<Sample>, asking: Asking) -> bool {
         },
         Asking::Hold(node) | Asking::Next(node) => book.is_open(node),
         Asking::Apply(res) | Asking::Lease(res) => book.is_held(res),
-        Asking::Hub | Asking::Connect(_) | Asking::Subscribe(_) => true,
+        Asking::Hub | Asking::Connect(_) | Asking::Subscribe(_) | Asking::Checkpoint => true,
     }
 }

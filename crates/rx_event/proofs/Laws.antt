@@ -71,3 +71,4 @@ pub mod ShownBase
 pub mod StoredAt
 pub mod BaseStarted
 pub mod Checkpoints
+pub mod CheckpointMarks

@@ -5,6 +5,7 @@ ghost use Rattle.std.specs.List.{All};
 ghost use Rattle.rx_event.specs.Events.{makes_node, makes_resource as accepts_resource};
 ghost use Rattle.rx_event.specs.Tree.{at};
 ghost use Rattle.rx_event.specs.Resources.{is_taken as is_taken_in};
+ghost use Rattle.rx_event.specs.Kept.{nothing_kept};
 ghost use Rattle.rx_event.specs.Notes.{notes};
 ghost use Rattle.rx_book.specs.State.{accepted_tag, IsPromised};
 ghost use Rattle.rx_report.specs.Lines.{is_told, node_lines, res_lines, whereabouts, account_of, totals_of};
@@ -20,9 +21,9 @@ use rx_event::{Event, Kind, Place};
 use rx_resource::Resource;
 use std::alloc::{AllocError, Global};
 
-/// The history, copied once.
+/// The events from place 0 on, copied once: the whole history where no checkpoint was made.
 pub fn events_of<R: Resource>(alloc: Global, book: &Book<R>) -> Result<Vec<Event>, AllocError>
-    ensures { IfOk result (λ v. v.items ≡ book.now.history) }
+    ensures { IfOk result (λ v. book.now.base ≡ nothing_kept → v.items ≡ book.now.history) }
 {
     book.promise();
     let mut events = Vec::new(alloc);
