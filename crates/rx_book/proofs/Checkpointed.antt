@@ -1,5 +1,5 @@
 -- What callers see of a ground before a checkpoint and after it.
-use Rattle.std.proofs.Common.{◌≡◌, ℕ, None, Ok, Err, map, sym, ap, subst, ◌∙◌, length}
+use Rattle.std.proofs.Common.{◌≡◌, ℕ, None, Ok, Err, map, ap, length}
 use Rattle.rx_resource.specs.declared.Resource.{Ghosts}
 use Rattle.rx_event.specs.Kept.{shown}
 use Rattle.rx_event.specs.Bases.{base_of, Agree}

@@ -1,5 +1,5 @@
 -- What is kept of the records that are there is the base of their history.
-use Rattle.std.proofs.Common.{◌≡◌, ℕ, zero, suc, ◌+◌, ◌<◌, ◌==◌, Bool, true, false, cond, List, [], ◌∷◌, map, length, get_or, slice_get, Option, Some, None, option_map, refl, sym, ap, subst, ◌∙◌, inl, inr, ◌⊎◌, arith}
+use Rattle.std.proofs.Common.{◌≡◌, ℕ, zero, suc, ◌+◌, ◌<◌, Bool, true, false, cond, List, [], ◌∷◌, map, length, get_or, slice_get, Option, Some, None, option_map, refl, sym, ap, subst, ◌∙◌, inl, inr, ◌⊎◌, arith}
 use Rattle.std.proofs.Math.Bool.{not, ◌&&◌, ◌||◌}
 use Rattle.std.specs.List.{Contains, cons_option, filter, filter_map, list_any, range_with_len}
 use Rattle.std.specs.Option.{option_map_or}
@@ -14,7 +14,6 @@ use Rattle.rx_event.specs.declared.base.BaseState.TheVariants.{Owned, Leased, Wa
 use Rattle.rx_event.specs.declared.base.BaseLease.{BaseLease}
 use Rattle.rx_event.specs.declared.event.Event.{Event}
 use Rattle.rx_event.specs.declared.event.Event.TheVariants.{Close}
-use Rattle.rx_event.specs.declared.marks.Marks.{Marks}
 use Rattle.rx_event.specs.Events.{makes_resource, makes_hub, is_take_of}
 use Rattle.rx_event.specs.Kept.{Kept as Base}
 use Rattle.rx_event.specs.Tree.{at, is_open, open_nodes, hubs, places}
@@ -27,14 +26,13 @@ use Rattle.rx_event.proofs.Laws.Places.{at_within}
 use Rattle.rx_event.proofs.Laws.Leases.{is_out_within}
 use Rattle.rx_event.proofs.Laws.Resources.{is_held_within, is_waiting_within, held_resource, held_not_taken, waiting_parts}
 use Rattle.rx_slots.specs.declared.Entry.{Entry}
-use Rattle.rx_slots.specs.declared.Key.{Key}
 use Rattle.rx_slots.specs.Slots.{Slots, entry_of, find}
 use Rattle.rx_tree.specs.declared.node.Node.{Node}
 use Rattle.rx_tree.specs.declared.node.ResKey.{ResKey}
 use Rattle.rx_tree.specs.declared.node.Stowed.{Stowed}
 use Rattle.rx_tree.specs.Bases.{IsByNumber, kept_by, node_as_kept, resource_as_kept, state_in}
 use Rattle.rx_tree.specs.Tree.{Tree, AreApart}
-use Rattle.rx_tree.specs.Resources.{is_owned, is_lent, is_held}
+use Rattle.rx_tree.specs.Resources.{is_owned, is_lent}
 use Rattle.rx_lease.specs.Leases.{lease_as_kept}
 use Rattle.rx_hub.specs.Hubs.{Hub, Hubs, IsPromised as AreHubsPromised, hub_as_kept}
 use Rattle.rx_hub.specs.Records.{AreHubsOf}

@@ -1,6 +1,6 @@
 -- Hubs that forget how their connections ended, and what is kept of hubs.
-use Rattle.std.proofs.Common.{◌≡◌, ℕ, zero, suc, ◌<◌, ◌+◌, ◌-◌, ◌++◌, ◌&&◌, ◌||◌, cond, map, take, drop, Bool, true, false, List, [], ◌∷◌, length, set, get_or, slice_get, Option, Some, None}
-use Rattle.std.proofs.Common.{option_map, is_none, refl, sym, ap, subst, ◌∙◌, arith, nat_lt}
+use Rattle.std.proofs.Common.{◌≡◌, ℕ, zero, suc, ◌<◌, ◌+◌, ◌-◌, ◌++◌, ◌&&◌, ◌||◌, map, take, drop, Bool, true, false, List, [], ◌∷◌, length, set, get_or, slice_get, Option, Some, None}
+use Rattle.std.proofs.Common.{option_map, is_none, refl, sym, ap, ◌∙◌, arith, nat_lt}
 use Rattle.std.specs.Prelude.{if◌then◌else◌}
 use Rattle.std.specs.List.{range_with_len, list_any, filter_map, cons_option}
 use Rattle.std.specs.Option.{option_or}

@@ -1,6 +1,6 @@
 //! What names stand for, both ways.
 
-ghost use Rattle.std.specs.Prelude.{◌≡◌, ◌+◌, ◌<◌, ◌≤◌, None, map, option_map, is_some, string_bytes, IfOk, IfSome, IfNone, OnOk};
+ghost use Rattle.std.specs.Prelude.{◌≡◌, ◌+◌, ◌<◌, ◌≤◌, None, option_map, string_bytes, IfOk, IfSome, IfNone, OnOk};
 ghost use Rattle.rx_line.specs.Names.{spot_of, name_of, room_of, AreNone, IsPaired, AreSame, Binds, Forgets};
 
 use std::alloc::{AllocError, Global};

@@ -1,9 +1,5 @@
-use Rattle.std.proofs.Common.{◌≡◌, [], length, drop, refl, subst, ap, ◌∙◌, sym}
-use Rattle.rx_event.specs.Bases.{base_of}
-use Rattle.rx_event.specs.Totals.{debt}
-use Rattle.rx_register.specs.State.{State, Rebases}
-use Rattle.rx_register.specs.Ties.{state_of}
-use Rattle.rx_register.proofs.Written.{MayRebase, may_rebase, base_long, placed_base, rebased, rebases_seen, made_rebased}
+use Rattle.std.proofs.Common.{length, refl}
+use Rattle.rx_register.proofs.Written.{may_rebase, base_long, placed_base, rebased, rebases_seen, made_rebased}
 use Rattle.rx_register.proofs.register.Register.rebase.Goals as goal
 
 pub rebase-requires-clause-length : goal.rebase-requires-clause-length
