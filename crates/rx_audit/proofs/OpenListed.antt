@@ -18,26 +18,15 @@ use Rattle.rx_audit.specs.declared.subscribers.Subscribers.{Subscribers}
 use Rattle.rx_audit.specs.Latest.{IsNoted, AreClosed}
 use Rattle.rx_audit.specs.Listed.{AreOpenListed, AreLetGo}
 use Rattle.rx_audit.specs.Rules.{stays_open}
-use Rattle.rx_audit.proofs.ClosingBelow.{cleared, uncleared, stays_gone}
+use Rattle.rx_audit.proofs.ClosingBelow.{stays_gone}
 use Rattle.rx_audit.proofs.StaysOpen.{is_open_older, stays_closed}
 use Rattle.rx_audit.proofs.SubscriberRows.{mark_gone}
 use Rattle.rx_audit.proofs.Latest.{one_longer}
 
 -- no number was let go
-pub let_go_none : (ms : List Bool) (closed : List ℕ) → AreLetGo ms ms closed 0
-let_go_none ms closed = record {
-  kept = λ n y. y;
-  gone = λ k l. absurd (omega arith);
-  noted = λ n y z. absurd (both_ways (get_or ms n false) z y);
 }
 
 -- one more is
-pub let_go_more : (first old new : List Bool) (closed : List ℕ) (i s : ℕ) → AreLetGo first old closed i → i < length closed → s ≡ get_or closed i 0
-    → new ≡ set old s false → AreLetGo first new closed (i + 1)
-let_go_more first old new closed i s w l is changed = record {
-  kept = λ n y. w.kept n (cleared old s n (sym (ap (λ (ms : List Bool). get_or ms n false) changed) ∙ y)).1;
-  gone = λ k m. ap (λ (ms : List Bool). get_or ms (get_or closed k 0) false) changed ∙ by_place k m (cases_order k i);
-  noted = λ n was gone. by_mark n was (uncleared old s n (sym (ap (λ (ms : List Bool). get_or ms n false) changed) ∙ gone));
 } where
   by_place : (k : ℕ) → k < i + 1 → (k ≡ i) ⊎ ((k < i) ⊎ (i < k)) → get_or (set old s false) (get_or closed k 0) false ≡ false
   by_place k m (inl same) = ap (λ n. get_or (set old s false) n false) (ap (λ j. get_or closed j 0) same ∙ sym is) ∙ mark_gone old s

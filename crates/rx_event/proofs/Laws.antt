@@ -25,7 +25,6 @@ pub mod MarksAfter
 pub mod MarksEnds
 pub mod MarksInner
 pub mod MarksNew
-pub mod MarksBounds
 pub mod MarksTouched
 pub mod Waits
 pub mod Stands

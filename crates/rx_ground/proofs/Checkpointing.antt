@@ -1,7 +1,6 @@
 -- What a checkpoint asks for, and what it makes of a ground.
-use Rattle.std.proofs.Common.{◌≡◌, ℕ, ◌+◌, ◌≤◌, List, [], None, map, length, sym, ap, subst, ◌∙◌, arith}
+use Rattle.std.proofs.Common.{◌≡◌, ℕ, ◌≤◌, List, [], None, map, length, sym, ap, subst, ◌∙◌, arith}
 use Rattle.std.proofs.lemmas.Bool.{ltb-false}
-use Rattle.std.proofs.lemmas.List.{length-map}
 use Rattle.rx_resource.specs.declared.Resource.{Ghosts}
 use Rattle.rx_event.specs.declared.base.BaseHub.{BaseHub}
 use Rattle.rx_event.specs.declared.base.BaseNode.{BaseNode}
@@ -20,7 +19,7 @@ use Rattle.rx_register.proofs.Laws.NoCause.{no_cause}
 use Rattle.rx_tree.specs.Bases.{IsByNumber, kept_by, node_as_kept, resource_as_kept}
 use Rattle.rx_tree.specs.Tree.{AreApart, IsPromised as IsTreePromised}
 use Rattle.rx_lease.specs.Leases.{lease_as_kept}
-use Rattle.rx_hub.specs.Hubs.{Hubs, IsPromised as IsHubsPromised, hub_as_kept, without_end}
+use Rattle.rx_hub.specs.Hubs.{IsPromised as IsHubsPromised, hub_as_kept, without_end}
 use Rattle.rx_ground.specs.Shown.{Ground}
 use Rattle.rx_ground.specs.Ties.{IsStanding}
 use Rattle.rx_ground.specs.Checkpoints.{IsCheckpoint}
@@ -85,10 +84,3 @@ standing_after {T = T} g parts old new reserved seen promised standing rebases d
   where
     made : IsCheckpoint parts new
     made = checkpoint_made parts new reserved rebases (debts ∙ ap (λ (b : Ground T). debt b.register.base b.register.history) (sym seen)) tree hubs leases space
-
--- a route that has room for all hubs has it still
-pub route_still : (old new : Hubs) (room : ℕ) → new ≡ record old { hubs = map without_end old.hubs } → length old.hubs + old.room ≤ room → length new.hubs + new.room ≤ room
-route_still old new room same fits =
-    let long = ap (λ (hs : Hubs). length hs.hubs) same ∙ length-map old.hubs without_end in
-    let more = ap (λ (hs : Hubs). hs.room) same in
-    omega arith

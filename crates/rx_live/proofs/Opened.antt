@@ -77,13 +77,6 @@ open_on book a b c p q = record {
   names = λ n. either_on (name_of a n) (name_of b n) (name_of c n) (q.names n) (p.names n);
 }
 
--- what is free stays so
-pub still_free : (book : State) (old new : Names) (name : Name) → AreOpenSame book old new → spot_of old name ≡ None → spot_of new name ≡ None
-still_free book old new name same free = by_case (same.spots name) where
-  by_case : (spot_of new name ≡ spot_of old name) ⊎ (spot_of new name ≡ None) → spot_of new name ≡ None
-  by_case (inl is) = is ∙ free
-  by_case (inr none) = none
-
 pub placed_open : (h : List Event) (book : State) (old new : Names) → AreOpenSame book old new → IsPlaced h old → IsPlaced h new
 placed_open h book old new same placed n past = by_case (same.names n) where
   by_case : (name_of new n ≡ name_of old n) ⊎ (name_of new n ≡ None) → name_of new n ≡ None

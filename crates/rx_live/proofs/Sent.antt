@@ -9,7 +9,7 @@ use Rattle.rx_line.specs.declared.outcome.Cause.{Cause}
 use Rattle.rx_line.specs.declared.outcome.Outcome.TheVariants.{Accepted, Refused}
 use Rattle.rx_live.specs.Session.{Session, IsSound}
 use Rattle.rx_live.specs.Promise.{released, no_act}
-use Rattle.rx_live.specs.Answers.{told_text, WritesNotes, WritesNames}
+use Rattle.rx_live.specs.Answers.{told_text, WritesNotes}
 use Rattle.rx_live.specs.Listed.{all_names}
 use Rattle.rx_live.specs.Lines.{Runs, handed_by, TellsAll, CarriesOut, refuses, carries, is_faulty, is_refused, is_carried, is_listed, is_dumped, Sends, Ends, IsClosed}
 use Rattle.rx_live.proofs.Binding.{alike_same}
@@ -17,14 +17,6 @@ use Rattle.rx_live.proofs.Acts.{alike_held, carried_leads, refused_alike}
 use Rattle.rx_live.proofs.Listings.{leads_all}
 
 -- all that is told of a command
-pub told_all : (old mid new : Session) (begun after last text : List ℕ) → WritesNotes old begun mid after → WritesNames mid after new last → text ≡ last ++ codes "}" → TellsAll old begun new text
-told_all old mid new begun after last text notes names closed = record {
-  mid = mid;
-  told = notes.told;
-  tells = notes.tells;
-  names = names.names;
-  releases = names.releases;
-  written = closed ∙ ap (λ (t : List ℕ). t ++ codes "}") (names.written ∙ ap (λ (t : List ℕ). t ++ member_text (codes "release") (map name_text names.names)) notes.written);
 }
 
 -- a command that is carried out

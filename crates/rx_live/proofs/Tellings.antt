@@ -1,5 +1,5 @@
 -- Notes that are told one after another.
-use Rattle.std.proofs.Common.{◌≡◌, ℕ, ◌+◌, ◌<◌, suc, List, [], ◌∷◌, ◌++◌, codes, length, map, drop, Option, Some, None, refl, sym, ap, ◌∙◌, arith, append_assoc, add-one, drop-cons}
+use Rattle.std.proofs.Common.{◌≡◌, ℕ, ◌+◌, ◌<◌, suc, List, [], ◌∷◌, ◌++◌, codes, length, map, drop, Option, Some, None, refl, sym, ap, ◌∙◌, append_assoc, add-one, drop-cons}
 use Rattle.std.specs.Prelude.{IfSome, is_some, slice_get, if◌then◌else◌}
 use Rattle.std.specs.List.{flat_map}
 use Rattle.std.specs.Option.{option_to_list}
@@ -107,13 +107,4 @@ notes_ended old mid now begun before text so_far none =
       written = ap (λ (t : List ℕ). t ++ codes "]") none.written ∙ array_end begun (codes ",\"notes\":[") (joined (map told_text all)) before so_far.written;
     }
 
-pub notes_none : (old now : Session) (begun text : List ℕ) → WritesNoNote old begun now text → WritesNotes old begun now text
-notes_none old now begun text none = record {
-  told = [];
-  tells = record { mails = []; are = refl; left = sym none.left; rest = none.rest };
-  written = none.written ∙ sym (append-nil begun);
 }
-
--- fewer are left
-pub fewer_notes : (old now : Session) (begun lead text : List ℕ) → WritesNote old begun lead now text → length (to_tell now) < length (to_tell old)
-fewer_notes old now begun lead text one = let l : length (to_tell old) ≡ length (one.mail ∷ to_tell now) = ap (λ (ms : List Mail). length ms) one.tells.next in omega (arith, l)

@@ -2,7 +2,7 @@
 use Rattle.std.proofs.Common.{◌≡◌, ◌≢◌, ℕ, zero, suc, ◌+◌, ◌-◌, ◌<◌, List, [], ◌∷◌, ◌++◌, length, get_or, set, replicate, Option, Some, None, is_some, IsSome, refl, sym, ap, ◌∙◌, inl, inr, arith, true≢false}
 use Rattle.std.specs.List.{sum_by}
 use Rattle.std.proofs.lemmas.Bool.{cases_eq, cases_lt}
-use Rattle.std.proofs.lemmas.List.Sums.{sum_by-set, sum_by-cons}
+use Rattle.std.proofs.lemmas.List.Sums.{sum_by-cons}
 use Rattle.std.proofs.lemmas.List.{length-set, length-append, length-replicate, get_or_past, get_or-set_same, get_or-set_other}
 use Rattle.rx_slots.specs.declared.Entry.{Entry}
 use Rattle.rx_slots.specs.declared.Key.{Key}
@@ -39,17 +39,6 @@ module _ {T : Type 0} where
       let more = slot + 1 - length entries in
       let nothing : Option (Entry T) = None in
       omega (arith, length-set (entries ++ replicate more nothing) slot (Some e), length-append entries (replicate more nothing), length-replicate more nothing)
-
-  -- what a sum gains by an insert
-  pub sum_by-placed : (f : Option (Entry T) → ℕ) → f None ≡ 0 → (entries : List (Option (Entry T))) (slot : ℕ) (e : Entry T) → sum_by f (placed entries slot e) + f (get_or entries slot None) ≡ sum_by f entries + f (Some e)
-  sum_by-placed f nothing entries slot e =
-      let more = slot + 1 - length entries in
-      let none : Option (Entry T) = None in
-      let longer = entries ++ replicate more none in
-      let within : slot < length longer = omega (arith, length-append entries (replicate more none), length-replicate more none) in
-      let same : sum_by f longer ≡ sum_by f entries = sum_by-same_reads f nothing longer entries (get_or-append-nothing entries more) in
-      let read : f (get_or longer slot None) ≡ f (get_or entries slot None) = ap f (get_or-append-nothing entries more slot) in
-      omega (arith, sum_by-set f longer slot (Some e) None within)
 
   -- a slot with an entry is below the count of slots
   pub within_count : (s : Slots T) (slot : ℕ) (e : Entry T) → entry_at s slot ≡ Some e → slot < slot_count s
