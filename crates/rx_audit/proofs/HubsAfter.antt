@@ -1,5 +1,5 @@
 -- What is kept of the hubs, after one more event.
-use Rattle.std.proofs.Common.{◌≡◌, ℕ, zero, suc, ◌+◌, ◌<◌, ◌≤◌, Bool, true, false, List, [], ◌∷◌, ◌++◌, length, Option, Some, None, cond, refl, ap, ◌∙◌, arith, inl, inr, ◌⊎◌, get_or, slice_get, filter, replicate, length-append}
+use Rattle.std.proofs.Common.{◌≡◌, ℕ, zero, suc, ◌+◌, ◌<◌, ◌≤◌, Bool, true, false, List, [], ◌∷◌, ◌++◌, length, Option, Some, None, cond, refl, ap, ◌∙◌, arith, inl, inr, ◌⊎◌, slice_get, filter, length-append}
 use Rattle.std.specs.List.{range_with_len}
 use Rattle.std.specs.Option.{option_map_or, option_and_then, option_or}
 use Rattle.std.proofs.lemmas.List.Elements.{filter-append}
@@ -85,12 +85,6 @@ hub_count-push h e = by_test (makes_hub e) refl where
   by_test false is = ap length (split false is) ∙ (let l = length-append {A = ℕ} (hubs h) [] in omega arith)
 
 -- all together ------------------------------------------------------------------------------------------
-
-} where
-  zeros : (size g : ℕ) → ◌≡◌ {A = ℕ} (get_or (replicate size 0) g 0) 0
-  zeros zero g = refl
-  zeros (suc size) zero = refl
-  zeros (suc size) (suc g) = zeros size g
 
 pub hubs_more : (h : List Event) (e : Event) (size : ℕ) (old new : Hubs) → IsLawful nothing_kept h → MayFollow nothing_kept h e → AreHubs h size old
     → new.connection.items ≡ table_with old.connection.items (hub_connected e) (suc (length h)) → new.ended.items ≡ table_with old.ended.items (hub_ended h e) (suc (length h))

@@ -1,5 +1,5 @@
 -- Looking for the first of a chain at which something is due.
-use Rattle.std.proofs.Common.{◌≡◌, ◌==◌, Bool, true, false, List, [], ◌∷◌, drop, cond, Option, Some, None, is_some, refl, sym, ap, ◌∙◌}
+use Rattle.std.proofs.Common.{◌≡◌, ◌==◌, Bool, true, false, List, [], ◌∷◌, cond, Option, Some, None, is_some, refl, sym, ap, ◌∙◌}
 use Rattle.std.proofs.Math.Bool.{◌||◌}
 use Rattle.std.proofs.lemmas.Bool.{and_parts, eqb-true}
 use Rattle.std.proofs.lemmas.Option.{same_Some, none-some}
@@ -46,20 +46,6 @@ module _ {T : Type 0} where
 
   same_nodes : (old now : Tree T) → IsSearched old now → now.nodes ≡ old.nodes
   same_nodes old now s = ap (λ (t : Tree T). t.nodes) s.kept
-
-  }
-    where
-      chain : new.chain ≡ drop 1 now.chain
-      chain = ap (λ (t : Tree T). t.chain) unchained
-
-      split : (rest : List Key) × (now.chain ≡ key ∷ rest)
-      split = first_is now.chain key first
-
-      rest : new.chain ≡ split.0
-      rest = chain ∙ ap (drop 1) split.1
-
-      quiet_old : due_of old.nodes key ≡ None
-      quiet_old = ap (λ (ns : Slots Node). due_of ns key) (sym (same_nodes old now s)) ∙ quiet
 
   pub still : (old now : Tree T) → IsSearched old now → IsChained now.nodes now.chain
   still old now s k off = ap (λ (ns : Slots Node). due_of ns k) (same_nodes old now s) ∙ s.chained k off

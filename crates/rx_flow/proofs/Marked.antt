@@ -49,6 +49,3 @@ module _ {T : Type 0} (old new : Tree T) (key : Key) (marks : Marks) (rewrites :
         let here = ap (λ (j : Key). is_some (find new.nodes j)) (sym same) ∙ there in
         ap (λ (j : Key). is_some (find old.nodes j)) same ∙ unmapped (find old.nodes key) (sym (ap is_some rewrites.changed) ∙ here)
     by_key (inr other) = sym (ap is_some (rewrites.others k other)) ∙ there
-
-  -- the next node is the newest still
-  }

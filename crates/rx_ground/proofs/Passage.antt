@@ -340,6 +340,3 @@ module _ {T : Type 0} (first : Register) (start : Tree T) (hubs : List Hub) (roo
       let same = ap (length {A = Stop}) marked_further.2.left in
       let one : length (stops_left tree.nodes hubs route) ≡ suc (length (stops_left tree.nodes hubs next)) = ap (length {A = Stop}) arrives.stops in
       omega arith
-
--- and at the end nothing is left
-)

@@ -1,6 +1,6 @@
 -- One climb further on an item's way.
-use Rattle.std.proofs.Common.{◌≡◌, ℕ, zero, suc, ◌+◌, ◌-◌, ◌<◌, ◌≤◌, ◌++◌, List, [], ◌∷◌, length, Option, Some, None, IsSome, IfSome, IfNone, is_some}
-use Rattle.std.proofs.Common.{refl, sym, ap, subst, ◌∙◌, arith, length-append, true≢false}
+use Rattle.std.proofs.Common.{◌≡◌, ℕ, zero, suc, ◌+◌, ◌-◌, ◌<◌, ◌≤◌, ◌++◌, List, [], ◌∷◌, length, Option, Some, None, IsSome, IfSome, IfNone}
+use Rattle.std.proofs.Common.{refl, sym, ap, subst, ◌∙◌, arith, length-append}
 use Rattle.std.specs.List.{AllByRecursion, filter_map, cons_option}
 use Rattle.std.specs.Option.{option_and_then, option_to_list}
 use Rattle.std.proofs.lemmas.Bool.{false≢true}
@@ -176,18 +176,6 @@ pub record IsFurther (nodes : Slots Node) (hubs : List Hub) (first now : Route) 
   pub visits : all_visits nodes hubs now ≡ all_visits nodes hubs first
   pub under_way : IsUnderWay nodes hubs now
   pub room : now.room ≡ first.room
-
-pub further_on : (nodes : Slots Node) (hubs : List Hub) (first old new : Route) (stop : Option Stop) → IsFurther nodes hubs first old →
-    Climbs nodes hubs old new stop → is_some stop ≡ false → IsFurther nodes hubs first new
-further_on nodes hubs first old new None further climbs none = record {
-  stops = further.stops ∙ climbs.stops;
-  visits = climbs.visits ∙ further.visits;
-  under_way = climbs.under_way;
-  room = climbs.room ∙ further.room;
-}
-further_on nodes hubs first old new (Some s) further climbs none = absurd (true≢false none)
-
-}
 
 none_visited : (left : ℕ) (nodes : Slots Node) (hubs : List Hub) → visited_over left nodes hubs [] ≡ []
 none_visited zero nodes hubs = refl

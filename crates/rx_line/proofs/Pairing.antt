@@ -94,6 +94,3 @@ module _ (spot_of spot_of' : List ℕ → Option Spot) (name_of name_of' : ℕ �
       named = λ n t found. left_named n t (bytes_eq name n) refl (sym (spots n) ∙ found);
       numbered = λ k n found. left_numbered k n (number == k) refl (sym (names k) ∙ found);
     }
-
--- none are
-}

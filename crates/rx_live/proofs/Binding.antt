@@ -95,12 +95,6 @@ alike_same s = record {
   unnamed = refl;
 }
 
-}
-
-}
-
-}
-
 lost : (a b : Option Name) → (a ≡ b) ⊎ (a ≡ None) → b ≡ None → a ≡ None
 lost a b (inl same) none = same ∙ none
 lost a b (inr gone) none = gone
@@ -117,12 +111,6 @@ sound_alike old new sound alike nodes hubs resources leases = record {
   resources = λ r. ap is_some (alike.resources.names r) ∙ sound.resources r ∙ ap (λ (b : State). is_kept b.history r) (sym alike.book);
   leases = λ l. ap is_some (alike.leases.names l) ∙ sound.leases l ∙ ap (λ (b : State). is_out b.history l) (sym alike.book);
   unnamed = λ name is. alike.resources.spots name ∙ sound.unnamed name (sym alike.unnamed ∙ is);
-}
-
-}
-
-}
-
 }
 
 -- outcomes -------------------------------------------------------------------------------------------

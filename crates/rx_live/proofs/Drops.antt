@@ -171,13 +171,9 @@ dropped_taken s mid new None same none sound taken = tt
 dropped_taken s mid new (Some n) same none sound taken =
     dropped_one s new (string_bytes n) none sound (subst (λ (t : Session). TakesName t (string_bytes n) new) same taken)
 
-}
-
 pub wrote_no_name : (s new : Session) (begun : List ℕ) → new ≡ s → WritesNoName s begun new begun
 wrote_no_name s new begun same =
     subst (λ (t : Session). WritesNoName s begun t begun) (sym same) (record { held = λ n. refl; takes = none_taken; rest = refl; written = refl })
-
-}
 
 -- many ------------------------------------------------------------------------------------------------
 

@@ -16,9 +16,6 @@ use Rattle.rx_live.proofs.Binding.{alike_same}
 use Rattle.rx_live.proofs.Acts.{alike_held, carried_leads, refused_alike}
 use Rattle.rx_live.proofs.Listings.{leads_all}
 
--- all that is told of a command
-}
-
 -- a command that is carried out
 pub carried_out : (old done new : Session) (c : Command) (front text : List ℕ) → Runs old c Accepted done → front ≡ ok_text (length old.book.history) → TellsAll done front new text →
     CarriesOut old c text new

@@ -106,5 +106,3 @@ notes_ended old mid now begun before text so_far none =
       };
       written = ap (λ (t : List ℕ). t ++ codes "]") none.written ∙ array_end begun (codes ",\"notes\":[") (joined (map told_text all)) before so_far.written;
     }
-
-}

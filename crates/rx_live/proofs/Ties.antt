@@ -2,8 +2,6 @@
 use Rattle.rx_book.specs.State.{IsPromised}
 use Rattle.rx_live.specs.Session.{Session, IsSound, IsTied}
 
-}
-
 pub sound_of : (s : Session) → IsPromised s.book → IsTied s → IsSound s
 sound_of s kept tied = record {
   kept = kept;

@@ -92,25 +92,3 @@ get_old (x ∷ xs) y (suc i) l = get_old xs y i (omega arith)
 pub get_new : (xs : List ℕ) (y : ℕ) → get_or (xs ++ y ∷ []) (length xs) 0 ≡ y
 get_new [] y = refl
 get_new (x ∷ xs) y = get_new xs y
-
-}
-
-} where
-  -- an older line, or the new one
-  value : (i : ℕ) → i < n + 1 → ((i < n) × (get_or (ends ++ v ∷ []) i 0 ≡ get_or ends i 0)) ⊎ ((i ≡ n) × (get_or (ends ++ v ∷ []) i 0 ≡ v))
-  value i l = by_place (cases_lt i n) where
-    by_place : (i < n) ⊎ (n ≤ i) → ((i < n) × (get_or (ends ++ v ∷ []) i 0 ≡ get_or ends i 0)) ⊎ ((i ≡ n) × (get_or (ends ++ v ∷ []) i 0 ≡ v))
-    by_place (inl m) = let size = tied.size in inl (m, get_old ends v i (omega arith))
-    by_place (inr m) = let size = tied.size in let last : i ≡ length ends = omega arith in inr (omega arith, ap (λ (j : ℕ). get_or (ends ++ v ∷ []) j 0) last ∙ get_new ends v)
-
-  by_begun : (i : ℕ) → ((i < n) × (get_or (ends ++ v ∷ []) i 0 ≡ get_or ends i 0)) ⊎ ((i ≡ n) × (get_or (ends ++ v ∷ []) i 0 ≡ v)) → i ≤ get_or (ends ++ v ∷ []) i 0
-  by_begun i (inl w) = rw w.1 (tied.begun i w.0)
-  by_begun i (inr w) = rw (w.1, w.0) begins
-
-  by_within : (i : ℕ) → ((i < n) × (get_or (ends ++ v ∷ []) i 0 ≡ get_or ends i 0)) ⊎ ((i ≡ n) × (get_or (ends ++ v ∷ []) i 0 ≡ v)) → get_or (ends ++ v ∷ []) i 0 ≤ length h
-  by_within i (inl w) = rw w.1 (tied.within i w.0)
-  by_within i (inr w) = rw w.1 stays
-
-  by_spans : (i : ℕ) → ((i < n) × (get_or (ends ++ v ∷ []) i 0 ≡ get_or ends i 0)) ⊎ ((i ≡ n) × (get_or (ends ++ v ∷ []) i 0 ≡ v)) → Spans h (λ k. is_open k i) i (get_or (ends ++ v ∷ []) i 0)
-  by_spans i (inl w) = rw w.1 (tied.spans i w.0)
-  by_spans i (inr w) = rw (w.1, w.0) spans

@@ -66,5 +66,3 @@ rows_skip h shown n rows tied none = record {
       ∙ append-nil (filter (λ k. at has_row h k && shown k) (range_with_len 0 n)));
   each = tied.each;
 }
-
-}

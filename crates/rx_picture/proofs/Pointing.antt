@@ -35,5 +35,3 @@ points_skip h place n points within tied none = record {
       ∙ append-nil (filter place (range_with_len 0 n)));
   each = tied.each;
 }
-
-}

@@ -1,6 +1,6 @@
 -- The definitions at a worked example: a scenario that drains two resources, which may be taken in two orders. Its dumps may differ,
 -- and a report of that order would.
-use Rattle.std.proofs.Common.{◌≡◌, ℕ, ◌≤◌, true, List, [], ◌∷◌, ◌++◌, slice_get, refl}
+use Rattle.std.proofs.Common.{◌≡◌, ℕ, ◌≤◌, true, List, [], ◌∷◌, ◌++◌, slice_get, get_or, refl, ap, arith}
 use Rattle.std.specs.Prelude.{flat_map}
 use Rattle.std.specs.Option.{option_and_then, option_to_list}
 use Rattle.rx_event.specs.Kept.{nothing_kept}
@@ -24,7 +24,7 @@ use Rattle.rx_agenda.specs.declared.answer.Answer.TheVariants.{Accepted}
 use Rattle.rx_agenda.specs.Bindings.{bound}
 use Rattle.rx_scenario.specs.Scenario.{Name, root, using, dispose, drain, Step, Script}
 use Rattle.rx_script.specs.Stage.{Ware, Stage}
-use Rattle.rx_script.specs.Course.{limited, drained, Course, IsCourseOf}
+use Rattle.rx_script.specs.Course.{limited, drained, HasNoFull, Course, IsCourseOf}
 use Rattle.rx_script.specs.Progress.{begin, executes, not_begun, advanced}
 use Rattle.rx_script.proofs.CoursesInOrder.{course_in_order}
 use Rattle.rx_script.proofs.Examples.Leading.{doing, turn_of, plain_step, Led, led_on}
@@ -135,6 +135,11 @@ is_course k drains limit room = course_in_order (limited limit) (script limit) s
   over = refl;
 })
 
+-- So the scenario has these two
+pub two_courses : IsCourseOf (script led_to_four.least) stock (course (four ++ Take 1 ∷ Take 3 ∷ []))
+    × IsCourseOf (script led_to_four.least) stock (course (four ++ Take 3 ∷ Take 1 ∷ []))
+two_courses = (is_course _ rising led_to_four.least (omega arith), is_course _ falling led_to_four.least (omega arith))
+
 -- their histories, and so their dumps, are not the same, nor are the tags of what was taken in the order of the takings
 abbrev taken_tags : List Event → Event → List ℕ
 taken_tags h (Take q) = option_to_list (option_and_then accepted_tag (slice_get h q))
@@ -145,3 +150,12 @@ tags_in_order c = flat_map (taken_tags c.last.history) c.last.history
 
 orders_differ : (tags_in_order (course (four ++ Take 1 ∷ Take 3 ∷ [])) ≡ 5 ∷ 6 ∷ []) × (tags_in_order (course (four ++ Take 3 ∷ Take 1 ∷ [])) ≡ 6 ∷ 5 ∷ [])
 orders_differ = (refl, refl)
+
+-- so nothing that shows that order is the same for all courses of a scenario
+pub no_order_is_shown : ((script : Script) (wares : List Ware) (c d : Course) → IsCourseOf script wares c → HasNoFull c.answers → IsCourseOf script wares d
+    → HasNoFull d.answers
+    → tags_in_order c ≡ tags_in_order d) → ⊥
+no_order_is_shown same =
+    let one : ◌≡◌ {A = List ℕ} (5 ∷ 6 ∷ []) (6 ∷ 5 ∷ []) = same (script led_to_four.least) stock _ _ two_courses.0 refl two_courses.1 refl in
+    let heads : ◌≡◌ {A = ℕ} 5 6 = ap (λ (l : List ℕ). get_or l 0 0) one in
+    absurd (omega arith)

@@ -1,14 +1,17 @@
 -- Worked canonical courses: source and notifier of a TakeUntil subscribe to one hub, and the source of its connection gives an item, or
 -- completes. Where it completes the definitions leave open which of several nodes ends first; the report shows none of it.
-use Rattle.std.proofs.Common.{ℕ, List, [], ◌∷◌, ◌++◌, Some, None, true, refl}
+use Rattle.std.proofs.Common.{◌≡◌, ℕ, List, [], ◌∷◌, ◌++◌, Some, None, true, refl}
 use Rattle.std.specs.Prelude.{codes, pos}
-use Rattle.rx_event.specs.Kept.{nothing_kept}
+use Rattle.rx_event.specs.Kept.{nothing_kept, shown}
 use Rattle.rx_note.specs.declared.note.Terminal.TheVariants.{Completed}
 use Rattle.rx_event.specs.declared.event.Place.TheVariants.{Root, Source, Notifier}
 use Rattle.rx_event.specs.declared.event.Kind.TheVariants.{Leaf, Sub, Until}
 use Rattle.rx_event.specs.declared.event.Mode.TheVariants.{Auto}
 use Rattle.rx_event.specs.declared.event.Event.{Event}
 use Rattle.rx_event.specs.declared.event.Event.TheVariants.{Open, Hub, Connect, Item, End, Close}
+use Rattle.rx_event.specs.Notes.{notes}
+use Rattle.rx_event.specs.Resources.{is_owned, is_held, is_waiting}
+use Rattle.std.specs.Fmt.{digits}
 use Rattle.rx_event.specs.Tree.{parent, ancestors, is_shut, is_open}
 use Rattle.rx_event.specs.Climb.{most_visits, visits, climb, stops}
 use Rattle.rx_event.specs.Moments.{projections, owed, is_fired, moments}
@@ -18,9 +21,12 @@ use Rattle.rx_event.specs.Calls.{Opening, Emitting, Ending, Publishing}
 use Rattle.rx_event.specs.Canonical.{source_end, first_forced, IsFirstStep, nothing_yet, first_next}
 use Rattle.rx_agenda.specs.declared.answer.Answer.TheVariants.{Accepted}
 use Rattle.rx_agenda.specs.Bindings.{bound}
-use Rattle.rx_scenario.specs.Scenario.{Name, root, source, notifier, leaf, until, sub, Command, make_hub, open_node, no_steps, Step, Script}
+use Rattle.rx_scenario.specs.Scenario.{Name, root, source, notifier, leaf, until, sub, Command, make_hub, open_node, next, end, no_steps, Step, Script}
 use Rattle.rx_script.specs.Stage.{Stage}
-use Rattle.rx_script.specs.Course.{Course}
+use Rattle.rx_script.specs.Course.{in_one_order, Course, IsCanonicalCourseOf}
+use Rattle.rx_report.specs.Text.{refused_line, node_line, note_text, totals_line, closed_line}
+use Rattle.rx_script.specs.Report.{report, unclosed_report}
+use Rattle.rx_script.proofs.CoursesInOrder.{course_in_order}
 use Rattle.rx_script.proofs.Examples.Leading.{doing, turn_of}
 use Rattle.rx_script.proofs.Examples.InOneOrder.{Ordered, nothing_stands, ordered_to, stands_after, first_of_all, ordered_on}
 
@@ -145,3 +151,27 @@ to_last last =
     let fourth = ordered_on (steps last) None None (open_node n (notifier u) (sub h None)) no_steps (turn_of (from_leaf last)) (Opening (Notifier 1) (Sub 0)) notifier_made
     refl refl refl refl to_notifier third in
     ordered_on (steps last) None None (open_node l (source c) leaf) no_steps (turn_of (doing last ∷ [])) (Opening (Source 3) Leaf) leaf_made refl refl refl refl to_leaf fourth
+
+-- each is the one, whatever number of events the scenario allows
+pub item_course : (events : ℕ) → IsCanonicalCourseOf (script (next l (pos 9)) events) [] (course fired)
+unfolding bound is_open is_shut ancestors parent most_nodes most_hubs owed projections moments stops climb most_visits visits
+item_course events =
+    let last = ordered_on (steps (next l (pos 9))) None None (next l (pos 9)) no_steps (turn_of []) (Emitting 5 (pos 9)) fired refl refl refl refl to_item (to_last (next l (pos 9))) in
+    course_in_order in_one_order (script (next l (pos 9)) events) [] (course fired).answers (stage fired) (record { left = turn_of []; leads = last; over = refl })
+
+pub end_course : (events : ℕ) → IsCanonicalCourseOf (script (end l Completed) events) [] (course ended)
+unfolding bound is_open is_shut ancestors parent most_nodes most_hubs owed projections moments stops climb most_visits visits
+end_course events =
+    let last = ordered_on (steps (end l Completed)) None None (end l Completed) no_steps (turn_of []) (Ending 5 Completed) ended refl refl refl refl to_end (to_last (end l Completed)) in
+    course_in_order in_one_order (script (end l Completed) events) [] (course ended).answers (stage ended) (record { left = turn_of []; leads = last; over = refl })
+
+-- and this is its report
+pub item_report : report (course fired) 0
+    ≡ codes "node u closed: next=9 completed\ntotals nodes=5 open=0 accepted=0 held=0 waiting=0 taken=0\nclosed 0 faults 0\n"
+unfolding report unclosed_report refused_line node_line note_text totals_line closed_line notes shown digits is_owned is_held is_waiting is_open is_shut ancestors parent stops climb most_visits moments projections owed
+item_report = refl
+
+pub end_report : report (course ended) 0
+    ≡ codes "node u closed: completed\ntotals nodes=5 open=0 accepted=0 held=0 waiting=0 taken=0\nclosed 0 faults 0\n"
+unfolding report unclosed_report refused_line node_line note_text totals_line closed_line notes shown digits is_owned is_held is_waiting is_open is_shut ancestors parent stops climb most_visits moments projections owed
+end_report = refl

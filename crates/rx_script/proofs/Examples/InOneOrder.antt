@@ -3,6 +3,7 @@ use Rattle.std.proofs.Common.{◌≡◌, ℕ, Bool, List, [], ◌∷◌, ◌++�
 use Rattle.std.specs.Prelude.{Option}
 use Rattle.rx_event.specs.Kept.{nothing_kept}
 use Rattle.rx_event.specs.declared.event.Event.{Event}
+use Rattle.rx_event.specs.declared.refusal.Refusal.{Refusal}
 use Rattle.rx_event.specs.Forced.{IsSettled}
 use Rattle.rx_event.specs.Lawful.{IsLawful}
 use Rattle.rx_event.specs.Calls.{Call, outside_of}
@@ -14,11 +15,12 @@ use Rattle.rx_register.specs.Causes.{causes, unlimited}
 use Rattle.rx_register.specs.Claims.{IsReady}
 use Rattle.rx_register.proofs.Laws.Empty.{settled_empty}
 use Rattle.rx_agenda.specs.declared.answer.Answer.{Answer}
-use Rattle.rx_agenda.specs.declared.answer.Answer.TheVariants.{Accepted}
+use Rattle.rx_agenda.specs.declared.answer.Answer.TheVariants.{Accepted, Refused}
+use Rattle.rx_agenda.specs.declared.answer.Cause.TheVariants.{Book}
 use Rattle.rx_agenda.specs.Agenda.{Agenda, followed_by, next_step}
 use Rattle.rx_scenario.specs.Scenario.{Name, Command, command, Steps, Step, list_of}
 use Rattle.rx_script.specs.Stage.{Ware, own_cause, call_of, after}
-use Rattle.rx_script.specs.Course.{in_one_order, cause_in, accepted}
+use Rattle.rx_script.specs.Course.{in_one_order, cause_in, accepted, refused_by_book}
 use Rattle.rx_script.specs.Progress.{Progress, begin, executes, Leads, not_begun, advanced}
 use Rattle.rx_script.proofs.Examples.Leading.{step_to}
 
@@ -67,4 +69,18 @@ ordered_on steps {p = p} label delay c followers rest call k comes own called fr
 })
 
 -- and one more, which the book refuses
+pub refused_on : {stock : List Ware} (steps : List Step) {until : ℕ} {answers : List Answer} {p : Progress}
+    (label : Option Name) (delay : Option ℕ) (c : Command) (followers : Steps) (rest : Agenda) (call : Call) (why : Refusal)
+    → next_step until p.agenda ≡ Some (record { label = label; delay = delay; action = command c; followers = followers }, rest)
+    → own_cause p.stage c ≡ None → call_of p.stage c ≡ Some call → cause_in in_one_order p.stage call ≡ Some why → Ordered stock steps until answers p
+    → Ordered stock steps until (answers ++ Refused (Book why) ∷ [])
+    (record { stage = p.stage; agenda = followed_by (Refused (Book why)) (list_of followers) rest })
+refused_on steps {p = p} label delay c followers rest call why comes own called stands before = advanced before (record {
+  step = record { label = label; delay = delay; action = command c; followers = followers };
+  rest = rest;
+  comes = comes;
+  done = record { stage = p.stage; agenda = rest };
+  performs = executes (refused_by_book own called stands);
+  stage = refl;
+  follows = refl;
 })

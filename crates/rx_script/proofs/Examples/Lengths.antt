@@ -1,6 +1,6 @@
 -- The definitions at a worked example: a scenario whose courses are of two lengths, so that a node has one number in the one and
 -- another in the other. A report of numbers would show which it was.
-use Rattle.std.proofs.Common.{ℕ, ◌+◌, true, List, [], ◌∷◌, ◌++◌, Some, None, map, refl, arith}
+use Rattle.std.proofs.Common.{◌≡◌, ℕ, ◌+◌, true, List, [], ◌∷◌, ◌++◌, Some, None, length, map, get_or, refl, ap, arith}
 use Rattle.rx_event.specs.Kept.{nothing_kept}
 use Rattle.rx_note.specs.declared.note.Terminal.TheVariants.{Completed}
 use Rattle.rx_event.specs.declared.event.Place.TheVariants.{Root, Source, Notifier}
@@ -23,8 +23,8 @@ use Rattle.rx_register.proofs.Laws.Empty.{settled_empty}
 use Rattle.rx_agenda.specs.declared.answer.Answer.TheVariants.{Accepted}
 use Rattle.rx_agenda.specs.Bindings.{bound}
 use Rattle.rx_scenario.specs.Scenario.{Name, root, source, notifier, leaf, until, sub, make_hub, open_node, end, Step, Script}
-use Rattle.rx_script.specs.Stage.{Stage}
-use Rattle.rx_script.specs.Course.{limited, Course, IsCourseOf}
+use Rattle.rx_script.specs.Stage.{Ware, Stage}
+use Rattle.rx_script.specs.Course.{limited, HasNoFull, Course, IsCourseOf}
 use Rattle.rx_script.specs.Progress.{begin, not_begun}
 use Rattle.rx_script.proofs.CoursesInOrder.{course_in_order}
 use Rattle.rx_script.proofs.Examples.Leading.{doing, turn_of, step_to, plain_step, Led, led_on}
@@ -222,3 +222,18 @@ long_course = course_in_order (limited room) (script room) [] _ (last_stage (lon
 -- what nodes the names stand for, which a report must not show: nothing that shows it is the same for all courses of a scenario
 abbrev numbers : Course → List ℕ
 numbers d = map (λ b. b.number) d.last.nodes
+
+pub no_number_is_shown : ((script : Script) (wares : List Ware) (c d : Course) → IsCourseOf script wares c → HasNoFull c.answers → IsCourseOf script wares d
+    → HasNoFull d.answers → numbers c ≡ numbers d) → ⊥
+no_number_is_shown same =
+    let one = same (script room) [] (course (short ++ Open Root Leaf ∷ []) 10) (course (long ++ Open Root Leaf ∷ []) 11) short_course refl long_course refl in
+    let at_x : ◌≡◌ {A = ℕ} 10 11 = ap (λ (ns : List ℕ). get_or ns 5 0) one in
+    absurd (omega arith)
+
+-- nor how long the history is
+pub no_length_is_shown : ((script : Script) (wares : List Ware) (c d : Course) → IsCourseOf script wares c → HasNoFull c.answers → IsCourseOf script wares d
+    → HasNoFull d.answers → length c.last.history ≡ length d.last.history) → ⊥
+no_length_is_shown same =
+    let one : ◌≡◌ {A = ℕ} 11 12 = same (script room) [] (course (short ++ Open Root Leaf ∷ []) 10)
+    (course (long ++ Open Root Leaf ∷ []) 11) short_course refl long_course refl in
+    absurd (omega arith)

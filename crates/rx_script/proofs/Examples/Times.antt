@@ -1,14 +1,17 @@
 -- A worked canonical course in virtual time: a step that follows another after a delay, and two of one moment, of which the first closes
 -- what the second would call.
-use Rattle.std.proofs.Common.{ℕ, List, [], ◌∷◌, ◌++◌, Some, None, true, refl}
+use Rattle.std.proofs.Common.{◌≡◌, ℕ, List, [], ◌∷◌, ◌++◌, Some, None, true, refl}
 use Rattle.std.specs.Prelude.{codes, pos, negsuc}
-use Rattle.rx_event.specs.Kept.{nothing_kept}
+use Rattle.rx_event.specs.Kept.{nothing_kept, shown}
 use Rattle.rx_event.specs.declared.event.Place.TheVariants.{Root, Source}
 use Rattle.rx_event.specs.declared.event.Kind.TheVariants.{Leaf, Sub}
 use Rattle.rx_event.specs.declared.event.Mode.TheVariants.{Auto}
 use Rattle.rx_event.specs.declared.event.Event.{Event}
 use Rattle.rx_event.specs.declared.event.Event.TheVariants.{Open, Hub, Connect, Item, Close}
 use Rattle.rx_event.specs.declared.refusal.Refusal.TheVariants.{Gone}
+use Rattle.rx_event.specs.Notes.{notes}
+use Rattle.rx_event.specs.Resources.{is_owned, is_held, is_waiting}
+use Rattle.std.specs.Fmt.{digits}
 use Rattle.rx_event.specs.Tree.{parent, ancestors, is_shut, is_open}
 use Rattle.rx_event.specs.Climb.{most_visits, visits, climb, stops}
 use Rattle.rx_event.specs.Moments.{projections, owed, is_fired, moments}
@@ -18,10 +21,14 @@ use Rattle.rx_event.specs.Calls.{Opening, Emitting, Disposing, Publishing}
 use Rattle.rx_event.specs.Canonical.{source_end, first_forced, IsFirstStep, nothing_yet, first_next}
 use Rattle.rx_agenda.specs.declared.answer.Answer.TheVariants.{Accepted, Refused}
 use Rattle.rx_agenda.specs.declared.answer.Cause.TheVariants.{Book}
+use Rattle.rx_agenda.specs.Bindings.{bound}
 use Rattle.rx_scenario.specs.Scenario.{Name, root, source, leaf, sub, Command, make_hub, open_node, next, dispose, command, no_steps, Step, steps_of, Script}
 use Rattle.rx_script.specs.Stage.{Stage}
-use Rattle.rx_script.specs.Course.{Course}
-use Rattle.rx_script.proofs.Examples.InOneOrder.{nothing_stands, ordered_to, stands_after}
+use Rattle.rx_script.specs.Course.{in_one_order, Course, IsCanonicalCourseOf}
+use Rattle.rx_report.specs.Text.{refused_line, node_line, note_text, totals_line, closed_line}
+use Rattle.rx_script.specs.Report.{report, unclosed_report}
+use Rattle.rx_script.proofs.CoursesInOrder.{course_in_order}
+use Rattle.rx_script.proofs.Examples.InOneOrder.{nothing_stands, ordered_to, stands_after, first_of_all, ordered_on, refused_on}
 
 abbrev h : Name
 h = codes "h"
@@ -100,3 +107,21 @@ last_stage = record {
 
 abbrev course : Course
 course = record { answers = Accepted ∷ Accepted ∷ Accepted ∷ Accepted ∷ Accepted ∷ Refused (Book Gone) ∷ []; last = last_stage }
+
+pub time_course : (events : ℕ) → IsCanonicalCourseOf (script events) [] course
+unfolding bound is_open is_shut ancestors parent most_nodes most_hubs owed projections moments stops climb most_visits visits
+time_course events =
+    let first = ordered_on steps None (Some 5) (make_hub h Auto) no_steps _ (Publishing Auto) hub_made refl refl refl refl to_hub
+    (first_of_all [] steps 1000000000000000) in
+    let second = ordered_on steps None (Some 5) (open_node s root (sub h (Some c))) (steps_of followers) _ (Opening Root (Sub 0)) subscribed
+    refl refl refl refl to_subscriber first in
+    let third = ordered_on steps None None (open_node l (source c) leaf) no_steps _ (Opening (Source 2) Leaf) leaf_made refl refl refl refl to_leaf second in
+    let fourth = ordered_on steps None (Some 2) (next l (negsuc 0)) no_steps _ (Emitting 3 (negsuc 0)) told refl refl refl refl to_item third in
+    let fifth = ordered_on steps None (Some 10) (dispose s) no_steps _ (Disposing 1) disposed refl refl refl refl to_disposal fourth in
+    let last = refused_on steps None (Some 10) (next l (pos 8)) no_steps _ (Emitting 3 (pos 8)) Gone refl refl refl refl fifth in
+    course_in_order in_one_order (script events) [] course.answers last_stage (record { left = _; leads = last; over = refl })
+
+pub time_report : report course 0
+    ≡ codes "refused 5 Gone\nnode s closed: next=-1\ntotals nodes=3 open=0 accepted=0 held=0 waiting=0 taken=0\nclosed 0 faults 0\n"
+unfolding report unclosed_report refused_line node_line note_text totals_line closed_line notes shown digits is_owned is_held is_waiting is_open is_shut ancestors parent stops climb most_visits moments projections owed
+time_report = refl
