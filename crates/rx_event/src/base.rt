@@ -136,8 +136,16 @@ impl Base {
         resources: Vec<BaseResource>,
         leases: Vec<BaseLease>,
     ) -> Self
-        ensures { result ≡ record { at_length = counts.at; items = counts.items; accepted = counts.accepted;
-            taken = counts.taken; hubs = hubs.items; nodes = nodes.items; resources = resources.items; leases = leases.items } }
+        ensures { result ≡ record {
+          at_length = counts.at;
+          items = counts.items;
+          accepted = counts.accepted;
+          taken = counts.taken;
+          hubs = hubs.items;
+          nodes = nodes.items;
+          resources = resources.items;
+          leases = leases.items;
+        } }
     {
         let BaseCounts {
             at,

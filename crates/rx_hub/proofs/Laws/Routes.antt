@@ -141,7 +141,6 @@ alike_marked old new key marks rewrites = record {
   by_key k f same (inr other) = ap f (rewrites.others k other)
 
 module _ (old new : Slots Node) (key : Key) (marks : Marks) (rewrites : Rewrites old new key (with_marks marks)) where
-
   -- and so is what is left of a way
   pub stops_left-marked : (hubs : List Hub) (route : Route) → stops_left new hubs route ≡ stops_left old hubs route
   stops_left-marked hubs route = stops_same old new (alike_marked old new key marks rewrites) hubs (visits_left route) (todo hubs route)
