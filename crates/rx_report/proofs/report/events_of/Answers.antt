@@ -1,5 +1,5 @@
 use Rattle.std.proofs.Common.{◌≡◌, ◌+◌, ◌++◌, ◌∷◌, [], ◌∙◌, ap, take, vec_len, rules}
-use Rattle.rx_report.proofs.Gathering.{front_next, front_all, event_within, from_start}
+use Rattle.rx_report.proofs.TakenUp.{front_next, front_all, event_within, from_start}
 use Rattle.rx_report.proofs.report.events_of.Goals as goal
 
 pub loop-event-smaller : goal.loop-event-smaller

@@ -1,17 +1,12 @@
--- Lists that are copied from a book, one by one, and the lines that are made of them.
-use Rattle.std.proofs.Common.{◌≡◌, ◌<◌, ◌≤◌, ◌+◌, ◌++◌, ◌∷◌, [], ℕ, zero, suc, List, Bool, true, false, map, filter, length, take, get_or, cond, refl, sym, ap, ◌∙◌, append_assoc, append-nil, arith, inl, inr, ◌⊎◌}
-use Rattle.std.specs.Prelude.{Some, None, slice_get, flat_map, nat_lt, if◌then◌else◌}
-use Rattle.std.proofs.lemmas.List.{take_more, take_all, map-append}
-use Rattle.std.proofs.lemmas.Bool.{cases_Bool, ltb-true}
-use Rattle.std.proofs.lemmas.Option.{get_or_from_slice_get, none-some}
+-- The lines of nodes and of resources, one more at a time.
+use Rattle.std.proofs.Common.{◌≡◌, ◌<◌, ◌+◌, ◌++◌, ◌∷◌, [], ℕ, List, Bool, true, false, map, filter, length, take, get_or, cond, refl, sym, ap, ◌∙◌, append_assoc, append-nil}
+use Rattle.std.specs.Prelude.{flat_map}
+use Rattle.std.proofs.lemmas.List.{take_more, map-append}
 use Rattle.std.proofs.lemmas.Grind.{flat_map-append}
 use Rattle.rx_event.specs.declared.event.Event.{Event}
-use Rattle.rx_event.specs.Kept.{Kept, nothing_kept, event_since}
 use Rattle.rx_event.specs.Tree.{at, is_open}
 use Rattle.rx_note.specs.declared.note.Note.{Note}
 use Rattle.rx_event.specs.Notes.{notes, notes_to}
-use Rattle.rx_event.specs.declared.mail.Mail.{Mail}
-use Rattle.rx_book.specs.State.{State}
 use Rattle.rx_book.specs.declared.key.Key.{Key}
 use Rattle.rx_agenda.specs.declared.names.Named.{Named}
 use Rattle.rx_agenda.specs.Names.{name_of}
@@ -21,40 +16,6 @@ use Rattle.rx_agenda.specs.Bindings.{Binding}
 use Rattle.rx_event.specs.Resources.{is_held, is_taken}
 use Rattle.rx_report.specs.declared.line.Whereabouts.TheVariants.{Held, Waiting, Taken}
 use Rattle.rx_report.specs.Lines.{is_told, node_shown, node_lines, res_shown, res_lines, whereabouts}
-
-slice_get-within : {A : Type 0} (xs : List A) (n : ℕ) (x : A) → slice_get xs n ≡ Some x → n < length xs
-slice_get-within [] n x found = absurd (cc)
-slice_get-within (y ∷ ys) zero x found = omega arith
-slice_get-within (y ∷ ys) (suc n) x found = let rest = slice_get-within ys n x found in omega arith
-
-slice_get-past : {A : Type 0} (xs : List A) (n : ℕ) → slice_get xs n ≡ None → length xs ≤ n
-slice_get-past [] n missing = omega arith
-slice_get-past (y ∷ ys) zero missing = absurd (cc)
-slice_get-past (y ∷ ys) (suc n) missing = let rest = slice_get-past ys n missing in omega arith
-
-take_next : {A : Type 0} (xs : List A) (n : ℕ) (x : A) → slice_get xs n ≡ Some x → take (n + 1) xs ≡ take n xs ++ x ∷ []
-take_next xs n x found = take_more xs n x (slice_get-within xs n x found) ∙ ap (λ y. take n xs ++ y ∷ []) (get_or_from_slice_get xs n x x found)
-
--- a front of a list that was copied, and one more
-pub front_next : {A : Type 0} (xs front pushed : List A) (n : ℕ) (x : A) → front ≡ take n xs → Some x ≡ slice_get xs n → pushed ≡ front ++ x ∷ [] → pushed ≡ take (n + 1) xs
-front_next xs front pushed n x is found is_pushed = is_pushed ∙ ap (λ l. l ++ x ∷ []) is ∙ sym (take_next xs n x (sym found))
-
-pub front_all : {A : Type 0} (xs front : List A) (n : ℕ) → front ≡ take n xs → None ≡ slice_get xs n → front ≡ xs
-front_all xs front n is missing = is ∙ take_all n xs (slice_get-past xs n (sym missing))
-
--- where the base is empty each event is there
-pub from_start : (base : Kept) (h : List Event) (n : ℕ) → base ≡ nothing_kept → event_since base h n ≡ slice_get h n
-from_start base h n none = ap (λ (b : Kept). event_since b h n) none ∙ ap (λ b. if b then None else slice_get h n) (by_test (cases_Bool (nat_lt n 0)))
-  where
-    by_test : (nat_lt n 0 ≡ true) ⊎ (nat_lt n 0 ≡ false) → nat_lt n 0 ≡ false
-    by_test (inl less) = absurd (let l = ltb-true n 0 less in omega arith)
-    by_test (inr past) = past
-
-pub event_within : (base : Kept) (h : List Event) (n : ℕ) (e : Event) → Some e ≡ event_since base h n → n < length h
-event_within base h n e found = by_test (nat_lt n base.at_length) (sym found) where
-  by_test : (b : Bool) → (if b then None else slice_get h n) ≡ Some e → n < length h
-  by_test true none = absurd (none-some e none)
-  by_test false there = slice_get-within h n e there
 
 -- one line more
 filter-push : {A : Type 0} (p : A → Bool) (xs : List A) (x : A) → filter p (xs ++ x ∷ []) ≡ filter p xs ++ cond (p x) (x ∷ []) []
@@ -104,26 +65,3 @@ where_taken h r unheld taken = rw (unheld, taken) refl
 
 pub where_waiting : (h : List Event) (r : ℕ) → is_held h r ≡ false → is_taken h r ≡ false → whereabouts h r ≡ Waiting
 where_waiting h r unheld untaken = rw (unheld, untaken) refl
-
--- a note that was handed out
-module _ (first now next : State) (going : now ≡ record first { given = now.given }) (handed : next ≡ record now { given = now.given + 1 }) where
-  same_history : now.history ≡ first.history
-  same_history = ap (λ s. s.history) going
-
-  one_more_given : next.given ≡ now.given + 1
-  one_more_given = ap (λ s. s.given) handed
-
-  pub handed_book : next ≡ record first { given = next.given }
-  handed_book = handed ∙ ap {A = State} {B = State} (λ s. record s { given = now.given + 1 }) going ∙ ap {A = ℕ} {B = State} (λ n. record first { given = n }) (sym one_more_given)
-
-  pub handed_mail : (mail pushed : List Mail) (note : Mail) → mail ≡ take now.given (notes first.history) → Some note ≡ slice_get (notes now.history) now.given
-      → pushed ≡ mail ++ note ∷ [] → pushed ≡ take next.given (notes first.history)
-  handed_mail mail pushed note before found is_pushed =
-      front_next (notes first.history) mail pushed now.given note before (found ∙ ap (λ h. slice_get (notes h) now.given) same_history) is_pushed
-      ∙ ap (λ n. take n (notes first.history)) (sym one_more_given)
-
-pub mail_whole : (first now : State) (mail : List Mail) → now ≡ record first { given = now.given } → mail ≡ take now.given (notes first.history)
-    → None ≡ slice_get (notes now.history) now.given → mail ≡ notes first.history
-mail_whole first now mail going before missing =
-    let same : now.history ≡ first.history = ap (λ s. s.history) going in
-    front_all (notes first.history) mail now.given before (missing ∙ ap (λ h. slice_get (notes h) now.given) same)
