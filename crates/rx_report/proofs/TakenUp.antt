@@ -11,7 +11,6 @@ use Rattle.rx_event.specs.declared.event.Event.{Event}
 use Rattle.rx_event.specs.declared.mail.Mail.{Mail}
 use Rattle.rx_event.specs.Kept.{Kept, nothing_kept, event_since}
 use Rattle.rx_event.specs.Lawful.{IsLawful}
-use Rattle.rx_event.specs.Notes.{notes}
 use Rattle.rx_event.proofs.Laws.Steps.{by_pushes}
 use Rattle.rx_book.specs.State.{State, IsPromised}
 use Rattle.rx_report.specs.declared.tallies.Tallies.{Tallies}
