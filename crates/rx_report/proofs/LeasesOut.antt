@@ -1,5 +1,5 @@
 -- The leases that are out, and how many of each resource, after one more event.
-use Rattle.std.proofs.Common.{◌≡◌, ℕ, ◌+◌, ◌-◌, ◌<◌, ◌≤◌, ◌==◌, Bool, true, false, List, [], ◌∷◌, ◌++◌, length, Option, Some, None, cond, slice_get, refl, sym, ap, ◌∙◌, arith, inl, inr, ◌⊎◌, length-append}
+use Rattle.std.proofs.Common.{◌≡◌, ℕ, ◌-◌, ◌<◌, ◌≤◌, ◌==◌, Bool, true, false, List, [], ◌∷◌, ◌++◌, length, Option, Some, None, cond, slice_get, refl, sym, ap, ◌∙◌, arith, inl, inr, ◌⊎◌, length-append}
 use Rattle.std.proofs.Math.Bool.{not, ◌&&◌}
 use Rattle.std.specs.Option.{option_and_then, option_map_or}
 use Rattle.std.proofs.lemmas.Bool.{cases_order, cases_Bool, ne_eqb, eq-eqb, eqb-true, false≢true}
@@ -55,7 +55,8 @@ none_out_past h l past = ap (λ (b : Bool). cond b (option_and_then leased_of (s
 pub leased_out-push : (h : List Event) (e : Event) (l : ℕ) → IsLawful nothing_kept h
     → leased_out (h ++ e ∷ []) l ≡ cond (length h == l) (leased_of e) (cond (is_return_of l e) None (leased_out h l))
 leased_out-push h e l law = by_order (cases_order (length h) l) where
-  at_end : (b : Bool) → (length h == l) ≡ b → cond b (leased_of e) (cond (is_return_of l e) None (leased_out h l)) ≡ cond (length h == l) (leased_of e) (cond (is_return_of l e) None (leased_out h l))
+  at_end : (b : Bool) → (length h == l) ≡ b → cond b (leased_of e) (cond (is_return_of l e) None (leased_out h l))
+      ≡ cond (length h == l) (leased_of e) (cond (is_return_of l e) None (leased_out h l))
   at_end b is = ap (λ b. cond b (leased_of e) (cond (is_return_of l e) None (leased_out h l))) (sym is)
 
   none_back : (b : Bool) (x : Option ℕ) → x ≡ None → None ≡ cond b None x
@@ -114,10 +115,11 @@ leases_few h r =
 
 -- one event more, by what it is ----------------------------------------------------------------------------
 
-pub out_leased : (h : List Event) (e : Event) (l place r : ℕ) (old new : Option ℕ) → IsLawful nothing_kept h → place ≡ length h → e ≡ Lease r → old ≡ leased_out h l
-    → new ≡ cond (place == l) (Some r) old → new ≡ leased_out (h ++ e ∷ []) l
+pub out_leased : (h : List Event) (e : Event) (l place r : ℕ) (old new : Option ℕ) → IsLawful nothing_kept h → place ≡ length h → e ≡ Lease r
+    → old ≡ leased_out h l → new ≡ cond (place == l) (Some r) old → new ≡ leased_out (h ++ e ∷ []) l
 out_leased h e l place r old new law is leases before here =
-    here ∙ (λ i. cond (is i == l) (Some r) (before i)) ∙ ap (λ e. cond (length h == l) (leased_of e) (cond (is_return_of l e) None (leased_out h l))) (sym leases)
+    here ∙ (λ i. cond (is i == l) (Some r) (before i))
+    ∙ ap (λ e. cond (length h == l) (leased_of e) (cond (is_return_of l e) None (leased_out h l))) (sym leases)
     ∙ sym (leased_out-push h e l law)
 
 pub out_returned : (h : List Event) (e : Event) (l m : ℕ) (old new : Option ℕ) → IsLawful nothing_kept h → e ≡ Return m → old ≡ leased_out h l

@@ -6,7 +6,7 @@ use Rattle.std.proofs.lemmas.Grind.{flat_map-append}
 use Rattle.rx_event.specs.declared.event.Event.{Event}
 use Rattle.rx_event.specs.Tree.{at, is_open}
 use Rattle.rx_note.specs.declared.note.Note.{Note}
-use Rattle.rx_event.specs.Notes.{notes, notes_to}
+use Rattle.rx_event.specs.Notes.{notes_to}
 use Rattle.rx_book.specs.declared.key.Key.{Key}
 use Rattle.rx_agenda.specs.declared.names.Named.{Named}
 use Rattle.rx_agenda.specs.Names.{name_of}

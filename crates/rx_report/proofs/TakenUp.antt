@@ -11,7 +11,6 @@ use Rattle.rx_event.specs.declared.event.Event.{Event}
 use Rattle.rx_event.specs.declared.mail.Mail.{Mail}
 use Rattle.rx_event.specs.Kept.{Kept, nothing_kept, event_since}
 use Rattle.rx_event.specs.Lawful.{IsLawful}
-use Rattle.rx_event.specs.Notes.{notes}
 use Rattle.rx_event.proofs.Laws.Steps.{by_pushes}
 use Rattle.rx_book.specs.State.{State, IsPromised}
 use Rattle.rx_report.specs.declared.tallies.Tallies.{Tallies}
@@ -32,7 +31,8 @@ take_next : {A : Type 0} (xs : List A) (n : ℕ) (x : A) → slice_get xs n ≡ 
 take_next xs n x found = take_more xs n x (slice_get-within xs n x found) ∙ ap (λ y. take n xs ++ y ∷ []) (get_or_from_slice_get xs n x x found)
 
 -- a front of a list that was copied, and one more
-pub front_next : {A : Type 0} (xs front pushed : List A) (n : ℕ) (x : A) → front ≡ take n xs → Some x ≡ slice_get xs n → pushed ≡ front ++ x ∷ [] → pushed ≡ take (n + 1) xs
+pub front_next : {A : Type 0} (xs front pushed : List A) (n : ℕ) (x : A) → front ≡ take n xs → Some x ≡ slice_get xs n → pushed ≡ front ++ x ∷ []
+    → pushed ≡ take (n + 1) xs
 front_next xs front pushed n x is found is_pushed = is_pushed ∙ ap (λ l. l ++ x ∷ []) is ∙ sym (take_next xs n x (sym found))
 
 pub front_all : {A : Type 0} (xs front : List A) (n : ℕ) → front ≡ take n xs → None ≡ slice_get xs n → front ≡ xs
@@ -87,11 +87,12 @@ pub front_is : (front h : List Event) (s : State) → GoesOn front h s → take 
 front_is front h s goes = ap (take (length front)) goes.rest ∙ take-append_seam front (drop (length front) s.history)
 
 lawful_take : (h : List Event) → IsLawful nothing_kept h → (n : ℕ) → IsLawful nothing_kept (take n h)
-lawful_take = by_pushes (λ h. IsLawful nothing_kept h → (n : ℕ) → IsLawful nothing_kept (take n h)) (λ law n. subst (IsLawful nothing_kept) (sym (take_all n [] (omega arith))) law)
+lawful_take = by_pushes (λ h. IsLawful nothing_kept h → (n : ℕ) → IsLawful nothing_kept (take n h))
+    (λ law n. subst (IsLawful nothing_kept) (sym (take_all n [] (omega arith))) law)
     (λ h e before law n. by_length h e before law n (cases_lt (length h) n))
   where
-    by_length : (h : List Event) (e : Event) → (IsLawful nothing_kept h → (n : ℕ) → IsLawful nothing_kept (take n h)) → IsLawful nothing_kept (h ++ e ∷ []) → (n : ℕ)
-        → (length h < n) ⊎ (n ≤ length h) → IsLawful nothing_kept (take n (h ++ e ∷ []))
+    by_length : (h : List Event) (e : Event) → (IsLawful nothing_kept h → (n : ℕ) → IsLawful nothing_kept (take n h)) → IsLawful nothing_kept (h ++ e ∷ [])
+        → (n : ℕ) → (length h < n) ⊎ (n ≤ length h) → IsLawful nothing_kept (take n (h ++ e ∷ []))
     by_length h e before law n (inl past) = subst (IsLawful nothing_kept) (sym (take_all n (h ++ e ∷ []) (omega (arith, length-append h (e ∷ []))))) law
     by_length h e before law n (inr within) = subst (IsLawful nothing_kept) (sym (take-append-le n h (e ∷ []) within)) (before (front_lawful h e law) n)
 
@@ -110,7 +111,7 @@ pub counted_next : (front h : List Event) (s : State) (old new : Tallies) (e : E
     → Some e ≡ event_since s.base s.history old.events → new.events ≡ old.events + 1
     → ((k : List Event) → IsLawful nothing_kept (k ++ e ∷ []) → AreCountsOf k old → AreCountsOf (k ++ e ∷ []) new) → Counted front h new
 counted_next front h s old new e goes law before found more count = record {
-  counts = subst (λ k. AreCountsOf k new) (sym (ap (λ n. take n h) more ∙ longer)) (count (take old.events h) (subst (IsLawful nothing_kept) longer (lawful_take h law (old.events + 1))) before.counts);
+  counts = subst (λ k. AreCountsOf k new) (sym (ap (λ n. take n h) more ∙ longer)) (count (take old.events h) lawful before.counts);
   past = let p = before.past in omega arith;
 }
   where
@@ -120,11 +121,16 @@ counted_next front h s old new e goes law before found more count = record {
     longer : take (old.events + 1) h ≡ take old.events h ++ e ∷ []
     longer = take_next h old.events e there
 
-pub counted_all : (front h : List Event) (s : State) (t : Tallies) → GoesOn front h s → Counted front h t → None ≡ event_since s.base s.history t.events → AreCountsOf h t
+    lawful : IsLawful nothing_kept (take old.events h ++ e ∷ [])
+    lawful = subst (IsLawful nothing_kept) longer (lawful_take h law (old.events + 1))
+
+pub counted_all : (front h : List Event) (s : State) (t : Tallies) → GoesOn front h s → Counted front h t → None ≡ event_since s.base s.history t.events
+    → AreCountsOf h t
 counted_all front h s t goes before missing =
     let stored = goes.stored in
     let past = before.past in
-    let none : slice_get h t.events ≡ None = ap (λ k. slice_get k t.events) goes.rest ∙ same_past front s.history t.events past ∙ no_event s.base s.history t.events (omega arith) missing in
+    let none : slice_get h t.events ≡ None =
+    ap (λ k. slice_get k t.events) goes.rest ∙ same_past front s.history t.events past ∙ no_event s.base s.history t.events (omega arith) missing in
     subst (λ k. AreCountsOf k t) (take_all t.events h (slice_get-past h t.events none)) before.counts
 
 -- notes -------------------------------------------------------------------------------------------------
@@ -138,7 +144,9 @@ module _ (first now next : State) (going : now ≡ record first { given = now.gi
   one_more_given = ap (λ s. s.given) handed
 
   pub handed_book : next ≡ record first { given = next.given }
-  handed_book = handed ∙ ap {A = State} {B = State} (λ s. record s { given = now.given + 1 }) going ∙ ap {A = ℕ} {B = State} (λ n. record first { given = n }) (sym one_more_given)
+  handed_book =
+      handed ∙ ap {A = State} {B = State} (λ s. record s { given = now.given + 1 }) going
+      ∙ ap {A = ℕ} {B = State} (λ n. record first { given = n }) (sym one_more_given)
 
 -- the notes from the first on that was not handed out, as far as they are now
 pub mail_first : (mail all : List Mail) (n : ℕ) → mail ≡ mail ++ drop n (take n all)
@@ -147,8 +155,9 @@ mail_first mail all n = sym (ap (λ l. mail ++ l) (drop_all n (take n all) (let 
 pub mail_next : (mail all : List Mail) (n m : ℕ) (note : Mail) → n ≤ m → m ≤ length all → Some note ≡ slice_get all m
     → (mail ++ drop n (take m all)) ++ note ∷ [] ≡ mail ++ drop n (take (m + 1) all)
 mail_next mail all n m note begun within found =
+    let long : n ≤ length (take m all) = (let l = length-take m all in omega arith) in
     append_assoc mail (drop n (take m all)) (note ∷ [])
-    ∙ ap (λ l. mail ++ l) (sym (drop-append-le n (take m all) (note ∷ []) (let long = length-take m all in omega arith)) ∙ ap (drop n) (sym (take_next all m note (sym found))))
+    ∙ ap (λ l. mail ++ l) (sym (drop-append-le n (take m all) (note ∷ []) long) ∙ ap (drop n) (sym (take_next all m note (sym found))))
 
 pub mail_all : (mail all : List Mail) (n m : ℕ) → None ≡ slice_get all m → mail ++ drop n (take m all) ≡ mail ++ drop n all
 mail_all mail all n m missing = ap (λ l. mail ++ drop n l) (take_all m all (slice_get-past all m (sym missing)))

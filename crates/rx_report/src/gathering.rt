@@ -1,8 +1,8 @@
 //! What a book has that the tallies do not have yet.
 
 ghost use Rattle.std.specs.Prelude.{◌≡◌, ◌<◌, ◌++◌, List, length, drop, OnOk};
-ghost use Rattle.rx_event.specs.declared.event.Event.{Event as Happening};
-ghost use Rattle.rx_event.specs.declared.mail.Mail.{Mail as Sent};
+ghost use Rattle.rx_event.specs.declared.event.Event.{Event};
+ghost use Rattle.rx_event.specs.declared.mail.Mail.{Mail};
 ghost use Rattle.rx_event.specs.Kept.{nothing_kept};
 ghost use Rattle.rx_event.specs.Lawful.{IsLawful};
 ghost use Rattle.rx_event.specs.Notes.{notes};
@@ -15,7 +15,7 @@ use std::alloc::AllocError;
 
 // Takes the notes that were not handed out yet.
 fn gather_notes<R: Resource>(tallies: &mut Tallies, book: &mut Book<R>) -> Result<(), AllocError>
-    ensures notes { OnOk result ((mail : List Sent) → AreNotesOf mail tallies.old
+    ensures notes { OnOk result ((mail : List Mail) → AreNotesOf mail tallies.old
         → AreNotesOf (mail ++ drop book.old.given (notes book.old.history)) tallies.new) }
     ensures counts { tallies.new ≡ record tallies.old { notes = tallies.new.notes } }
     ensures given { OnOk result (book.new.given ≡ length (notes book.old.history)) }
@@ -31,7 +31,7 @@ fn gather_notes<R: Resource>(tallies: &mut Tallies, book: &mut Book<R>) -> Resul
 
 // Counts the events that were not counted yet.
 fn gather_events<R: Resource>(tallies: &mut Tallies, book: &Book<R>) -> Result<(), AllocError>
-    ensures counts { OnOk result ((front h : List Happening) → AreCountsOf front tallies.old → GoesOn front h book.now
+    ensures counts { OnOk result ((front h : List Event) → AreCountsOf front tallies.old → GoesOn front h book.now
         → IsLawful nothing_kept h → AreCountsOf h tallies.new) }
     ensures notes { tallies.new.notes ≡ tallies.old.notes }
 {

@@ -2,7 +2,7 @@
 
 ghost use Rattle.std.specs.Prelude.{◌≡◌, ◌++◌, List, map, string_bytes, IfOk, OnOk};
 ghost use Rattle.std.specs.List.{All};
-ghost use Rattle.rx_event.specs.declared.event.Event.{Event as Happening};
+ghost use Rattle.rx_event.specs.declared.event.Event.{Event};
 ghost use Rattle.rx_event.specs.Resources.{is_taken as is_taken_in};
 ghost use Rattle.rx_event.specs.Kept.{nothing_kept};
 ghost use Rattle.rx_book.specs.State.{IsPromised};
@@ -32,7 +32,7 @@ pub fn events_of<R: Resource>(alloc: Global, book: &Book<R>) -> Result<Vec<Event
 }
 
 fn is_taken(tallies: &Tallies, resource: u64) -> bool
-    ensures { (h : List Happening) → AreCountsOf h tallies.now → result ≡ is_taken_in h resource }
+    ensures { (h : List Event) → AreCountsOf h tallies.now → result ≡ is_taken_in h resource }
 {
     tallies.tag_of(resource).is_some() && tallies.taken.contains(&resource)
 }
@@ -40,7 +40,7 @@ fn is_taken(tallies: &Tallies, resource: u64) -> bool
 fn whereabouts_of<R: Resource>(tallies: &Tallies, book: &Book<R>, res: ResKey) -> Whereabouts
     requires kept { IsPromised book.now }
     requires known { IsHeldKey book.now res }
-    ensures { (h : List Happening) → IsWhole h tallies.now book.now → result ≡ whereabouts h res.number }
+    ensures { (h : List Event) → IsWhole h tallies.now book.now → result ≡ whereabouts h res.number }
 {
     if book.is_held(res) {
         return Whereabouts::Held;
@@ -55,7 +55,7 @@ fn whereabouts_of<R: Resource>(tallies: &Tallies, book: &Book<R>, res: ResKey) -
 fn account_of<R: Resource>(tallies: &Tallies, book: &Book<R>, res: ResKey) -> Account
     requires kept { IsPromised book.now }
     requires known { IsHeldKey book.now res }
-    ensures { (h : List Happening) → IsWhole h tallies.now book.now → result ≡ account_of h res.number }
+    ensures { (h : List Event) → IsWhole h tallies.now book.now → result ≡ account_of h res.number }
 {
     let tag = tallies.tag_of(res.number).unwrap_or(0);
     let uses = tallies.uses_of(res.number);
@@ -78,7 +78,7 @@ pub fn push_nodes<R: Resource>(
 ) -> Result<(), AllocError>
     requires kept { IsPromised book.now }
     requires known { All (λ n. IsNodeKey book.now n.key) nodes.now }
-    ensures { OnOk result ((h : List Happening) → IsWhole h tallies.now book.now
+    ensures { OnOk result ((h : List Event) → IsWhole h tallies.now book.now
         → string_bytes text.new ≡ string_bytes text.old ++ node_lines h (map node_binding nodes.now)) }
 {
     for named in nodes {
@@ -103,7 +103,7 @@ pub fn push_resources<R: Resource>(
 ) -> Result<(), AllocError>
     requires kept { IsPromised book.now }
     requires known { All (λ n. IsHeldKey book.now n.key) resources.now }
-    ensures { OnOk result ((h : List Happening) → IsWhole h tallies.now book.now
+    ensures { OnOk result ((h : List Event) → IsWhole h tallies.now book.now
         → string_bytes text.new ≡ string_bytes text.old ++ res_lines h (map res_binding resources.now)) }
 {
     for named in resources {
@@ -118,7 +118,7 @@ pub fn push_resources<R: Resource>(
 
 /// The counts.
 pub fn totals_of<R: Resource>(tallies: &Tallies, book: &Book<R>) -> Totals
-    ensures { (h : List Happening) → IsWhole h tallies.now book.now → result ≡ totals_of nothing_kept h }
+    ensures { (h : List Event) → IsWhole h tallies.now book.now → result ≡ totals_of nothing_kept h }
 {
     Totals {
         nodes: tallies.nodes,

@@ -4,7 +4,7 @@ ghost use Rattle.std.specs.Prelude.{◌≡◌, ◌++◌, ◌∷◌, [], List, Op
 ghost use Rattle.std.specs.Option.{option_map_or};
 ghost use Rattle.std.specs.HashMap.{get};
 ghost use Rattle.std.specs.HashSet.{contains};
-ghost use Rattle.rx_event.specs.declared.mail.Mail.{Mail as Sent};
+ghost use Rattle.rx_event.specs.declared.mail.Mail.{Mail};
 ghost use Rattle.rx_report.specs.Tallies.{AreCountsOf, AreNotesOf};
 
 use rx_book::Mail;
@@ -58,7 +58,8 @@ impl Tallies {
 
     /// Notes what a node was told.
     pub(crate) fn add_note(&mut self, sent: Mail) -> Result<(), AllocError>
-        ensures notes { OnOk result ((mail : List Sent) → AreNotesOf mail self.old → AreNotesOf (mail ++ sent ∷ []) self.new) }
+        ensures notes { OnOk result ((mail : List Mail) → AreNotesOf mail self.old
+            → AreNotesOf (mail ++ sent ∷ []) self.new) }
         ensures kept { self.new ≡ record self.old { notes = self.new.notes } }
     {
         self.notes.entry(sent.to)?.or_default().push(sent.note)?;

@@ -18,6 +18,7 @@ returns-in_ok-raise c = λ h short before r.
 
 pub returns-in_default : goal.returns-in_default
 returns-in_default c = λ h short before r.
-    let push = uses-push nothing_kept h c.args.event.now r ∙ ap (λ b. uses nothing_kept h r + cond {A = ℕ} b 1 0) (unused c.args.event.now c.in_default.not-Use r) in
+    let push =
+    uses-push nothing_kept h c.args.event.now r ∙ ap (λ b. uses nothing_kept h r + cond {A = ℕ} b 1 0) (unused c.args.event.now c.in_default.not-Use r) in
     let same : uses nothing_kept h r ≡ uses nothing_kept (h ++ c.args.event.now ∷ []) r = omega arith in
     before r ∙ same

@@ -10,7 +10,8 @@ abbrev pub invariant-loop-note : goal.invariant-loop-note
 invariant-loop-note g l = record {
   kept : IsPromised l.book;
   begun : l.initial.book.given ≤ l.book.given;
-  notes : (mail : List Mail) → AreNotesOf mail l.initial.tallies → AreNotesOf (mail ++ drop l.initial.book.given (take l.book.given (notes l.initial.book.history))) l.tallies;
+  notes : (mail : List Mail) → AreNotesOf mail l.initial.tallies
+      → AreNotesOf (mail ++ drop l.initial.book.given (take l.book.given (notes l.initial.book.history))) l.tallies;
   tallies : l.tallies ≡ record l.initial.tallies { notes = l.tallies.notes };
   book : l.book ≡ record l.initial.book { given = l.book.given };
 }

@@ -1,4 +1,4 @@
-use Rattle.std.proofs.Common.{◌≡◌, ◌<◌, ◌+◌, ◌-◌, ◌==◌, ◌++◌, ◌∷◌, [], ◌∙◌, sym, ap, subst, refl, cond, nat_eq, arith, Some}
+use Rattle.std.proofs.Common.{◌≡◌, ◌<◌, ◌+◌, ◌-◌, ◌==◌, ◌++◌, ◌∷◌, [], ◌∙◌, sym, ap, subst, refl, cond, nat_eq, arith}
 use Rattle.std.specs.Prelude.{unwrap_or}
 use Rattle.std.specs.HashMap.{get}
 use Rattle.std.proofs.lemmas.Option.{none-some, same_Some}
@@ -22,7 +22,8 @@ returns-in_ok-raise-in-Lease-clause-leases c = λ h is short law before counts r
 
 pub returns-in_ok-raise-in-Lease-clause-out : goal.returns-in_ok-raise-in-Lease-clause-out
 returns-in_ok-raise-in-Lease-clause-out c = λ h is law before l.
-    out_leased h c.args.event.now l c.args.place c.in-Lease.resource _ _ (front_lawful h c.args.event.now law) is c.in-Lease.is (before l) (c.in_ok-insert-in-Lease.ensures.updates.0 l)
+    out_leased h c.args.event.now l c.args.place c.in-Lease.resource _ _ (front_lawful h c.args.event.now law) is c.in-Lease.is (before l)
+    (c.in_ok-insert-in-Lease.ensures.updates.0 l)
 
 pub returns-in-Some-clause-leases : goal.returns-in-Some-clause-leases
 returns-in-Some-clause-leases c = λ h is short law before counts r.
