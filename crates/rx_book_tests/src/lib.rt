@@ -27,6 +27,8 @@ mod leases;
 #[cfg(test)]
 mod load;
 #[cfg(test)]
+mod midway;
+#[cfg(test)]
 mod probe;
 #[cfg(test)]
 mod same;
