@@ -6,6 +6,8 @@ mod caller;
 #[cfg(test)]
 mod calls;
 #[cfg(test)]
+mod checkpoints;
+#[cfg(test)]
 mod closed;
 #[cfg(test)]
 mod day;
