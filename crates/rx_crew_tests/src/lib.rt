@@ -12,6 +12,8 @@ mod closed;
 #[cfg(test)]
 mod day;
 #[cfg(test)]
+mod endless;
+#[cfg(test)]
 mod feeds;
 #[cfg(test)]
 mod hubs;
@@ -21,6 +23,8 @@ mod leases;
 mod meetings;
 #[cfg(test)]
 mod parts;
+#[cfg(test)]
+mod ticks;
 #[cfg(test)]
 mod want;
 #[cfg(test)]
