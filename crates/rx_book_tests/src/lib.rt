@@ -39,6 +39,8 @@ mod slots;
 #[cfg(test)]
 mod spare;
 #[cfg(test)]
+mod twice;
+#[cfg(test)]
 mod unasked;
 #[cfg(test)]
 mod want;
