@@ -95,7 +95,7 @@ fn given_back(back: Back) -> Outcome {
 }
 
 // What is seen of a book before and after a call: its counts, how many nodes are open, its first root, how
-// many leases are out, and whether that which the call names is there.
+// many leases are out, and whether that which the call names is there, or gives up: the events of a checkpoint.
 #[derive(Clone, Copy, PartialEq, Eq)]
 pub(super) struct Sight {
     totals: Totals,
@@ -123,6 +123,7 @@ fn is_there(book: &Probe<Sample>, asking: Asking) -> bool {
         },
         Asking::Hold(node) | Asking::Next(node) => book.is_open(node),
         Asking::Apply(res) | Asking::Lease(res) => book.is_held(res),
-        Asking::Hub | Asking::Connect(_) | Asking::Subscribe(_) | Asking::Checkpoint => true,
+        Asking::Hub | Asking::Connect(_) | Asking::Subscribe(_) => true,
+        Asking::Checkpoint => book.event(0).is_some(),
     }
 }

@@ -27,6 +27,8 @@ mod leases;
 #[cfg(test)]
 mod load;
 #[cfg(test)]
+mod midway;
+#[cfg(test)]
 mod probe;
 #[cfg(test)]
 mod same;
@@ -36,6 +38,8 @@ mod sharing;
 mod slots;
 #[cfg(test)]
 mod spare;
+#[cfg(test)]
+mod twice;
 #[cfg(test)]
 mod unasked;
 #[cfg(test)]
