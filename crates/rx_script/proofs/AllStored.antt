@@ -1,5 +1,5 @@
 -- Where no checkpoint was made, as at the beginning, the book stores the whole history.
-use Rattle.std.proofs.Common.{◌≡◌, ℕ, List, [], ◌∷◌, ◌++◌, length, refl, sym, ap, subst, ◌∙◌, append-nil, arith}
+use Rattle.std.proofs.Common.{◌≡◌, List, [], ◌∷◌, ◌++◌, length, refl, sym, ap, subst, ◌∙◌, append-nil, arith}
 use Rattle.rx_event.specs.declared.event.Event.{Event}
 use Rattle.rx_event.specs.Kept.{Kept, nothing_kept, shown}
 use Rattle.rx_event.specs.Bases.{base_of}

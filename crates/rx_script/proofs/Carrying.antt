@@ -1,6 +1,6 @@
 -- An engine carries out a step: it is refused by the scenario, refused by the book, or accepted. The book goes by its stored history,
 -- and the course by the whole one.
-use Rattle.std.proofs.Common.{◌≡◌, ◌≤◌, ◌+◌, ◌++◌, ℕ, List, [], Bool, true, false, refl, sym, ap, subst, ◌∙◌, map, arith, append_assoc, length}
+use Rattle.std.proofs.Common.{◌≡◌, ◌≤◌, ◌+◌, ◌++◌, ℕ, List, [], Bool, true, false, refl, sym, ap, subst, ◌∙◌, arith, append_assoc, length}
 use Rattle.std.specs.Prelude.{Some, None}
 use Rattle.std.specs.List.{All}
 use Rattle.std.proofs.lemmas.Option.{none-some}
@@ -25,7 +25,7 @@ use Rattle.rx_script.specs.declared.engine.Engine.{Engine}
 use Rattle.rx_scenario.specs.Scenario.{Command, drain, checkpoint}
 use Rattle.rx_script.specs.Stage.{Stage, own_cause, call_of, after, front_is_fresh}
 use Rattle.rx_book.specs.Drains.{Drains}
-use Rattle.rx_script.specs.Course.{limited, Executes, refused, refused_by_book, accepted, drained, book_cause}
+use Rattle.rx_script.specs.Course.{limited, Executes, refused, refused_by_book, accepted, drained}
 use Rattle.rx_script.specs.Shelf.{Shelf}
 use Rattle.rx_report.specs.declared.tallies.Tallies.{Tallies}
 use Rattle.rx_report.specs.Tallies.{AreTalliesOf}

@@ -1,18 +1,16 @@
 -- Two stages that differ in their histories alone: the same causes of the scenario's own stand, a step makes the same call, and binds
 -- the same names where it adds the same events.
-use Rattle.std.proofs.Common.{◌≡◌, ℕ, suc, ◌+◌, Bool, false, List, [], ◌∷◌, ◌++◌, length, Option, Some, None, cond, refl, sym, ap, ◌∙◌, arith}
+use Rattle.std.proofs.Common.{◌≡◌, ℕ, suc, ◌+◌, false, List, [], ◌∷◌, ◌++◌, length, Some, None, cond, refl, sym, ap, ◌∙◌, arith}
 use Rattle.std.proofs.Math.Bool.{◌||◌}
 use Rattle.std.specs.Prelude.{slice_get, drop, option_map}
 use Rattle.std.specs.Option.{option_and_then, option_map_or}
 use Rattle.rx_event.specs.declared.event.Event.{Event}
-use Rattle.rx_event.specs.declared.event.Kind.{Kind}
 use Rattle.rx_event.specs.declared.event.Place.{Place}
-use Rattle.rx_event.specs.Tree.{at}
 use Rattle.rx_event.specs.Calls.{Opening, OpeningUsing}
 use Rattle.rx_book.specs.Answers.{makes_connection, connection_made}
 use Rattle.rx_agenda.specs.declared.answer.Cause.TheVariants.{NoName, NameTaken, NoStock}
 use Rattle.rx_agenda.specs.Bindings.{with_binding}
-use Rattle.rx_scenario.specs.Scenario.{Site, root, source, inner, notifier, Sort, leaf, pass, flat, switch, until, sub, Command, using, open_node, hold, apply, remove, lease, give_back, next, end, abort, decline, fail, dispose, make_hub, connect, disconnect, drain, checkpoint}
+use Rattle.rx_scenario.specs.Scenario.{Site, root, source, inner, notifier, Sort, leaf, pass, flat, switch, until, sub, Command, using, open_node, hold, lease, make_hub, connect, checkpoint}
 use Rattle.rx_script.specs.Stage.{Stage, is_unbound_site, is_unbound_hub, connection_name, with_connection, lacks_name, takes_name, lacks_stock, own_cause, place_at, kind_at, front, call_of, after}
 
 -- a stage with another history, in which so many events came before the last checkpoint

@@ -1,5 +1,5 @@
 -- The same cause comes first against a call in two stored histories that agree, where the limits end at one place.
-use Rattle.std.proofs.Common.{◌≡◌, ℕ, ◌+◌, ◌*◌, Bool, true, false, List, [], ◌∷◌, length, Option, Some, None, cond, refl, sym, ap, ◌∙◌, inl, inr, ◌⊎◌, ◌==◌, nat_lt, count_by}
+use Rattle.std.proofs.Common.{◌≡◌, ℕ, ◌+◌, ◌*◌, Bool, true, false, List, [], ◌∷◌, length, Option, Some, cond, refl, sym, ap, ◌∙◌, inl, inr, ◌⊎◌, ◌==◌, nat_lt, count_by}
 use Rattle.std.proofs.Math.Bool.{not, ◌&&◌, ◌||◌}
 use Rattle.std.specs.List.{list_any, AllByRecursion, range_with_len}
 use Rattle.std.specs.Option.{option_map_or}
@@ -17,9 +17,9 @@ use Rattle.rx_event.specs.declared.refusal.Refusal.{Refusal}
 use Rattle.rx_event.specs.declared.refusal.Refusal.TheVariants.{Full, Gone, WrongKind, PlaceTaken, NothingOwed, NotRoot, NoHub, HubOrder, Connected, NotConnected}
 use Rattle.rx_event.specs.declared.refusal.Refusal.TheVariants.{NoLease, NotHeld, Leased, HasChild, TooMany}
 use Rattle.rx_event.specs.Events.{makes_hub, has_source, is_leaf, is_merging, is_until, is_root, is_auto_hub, is_manual_hub}
-use Rattle.rx_event.specs.Tree.{at, ancestors, parent, is_open, is_open_child_of, has_open_child, open_connections}
-use Rattle.rx_event.specs.Climb.{most_visits, visits, stops}
-use Rattle.rx_event.specs.Moments.{is_projection, owed}
+use Rattle.rx_event.specs.Tree.{at, ancestors, parent, is_open, is_open_child_of, has_open_child}
+use Rattle.rx_event.specs.Climb.{most_visits}
+use Rattle.rx_event.specs.Moments.{is_projection}
 use Rattle.rx_event.specs.Allowed.{most_nodes, most_hubs, may_abort}
 use Rattle.rx_event.specs.Totals.{debt, open_count}
 use Rattle.rx_event.specs.Lawful.{IsLawful}

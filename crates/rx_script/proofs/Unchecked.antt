@@ -1,17 +1,14 @@
 -- A course of a scenario that makes no checkpoint is at none.
-use Rattle.std.proofs.Common.{◌≡◌, ℕ, zero, suc, ◌<◌, Bool, false, List, [], ◌∷◌, ◌++◌, Some, map, slice_get, refl, sym, ap, subst, ◌∙◌, arith}
+use Rattle.std.proofs.Common.{◌≡◌, ℕ, zero, suc, ◌<◌, false, List, [], ◌∷◌, ◌++◌, Some, map, slice_get, refl, ap, ◌∙◌, arith}
 use Rattle.std.specs.List.{AllByRecursion}
-use Rattle.std.proofs.lemmas.Option.{same_Some, none-some}
-use Rattle.std.proofs.lemmas.Option.{slice_get_within}
 use Rattle.rx_event.specs.declared.event.Event.{Event}
 use Rattle.rx_agenda.specs.declared.answer.Answer.{Answer}
-use Rattle.rx_agenda.specs.declared.answer.Answer.TheVariants.{Accepted}
 use Rattle.rx_agenda.specs.Order.{Placed, Executed, done_in, IsHeld, by_scenario, by_step, IsInOrder}
-use Rattle.rx_scenario.specs.Scenario.{Command, using, open_node, hold, apply, remove, lease, give_back, next, end, abort, decline, fail, dispose, make_hub, connect, disconnect, drain, checkpoint, Action, command, Step, steps_of, list_of, Script}
+use Rattle.rx_scenario.specs.Scenario.{Command, using, checkpoint, Action, command, Step, steps_of, Script}
 use Rattle.rx_scenario.specs.Checkpoints.{has_checkpoint, makes_checkpoint}
 use Rattle.rx_scenario.proofs.Laws.{list_of-steps_of}
 use Rattle.rx_scenario.proofs.Laws.Checkpoints.{is_checkpoint-makes, has_checkpoint-followers, makes_checkpoint-at}
-use Rattle.rx_script.specs.Stage.{Ware, Stage, start, after}
+use Rattle.rx_script.specs.Stage.{Ware, Stage, after}
 use Rattle.rx_script.specs.Course.{Manner, Executes, refused, refused_by_book, accepted, drained, checkpointed, Does, does, leaves, Plays, none_played, one_played, Course, IsCourseIn}
 
 -- the executed steps ---------------------------------------------------------------------------------

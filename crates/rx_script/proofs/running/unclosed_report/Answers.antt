@@ -1,11 +1,8 @@
-use Rattle.std.proofs.Common.{◌++◌, List, map, string_bytes, sym, ap, subst, ◌∙◌}
-use Rattle.rx_event.specs.declared.event.Event.{Event}
-use Rattle.rx_event.specs.Kept.{nothing_kept}
+use Rattle.std.proofs.Common.{◌++◌, map, string_bytes, sym, ap, subst, ◌∙◌}
 use Rattle.rx_report.specs.Keys.{node_binding, res_binding}
 use Rattle.rx_report.specs.Lines.{refused_lines, node_lines, res_lines}
 use Rattle.rx_report.specs.Tallies.{IsWhole}
 use Rattle.rx_report.specs.Text.{totals_line}
-use Rattle.rx_script.specs.Engine.{IsHistoryOf}
 use Rattle.rx_script.proofs.Written.{all_gathered, lines_report}
 use Rattle.rx_script.proofs.running.unclosed_report.Goals as goal
 
