@@ -11,7 +11,7 @@ import ctypes
 import os
 
 import live
-from live import Refused
+from live import Refused  # for who imports this module alone
 
 DONE, TOO_SMALL, OUT_OF_MEMORY = 0, 1, 4
 NO_MEMORY = '{"refused":"NoMemory"}'  # as the program says it: the line was not taken, and may be sent again
