@@ -76,7 +76,11 @@ class Book:
     def _answer(self, line):
         self._child.stdin.write(line + "\n")
         self._child.stdin.flush()
-        return self._child.stdout.readline()
+        return self._child.stdout.readline() or self._gone()
 
     def _end(self):
-        return self._child.communicate()[0].splitlines()[-1]
+        rest = self._child.communicate()[0].splitlines()
+        return rest[-1] if rest else self._gone()
+
+    def _gone(self):
+        raise EOFError(f"the process of the book has ended: status {self._child.wait()}")
