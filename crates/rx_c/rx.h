@@ -58,7 +58,7 @@ enum rx_live_status {
   RX_LIVE_NOTHING_KEPT = 2,
   /* An answer of *told bytes waits for rx_live_read. Nothing was done. */
   RX_LIVE_ANSWER_WAITS = 3,
-  /* Memory was refused. Nothing was done, and *told is 0; the same call may be made again. */
+  /* Memory was refused. No line was taken, nothing was made or ended, and *told is 0; the same call may be made again. */
   RX_LIVE_OUT_OF_MEMORY = 4,
   /* The handle keeps something already. Nothing was done. */
   RX_LIVE_HELD = 5,

@@ -23,7 +23,7 @@
 //! | 1 | done, but the buffer is too small: the answer waits in the handle, and its length is told |
 //! | 2 | the handle keeps nothing, and nothing was done |
 //! | 3 | an answer waits, its length is told, and nothing was done |
-//! | 4 | memory was refused, and nothing was done |
+//! | 4 | memory was refused: no line was taken, and nothing was made or ended |
 //! | 5 | the handle keeps something already, and nothing was done |
 //! | 6 | no answer waits |
 //!

@@ -13,7 +13,7 @@ use std::alloc::Global;
 /// Makes a live book, in which nothing is open and no name is bound. Its history may have `max_events`.
 ///
 /// The status is 0 where it is made, 4 where memory was refused, 5 where the handle keeps something
-/// already; with 4 and 5 nothing was done.
+/// already; with 4 and 5 nothing was made.
 #[unsafe(no_mangle)]
 pub extern "C" fn rx_live_new(alloc: Global, handle: &mut Handle, max_events: u32) -> u8
     ensures { IsMade (stage handle.old.kept) (stage handle.new.kept) result }
@@ -85,7 +85,7 @@ pub extern "C" fn rx_live_read(
 /// keeps nothing afterwards, but where the buffer is too small that answer waits for [`rx_live_read`].
 ///
 /// The status is 0 where the answer was written, 1 where it waits, 2 where the handle keeps nothing, 3
-/// where an answer waits already, 4 where memory was refused; with 2, 3 and 4 nothing was done.
+/// where an answer waits already, 4 where memory was refused; with 2, 3 and 4 nothing was ended.
 #[unsafe(no_mangle)]
 pub extern "C" fn rx_live_end(
     alloc: Global,
