@@ -60,18 +60,21 @@ impl Client {
 
     // With room for a part of the buffer alone.
     fn send_into(&mut self, line: &[u8], room: usize) -> u8 {
+        let alloc = self.alloc;
         let buffer = &mut self.buffer[..room.min(256)];
-        rx_live_send(self.alloc, &mut self.handle, line, buffer, &mut self.told)
+        rx_live_send(alloc, &mut self.handle, line, buffer, &mut self.told)
     }
 
     fn read(&mut self, room: usize) -> u8 {
+        let alloc = self.alloc;
         let buffer = &mut self.buffer[..room.min(256)];
-        rx_live_read(self.alloc, &mut self.handle, buffer, &mut self.told)
+        rx_live_read(alloc, &mut self.handle, buffer, &mut self.told)
     }
 
     fn end(&mut self, room: usize) -> u8 {
+        let alloc = self.alloc;
         let buffer = &mut self.buffer[..room.min(256)];
-        rx_live_end(self.alloc, &mut self.handle, buffer, &mut self.told)
+        rx_live_end(alloc, &mut self.handle, buffer, &mut self.told)
     }
 
     fn says(&self, text: &str) -> bool {
