@@ -1,2 +1,5 @@
 pub mod Answered
 pub mod Filling
+mod Held
+mod Owed
+pub mod Values
