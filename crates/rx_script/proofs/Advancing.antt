@@ -85,7 +85,7 @@ module _ {R : Type 0} where
   not_led limit until first begun answers none = λ h w. (
     h,
     subst (λ l. Leads (limited limit) until (record { stage = stage_of first h; agenda = agenda_of begun }) l (record { stage = stage_of first h; agenda = agenda_of begun }))
-    (sym none) not_begun,
+        (sym none) not_begun,
     w,
   )
 
@@ -112,7 +112,7 @@ module _ {R : Type 0} where
         let on = after.performs to.0 to.2 in (
           on.0,
           subst (λ l. Leads (limited limit) until (record { stage = stage_of first h; agenda = agenda_of begun }) l (record { stage = stage_of new on.0; agenda = agenda_of now }))
-          (sym is_pushed) (advanced to.1 (advances to.0 on.0 on.1)),
+              (sym is_pushed) (advanced to.1 (advances to.0 on.0 on.1)),
           on.2,
         )
 

@@ -161,9 +161,9 @@ module _ {R : Type 0} (e new : Engine R) (step : Command) (asked : Request) (sou
     goes_to = (
       then,
       subst (λ s. Executes (limited e.book.limit) (stage_of e h) step Accepted s) ends
-      (accepted then (own_kept (stored_stage e) h e.book.base.at_length step ∙ own) calls
-      (cause_same w sound.kept (front_is_fresh (stored_stage e)) asked.call ∙ sym agrees.same ∙ accepts.no_cause)
-      (subst (λ (l : List Event). IsStepOf nothing_kept l asked.call then) (sym w.whole) over.step)),
+          (accepted then (own_kept (stored_stage e) h e.book.base.at_length step ∙ own) calls
+          (cause_same w sound.kept (front_is_fresh (stored_stage e)) asked.call ∙ sym agrees.same ∙ accepts.no_cause)
+          (subst (λ (l : List Event). IsStepOf nothing_kept l asked.call then) (sym w.whole) over.step)),
       history_on w sound.kept new.tallies new.book over.events rest.1 accepts.base accepts.given over.same,
     )
 
@@ -211,7 +211,7 @@ module _ {R : Type 0} (e : Engine R) (book : State) (faults : ℕ) (sound : IsSo
   drains_to h w = (
     on w sound.kept over.events,
     subst (λ b. Executes (limited e.book.limit) (stage_of e h) drain Accepted (with_history (stage_of e h) (on w sound.kept over.events) b.at_length)) (sym goes.base)
-    (drained (subst (λ (l : List Event). Drains nothing_kept l (on w sound.kept over.events)) (sym w.whole) over.drains)),
+        (drained (subst (λ (l : List Event). Drains nothing_kept l (on w sound.kept over.events)) (sym w.whole) over.drains)),
     history_on w sound.kept e.tallies book over.events refl goes.base goes.given over.same,
   ) where
     over : DrainOver w.front w.lawful w.settled e.book.base w.base w.since book.history
