@@ -7,6 +7,7 @@ use Rattle.std.specs.Option.{option_map_or}
 use Rattle.std.specs.declared.alloc.AllocError.{AllocError}
 use Rattle.std.proofs.lemmas.Bool.{ne_eqb}
 use Rattle.std.proofs.lemmas.Option.{none-some, same_Some}
+use Rattle.rx_event.specs.declared.mail.Mail.{Mail}
 use Rattle.rx_event.specs.declared.event.Event.{Event}
 use Rattle.rx_event.specs.declared.refusal.Refusal.{Refusal}
 use Rattle.rx_event.specs.Calls.{Call, Holding, Leasing, GivingBack}
@@ -34,6 +35,9 @@ use Rattle.rx_live.proofs.Soundness.{accepted_longer}
 
 pub same_names : (t : Names) → AreSame t t
 same_names t = record { spots = λ n. refl; names = λ k. refl }
+
+pub same_on : (a b c : Names) → AreSame a b → AreSame b c → AreSame a c
+same_on a b c p q = record { spots = λ n. q.spots n ∙ p.spots n; names = λ k. q.names k ∙ p.names k }
 
 pub bound_after : (old mid new : Names) (name : Name) (spot : Spot) → AreSame old mid → Binds mid name spot new → Binds old name spot new
 bound_after old mid new name spot same binds = record {
@@ -79,15 +83,15 @@ placed_bound h k old new name spot placed binds longer within n past =
     binds.names n ∙ ap (λ (b : Bool). cond b (Some name) (name_of old n)) apart ∙ placed n (omega arith)
 
 -- open nodes
-same_open : (book : State) (t : Names) → AreOpenSame book t t
-same_open book t = record { nodes = λ n. refl; spots = λ n. inl refl; names = λ n. inl refl }
+pub same_open : (untold : Option Mail) (book : State) (t : Names) → AreOpenSame untold book t t
+same_open untold book t = record { kept = λ late. same_names t; nodes = λ n. refl; spots = λ n. inl refl; names = λ n. inl refl }
 
 -- alike ----------------------------------------------------------------------------------------------
 
 pub alike_same : (s : Session) → IsAlike s s
 alike_same s = record {
   book = refl;
-  nodes = same_open s.book s.nodes;
+  nodes = same_open s.untold s.book s.nodes;
   hubs = same_names s.hubs;
   resources = same_names s.resources;
   leases = same_names s.leases;

@@ -171,9 +171,9 @@ dropped_taken s mid new None same none sound taken = tt
 dropped_taken s mid new (Some n) same none sound taken =
     dropped_one s new (string_bytes n) none sound (subst (λ (t : Session). TakesName t (string_bytes n) new) same taken)
 
-pub wrote_no_name : (s new : Session) (begun : List ℕ) → new ≡ s → WritesNoName s begun new begun
-wrote_no_name s new begun same =
-    subst (λ (t : Session). WritesNoName s begun t begun) (sym same) (record { held = λ n. refl; takes = none_taken; rest = refl; written = refl })
+pub wrote_no_name : (s new : Session) (begun : List ℕ) → new ≡ s → s.book.waiting ≡ [] → WritesNoName s begun new begun
+wrote_no_name s new begun same none =
+    subst (λ (t : Session). WritesNoName s begun t begun) (sym same) (record { held = λ n. refl; takes = none_taken; all = λ told. none; rest = refl; written = refl })
 
 -- many ------------------------------------------------------------------------------------------------
 
@@ -229,6 +229,7 @@ names_ended old mid now begun before text so_far none =
         takes = takes_on so_far.releases.takes none.takes;
         rest = names_rest old mid now so_far.releases.rest none.rest;
       };
+      all = none.all;
       written = ap (λ (t : List ℕ). t ++ codes "]") none.written ∙ array_end begun (codes ",\"release\":[") (joined (map name_text all)) before so_far.written;
     }
 
@@ -236,5 +237,6 @@ pub names_none : (old now : Session) (begun text : List ℕ) → WritesNoName ol
 names_none old now begun text none = record {
   names = [];
   releases = record { leads = no_act none.held; takes = none.takes; rest = none.rest };
+  all = none.all;
   written = none.written ∙ sym (append-nil begun);
 }

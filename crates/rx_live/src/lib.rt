@@ -31,14 +31,16 @@ mod dumping;
 mod engine;
 mod holding;
 mod laws;
+mod lines;
 mod listing;
 mod live;
 mod opening;
+mod renewing;
 mod running;
 mod sending;
 mod telling;
 mod token;
 
-pub use laws::names_are_released_once;
+pub use laws::{names_are_released_once, notes_are_told_in_order};
 pub use live::Live;
 pub use rx_line::faulty_text;
