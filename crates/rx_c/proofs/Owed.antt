@@ -7,7 +7,7 @@ use Rattle.rx_c.specs.Answers.{IsGiven}
 use Rattle.rx_c.specs.Stages.{Stage, absent, opened, waiting, ended}
 use Rattle.rx_c.specs.Calls as call
 use Rattle.rx_c.specs.Calls.{IsSent, IsRead, IsEnded}
-use Rattle.rx_c.specs.Courses.{taken, handed, Course, no_call, send, read, end, IsServed, is_put_off, answers, ends, AreAnswersHandedOut}
+use Rattle.rx_c.specs.Courses.{taken, handed, Course, no_call, send, read, end, IsServed, is_alike, answers, ends, AreAnswersHandedOut}
 use Rattle.rx_c.proofs.Held.{served_kept}
 
 record HasServed (s : Session) (lines texts : List (List ℕ)) : Type 0 where
@@ -60,11 +60,11 @@ module _ {old mid : Stage} (lines texts : List (List ℕ)) where
   owes_sent line buffer buffer' told status (call.has_mail waits now done kept) owes =
       owes_as _ lines _ texts (sym now) (ap (λ (n : ℕ). taken n line ++ lines) done)
       (ap (λ (n : ℕ). handed n told buffer' ++ texts) done) owes
-  owes_sent line buffer buffer' told status (call.is_starved {s} {t} was off now done silent) owes =
+  owes_sent line buffer buffer' told status (call.is_starved {s} {t} was alike now done silent) owes =
       let rest : HasServed t lines texts = subst (λ (m : Stage). Owes m lines texts) now owes in
       owes_as _ lines _ texts was (ap (λ (n : ℕ). taken n line ++ lines) done)
       (ap (λ (n : ℕ). handed n told buffer' ++ texts) done)
-      (record { acts = rest.acts; served = is_put_off off rest.served })
+      (record { acts = rest.acts; served = is_alike alike rest.served })
 
   -- a call that did nothing
   owes_still : (buffer' : List ℕ) (told status : ℕ) → mid ≡ old → handed status told buffer' ≡ [] → Owes mid lines texts

@@ -4,19 +4,18 @@
 --     4 memory was refused        5 the handle keeps something already        6 nothing waits
 use Rattle.std.specs.Prelude.{◌≡◌, ℕ, List, length}
 use Rattle.rx_live.specs.Session.{Session}
-use Rattle.rx_live.specs.Renewals.{IsPutOff}
+use Rattle.rx_live.specs.Given.{IsAlike}
 use Rattle.rx_live.specs.Lines.{Sends, Ends, IsFresh}
 use Rattle.rx_c.specs.Stages.{Stage, absent, opened, waiting, ended, IsPresent, Waits}
 use Rattle.rx_c.specs.Answers.{IsGiven, IsTooLong, IsUntouched, IsSilent}
 
--- a book whose history may have so many events
-pub data IsMade (max_events : ℕ) (old new : Stage) (status : ℕ) : Type 0 where
-  makes : {s : Session} → old ≡ absent → new ≡ opened s → IsFresh s → s.book.limit ≡ max_events → status ≡ 0 → IsMade max_events old new status
-  is_starved : old ≡ absent → new ≡ old → status ≡ 4 → IsMade max_events old new status
-  is_held : IsPresent old → new ≡ old → status ≡ 5 → IsMade max_events old new status
+pub data IsMade (old new : Stage) (status : ℕ) : Type 0 where
+  makes : {s : Session} → old ≡ absent → new ≡ opened s → IsFresh s → status ≡ 0 → IsMade old new status
+  is_starved : old ≡ absent → new ≡ old → status ≡ 4 → IsMade old new status
+  is_held : IsPresent old → new ≡ old → status ≡ 5 → IsMade old new status
 
 module _ (old new : Stage) (line buffer buffer' : List ℕ) (told status : ℕ) where
-  -- a line that got 0 or 1 was taken, once; with any other status it was not, and with 4 a checkpoint may have been made
+  -- a line that got 0 or 1 was taken, once; with any other status it was not
   pub data IsSent : Type 0 where
     sends : {s t : Session} {text : List ℕ} → old ≡ opened s → Sends s line text t → new ≡ opened t
         → status ≡ 0 → IsGiven text buffer buffer' told → IsSent
@@ -25,7 +24,7 @@ module _ (old new : Stage) (line buffer buffer' : List ℕ) (told status : ℕ) 
     has_none : old ≡ absent → new ≡ old → status ≡ 2 → IsSilent buffer buffer' told → IsSent
     has_mail : {text : List ℕ} → Waits text old → new ≡ old → status ≡ 3
         → IsUntouched (length text) buffer buffer' told → IsSent
-    is_starved : {s t : Session} → old ≡ opened s → IsPutOff s t → new ≡ opened t
+    is_starved : {s t : Session} → old ≡ opened s → IsAlike s t → new ≡ opened t
         → status ≡ 4 → IsSilent buffer buffer' told → IsSent
 
 module _ (old new : Stage) (buffer buffer' : List ℕ) (told status : ℕ) where

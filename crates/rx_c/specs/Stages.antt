@@ -1,7 +1,7 @@
 -- What a handle keeps, as a caller sees it.
 use Rattle.std.specs.Prelude.{ℕ, Bool, cond, List, Option, None, Some, string_bytes}
-use Rattle.rx_live.specs.Session.{Session}
-use Rattle.rx_live.specs.Live.{session}
+use Rattle.rx_live.specs.declared.live.Live.{Live}
+use Rattle.rx_live.specs.Session.{Session, session_of}
 use Rattle.rx_c.specs.declared.kept.Kept.{Kept}
 use Rattle.rx_c.specs.declared.kept.Kept.TheVariants.{Open, Waiting, Ended}
 
@@ -12,9 +12,12 @@ pub data Stage : Type 0 where
   waiting : Session → List ℕ → Stage
   ended : List ℕ → Stage
 
+abbrev pub at_session : Live → Session
+at_session live = session_of live.engine
+
 abbrev pub stage_of : Kept → Stage
-stage_of (Open live) = opened (session live)
-stage_of (Waiting live answer) = waiting (session live) (string_bytes answer)
+stage_of (Open live) = opened (at_session live)
+stage_of (Waiting live answer) = waiting (at_session live) (string_bytes answer)
 stage_of (Ended answer) = ended (string_bytes answer)
 
 abbrev pub stage : Option Kept → Stage

@@ -10,14 +10,13 @@ use crate::status::{DONE, HELD, NOTHING_KEPT, OUT_OF_MEMORY};
 use rx_live::Live;
 use std::alloc::Global;
 
-/// Makes a live book, in which nothing is open and no name is bound. Its history may have `max_events` since
-/// its last checkpoint.
+/// Makes a live book, in which nothing is open and no name is bound. Its history may have `max_events`.
 ///
 /// The status is 0 where it is made, 4 where memory was refused, 5 where the handle keeps something
 /// already; with 4 and 5 nothing was made.
 #[unsafe(no_mangle)]
 pub extern "C" fn rx_live_new(alloc: Global, handle: &mut Handle, max_events: u32) -> u8
-    ensures { IsMade max_events (stage handle.old.kept) (stage handle.new.kept) result }
+    ensures { IsMade (stage handle.old.kept) (stage handle.new.kept) result }
 {
     if let Some(kept) = handle.take(alloc) {
         handle.put(kept, alloc);
@@ -37,8 +36,7 @@ pub extern "C" fn rx_live_new(alloc: Global, handle: &mut Handle, max_events: u3
 /// buffer is too small the answer waits for [`rx_live_read`].
 ///
 /// The status is 0 where the answer was written, 1 where it waits, 2 where the handle keeps nothing, 3
-/// where an answer waits already, 4 where memory was refused; with 2, 3 and 4 the line was not taken,
-/// but with 4 the book may have made a checkpoint.
+/// where an answer waits already, 4 where memory was refused; with 2, 3 and 4 the line was not taken.
 #[unsafe(no_mangle)]
 pub extern "C" fn rx_live_send(
     alloc: Global,
