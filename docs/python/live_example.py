@@ -1,15 +1,12 @@
 """Four threads read a file each through one live book; one of them fails. No file stays open.
 
 Run as `python3 live_example.py PROGRAM ..`, where the words are those that start a live book: ./rxbook live
-Without any word the book is in this process, by the shared library.
 """
 import sys
 import tempfile
 import threading
 
-import live
-import live_ctypes
-from live import Refused
+from live import Book, Refused
 
 FAILS = 2
 files = []
@@ -39,7 +36,7 @@ def run(book, number):
 
 
 def main():
-    with live.Book(sys.argv[1:]) if sys.argv[1:] else live_ctypes.Book() as book:
+    with Book(sys.argv[1:]) as book:
         threads = [threading.Thread(target=run, args=(book, number)) for number in range(4)]
         for thread in threads:
             thread.start()

@@ -1,5 +1,2 @@
 pub mod Answered
 pub mod Filling
-mod Held
-mod Owed
-pub mod Values
