@@ -13,6 +13,7 @@ use rx_script::{Form, run};
 use std::alloc::Global;
 
 // Runs a scenario, writes what the form says, and answers the status of a run that is done.
+#[tactic(auto, using(crate::proofs::NoOutput::no_output))]
 fn carry_out(
     alloc: Global,
     scenario: &[u8],
