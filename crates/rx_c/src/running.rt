@@ -4,7 +4,7 @@ ghost use Rattle.std.specs.Prelude.{◌≡◌, [], IfOk, IsErrOf};
 ghost use Rattle.rx_device.specs.declared.fault.ScriptError.{ScriptError};
 ghost use Rattle.rx_script.specs.declared.Form.{Form};
 ghost use Rattle.rx_c.specs.Answers.{Answers};
-ghost use Rattle.rx_c.specs.Ran.{TellsRun, HasNoOutput};
+ghost use Rattle.rx_c.specs.Ran.{TellsRun, HasNoOutput, IsUnwritten};
 
 use crate::handing::hand_out;
 use crate::stock::stock;
@@ -13,7 +13,6 @@ use rx_script::{Form, run};
 use std::alloc::Global;
 
 // Runs a scenario, writes what the form says, and answers the status of a run that is done.
-#[tactic(auto, using(crate::proofs::NoOutput::no_output))]
 fn carry_out(
     alloc: Global,
     scenario: &[u8],
@@ -23,7 +22,7 @@ fn carry_out(
     requires { text.old.items ≡ [] }
     ensures ok { IfOk result (TellsRun scenario.now form text.new.items) }
     ensures syntax { IsErrOf result ScriptError.Syntax → HasNoOutput form scenario.now }
-    ensures shape { IsErrOf result ScriptError.Shape → HasNoOutput form scenario.now }
+    ensures shape { IsErrOf result ScriptError.Shape → IsUnwritten form scenario.now }
 {
     let Ok(stock) = stock(alloc) else {
         return Err(ScriptError::Memory);
