@@ -3,6 +3,8 @@
     with Book(["./rxbook", "live"]) as book:
         book.using("log", print, open("log.txt").close)
         book.send("dispose", node="log")
+
+The module live_ctypes has the same words over the shared library.
 """
 import contextlib
 import json
@@ -15,11 +17,11 @@ class Refused(Exception):
 
 
 class Book:
-    def __init__(self, program):
-        self._child = subprocess.Popen(program, stdin=subprocess.PIPE, stdout=subprocess.PIPE, encoding="ascii")
+    def __init__(self, *where):
         self._lock = threading.Lock()
         self._held = {}  # by the names of resources, what releases each
         self._observers = {}  # by the names of nodes, who is told
+        self._begin(*where)
 
     def send(self, do, **members):
         """One command. What it makes due is done here, in its order: observers are told, then resources released."""
@@ -32,9 +34,7 @@ class Book:
 
     def _ask(self, line, observer, release):
         with self._lock:
-            self._child.stdin.write(json.dumps(line) + "\n")
-            self._child.stdin.flush()
-            answer = json.loads(self._child.stdout.readline())
+            answer = json.loads(self._answer(json.dumps(line)))
             if "ok" in answer and line["do"] == "using":
                 self._held[line["res"]], self._observers[line["name"]] = release, observer
             due = self._due(answer)
@@ -57,4 +57,30 @@ class Book:
         return self
 
     def __exit__(self, *_):
-        self._due(json.loads(self._child.communicate()[0].splitlines()[-1])).close()
+        with contextlib.ExitStack() as due, self._lock:
+            due.callback(self._release_rest)
+            due.push(self._due(json.loads(self._end())))
+
+    def _release_rest(self):
+        """What the book could not name at its end, as where its process is gone; else there is nothing."""
+        with contextlib.ExitStack() as due:
+            for release in self._held.values():
+                due.callback(release)
+            self._held.clear()
+
+    # How a line goes to the book and its answer comes back.
+
+    def _begin(self, program):
+        self._child = subprocess.Popen(program, stdin=subprocess.PIPE, stdout=subprocess.PIPE, encoding="ascii")
+
+    def _answer(self, line):
+        self._child.stdin.write(line + "\n")
+        self._child.stdin.flush()
+        return self._child.stdout.readline() or self._gone()
+
+    def _end(self):
+        rest = self._child.communicate()[0].splitlines()
+        return rest[-1] if rest else self._gone()
+
+    def _gone(self):
+        raise EOFError(f"the process of the book has ended: status {self._child.wait()}")

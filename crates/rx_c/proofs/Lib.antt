@@ -1,3 +1,5 @@
 pub mod Answered
 pub mod Filling
-pub mod NoOutput
+mod Held
+mod Owed
+pub mod Values

@@ -4,7 +4,7 @@ ghost use Rattle.std.specs.Prelude.{◌≡◌, [], IfOk, IsErrOf};
 ghost use Rattle.rx_device.specs.declared.fault.ScriptError.{ScriptError};
 ghost use Rattle.rx_script.specs.declared.Form.{Form};
 ghost use Rattle.rx_c.specs.Answers.{Answers};
-ghost use Rattle.rx_c.specs.Ran.{TellsRun, HasNoOutput, IsUnwritten};
+ghost use Rattle.rx_c.specs.Ran.{TellsRun, HasNoOutput};
 
 use crate::handing::hand_out;
 use crate::stock::stock;
@@ -22,7 +22,7 @@ fn carry_out(
     requires { text.old.items ≡ [] }
     ensures ok { IfOk result (TellsRun scenario.now form text.new.items) }
     ensures syntax { IsErrOf result ScriptError.Syntax → HasNoOutput form scenario.now }
-    ensures shape { IsErrOf result ScriptError.Shape → IsUnwritten form scenario.now }
+    ensures shape { IsErrOf result ScriptError.Shape → HasNoOutput form scenario.now }
 {
     let Ok(stock) = stock(alloc) else {
         return Err(ScriptError::Memory);
