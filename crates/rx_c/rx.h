@@ -20,7 +20,8 @@ enum rx_status {
   RX_DONE = 0,
   /* The buffer is too small: it is as it was, and *told is the capacity that the text needs. */
   RX_TOO_SMALL = 1,
-  /* The input is no scenario, or no dump: the buffer is as it was, and *told is 0. */
+  /* The input is no scenario, or no dump; or rx_run_dump was called on a scenario that has a `checkpoint`:
+     the buffer is as it was, and *told is 0. */
   RX_FAULTY_INPUT = 3,
   /* Memory was refused: the buffer is as it was, and *told is 0. */
   RX_OUT_OF_MEMORY = 4,

@@ -388,13 +388,6 @@ inner_of_named h f n y = by_event (slice_get h n) y where
   by_event (Some (Open (Notifier g) kind)) named = absurd (none-some f named)
   by_event (Some _) named = absurd (none-some f named)
 
--- it is no Switch
-pub flat_none : (h : List Event) (f : ℕ) → at is_switch h f ≡ false → ShutsNone h (λ n. is_switched_inner h f n)
-flat_none h f flat n o = rw flat (none (nat_lt f n)) where
-  none : (b : Bool) → ((b && false) && at (is_inner_of f) h n) ≡ false
-  none true = refl
-  none false = refl
-
 -- no inner of it, or a youngest one that is closed or no younger than it
 pub inner_none : (h : List Event) (f v : ℕ) → v ≡ last_below (keyed (inner_named_at h) f) (length h)
     → (0 < v → f < v - 1 → is_open h (v - 1) ≡ false) → ShutsNone h (λ n. is_switched_inner h f n)

@@ -4,9 +4,9 @@ use Rattle.std.specs.List.{sum_by}
 use Rattle.std.proofs.lemmas.List.Sums.{sum_by-append, sum_by-cons}
 use Rattle.rx_event.specs.declared.event.Event.{Event}
 use Rattle.std.specs.Prelude.{is_some}
-use Rattle.std.specs.Option.{option_and_then, option_map_or}
+use Rattle.std.specs.Option.{option_map_or}
 use Rattle.std.proofs.lemmas.Bool.{false≢true}
-use Rattle.rx_event.specs.Climb.{Stop, stop_made, stop_at, onward_from, onward_unless, visited, onward}
+use Rattle.rx_event.specs.Climb.{Stop, stop_at, onward_from, onward_unless, visited, onward}
 use Rattle.rx_audit.specs.Flow.{flow}
 
 pub sum_by-mono : (f g : ℕ → ℕ) → ((n : ℕ) → f n ≤ g n) → (xs : List ℕ) → sum_by f xs ≤ sum_by g xs
@@ -75,12 +75,3 @@ onward_at h n e none at_n = by_stop (stop_at h n) refl none where
   by_stop None is nowhere =
       ap (λ o. onward_unless o (option_map_or (onward_from h n) (slice_get h n) [])) is ∙ ap (λ x. option_map_or (onward_from h n) x []) at_n
   by_stop (Some stop) is nowhere = absurd (false≢true (sym nowhere))
-
-pub onward_nowhere : (h : List Event) (n : ℕ) → slice_get h n ≡ None → onward h n ≡ []
-onward_nowhere h n at_n = ap (λ o. onward_unless (option_and_then (stop_made h n) o) (option_map_or (onward_from h n) o [])) at_n
-
-pub onward_stops : (h : List Event) (n : ℕ) → is_some (stop_at h n) ≡ true → onward h n ≡ []
-onward_stops h n some = by_stop (stop_at h n) refl some where
-  by_stop : (o : Option Stop) → stop_at h n ≡ o → is_some o ≡ true → onward h n ≡ []
-  by_stop None is nowhere = absurd (false≢true nowhere)
-  by_stop (Some stop) is some_stop = ap (λ o. onward_unless o (option_map_or (onward_from h n) (slice_get h n) [])) is

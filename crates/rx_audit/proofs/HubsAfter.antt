@@ -1,9 +1,7 @@
 -- What is kept of the hubs, after one more event.
-use Rattle.std.proofs.Common.{◌≡◌, ℕ, zero, suc, ◌+◌, ◌<◌, ◌≤◌, Bool, true, false, List, [], ◌∷◌, ◌++◌, length, Option, Some, None, cond, refl, ap, ◌∙◌, arith, inl, inr, ◌⊎◌, get_or, slice_get, filter, replicate, length-append}
-use Rattle.std.proofs.lemmas.List.{length-replicate}
+use Rattle.std.proofs.Common.{◌≡◌, ℕ, zero, suc, ◌+◌, ◌<◌, ◌≤◌, Bool, true, false, List, [], ◌∷◌, ◌++◌, length, Option, Some, None, cond, refl, ap, ◌∙◌, arith, inl, inr, ◌⊎◌, slice_get, filter, length-append}
 use Rattle.std.specs.List.{range_with_len}
 use Rattle.std.specs.Option.{option_map_or, option_and_then, option_or}
-use Rattle.std.proofs.lemmas.Bool.{false≢true}
 use Rattle.std.proofs.lemmas.List.Elements.{filter-append}
 use Rattle.std.proofs.lemmas.Option.{none-some}
 use Rattle.rx_note.specs.declared.note.Terminal.{Terminal}
@@ -87,20 +85,6 @@ hub_count-push h e = by_test (makes_hub e) refl where
   by_test false is = ap length (split false is) ∙ (let l = length-append {A = ℕ} (hubs h) [] in omega arith)
 
 -- all together ------------------------------------------------------------------------------------------
-
-pub hubs_none : (size : ℕ) (s : Hubs) → s.connection.items ≡ replicate size 0 → s.ended.items ≡ replicate size 0 → s.count ≡ 0 → AreHubs [] size s
-hubs_none size s connection ended count = record {
-  connection = λ n l. ap (λ (ls : List ℕ). get_or ls n 0) connection ∙ zeros size n;
-  connection_size = ap length connection ∙ length-replicate size 0;
-  ended = λ n l. ap (λ (ls : List ℕ). get_or ls n 0) ended ∙ zeros size n;
-  ended_size = ap length ended ∙ length-replicate size 0;
-  waiting = λ g d. absurd (false≢true d.subscribes);
-  count = count;
-} where
-  zeros : (size g : ℕ) → ◌≡◌ {A = ℕ} (get_or (replicate size 0) g 0) 0
-  zeros zero g = refl
-  zeros (suc size) zero = refl
-  zeros (suc size) (suc g) = zeros size g
 
 pub hubs_more : (h : List Event) (e : Event) (size : ℕ) (old new : Hubs) → IsLawful nothing_kept h → MayFollow nothing_kept h e → AreHubs h size old
     → new.connection.items ≡ table_with old.connection.items (hub_connected e) (suc (length h)) → new.ended.items ≡ table_with old.ended.items (hub_ended h e) (suc (length h))

@@ -12,7 +12,7 @@ use Rattle.rx_event.specs.declared.event.Event.{Event}
 use Rattle.rx_event.specs.declared.event.Event.TheVariants.{Open, Hub, Connect, Accept, Use, Remove, Lease, Return, Item, Decline, End, Close, Take}
 use Rattle.rx_event.specs.Tree.{at, is_open}
 use Rattle.rx_event.specs.Forced.{IsForced, IsSettled, due}
-use Rattle.rx_event.specs.Allowed.{IsAllowed, emitted, accepted}
+use Rattle.rx_event.specs.Allowed.{IsAllowed, accepted}
 use Rattle.rx_event.specs.Lawful.{IsLawful, MayFollow, forced, allowed, opened_with as accepted_with}
 use Rattle.rx_event.proofs.Laws.Lawful.{IsLawful-push}
 use Rattle.std.proofs.lemmas.List.{take_more}

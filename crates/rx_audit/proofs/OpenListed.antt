@@ -1,5 +1,5 @@
 -- Which subscribers are on the lists of their hubs after one more event.
-use Rattle.std.proofs.Common.{◌≡◌, ℕ, ◌+◌, ◌<◌, Bool, true, false, List, [], ◌∷◌, ◌++◌, length, Some, refl, sym, ap, subst, ◌∙◌, arith, inl, inr, ◌⊎◌, get_or, set}
+use Rattle.std.proofs.Common.{◌≡◌, ℕ, ◌+◌, ◌<◌, Bool, true, false, List, [], ◌∷◌, ◌++◌, length, Some, refl, sym, ap, subst, ◌∙◌, arith, inl, inr, ◌⊎◌, get_or}
 use Rattle.std.specs.Option.{option_map_or}
 use Rattle.std.proofs.lemmas.Bool.{cases_Bool, cases_order, both_ways, false≢true}
 use Rattle.rx_event.specs.Kept.{nothing_kept}
@@ -15,38 +15,11 @@ use Rattle.rx_event.proofs.Laws.Places.{at-append, at_within, slice_get_last}
 use Rattle.rx_event.proofs.Laws.Hubs.{may_subscribe, subscriber_found}
 use Rattle.rx_event.proofs.Laws.Totals.{is_open_new}
 use Rattle.rx_audit.specs.declared.subscribers.Subscribers.{Subscribers}
-use Rattle.rx_audit.specs.Latest.{IsNoted, AreClosed}
+use Rattle.rx_audit.specs.Latest.{AreClosed}
 use Rattle.rx_audit.specs.Listed.{AreOpenListed, AreLetGo}
 use Rattle.rx_audit.specs.Rules.{stays_open}
-use Rattle.rx_audit.proofs.ClosingBelow.{cleared, uncleared, stays_gone}
 use Rattle.rx_audit.proofs.StaysOpen.{is_open_older, stays_closed}
-use Rattle.rx_audit.proofs.SubscriberRows.{mark_gone}
 use Rattle.rx_audit.proofs.Latest.{one_longer}
-
--- no number was let go
-pub let_go_none : (ms : List Bool) (closed : List ℕ) → AreLetGo ms ms closed 0
-let_go_none ms closed = record {
-  kept = λ n y. y;
-  gone = λ k l. absurd (omega arith);
-  noted = λ n y z. absurd (both_ways (get_or ms n false) z y);
-}
-
--- one more is
-pub let_go_more : (first old new : List Bool) (closed : List ℕ) (i s : ℕ) → AreLetGo first old closed i → i < length closed → s ≡ get_or closed i 0
-    → new ≡ set old s false → AreLetGo first new closed (i + 1)
-let_go_more first old new closed i s w l is changed = record {
-  kept = λ n y. w.kept n (cleared old s n (sym (ap (λ (ms : List Bool). get_or ms n false) changed) ∙ y)).1;
-  gone = λ k m. ap (λ (ms : List Bool). get_or ms (get_or closed k 0) false) changed ∙ by_place k m (cases_order k i);
-  noted = λ n was gone. by_mark n was (uncleared old s n (sym (ap (λ (ms : List Bool). get_or ms n false) changed) ∙ gone));
-} where
-  by_place : (k : ℕ) → k < i + 1 → (k ≡ i) ⊎ ((k < i) ⊎ (i < k)) → get_or (set old s false) (get_or closed k 0) false ≡ false
-  by_place k m (inl same) = ap (λ n. get_or (set old s false) n false) (ap (λ j. get_or closed j 0) same ∙ sym is) ∙ mark_gone old s
-  by_place k m (inr (inl b)) = stays_gone old s (get_or closed k 0) (w.gone k b)
-  by_place k m (inr (inr b)) = absurd (omega arith)
-
-  by_mark : (n : ℕ) → get_or first n false ≡ true → (n ≡ s) ⊎ (get_or old n false ≡ false) → IsNoted 0 closed n
-  by_mark n was (inl same) = record { at = i; after = omega arith; within = l; is = sym is ∙ sym same }
-  by_mark n was (inr gone) = w.noted n was gone
 
 subscriber_opens : (g : ℕ) (e : Event) → is_subscriber_of g e ≡ true → (h : List Event) → MayFollow nothing_kept h e → is_open (h ++ e ∷ []) (length h) ≡ true
 subscriber_opens g (Open place kind) is h next = is_open_new nothing_kept h (Open place kind) next

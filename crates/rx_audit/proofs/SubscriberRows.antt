@@ -23,14 +23,6 @@ use Rattle.rx_audit.proofs.ClosingBelow.{within_marks, cleared}
 use Rattle.rx_audit.proofs.Deciding.{not_true, same_subscribed, subscriber_at, at_subscriber}
 use Rattle.rx_audit.proofs.Neighbours.{row_less, row_more, row_apart}
 
-pub number_of_word : (word : ℕ) → word ≢ 0 → Some (word - 1) ≡ number_of word
-number_of_word zero some = absurd (some refl)
-number_of_word (suc n) some = let same : suc n - 1 ≡ n = omega arith in ap (λ (k : ℕ). Some k) same
-
-pub hub_of_word : (word g : ℕ) → word ≢ 0 → None ≡ hub_if_last word g
-hub_of_word zero g some = absurd (some refl)
-hub_of_word (suc n) g some = refl
-
 -- a mark that was taken away is gone
 pub mark_gone : (ms : List Bool) (c : ℕ) → get_or (set ms c false) c false ≡ false
 mark_gone ms c = not_true _ (λ y. (cleared ms c c y).0 refl)
@@ -386,12 +378,4 @@ module _ (h : List Event) (size : ℕ) (s : Subscribers) (g : ℕ) (w : AreLinke
       let left : sum_by number (falling (on_list h s.listed.items g) (next - 1)) ≡ sum_by number (falling (on_list h s.listed.items g) word) =
       ap (sum_by number) (falling_last (on_list h s.listed.items g) (next - 1) ∙ ap (falling (on_list h s.listed.items g)) (sym (walk_word next word some here is))) in
       let grown : sum_by number more ≡ sum_by number found + number (next - 1) = ap (sum_by number) pushed ∙ sum_by_push number found (next - 1) in
-      omega arith
-
-  pub walk_ends : (next : ℕ) (found : List ℕ) → next ≡ 0 → ((number : ℕ → ℕ)
-      → sum_by number found + sum_by number (falling (on_list h s.listed.items g) next) ≡ sum_by number (open_subscribers h g)) → (number : ℕ → ℕ)
-      → sum_by number found ≡ sum_by number (open_subscribers h g)
-  walk_ends next found over rest number =
-      let none : sum_by number (falling (on_list h s.listed.items g) next) ≡ 0 = ap (λ k. sum_by number (falling (on_list h s.listed.items g) k)) over in
-      let r = rest number in
       omega arith

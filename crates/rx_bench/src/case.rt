@@ -30,6 +30,10 @@ pub enum Case {
     Hold,
     /// Leases that come and go at resources of a book.
     Lease,
+    /// A checkpoint of a book with a long history.
+    Checkpoint,
+    /// A checkpoint of a book with a short history, to compare it with.
+    CheckpointShort,
     /// A scenario in JSON, run over memory.
     Scenario,
     /// The audit of a history of a shape.
@@ -91,6 +95,8 @@ impl Case {
             Case::Share => "share",
             Case::Hold => "hold",
             Case::Lease => "lease",
+            Case::Checkpoint => "checkpoint",
+            Case::CheckpointShort => "checkpoint-short",
             Case::Scenario => "scenario",
             Case::Audit(shape) => audit_name(shape),
             Case::Json(shape) => json_name(shape),
@@ -107,7 +113,7 @@ impl Case {
             Case::Sorted | Case::Crowd | Case::Inner | Case::Share | Case::Hold | Case::Lease =>
                 1_000_000,
             Case::Audit(_) | Case::Json(_) => 1_000_000,
-            Case::Chain => 100_000,
+            Case::Chain | Case::Checkpoint | Case::CheckpointShort => 100_000,
             Case::Scenario => 65_536,
             Case::Storm => 10_000,
         }
@@ -115,7 +121,7 @@ impl Case {
 }
 
 /// All of them but those of a shape.
-static CASES: [Case; 13] = [
+static CASES: [Case; 15] = [
     Case::Timeline,
     Case::Trampoline,
     Case::Sorted,
@@ -127,6 +133,8 @@ static CASES: [Case; 13] = [
     Case::Share,
     Case::Hold,
     Case::Lease,
+    Case::Checkpoint,
+    Case::CheckpointShort,
     Case::Scenario,
     Case::Storm,
 ];

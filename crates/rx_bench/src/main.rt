@@ -20,6 +20,8 @@
 //! | `share` | one RefCount hub: N observers subscribe to it one after another, a leaf is opened at the source of its connection, an item emitted there and each observer's note taken, and they leave, the oldest first; then the same again, the newest first | 2N: each observer, which subscribes, is told the item and leaves |
 //! | `hold` | N resources held at one node, every second one removed, the disposal of the root, each resource taken and released | N: each resource |
 //! | `lease` | N resources held at one node; each is leased, used and given back, one after another; the disposal of the root, each resource taken and released | N: each lease that comes and goes |
+//! | `checkpoint` | one checkpoint of a book in which N subscriptions are open, and which has had 100N events. Those are made before the time begins. Beside it, in the same call, the next one is measured | N: each open node |
+//! | `checkpoint-short` | the same of a book which has had N events, the openings alone | N: each open node |
 //! | `scenario` | the first N steps of this cycle, as a JSON text that is run by `rx_script` and reported: a Using root with one resource, a leaf at its source, two items, the end of the leaf or in each second cycle the disposal of the root, a drain. The text and the resources are made before the time begins | N: each step |
 //! | `audit-SHAPE` | the audit of a lawful history of N events of one of twelve shapes: `roots`, `items`, `cycle`, `chain`, `resources`, `flat`, `switch`, `until`, `subscribers`, `hub-end`, `hubs`, `hub-items`; N is at least 40. The history is made before the time begins. Beside it, in the same call, the next one is measured | N: each event |
 //! | `json-SHAPE` | serde_json's own reading of the dump of that history. The text is made before the time begins | N: each event |
@@ -46,6 +48,7 @@ mod audit;
 mod calls;
 mod case;
 mod chain;
+mod checkpoint;
 mod crowd;
 mod cycle;
 mod done;

@@ -8,6 +8,7 @@ use crate::agenda::run_orders;
 use crate::audit::run_audit;
 use crate::case::Case;
 use crate::chain::run_chain;
+use crate::checkpoint::run_checkpoint;
 use crate::crowd::run_crowd;
 use crate::cycle::run_cycles;
 use crate::done::{Done, Halt};
@@ -60,7 +61,7 @@ pub fn run<T: Threads + Wait + Sync>(
 ) -> Result<Done, Halt>
     ensures { IfOk result (λ done. done.operations ≡ operations_of request.case request.size) }
 {
-    let (scenario, events, dump) = material.into_parts();
+    let (scenario, events, dump, mut book) = material.into_parts();
     match request.case {
         Case::Timeline => run_orders::<Timeline<u64>>(alloc, request.size),
         Case::Trampoline => run_orders::<Trampoline<u64>>(alloc, request.size),
@@ -69,6 +70,7 @@ pub fn run<T: Threads + Wait + Sync>(
         Case::Audit(_) => run_audit(alloc, events.as_slice(), request.size),
         Case::Json(_) => run_json(alloc, dump.as_str(), request.size),
         Case::Storm => run_storm(rt, alloc, request.size),
+        Case::Checkpoint | Case::CheckpointShort => run_checkpoint(&mut book, request.size),
         _ => run_on_book(alloc, request),
     }
 }

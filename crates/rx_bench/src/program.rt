@@ -70,10 +70,12 @@ fn write_fault<E: Write>(errors: &mut E, fault: Fault, name: &str) -> io::Result
     writeln!(errors, "rx_bench: {front}{name}{rear}")
 }
 
-/// What is measured beside what is asked for: beside an audit, the reading of the same dump.
+/// What is measured beside what is asked for: beside an audit, the reading of the same dump; beside a
+/// checkpoint, one of a book with as many open nodes and a shorter history.
 fn beside(request: Request) -> Option<Request> {
     match request.case {
         Case::Audit(shape) => Request::of(Case::Json(shape), request.size),
+        Case::Checkpoint => Request::of(Case::CheckpointShort, request.size),
         _ => None,
     }
 }
@@ -110,7 +112,7 @@ fn bench<T: Threads + Wait + Sync, C: Clock, O: Write, E: Write>(
 }
 
 /// Each case at a small size, but those of a shape.
-static SMALL: [(Case, u64); 14] = [
+static SMALL: [(Case, u64); 16] = [
     (Case::Timeline, 1),
     (Case::Timeline, 2),
     (Case::Sorted, 2),
@@ -127,6 +129,9 @@ static SMALL: [(Case, u64); 14] = [
     (Case::Hold, 4),
     // The numbers of the resources, 1 to 4.
     (Case::Lease, 4),
+    // After 400 events, and after 4.
+    (Case::Checkpoint, 4),
+    (Case::CheckpointShort, 4),
     (Case::Scenario, 12),
     // The mark of the figures: 64 accepted, taken and released, 128 notes, 448 events.
     (Case::Storm, 1),

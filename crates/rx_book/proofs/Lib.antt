@@ -12,3 +12,4 @@ pub mod Emitted
 pub mod Closings
 pub mod Laws
 mod ShownLeases
+mod Checkpointed

@@ -1,13 +1,11 @@
 -- The keys that are listed are those that find something.
-use Rattle.std.proofs.Common.{◌≡◌, true, false, List, Option, Some, None, is_some, IsSome, option_map, refl, sym, ap, subst, ◌∙◌, eq-eqb, nat_eq}
+use Rattle.std.proofs.Common.{◌≡◌, true, false, List, Option, Some, None, is_some, IsSome, refl, sym, ap, subst, ◌∙◌, eq-eqb, nat_eq}
 use Rattle.std.proofs.Math.Bool.{◌&&◌}
 use Rattle.std.specs.List.{Contains}
 use Rattle.std.specs.Option.{option_map_or}
 use Rattle.std.proofs.lemmas.Bool.{and_parts, and_from, eqb-true, false≢true}
 use Rattle.std.proofs.lemmas.List.Folds.{list_any_at, Any-from_list_any}
 use Rattle.std.specs.Cmp.{both_ways as same_test}
-use Rattle.rx_event.specs.Events.{named_by}
-use Rattle.rx_slots.specs.declared.Key.{Key as TreeKey}
 use Rattle.rx_slots.specs.Slots.{Slots, find}
 use Rattle.rx_lease.specs.Leases.{lease_key, is_out_at}
 use Rattle.rx_tree.specs.declared.node.ResKey.{ResKey as TreeResKey}
@@ -25,7 +23,7 @@ use Rattle.rx_book.specs.declared.key.LeaseKey.{LeaseKey}
 use Rattle.rx_book.specs.declared.answer.At.{At}
 use Rattle.rx_book.specs.declared.answer.At.TheVariants.{Root, Source, Inner, Notifier}
 use Rattle.rx_book.specs.State.{has_key, has_res_key, has_lease_key}
-use Rattle.rx_book.specs.Requests.{place_of, is_known_place}
+use Rattle.rx_book.specs.Requests.{is_known_place}
 use Rattle.rx_book.specs.Places.{key_above}
 use Rattle.rx_book.specs.Shown.{tree_key_of, tree_res_key_of, ground_lease_key_of, key_shown, keys_of, res_keys_of, lease_keys_of}
 use Rattle.rx_ground.proofs.Laws.Members.{Contains-map, Contains-from_map}
@@ -35,12 +33,6 @@ use Rattle.rx_book.proofs.Laws.Keys.{Contains-has_key}
 
 pub same_res_key : (j k : ResKey) → j.slot ≡ k.slot → j.number ≡ k.number → j ≡ k
 same_res_key j k slot number = λ i. record { slot = slot i; number = number i }
-
-pub key_shown-tree_key : (k : Key) → key_shown (tree_key_of k) ≡ k
-key_shown-tree_key k = refl
-
-pub tree_key-shown : (k : TreeKey) → tree_key_of (key_shown k) ≡ k
-tree_key-shown k = refl
 
 -- to know a key is to contain it
 pub has_key-Contains : (keys : List Key) (k : Key) → Contains keys k → has_key keys k ≡ true
@@ -61,13 +53,6 @@ Contains-has_res_key keys k found =
     subst (λ (j : ResKey). Contains keys j) same (a.0, a.2, a.3)
 
 -- where a node is to be opened --------------------------------------------------------------------
-
--- the number of a place is that of the key which it names
-pub named_by-place_of : (at : At) → named_by (place_of at) ≡ option_map (λ key. key.number) (key_above at)
-named_by-place_of Root = refl
-named_by-place_of (Source k) = refl
-named_by-place_of (Inner k) = refl
-named_by-place_of (Notifier k) = refl
 
 module _ {T : Type 0} (tree : Tree T) where
   abbrev held_key : Kept (Stowed T) → ResKey

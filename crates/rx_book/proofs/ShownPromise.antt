@@ -103,7 +103,6 @@ module _ {T : Type 0} (g : Ghosts T) where
     pub state_promised : IsPromised (state_of g b)
     state_promised = record {
       lawful = register.lawful;
-      from_start = register.from_start;
       settled = standing.settled;
       shared = shared b.register.base h register.lawful standing.settled;
       one_connection = one_open_connection b.register.base h register.lawful;

@@ -4,3 +4,4 @@ pub mod Answers
 pub mod Drains
 pub mod Shown
 pub mod Places
+pub mod Checkpoints

@@ -6,7 +6,7 @@ use Rattle.rx_note.specs.Notes.{IsGrammatical}
 use Rattle.rx_resource.specs.declared.Life.TheVariants.{Live}
 use Rattle.rx_event.specs.declared.event.Event.{Event}
 use Rattle.rx_event.specs.declared.event.Event.TheVariants.{Accept}
-use Rattle.rx_event.specs.Kept.{Kept, nothing_kept}
+use Rattle.rx_event.specs.Kept.{Kept}
 use Rattle.rx_event.specs.Events.{is_auto_hub}
 use Rattle.rx_event.specs.Tree.{at, is_open, open_subscribers, open_connections}
 use Rattle.rx_event.specs.Resources.{is_out, is_held, is_waiting, accepted_by, uses}
@@ -69,8 +69,6 @@ has_subscriber h g = nat_lt 0 (length (open_subscribers h g))
 -- is told obeys the Observable Contract's grammar
 pub record IsPromised (s : State) : Type 0 where
   pub lawful : IsLawful s.base s.history
-  -- nothing was put in place of events yet
-  pub from_start : s.base ≡ nothing_kept
   pub settled : IsSettled s.base s.history
   pub shared : (g : ℕ) → IsTrue (at is_auto_hub s.history g) → has_connection s.history g ≡ has_subscriber s.history g
   pub one_connection : (g : ℕ) → length (open_connections s.history g) ≤ 1

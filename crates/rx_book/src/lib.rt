@@ -59,12 +59,15 @@
 //!   notifier's place or to the source of a FlatMap or a Switch, and on from each subscriber of a hub whose
 //!   connection it reaches. A call that closes costs what it closes. No contract speaks of time.
 //! - Which of several waiting resources is taken is left open, and so is the word that a resource answers.
+//! - [`Book::checkpoint`] puts what the history leaves in place of its events, and changes nothing of what
+//!   may happen next: both agree (`Checkpoints`, in `specs/`). What is lost are the stored events before it.
 //! - A book that is dropped drops its resources unreleased.
 #![tactic(auto)]
 
 mod admit;
 mod answer;
 mod book;
+mod checkpoint;
 mod closing;
 mod ending;
 mod holding;

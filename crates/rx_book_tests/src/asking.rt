@@ -21,6 +21,7 @@ pub(super) enum Asking {
     Connect(u64),
     // At the root, to the hub of this number.
     Subscribe(u64),
+    Checkpoint,
 }
 
 // What came of a call: it was done, and opened a node or not; it was refused for want of memory, and its
@@ -70,6 +71,10 @@ pub(super) fn ask(book: &mut Probe<Sample>, asking: Asking) -> Outcome {
             Ok(opened) => Outcome::Done(opened.connected),
             Err(why) => refused(why),
         },
+        Asking::Checkpoint => match book.checkpoint() {
+            Ok(_) => Outcome::Done(None),
+            Err(why) => refused(why),
+        },
     }
 }
 
@@ -90,7 +95,7 @@ fn given_back(back: Back) -> Outcome {
 }
 
 // What is seen of a book before and after a call: its counts, how many nodes are open, its first root, how
-// many leases are out, and whether that which the call names is there.
+// many leases are out, and whether that which the call names is there, or gives up: the events of a checkpoint.
 #[derive(Clone, Copy, PartialEq, Eq)]
 pub(super) struct Sight {
     totals: Totals,
@@ -119,5 +124,6 @@ fn is_there(book: &Probe<Sample>, asking: Asking) -> bool {
         Asking::Hold(node) | Asking::Next(node) => book.is_open(node),
         Asking::Apply(res) | Asking::Lease(res) => book.is_held(res),
         Asking::Hub | Asking::Connect(_) | Asking::Subscribe(_) => true,
+        Asking::Checkpoint => book.event(0).is_some(),
     }
 }

@@ -1,7 +1,7 @@
 //! What no clause says and no scenario shows: memory that is refused, just the memory that a call needs,
 //! closings where none is left, keys that are nobody's, resources that are handed in used or released, boxes
-//! of two kinds, many items, and what becomes of a book that is closed or dropped. What operators do, and
-//! which calls are refused, stands in the scenarios that `rx_replay` compares.
+//! of two kinds, many items, checkpoints, and what becomes of a book that is closed or dropped. What operators
+//! do, and which calls are refused, stands in the scenarios that `rx_replay` compares.
 #![tactic(auto)]
 
 #[cfg(test)]
@@ -10,6 +10,8 @@ mod asking;
 mod boxed;
 #[cfg(test)]
 mod caller;
+#[cfg(test)]
+mod checkpoints;
 #[cfg(test)]
 mod closings;
 #[cfg(test)]
@@ -25,6 +27,8 @@ mod leases;
 #[cfg(test)]
 mod load;
 #[cfg(test)]
+mod midway;
+#[cfg(test)]
 mod probe;
 #[cfg(test)]
 mod same;
@@ -34,6 +38,8 @@ mod sharing;
 mod slots;
 #[cfg(test)]
 mod spare;
+#[cfg(test)]
+mod twice;
 #[cfg(test)]
 mod unasked;
 #[cfg(test)]

@@ -15,7 +15,7 @@ const CALLS: usize = 20;
 // Makes a call again and again, each time with one more block of memory, until it is done; answers the
 // node that it opened, if it opens one, and how often it was refused before. None where something else
 // came of it, or a refusal changed what is seen.
-fn done_in_the_end(
+pub(super) fn done_in_the_end(
     book: &mut Probe<Sample>,
     asking: Asking,
     scarce: &mut Scarce,

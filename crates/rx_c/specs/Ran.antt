@@ -5,10 +5,9 @@ use Rattle.serde_json.specs.Data.{Data}
 use Rattle.rx_resource.specs.declared.Life.TheVariants.{Live}
 use Rattle.rx_resource.specs.declared.sample.Sample.{Sample}
 use Rattle.rx_device.specs.Input.{IsJsonOf, most_bytes}
-use Rattle.rx_scenario.specs.Reading.{scenario_of}
 use Rattle.rx_script.specs.declared.Form.{Form}
 use Rattle.rx_script.specs.Stage.{Ware}
-use Rattle.rx_script.specs.Running.{IsOutputOf}
+use Rattle.rx_script.specs.Running.{IsOutputOf, GivesNoOutput}
 
 -- a fresh resource of this tag
 abbrev pub fresh : ℕ → Ware
@@ -29,7 +28,12 @@ pub record TellsRun (scenario : List ℕ) (form : Form) (text : List ℕ) (statu
   pub output : IsOutputOf value stock form text
   pub says : status ≡ 0
 
--- the bytes are too many, or no JSON text, or one that is no scenario
-abbrev pub IsNoScenario : List ℕ → Type 0
-IsNoScenario scenario =
-    (most_bytes < length scenario) ⊎ ((value : Data) → IsJsonOf scenario value → scenario_of value ≡ None)
+-- the bytes are the text of a value of which nothing is to be written in this form
+pub record IsUnwritten (form : Form) (scenario : List ℕ) : Type 0 where
+  pub value : Data
+  pub json : IsJsonOf scenario value
+  pub none : GivesNoOutput value form
+
+-- the bytes are too many, or no JSON text, or one that is no scenario, or a scenario that has nothing to be written in this form
+abbrev pub HasNoOutput : Form → List ℕ → Type 0
+HasNoOutput form scenario = (most_bytes < length scenario) ⊎ ((value : Data) → IsJsonOf scenario value → GivesNoOutput value form)

@@ -4,7 +4,7 @@ ghost use Rattle.std.specs.Prelude.{◌≡◌, [], IfOk, IsErrOf};
 ghost use Rattle.rx_device.specs.declared.fault.ScriptError.{ScriptError};
 ghost use Rattle.rx_script.specs.declared.Form.{Form};
 ghost use Rattle.rx_c.specs.Answers.{Answers};
-ghost use Rattle.rx_c.specs.Ran.{TellsRun, IsNoScenario};
+ghost use Rattle.rx_c.specs.Ran.{TellsRun, HasNoOutput, IsUnwritten};
 
 use crate::handing::hand_out;
 use crate::stock::stock;
@@ -21,8 +21,8 @@ fn carry_out(
 ) -> Result<u8, ScriptError>
     requires { text.old.items ≡ [] }
     ensures ok { IfOk result (TellsRun scenario.now form text.new.items) }
-    ensures syntax { IsErrOf result ScriptError.Syntax → IsNoScenario scenario.now }
-    ensures shape { IsErrOf result ScriptError.Shape → IsNoScenario scenario.now }
+    ensures syntax { IsErrOf result ScriptError.Syntax → HasNoOutput form scenario.now }
+    ensures shape { IsErrOf result ScriptError.Shape → IsUnwritten form scenario.now }
 {
     let Ok(stock) = stock(alloc) else {
         return Err(ScriptError::Memory);
@@ -36,7 +36,7 @@ fn carry_out(
 
 // Runs a scenario and hands out what the form says.
 fn run_in(alloc: Global, scenario: &[u8], form: Form, buffer: &mut [u8], told: &mut usize) -> u8
-    ensures { Answers (TellsRun scenario.now form) (IsNoScenario scenario.now) buffer.old buffer.new told.new result }
+    ensures { Answers (TellsRun scenario.now form) (HasNoOutput form scenario.now) buffer.old buffer.new told.new result }
 {
     let mut text = Vec::new(alloc);
     let outcome = carry_out(alloc, scenario, form, &mut text);
@@ -50,14 +50,15 @@ fn run_in(alloc: Global, scenario: &[u8], form: Form, buffer: &mut [u8], told: &
 /// scenario, 4 where memory was refused.
 #[unsafe(no_mangle)]
 pub extern "C" fn rx_run(alloc: Global, scenario: &[u8], buffer: &mut [u8], told: &mut usize) -> u8
-    ensures { Answers (TellsRun scenario.now Form.Report) (IsNoScenario scenario.now)
+    ensures { Answers (TellsRun scenario.now Form.Report) (HasNoOutput Form.Report scenario.now)
         buffer.old buffer.new told.new result }
 {
     run_in(alloc, scenario, Form::Report, buffer, told)
 }
 
 /// The same, but that the dump of the history before the closing is written, as `rxbook run --dump`
-/// does; [`rx_audit`](crate::rx_audit) judges it.
+/// does; [`rx_audit`](crate::rx_audit) judges it. The status is 3 also where the scenario has a checkpoint,
+/// after which a dump is no whole history.
 #[unsafe(no_mangle)]
 pub extern "C" fn rx_run_dump(
     alloc: Global,
@@ -65,7 +66,7 @@ pub extern "C" fn rx_run_dump(
     buffer: &mut [u8],
     told: &mut usize,
 ) -> u8
-    ensures { Answers (TellsRun scenario.now Form.Dump) (IsNoScenario scenario.now)
+    ensures { Answers (TellsRun scenario.now Form.Dump) (HasNoOutput Form.Dump scenario.now)
         buffer.old buffer.new told.new result }
 {
     run_in(alloc, scenario, Form::Dump, buffer, told)

@@ -39,8 +39,3 @@ module _ {E : Type 0} (least most : ℕ) (text : List ℕ) where
       → least ≤ result_unwrap_or r least → result_unwrap_or r least ≤ most
       → result_unwrap_or r least ≡ number_by least most (Some text)
   number_read r parsed low high = read_is r parsed (is_unsigned_in least most text) refl low high
-
-  pub number_missed : (r : Result ℕ E) → ParsesUnsigned 64 10 text r
-      → (least ≤ result_unwrap_or r least → result_unwrap_or r least ≤ most → ⊥)
-      → least ≡ number_by least most (Some text)
-  number_missed r parsed beyond = none_is r parsed (is_unsigned_in least most text) refl beyond

@@ -13,7 +13,7 @@ use Rattle.rx_dump.specs.Checking.{Judges, GivesNoDump}
 use Rattle.rx_dump.specs.Verdict.{is_lawful}
 use Rattle.rx_script.specs.declared.Form.{Form}
 use Rattle.rx_script.specs.Stage.{Ware}
-use Rattle.rx_script.specs.Running.{Runs, GivesNoScenario}
+use Rattle.rx_script.specs.Running.{Runs, LacksOutput}
 use Rattle.rx_storm.specs.declared.StormFault.{StormFault}
 use Rattle.rx_storm.specs.declared.StormFault.TheVariants.{Memory as NoMemory, Thread as NoThread, Write as NoWrite}
 use Rattle.rx_storm.specs.Storms.{Tells as TellsFigures, TellsFront}
@@ -38,7 +38,7 @@ pub record Ran {I O : Type 0} (remaining : I → Bytes) (contents : O → Bytes)
   pub write : IsErrOf outcome Write → HasWriteFault output'
   pub syntax : IsErrOf outcome Syntax → GivesTooMuch (remaining (device_of input)) (remaining (device_of input'))
       ⊎ GivesNoJson (remaining (device_of input)) (remaining (device_of input'))
-  pub shape : IsErrOf outcome Shape → GivesNoScenario (remaining (device_of input)) (remaining (device_of input'))
+  pub shape : IsErrOf outcome Shape → LacksOutput form (remaining (device_of input)) (remaining (device_of input'))
 
 -- the status and the line tell this outcome
 pub record Tells {E : Type 0} (contents : E → Bytes) (errors errors' : Watched E)

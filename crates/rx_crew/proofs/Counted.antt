@@ -21,7 +21,7 @@ use Rattle.rx_crew.specs.Counting.{sums_of, counting}
 abbrev counts : Event → Sums → Sums
 counts e s = record { items = s.items + cond (is_item e) 1 0; accepted = s.accepted + cond (makes_resource e) 1 0; taken = s.taken + cond (is_take e) 1 0 }
 
-same_sums : (a b : Sums) → a.items ≡ b.items → a.accepted ≡ b.accepted → a.taken ≡ b.taken → a ≡ b
+pub same_sums : (a b : Sums) → a.items ≡ b.items → a.accepted ≡ b.accepted → a.taken ≡ b.taken → a ≡ b
 same_sums a b i j k = rw (i, j, k) refl
 
 sums-push : (base : Kept) → (h : List Event) (e : Event) → sums_of base (h ++ e ∷ []) ≡ counts e (sums_of base h)

@@ -1,12 +1,14 @@
 -- The ledgers after a call of the book.
-use Rattle.std.proofs.Common.{◌≡◌, Result, Ok, Err, sym, ap, ◌∙◌}
+use Rattle.std.proofs.Common.{◌≡◌, ℕ, Result, Ok, Err, sym, ap, ◌∙◌}
 use Rattle.rx_event.specs.Kept.{Kept}
+use Rattle.rx_event.specs.declared.refusal.Refusal.{Refusal}
 use Rattle.rx_book.specs.State.{State}
 use Rattle.rx_book.specs.Requests.{Request}
 use Rattle.rx_book.specs.Answers.{Accepts, Answers}
+use Rattle.rx_book.specs.Checkpoints.{AnswersCheckpoint}
 use Rattle.rx_ledger.specs.declared.ledgers.Sums.{Sums}
 use Rattle.rx_crew.specs.Counting.{sums_of, counting}
-use Rattle.rx_crew.proofs.Counted.{sums-step}
+use Rattle.rx_crew.proofs.Counted.{same_sums, sums-step}
 
 -- ledgers that agreed with the history, and count what the accepted call does, agree with the history after it
 pub counted : (old new : State) (asked : Request) (before after : Sums)
@@ -22,3 +24,11 @@ uncounted gives refuses old new asked (Ok x) ledgers answers none agreed =
     counted old new asked ledgers ledgers answers.accepted agreed none
 uncounted gives refuses old new asked (Err e) ledgers answers none agreed =
     agreed ∙ ap (λ (s : State). sums_of s.base s.history) (sym answers.kept)
+
+-- and of a checkpoint, which leaves the totals
+pub rebased : (old new : State) (answer : Result ℕ Refusal) (ledgers : Sums)
+    → AnswersCheckpoint old new answer → ledgers ≡ sums_of old.base old.history → ledgers ≡ sums_of new.base new.history
+rebased old new (Ok at) ledgers answers agreed =
+    let agree = answers.made.agree in
+    agreed ∙ same_sums (sums_of old.base old.history) (sums_of new.base new.history) agree.item_total agree.accepted_total agree.taken_total
+rebased old new (Err why) ledgers answers agreed = agreed ∙ ap (λ (s : State). sums_of s.base s.history) (sym answers.kept)

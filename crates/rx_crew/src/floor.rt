@@ -5,6 +5,7 @@ ghost use Rattle.rx_ledger.specs.Shares.{Opens, IsWithin, all_parts, sums_in, wh
 ghost use Rattle.rx_book.specs.State.{IsPromised};
 ghost use Rattle.rx_crew.specs.Counting.{sums_of, AreCountable};
 
+mod checkpoint;
 mod ending;
 mod holding;
 mod hubs;

@@ -6,9 +6,13 @@ mod caller;
 #[cfg(test)]
 mod calls;
 #[cfg(test)]
+mod checkpoints;
+#[cfg(test)]
 mod closed;
 #[cfg(test)]
 mod day;
+#[cfg(test)]
+mod endless;
 #[cfg(test)]
 mod feeds;
 #[cfg(test)]
@@ -19,6 +23,8 @@ mod leases;
 mod meetings;
 #[cfg(test)]
 mod parts;
+#[cfg(test)]
+mod ticks;
 #[cfg(test)]
 mod want;
 #[cfg(test)]

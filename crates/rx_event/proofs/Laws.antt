@@ -25,7 +25,6 @@ pub mod MarksAfter
 pub mod MarksEnds
 pub mod MarksInner
 pub mod MarksNew
-pub mod MarksBounds
 pub mod MarksTouched
 pub mod Waits
 pub mod Stands
@@ -71,3 +70,4 @@ pub mod ShownBase
 pub mod StoredAt
 pub mod BaseStarted
 pub mod Checkpoints
+pub mod CheckpointMarks

@@ -2,11 +2,11 @@
 use Rattle.std.specs.Prelude.{◌≡◌, ◌⊎◌, Bool, Option, Some, None, List, [], ◌∷◌, if◌then◌else◌}
 use Rattle.rx_event.specs.declared.refusal.Refusal.{Refusal}
 use Rattle.rx_event.specs.declared.refusal.Refusal.TheVariants.{NoMemory, Full, Gone, WrongKind, PlaceTaken, NothingOwed, NotRoot, NoHub, HubOrder}
-use Rattle.rx_event.specs.declared.refusal.Refusal.TheVariants.{Connected, NotConnected, NotFresh, NotHeld, HasChild, TooMany, NoLease, Leased}
+use Rattle.rx_event.specs.declared.refusal.Refusal.TheVariants.{Connected, NotConnected, NotFresh, NotHeld, HasChild, MailLeft, TooMany, NoLease, Leased}
 
 abbrev pub refusal_order : List Refusal
 refusal_order = NoHub ∷ Gone ∷ WrongKind ∷ PlaceTaken ∷ NothingOwed ∷ NotRoot ∷ HubOrder ∷ Connected ∷ NotConnected ∷ NotFresh ∷ NoLease ∷ NotHeld ∷ Leased
-    ∷ HasChild ∷ TooMany ∷ Full ∷ NoMemory ∷ []
+    ∷ HasChild ∷ MailLeft ∷ TooMany ∷ Full ∷ NoMemory ∷ []
 
 -- the first of these that stands
 abbrev pub first_of_these : (Refusal → Bool) → List Refusal → Option Refusal

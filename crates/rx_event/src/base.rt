@@ -68,6 +68,19 @@ pub struct BaseLease {
     pub resource: u64,
 }
 
+/// How much there was.
+#[derive(Clone, Copy, Debug, PartialEq, Eq)]
+pub struct BaseCounts {
+    /// How many events.
+    pub at: u64,
+    /// How many items were emitted.
+    pub items: u64,
+    /// How many resources were accepted.
+    pub accepted: u64,
+    /// How many resources were taken.
+    pub taken: u64,
+}
+
 /// What is kept.
 #[derive(Drop)]
 pub struct Base {
@@ -112,6 +125,43 @@ impl Base {
             nodes: Vec::new(alloc),
             resources: Vec::new(alloc),
             leases: Vec::new(alloc),
+        }
+    }
+
+    /// Of so many events, with these hubs, nodes, resources and leases, each by rising number.
+    pub fn new(
+        counts: BaseCounts,
+        hubs: Vec<BaseHub>,
+        nodes: Vec<BaseNode>,
+        resources: Vec<BaseResource>,
+        leases: Vec<BaseLease>,
+    ) -> Self
+        ensures { result ≡ record {
+          at_length = counts.at;
+          items = counts.items;
+          accepted = counts.accepted;
+          taken = counts.taken;
+          hubs = hubs.items;
+          nodes = nodes.items;
+          resources = resources.items;
+          leases = leases.items;
+        } }
+    {
+        let BaseCounts {
+            at,
+            items,
+            accepted,
+            taken,
+        } = counts;
+        Base {
+            at,
+            items,
+            accepted,
+            taken,
+            hubs,
+            nodes,
+            resources,
+            leases,
         }
     }
 

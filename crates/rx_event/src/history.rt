@@ -6,7 +6,7 @@ ghost use Rattle.rx_event.specs.Kept.{nothing_kept, shown, event_since};
 use crate::base::Base;
 use crate::event::Event;
 use crate::refusal::Refusal;
-use std::alloc::Global;
+use std::alloc::{AllocError, Global};
 use std::marker::Model;
 
 /// The events so far, in their order. Places are counted from 0. Of the events before a checkpoint
@@ -79,18 +79,25 @@ impl History {
         &self.base
     }
 
-    /// Puts a base of as many events in place of the base and the events. The number of events is at
-    /// most 9,223,372,036,854,775,807.
-    pub fn rebase(&mut self, base: Base)
+    /// Puts a base of as many events, at most 9,223,372,036,854,775,807, in place of the base and the
+    /// events. First it gets room for just `room` events after them, at most the limit; the memory that
+    /// the events had is given back. Refused only where memory was refused; then nothing changes.
+    #[tactic(auto, using(crate::proofs::Laws::StoredAt::stored_nothing))]
+    pub fn rebase(&mut self, base: Base, room: u64) -> Result<(), AllocError>
         requires length { base.at_length ≡ length self.old.events }
         requires placed { base.at_length ≤ 9223372036854775807 }
-        ensures base { self.new.base ≡ base }
-        ensures events { self.new.events ≡ shown base }
+        requires within { room ≤ self.old.limit }
+        ensures base { OnOk result (self.new.base ≡ base) }
+        ensures events { OnOk result (self.new.events ≡ shown base) }
+        ensures room { OnOk result (self.new.room ≡ room) }
         ensures limit { self.new.limit ≡ self.old.limit }
-        ensures room { self.old.room ≤ self.new.room }
+        ensures refused { OnErr result (self.new ≡ self.old) }
     {
+        let alloc = *self.events.allocator();
+        let events = Vec::with_capacity(alloc, room as usize)?;
         self.base = base;
-        self.events.clear();
+        self.events = events;
+        Ok(())
     }
 
     /// Gets room for `n` more events. `Full` exactly where with them there were more since the base than

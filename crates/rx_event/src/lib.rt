@@ -22,7 +22,7 @@ mod marks;
 mod refusal;
 mod theorems;
 
-pub use base::{Base, BaseHub, BaseLease, BaseNode, BaseResource, BaseState};
+pub use base::{Base, BaseCounts, BaseHub, BaseLease, BaseNode, BaseResource, BaseState};
 pub use event::{Event, Kind, Mode, Place};
 pub use history::History;
 pub use mail::Mail;

@@ -5,7 +5,7 @@ use thiserror::Error;
 /// Why a call was refused. A refused call changes nothing, and gives back what was handed in.
 /// Where several causes stand, the first in this order is given: `NoHub`, `Gone`, `WrongKind`,
 /// `PlaceTaken`, `NothingOwed`, `NotRoot`, `HubOrder`, `Connected`, `NotConnected`, `NotFresh`,
-/// `NoLease`, `NotHeld`, `Leased`, `HasChild`, `TooMany`, `Full`, `NoMemory`.
+/// `NoLease`, `NotHeld`, `Leased`, `HasChild`, `MailLeft`, `TooMany`, `Full`, `NoMemory`.
 #[derive(Clone, Copy, Debug, PartialEq, Eq, Error)]
 pub enum Refusal {
     /// Memory was asked for and refused.
@@ -50,8 +50,8 @@ pub enum Refusal {
     /// The node has an open child.
     #[error("a node below is open")]
     HasChild,
-    /// A limit of nodes, of hubs or of an item's visits would be passed.
-    #[error("a limit of nodes, hubs or visits would be passed")]
+    /// A limit of nodes, of hubs, of an item's visits or of places would be passed.
+    #[error("a limit of nodes, hubs, visits or places would be passed")]
     TooMany,
     /// The lease was given back, or never was.
     #[error("no lease that is out has this key")]
@@ -59,4 +59,7 @@ pub enum Refusal {
     /// The resource is held by leases alone: its node closed, or it was removed.
     #[error("the resource is held by leases alone")]
     Leased,
+    /// Notes were not handed out yet.
+    #[error("notes were not handed out yet")]
+    MailLeft,
 }

@@ -1,7 +1,7 @@
 //! A program of its own that keeps its subscriptions in a book: one with a file, from its opening to the
 //! release of the file, one that it forgets, which the end of the session closes, two that share a source, one
 //! each with FlatMap, Switch and TakeUntil, one whose items stand for texts, and one whose connection is lent to a
-//! request that outlives it.
+//! request that outlives it. At last it makes a checkpoint.
 #![tactic(auto)]
 
 mod file;

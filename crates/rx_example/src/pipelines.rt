@@ -12,7 +12,8 @@ pub fn run(rt: &impl Print, book: &mut Book<File>) -> Result<(), Stopped> {
     latest(rt, book)?;
     until(rt, book)?;
     carry(rt, book)?;
-    lend(rt, book)
+    lend(rt, book)?;
+    go_on(rt, book)
 }
 
 /// Subscribes with a file, passes one item and the end on, tells the observer and releases the file; then
@@ -116,6 +117,16 @@ fn lend(rt: &impl Print, book: &mut Book<File>) -> Result<(), Stopped> {
     )?;
     book.give_back(request)?;
     tell(rt, book)
+}
+
+/// Makes a checkpoint, which gives the memory of the events back and lets a run that never ends go on.
+fn go_on(rt: &impl Print, book: &mut Book<File>) -> Result<(), Stopped> {
+    tell(rt, book)?;
+    match book.checkpoint() {
+        Ok(at) => println!(rt; "the book goes on after {at} events")?,
+        Err(why) => println!(rt; "the book goes on with its events: {why}")?,
+    }
+    Ok(())
 }
 
 /// The text that a note brings; None where it is no item, or no text has its number.

@@ -2,7 +2,7 @@
 
 /// What a step may do.
 pub const COMMANDS: &str =
-    "using, open, hold, apply, remove, lease, return, next, end, abort, decline, fail, dispose, hub, connect, disconnect, drain, cancel";
+    "using, open, hold, apply, remove, lease, return, next, end, abort, decline, fail, dispose, hub, connect, disconnect, drain, checkpoint, cancel";
 
 /// The members that every step may have.
 pub const OF_STEPS: &str = "do, label, at, after, then";

@@ -1,16 +1,16 @@
 -- An item that went its whole way, and its event.
-use Rattle.std.proofs.Common.{◌≡◌, ℕ, ℤ, ◌+◌, ◌<◌, List, [], ◌∷◌, ◌++◌, length, sym, ap, subst, ◌∙◌, append-nil}
+use Rattle.std.proofs.Common.{◌≡◌, ℕ, ℤ, ◌+◌, List, [], ◌∷◌, ◌++◌, length, sym, ap, subst, ◌∙◌, append-nil}
 use Rattle.std.specs.List.{filter_map}
 use Rattle.rx_resource.specs.declared.Resource.{Ghosts}
 use Rattle.rx_event.specs.declared.event.Event.{Event}
 use Rattle.rx_event.specs.declared.event.Event.TheVariants.{Item}
 use Rattle.rx_event.specs.Climb.{Stop as NumberedStop, stops}
-use Rattle.rx_event.specs.Notes.{told, mail_of}
+use Rattle.rx_event.specs.Notes.{told}
 use Rattle.rx_event.specs.Lawful.{MayFollow, IsLawful}
 use Rattle.rx_tree.specs.Tree.{Tree}
 use Rattle.rx_hub.specs.Hubs.{Hubs}
 use Rattle.rx_register.specs.State.{State as Register, Writes}
-use Rattle.rx_ground.specs.Ties.{AreTied, KeepsNodes}
+use Rattle.rx_ground.specs.Ties.{AreTied}
 use Rattle.rx_ground.specs.Passing.{ArePassed, IsPassing}
 use Rattle.rx_ground.proofs.Passed.{tied_item}
 use Rattle.rx_ground.proofs.Written.{writes_told}
@@ -18,22 +18,6 @@ use Rattle.rx_ground.proofs.Written.{writes_told}
 module _ {T : Type 0} (first : Register) (start : Tree T) (leaf : ℕ) (value : ℤ) (register : Register) (tree : Tree T) (passed : IsPassing first start leaf value register tree []) where
   all_done : passed.done ≡ stops first.history leaf
   all_done = sym (passed.whole ∙ append-nil passed.done)
-
-  -- what was told is what it tells
-  pub arrived_mail : register.pending ≡ mail_of register.history (Item leaf value)
-  arrived_mail =
-      passed.pending ∙ ap (filter_map (told (length first.history) value)) all_done ∙
-      ap (λ (r : Register). mail_of r.history (Item leaf value)) (sym passed.same)
-
-  pub arrived_may_follow : MayFollow first.base first.history (Item leaf value) → MayFollow register.base register.history (Item leaf value)
-  arrived_may_follow next = subst (λ (r : Register). MayFollow r.base r.history (Item leaf value)) (sym passed.same) next
-
-  pub arrived_room : 0 < first.room → 0 < register.room
-  arrived_room some = subst (λ (r : Register). 0 < r.room) (sym passed.same) some
-
-  -- the nodes are those that were there
-  pub arrived_keeps : (h : List Event) → KeepsNodes h start.nodes tree.nodes
-  arrived_keeps h = record { from = λ key some. sym (passed.there key) ∙ some; still = λ key some alive. passed.there key ∙ some }
 
   pub arrived_writes : (new : Register) → new.base ≡ register.base → new.history ≡ register.history ++ Item leaf value ∷ [] → new.pending ≡ [] →
       new.room + 1 ≡ register.room →

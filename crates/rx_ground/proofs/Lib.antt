@@ -25,4 +25,8 @@ pub mod Passage
 pub mod Arrived
 pub mod Loads
 pub mod Standing
+mod RisingNumbers
+mod KeptRecords
+mod Rebased
+mod Checkpointing
 pub mod Laws

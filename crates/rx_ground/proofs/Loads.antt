@@ -1,5 +1,5 @@
 -- What closing everything needs, counted from what is there.
-use Rattle.std.proofs.Common.{◌≡◌, ℕ, ◌+◌, ◌-◌, ◌*◌, ◌≤◌, Bool, true, false, List, [], ◌∷◌, length, cond, count_by, refl, ap, arith}
+use Rattle.std.proofs.Common.{◌≡◌, ℕ, ◌+◌, ◌-◌, ◌*◌, ◌≤◌, Bool, true, false, List, [], ◌∷◌, cond, count_by, refl, arith}
 use Rattle.std.proofs.Math.Bool.{not, ◌&&◌}
 use Rattle.std.proofs.lemmas.Bool.{false≢true}
 use Rattle.std.proofs.lemmas.List.Sums.{sum_by-cons}
@@ -14,7 +14,6 @@ use Rattle.rx_event.proofs.Laws.Totals.{accepted_count-parts}
 use Rattle.rx_event.proofs.Laws.Resources.{owned_held}
 use Rattle.rx_register.specs.State.{State, IsPromised}
 use Rattle.rx_register.specs.Paid.{IsPaid}
-use Rattle.rx_register.proofs.Laws.Empty.{debt_empty}
 use Rattle.rx_ground.proofs.Lent.{is_alone}
 
 -- what is held is owned, or leases alone hold it
@@ -58,11 +57,3 @@ debt_bounded s promised paid = let e = paid.events in let b = promised.begun in 
 -- and each open node takes a part of it
 pub open_count_in_debt : (base : Kept) → (h : List Event) → open_count h ≤ debt base h
 open_count_in_debt base h = let counts = debt-counts base h in omega arith
-
--- nothing is needed in a new register
-pub fits_empty : (base : Kept) → (h : List Event) (limit more : ℕ) → h ≡ [] → more ≤ limit → length h + debt base h + more ≤ base.at_length + limit
-fits_empty base h limit more empty fits =
-    let none = ap (debt base) empty in
-    let nothing = ap (length {A = Event}) empty in
-    let zero = debt_empty base in
-    omega arith

@@ -83,29 +83,6 @@ module _ (nodes : Slots Node) (hubs : List Hub) (key : Key) (room : ℕ) where
         few_notes = omega arith;
       }
 
-  pub measuring_on : (old new : Route) (events notes : ℕ) (stop : Stop) → IsMeasuring nodes hubs key room old events notes → Arrives nodes hubs old new (Some stop) →
-      IsMeasuring nodes hubs key room new (events + owed_at stop) (notes + told_at stop)
-  measuring_on old new events notes stop was arrives =
-      let one = one_at stop in
-      let a = one.0 in
-      let b = one.1 in
-      let n : length (stops_left nodes hubs old) ≡ suc (length (stops_left nodes hubs new)) = ap (length {A = Stop}) arrives.stops in
-      let o : sum_at owed_at (stops_left nodes hubs old) ≡ owed_at stop + sum_at owed_at (stops_left nodes hubs new) = ap (sum_at owed_at) arrives.stops in
-      let t : sum_at told_at (stops_left nodes hubs old) ≡ told_at stop + sum_at told_at (stops_left nodes hubs new) = ap (sum_at told_at) arrives.stops in
-      let w = was.owed in
-      let x = was.told in
-      let y = was.few_events in
-      let z = was.few_notes in
-      record {
-        under_way = arrives.under_way;
-        room_is = arrives.room ∙ was.room_is;
-        visits = arrives.visits ∙ was.visits;
-        owed = omega arith;
-        told = omega arith;
-        few_events = omega arith;
-        few_notes = omega arith;
-      }
-
   -- at the end all was counted
   pub measuring_ends : (old new : Route) (events notes : ℕ) → IsMeasuring nodes hubs key room old events notes → Arrives nodes hubs old new None →
       IsMeasured (stops_over nodes hubs key) (record { events = events; notes = notes }) × (new.visits ≡ length (climb_over nodes hubs key)) × (new.room ≡ room)

@@ -5,7 +5,7 @@ use Rattle.std.specs.Prelude.{if◌then◌else◌}
 use Rattle.std.specs.List.{AllByRecursion, filter_map, cons_option}
 use Rattle.std.specs.Option.{option_and_then, option_map_or, option_to_list}
 use Rattle.std.proofs.lemmas.List.Elements.{filter_map-append}
-use Rattle.std.proofs.lemmas.List.Sums.{sum_by-append, count_by-le-length}
+use Rattle.std.proofs.lemmas.List.Sums.{sum_by-append}
 use Rattle.rx_event.specs.Kept.{Kept}
 use Rattle.rx_event.specs.declared.mail.Mail.{Mail}
 use Rattle.rx_event.specs.declared.marks.Marks.{Marks}
@@ -264,17 +264,6 @@ module _ {T : Type 0} (first : Register) (start : Tree T) (hubs : List Hub) (roo
         let r = p.mail_room in
         omega arith
 
-    -- and what all owe stays far within 64 bits
-    pub stop_countable : owed_in start.nodes ≤ 4503608216256510 → owed_in tree.nodes < 9223372036854775808
-    stop_countable bounded =
-        let p = going.passing in
-        let few = going.few in
-        let all = ap (length {A = NumberedStop}) p.whole in
-        let both = length-append p.done (filter_map numbered (stops_left tree.nodes hubs route)) in
-        let count = count_by-le-length is_projection p.done in
-        let owes = p.owed in
-        omega arith
-
     go_on : (told_register : Register) (marked : Tree T) (last : NumberedStop) → IsNumbered stop last →
         told_register ≡ record register { pending = told_register.pending; mail_room = told_register.mail_room } →
         told_register.pending ≡ register.pending ++ option_to_list (mail_at (length register.history) value stop) →
@@ -351,12 +340,3 @@ module _ {T : Type 0} (first : Register) (start : Tree T) (hubs : List Hub) (roo
       let same = ap (length {A = Stop}) marked_further.2.left in
       let one : length (stops_left tree.nodes hubs route) ≡ suc (length (stops_left tree.nodes hubs next)) = ap (length {A = Stop}) arrives.stops in
       omega arith
-
--- and at the end nothing is left
-pub going_ends : {T : Type 0} (first : Register) (start : Tree T) (hubs : List Hub) (room leaf : ℕ) (value : ℤ) (register : Register) (tree : Tree T) (route next : Route) →
-    IsGoing first start hubs room leaf value register tree route → Arrives tree.nodes hubs route next None →
-    IsPassing first start leaf value register tree [] × (next.room ≡ room)
-going_ends first start hubs room leaf value register tree route next going arrives = (
-  subst (λ (ss : List Stop). IsPassing first start leaf value register tree (filter_map numbered ss)) (arrives.stops ∙ arrives.ended) going.passing,
-  arrives.room ∙ going.room_is,
-)

@@ -151,10 +151,6 @@ older_on h e number old mid new le within first then = record {
   still = λ key some alive. then.still key (first.still key some (open_before h e key.number (within key some) alive)) alive;
 }
 
--- and nodes of which none came
-pub none_newer : {h : List Event} {old new : Slots Node} (number : ℕ) → KeepsNodes h old new → KeepsOlder h number old new
-none_newer number kept = record { from = λ key some l. kept.from key some; still = kept.still }
-
 -- the loop that settles -----------------------------------------------------------------------------
 
 -- what was forced so far was written

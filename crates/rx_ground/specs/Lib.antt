@@ -6,3 +6,4 @@ pub mod Shown
 pub mod Ties
 pub mod Inners
 pub mod Told
+pub mod Checkpoints

@@ -45,6 +45,7 @@
 #![tactic(auto)]
 
 mod base;
+mod checkpoint;
 mod counts;
 mod decide;
 mod hubs;

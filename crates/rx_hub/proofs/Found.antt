@@ -13,7 +13,7 @@ use Rattle.rx_hub.specs.declared.hub.HubDue.{HubDue}
 use Rattle.rx_hub.specs.Chains.{IsCalm, Notes, IsLinked}
 use Rattle.rx_hub.specs.Due.{connect_of, due_of}
 use Rattle.rx_hub.specs.Hubs.{Hub, Hubs, IsPromised, find_hub, at_hub, new_hub}
-use Rattle.rx_lists.specs.Lists.{Lists, list_at, is_in}
+use Rattle.rx_lists.specs.Lists.{Lists}
 
 eq_is : (a b : ℕ) → (a == b) ≡ true → a ≡ b
 eq_is a b e = grind (arith, nat_tests, e)
@@ -107,9 +107,6 @@ calm_added due hubs chain added none calm i hub got off = by_place hubs i got (�
   by_place [] (suc j) at_j old = absurd (none-some hub at_j)
   by_place (x ∷ xs) zero at_j old = old at_j
   by_place (x ∷ xs) (suc j) at_j old = by_place xs j at_j old
-
-pub calm_same : (due : Hub → Option HubDue) (hubs : List Hub) (old new : Lists) → list_at new 0 ≡ list_at old 0 → IsCalm due hubs old → IsCalm due hubs new
-calm_same due hubs old new same calm i hub got off = calm i hub got (ap (is_in i) (sym same) ∙ off)
 
 get_within : {X : Type 0} (xs : List X) (i : ℕ) (x : X) → slice_get xs i ≡ Some x → i < length xs
 get_within [] i x got = absurd (none-some x got)

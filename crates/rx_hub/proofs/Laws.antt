@@ -8,3 +8,4 @@ pub mod AfterAll
 pub mod AfterCases
 pub mod AfterReady
 pub mod AfterOrder
+pub mod Forgetting

@@ -1,6 +1,7 @@
 pub mod Laws
 mod Stored
 mod Found
+mod Forgotten
 mod ClosedLemmas
 mod Ruled
 mod RouteWays

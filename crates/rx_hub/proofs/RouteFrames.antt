@@ -1,12 +1,11 @@
 -- The frames of a way: how many there may be, and how it goes on over them.
-use Rattle.std.proofs.Common.{◌≡◌, ℕ, suc, ◌+◌, ◌<◌, ◌≤◌, ◌==◌, ◌&&◌, ◌||◌, ◌++◌, cond, Bool, true, false, List, [], ◌∷◌, reverse, length, Option, Some, None}
+use Rattle.std.proofs.Common.{◌≡◌, ℕ, suc, ◌+◌, ◌<◌, ◌≤◌, ◌==◌, ◌&&◌, ◌||◌, ◌++◌, cond, Bool, true, false, List, [], ◌∷◌, length, Option, Some, None}
 use Rattle.std.proofs.Common.{option_map, refl, sym, ap, subst, ◌∙◌, arith}
 use Rattle.std.specs.Prelude.{nat_lt}
 use Rattle.std.specs.List.{cons_option}
 use Rattle.std.specs.Option.{option_map_or}
 use Rattle.std.proofs.lemmas.Bool.{false≢true}
 use Rattle.std.proofs.lemmas.Bool.Decides.{nat_tests}
-use Rattle.std.proofs.lemmas.List.{reverse-append}
 use Rattle.std.proofs.lemmas.Option.{same_Some, none-some}
 use Rattle.rx_slots.specs.declared.Key.{Key}
 use Rattle.rx_tree.specs.Tree.{is_key, is_on, first_of}
@@ -84,10 +83,6 @@ from_next key (x ∷ xs) rises on = by_test (is_key key x) refl on (from_next ke
 pub from_first : (keys : List Key) → option_map_or (λ (k : Key). keys_from k keys) (first_of keys) [] ≡ keys
 from_first [] = refl
 from_first (k ∷ ks) = ap (λ b. cond b (k ∷ ks) (keys_from k ks)) (is_key-itself k)
-
-pub first_on : (keys : List Key) (key : Key) → first_of keys ≡ Some key → is_on key keys ≡ true
-first_on [] key none = absurd (none-some key none)
-first_on (k ∷ ks) key some = ap (λ b. b || is_on key ks) (ap (is_key key) (same_Some k key some) ∙ is_key-itself key)
 
 -- how many frames there may be ------------------------------------------------------------------------
 
@@ -187,15 +182,3 @@ turned s p frames frame next is behind are follows =
             (keys_in frame.key ∙ split (Some k) same ∙ ap (λ (ks : List Key). frame.key ∷ ks) (sym (keys_in k))));
         ended = tt;
       }
-
--- the innermost frame is taken
-pub innermost : (items rest : List Frame) (frame : Frame) → items ≡ rest ++ frame ∷ [] → reverse items ≡ frame ∷ reverse rest
-innermost items rest frame is = ap reverse is ∙ reverse-append rest (frame ∷ [])
-
-pub from_frames : (hubs : List Hub) (frame : Frame) (frames new : List Frame) (at : Option Key) → GoesOn hubs frames new (Some frame) at →
-    GoesOn hubs (frame ∷ frames) new None at
-from_frames hubs frame frames new at on = record { turn = on.turn; frames = on.frames; todo = on.todo; ended = on.ended }
-
--- and where there is none, it ends
-pub no_frames : (hubs : List Hub) → GoesOn hubs [] [] None None
-no_frames hubs = record { turn = tt; frames = tt; todo = refl; ended = refl }

@@ -1,6 +1,6 @@
 -- One climb further on an item's way.
-use Rattle.std.proofs.Common.{◌≡◌, ℕ, zero, suc, ◌+◌, ◌-◌, ◌<◌, ◌≤◌, ◌++◌, List, [], ◌∷◌, length, Option, Some, None, IsSome, IfSome, IfNone, is_some}
-use Rattle.std.proofs.Common.{refl, sym, ap, subst, ◌∙◌, arith, length-append, true≢false}
+use Rattle.std.proofs.Common.{◌≡◌, ℕ, zero, suc, ◌+◌, ◌-◌, ◌<◌, ◌≤◌, ◌++◌, List, [], ◌∷◌, length, Option, Some, None, IsSome, IfSome, IfNone}
+use Rattle.std.proofs.Common.{refl, sym, ap, subst, ◌∙◌, arith, length-append}
 use Rattle.std.specs.List.{AllByRecursion, filter_map, cons_option}
 use Rattle.std.specs.Option.{option_and_then, option_to_list}
 use Rattle.std.proofs.lemmas.Bool.{false≢true}
@@ -177,31 +177,6 @@ pub record IsFurther (nodes : Slots Node) (hubs : List Hub) (first now : Route) 
   pub under_way : IsUnderWay nodes hubs now
   pub room : now.room ≡ first.room
 
-pub further_first : (nodes : Slots Node) (hubs : List Hub) (first : Route) → IsUnderWay nodes hubs first → IsFurther nodes hubs first first
-further_first nodes hubs first under_way = record { stops = refl; visits = refl; under_way = under_way; room = refl }
-
-pub further_on : (nodes : Slots Node) (hubs : List Hub) (first old new : Route) (stop : Option Stop) → IsFurther nodes hubs first old →
-    Climbs nodes hubs old new stop → is_some stop ≡ false → IsFurther nodes hubs first new
-further_on nodes hubs first old new None further climbs none = record {
-  stops = further.stops ∙ climbs.stops;
-  visits = climbs.visits ∙ further.visits;
-  under_way = climbs.under_way;
-  room = climbs.room ∙ further.room;
-}
-further_on nodes hubs first old new (Some s) further climbs none = absurd (true≢false none)
-
-pub arrives_on : (nodes : Slots Node) (hubs : List Hub) (first old new : Route) (stop : Option Stop) → IsFurther nodes hubs first old →
-    Climbs nodes hubs old new stop → is_some stop ≡ true → Arrives nodes hubs first new stop
-arrives_on nodes hubs first old new None further climbs some = absurd (false≢true some)
-arrives_on nodes hubs first old new (Some s) further climbs some = record {
-  stops = further.stops ∙ climbs.stops;
-  ended = tt;
-  visits = climbs.visits ∙ further.visits;
-  counted = tt;
-  under_way = climbs.under_way;
-  room = climbs.room ∙ further.room;
-}
-
 none_visited : (left : ℕ) (nodes : Slots Node) (hubs : List Hub) → visited_over left nodes hubs [] ≡ []
 none_visited zero nodes hubs = refl
 none_visited (suc left) nodes hubs = refl
@@ -217,13 +192,6 @@ ends_on nodes hubs first now further none = record {
   under_way = further.under_way;
   room = further.room;
 }
-
-pub ends_nowhere : (nodes : Slots Node) (hubs : List Hub) (first now : Route) → IsFurther nodes hubs first now → now.at ≡ None →
-    Arrives nodes hubs first now None
-ends_nowhere nodes hubs first now further at = ends_on nodes hubs first now further
-    ((λ i. visited_over (visits_left now) nodes hubs (option_to_list (at i) ++ after_frames hubs (frames i))) ∙ none_visited (visits_left now) nodes hubs) where
-      frames : now.frames ≡ []
-      frames = subst (λ (o : Option Key). IfNone o (now.frames ≡ [])) at further.under_way.ended
 
 pub ends_cut : (nodes : Slots Node) (hubs : List Hub) (first now : Route) → IsFurther nodes hubs first now → 1048576 < now.visits →
     Arrives nodes hubs first now None

@@ -79,14 +79,6 @@ connect_found s index p youngest promised some last = of (slice_get s.hubs index
   of None got e l = absurd (none-some p e)
   of (Some hub) got e l = (λ i. connect_by (sym (same_Some (published_of hub) p e) i) (l i)) ∙ connect_told hub (promised.rises index hub got)
 
-pub due_found : (s : Hubs) (index : ℕ) (p : Published) (oldest : Option Key) → option_map published_of (slice_get s.hubs index) ≡ Some p →
-    IfSome (slice_get s.hubs index) (λ hub. oldest ≡ first_of hub.subscribers) → due_by p oldest ≡ option_and_then (given_by Other) (slice_get s.hubs index)
-due_found s index p oldest some first = of (slice_get s.hubs index) refl some first where
-  of : (o : Option Hub) → slice_get s.hubs index ≡ o → option_map published_of o ≡ Some p → IfSome o (λ hub. oldest ≡ first_of hub.subscribers) →
-      due_by p oldest ≡ option_and_then (given_by Other) o
-  of None got e l = absurd (none-some p e)
-  of (Some hub) got e l = (λ i. due_by (sym (same_Some (published_of hub) p e) i) (l i)) ∙ due_told hub
-
 -- the chain ---------------------------------------------------------------------------------------
 
 eq_self : (a : ℕ) → (a == a) ≡ true
@@ -109,10 +101,6 @@ one_fewer (x ∷ xs) index e =
     let here : (index == x) ≡ true = ap (λ k. index == k) (same_Some x index e) ∙ eq_self index in
     let less = fewer index xs in
     subst (λ b. length (cond (not b) (x ∷ take_out index xs) (take_out index xs)) < length (x ∷ xs)) (sym here) (omega (arith, less))
-
-pub nothing_in : (xs : List ℕ) → head_of xs ≡ None → (i : ℕ) → is_in i xs ≡ false
-nothing_in [] e i = refl
-nothing_in (x ∷ xs) e i = absurd (none-some x (sym e))
 
 -- what is off a chain from which one index was taken is that index, or was off it
 still_off : (i index : ℕ) (xs : List ℕ) → is_in i (take_out index xs) ≡ false → (index == i) ≡ false → is_in i xs ≡ false

@@ -1,11 +1,11 @@
 -- What the records and the lists of subscribers show as hubs.
 use Rattle.std.proofs.Common.{◌≡◌, ◌≢◌, ℕ, zero, suc, ◌<◌, ◌≤◌, ◌+◌, ◌==◌, ◌||◌, ◌&&◌, ◌++◌, cond, map, Bool, true, false, List, [], ◌∷◌, length, get_or, set, slice_get, Option, Some, None}
-use Rattle.std.proofs.Common.{option_map, is_some, IsSome, IfSome, refl, sym, ap, subst, ◌∙◌, inl, inr, arith, true≢false, zero-add}
+use Rattle.std.proofs.Common.{◌-◌, min, option_map, is_some, IsSome, IfSome, refl, sym, ap, subst, ◌∙◌, inl, inr, arith, true≢false, zero-add}
 use Rattle.std.specs.List.{range_with_len, list_any}
 use Rattle.std.proofs.Math.Bool.{not}
 use Rattle.std.proofs.lemmas.Bool.{cases_eq, cases_lt, false≢true}
 use Rattle.std.proofs.lemmas.Bool.Decides.{nat_tests}
-use Rattle.std.proofs.lemmas.List.{get_or_past, get_or-set_same, get_or-set_other, length-set, length-append}
+use Rattle.std.proofs.lemmas.List.{get_or_past, get_or-set_same, get_or-set_other, length-set, length-append, length-map}
 use Rattle.std.proofs.lemmas.List.FromFn.{map-range_with_len_more}
 use Rattle.std.proofs.lemmas.Option.{same_Some, none-some}
 use Rattle.rx_slots.specs.declared.Key.{Key}
@@ -13,7 +13,7 @@ use Rattle.rx_tree.specs.Tree.{is_key, is_on, first_of}
 use Rattle.rx_tree.proofs.Laws.Keys.{same_key}
 use Rattle.rx_hub.specs.declared.hub.Published.{Published}
 use Rattle.rx_hub.specs.Hubs.{Hub, IsPromised, IsFree, AreBelow, AreAbove, Rises, hub_of, at_hub, published_of, with_published, subscribed}
-use Rattle.rx_hub.specs.Hubs.{unsubscribed, without_key, last_from, key_after}
+use Rattle.rx_hub.specs.Hubs.{unsubscribed, without_key, last_from, key_after, ended_never, without_end}
 use Rattle.rx_lists.specs.Lists.{Lists, IsPlain, list_at, is_in, take_out, head_of, last_from as last_after, after}
 use Rattle.rx_hub.specs.Store.{no_hub, record_at, key_in, keys_at, hub_in, hubs_in, store_in, IsKept}
 
@@ -478,3 +478,41 @@ module _ (records : List Published) (lists : Lists) (numbers : List ℕ) where
         listed = ap length same_lists ∙ kept.listed;
         slots = fit;
       }
+
+-- ends that are forgotten ---------------------------------------------------------------------------
+
+record_forgot : (records : List Published) (i : ℕ) → record_at (map ended_never records) i ≡ ended_never (record_at records i)
+record_forgot [] zero = refl
+record_forgot [] (suc i) = refl
+record_forgot (p ∷ records) zero = refl
+record_forgot (p ∷ records) (suc i) = record_forgot records i
+
+pub hubs_forgot : (records : List Published) (lists : Lists) (numbers : List ℕ) →
+    hubs_in (map ended_never records) lists numbers ≡ map without_end (hubs_in records lists numbers)
+hubs_forgot records lists numbers =
+    ap (λ n. map (hub_in (map ended_never records) lists numbers) (range_with_len 0 n)) (length-map records ended_never) ∙
+    table_map (hub_in records lists numbers) (hub_in (map ended_never records) lists numbers) without_end 0 (length records)
+    (λ j l m. ap (λ p. hub_of p (keys_at lists numbers j)) (record_forgot records j))
+
+pub kept_forgot : (records : List Published) (lists : Lists) (numbers : List ℕ) → IsKept records lists numbers → IsKept (map ended_never records) lists numbers
+kept_forgot records lists numbers kept =
+    record {
+      rising = λ i j l m.
+          let less = kept.rising i j l (subst (λ n. j < n) (length-map records ended_never) m) in
+          let a = ap (λ (p : Published). p.number) (record_forgot records i) in
+          let b = ap (λ (p : Published). p.number) (record_forgot records j) in
+          omega (arith, less, a, b);
+      rises = kept.rises;
+      listed = kept.listed ∙ sym (length-map records ended_never);
+      slots = kept.slots;
+    }
+
+-- and all that callers see of it
+pub store_forgot : (records after : List Published) (lists : Lists) (numbers : List ℕ) (capacity more : ℕ) → after ≡ map ended_never records → more ≡ capacity →
+    store_in after lists numbers (min (more - length after) lists.room) ≡
+    record (store_in records lists numbers (min (capacity - length records) lists.room)) { hubs = map without_end (hubs_in records lists numbers) }
+store_forgot records after lists numbers capacity more same caps = λ i. record {
+  hubs = (ap (λ (ps : List Published). hubs_in ps lists numbers) same ∙ hubs_forgot records lists numbers) i;
+  room = min (caps i - (ap (λ (ps : List Published). length ps) same ∙ length-map records ended_never) i) lists.room;
+  slots = lists.members;
+}

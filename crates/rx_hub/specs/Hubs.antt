@@ -4,6 +4,7 @@ use Rattle.std.specs.Prelude.{◌≡◌, ℕ, ◌<◌, ◌==◌, ◌++◌, cond,
 use Rattle.std.specs.List.{filter, list_any}
 use Rattle.std.specs.Option.{option_or}
 use Rattle.std.proofs.Math.Bool.{not}
+use Rattle.rx_event.specs.declared.base.BaseHub.{BaseHub}
 use Rattle.rx_event.specs.declared.event.Mode.{Mode}
 use Rattle.rx_slots.specs.declared.Key.{Key}
 use Rattle.rx_tree.specs.Tree.{is_key, first_of}
@@ -61,6 +62,16 @@ connected key hub = record hub { connection = Some key }
 -- its connection is gone; where it ended by itself, that end is kept, and else the one before
 abbrev pub disconnected : Option LastEnd → Hub → Hub
 disconnected ended hub = record hub { connection = None; last_end = option_or ended hub.last_end }
+
+-- what a checkpoint keeps of a hub, and the hub once it has forgotten how its connections ended
+abbrev pub hub_as_kept : Hub → BaseHub
+hub_as_kept hub = record { number = hub.number; mode = hub.mode }
+
+abbrev pub ended_never : Published → Published
+ended_never p = record p { last_end = None }
+
+abbrev pub without_end : Hub → Hub
+without_end hub = record hub { last_end = None }
 
 -- numbers below, and numbers that rise
 abbrev pub AreBelow : ℕ → List Key → Type 0

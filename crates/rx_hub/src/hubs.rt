@@ -19,7 +19,7 @@ use std::marker::Model;
 /// RefCount).
 #[derive(Drop)]
 pub struct Hubs {
-    store: Store,
+    pub(crate) store: Store,
     // The hubs that may wait for a connection, and those at which something else may be due.
     waiting: Rings,
     due: Rings,

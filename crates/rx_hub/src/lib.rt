@@ -29,6 +29,7 @@
 //! That keys find nodes: they are the caller's, of a tree that is kept beside the hubs.
 #![tactic(auto)]
 
+mod checkpoint;
 mod closing;
 mod forcing;
 mod hub;

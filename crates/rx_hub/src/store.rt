@@ -1,7 +1,8 @@
 //! The hubs with their subscribers, before anything is due.
 
-ghost use Rattle.std.specs.Prelude.{◌≡◌, ◌+◌, ◌<◌, ◌≤◌, ◌++◌, ◌∷◌, ◌^◌, [], length, option_map, slice_get};
+ghost use Rattle.std.specs.Prelude.{◌≡◌, ◌+◌, ◌<◌, ◌≤◌, ◌++◌, ◌∷◌, ◌^◌, [], length, map, option_map, slice_get, vec_capacity};
 ghost use Rattle.std.specs.Prelude.{slice_index_or, OnOk, OnErr, IsOk, IsTrue, IfSome, IfNone, IsSome, Some, None, ◌≢◌};
+ghost use Rattle.rx_hub.specs.Hubs.{ended_never};
 ghost use Rattle.rx_hub.specs.Store.{key_in};
 
 use crate::hub::{LastEnd, Published};
@@ -66,9 +67,19 @@ fn lengthen(numbers: &mut Vec<u64>, slots: usize) -> Result<(), AllocError>
     numbers.resize(slots, 0)
 }
 
+// Forgets how the connections of these hubs ended.
+fn forget_all(records: &mut Vec<Published>)
+    ensures items { records.new.items ≡ map ended_never records.old.items }
+    ensures capacity { vec_capacity records.new ≡ vec_capacity records.old }
+{
+    for hub in records.iter_mut() {
+        hub.last_end = None;
+    }
+}
+
 impl Store {
     ghost use Rattle.rx_hub.specs.Hubs.{Hub, IsPromised, IsFree, AreBelow, new_hub, at_hub, published_of};
-    ghost use Rattle.rx_hub.specs.Hubs.{connected, disconnected, with_published, subscribed, unsubscribed, last_from, key_after};
+    ghost use Rattle.rx_hub.specs.Hubs.{connected, disconnected, without_end, with_published, subscribed, unsubscribed, last_from, key_after};
     ghost use Rattle.rx_tree.specs.Tree.{is_on, first_of};
 
     // No hub, which takes no memory.
@@ -195,6 +206,13 @@ impl Store {
             };
             self.set_published(index, published);
         }
+    }
+
+    // Forgets how connections ended.
+    pub(crate) fn forget_ends(&mut self)
+        ensures { self.new ≡ record self.old { hubs = map without_end self.old.hubs } }
+    {
+        forget_all(&mut self.records);
     }
 
     // A hub's first subscriber, which has the least number.

@@ -7,7 +7,7 @@ use Rattle.std.proofs.lemmas.Bool.{cases_Bool, false≢true, both_ways, eqb-true
 use Rattle.rx_slots.specs.declared.Entry.{Entry}
 use Rattle.rx_slots.specs.declared.Key.{Key}
 use Rattle.rx_slots.specs.Slots.{Slots, entry_at, entry_of, find, Changes}
-use Rattle.rx_slots.proofs.SlotsLemmas.{found_entry, with_number-same}
+use Rattle.rx_slots.proofs.Laws.Found.{found_entry, with_number-same}
 use Rattle.rx_tree.specs.declared.node.ResKey.{ResKey}
 use Rattle.rx_tree.specs.Tree.{AreApart, IsPast}
 use Rattle.rx_tree.proofs.Laws.Keys.{same_key}

@@ -1,5 +1,5 @@
 -- Lists of slots whose numbers rise, as one comes last and as one leaves.
-use Rattle.std.proofs.Common.{◌≡◌, ◌≢◌, ℕ, ◌+◌, ◌<◌, ◌≤◌, ◌==◌, ◌||◌, ◌&&◌, ◌++◌, cond, Bool, true, false, List, [], ◌∷◌, Some, None}
+use Rattle.std.proofs.Common.{◌≡◌, ◌≢◌, ℕ, ◌+◌, ◌<◌, ◌≤◌, ◌==◌, ◌||◌, ◌&&◌, ◌++◌, cond, Bool, true, false, List, [], ◌∷◌, Some}
 use Rattle.std.proofs.Common.{is_some, refl, sym, ap, ◌∙◌, inl, inr, ◌⊎◌, arith}
 use Rattle.std.proofs.Math.Bool.{not}
 use Rattle.std.proofs.lemmas.Bool.{cases_Bool, false≢true, eqb-true, eq-eqb, and_parts}
@@ -47,10 +47,6 @@ head_in [] m is = absurd (false≢true (ap is_some is))
 head_in (x ∷ xs) m is = rw (eq-eqb m x (sym (same_number x m is))) refl where
   same_number : (a b : ℕ) → Some a ≡ Some b → a ≡ b
   same_number a b e = cc
-
-pub nobody_in : (xs : List ℕ) → head_of xs ≡ None → (y : ℕ) → is_in y xs ≡ false
-nobody_in [] is y = refl
-nobody_in (x ∷ xs) is y = absurd (false≢true (sym (ap is_some is)))
 
 module _ (f : ℕ → ℕ) where
   pub rising_append : (m : ℕ) (xs : List ℕ) → AreRising f xs → ((y : ℕ) → is_in y xs ≡ true → f y < f m) → AreRising f (xs ++ m ∷ [])

@@ -1,8 +1,9 @@
 //! Leases in the order in which they were given out.
 
-ghost use Rattle.std.specs.Prelude.{◌≡◌, ◌+◌, ◌<◌, ◌≤◌, [], IsOk, Some, None, IfSome, IfNone, OnOk, OnSome, length, is_some, count_by};
+ghost use Rattle.std.specs.Prelude.{◌≡◌, ◌+◌, ◌<◌, ◌≤◌, [], IsOk, Some, None, IfSome, IfNone, IfOk, OnOk, OnSome, option_map, length, is_some, count_by};
 ghost use Rattle.rx_lists.specs.Lists.{list_at};
 
+use rx_event::BaseLease;
 use rx_lists::Rings;
 use rx_slots::{Key, Slots};
 use rx_tree::ResKey;
@@ -59,7 +60,8 @@ fn begin(order: &mut Rings) -> Result<(), AllocError>
 impl Leases {
     ghost use Rattle.rx_slots.specs.Slots.{find, entry_at, KeepsOthers};
     ghost use Rattle.rx_tree.specs.Tree.{IsPast, IsFirst, HasNone, AreApart};
-    ghost use Rattle.rx_lease.specs.Leases.{lease_key, IsOut};
+    ghost use Rattle.rx_tree.specs.Bases.{IsByNumber, kept_by};
+    ghost use Rattle.rx_lease.specs.Leases.{lease_key, lease_as_kept, IsOut};
 
     /// No lease, which takes no memory.
     pub fn new(alloc: Global) -> Self
@@ -168,5 +170,35 @@ impl Leases {
         ensures counted { result ≡ count_by is_some self.now.entries }
     {
         self.out.len()
+    }
+
+    // What is kept of the lease at a slot.
+    fn base_lease(&self, slot: usize) -> Option<BaseLease>
+        ensures { result ≡ option_map lease_as_kept (entry_at self.now slot) }
+    {
+        let entry = self.out.entry_at(slot)?;
+        Some(BaseLease {
+            number: entry.number,
+            resource: entry.value.number,
+        })
+    }
+
+    // What is kept of the leases, by rising slot.
+    fn list_leases(&self, alloc: Global) -> Result<Vec<BaseLease>, AllocError>
+        ensures { IfOk result (λ kept. kept.items ≡ kept_by lease_as_kept self.now) }
+    {
+        (0..self.out.slot_count())
+            .filter_map(|slot| self.base_lease(slot))
+            .collect(alloc)
+    }
+
+    /// What a checkpoint keeps of the leases, by rising number. It goes over the slots that leases stood
+    /// at. Refused only where memory was refused.
+    pub fn base_leases(&self, alloc: Global) -> Result<Vec<BaseLease>, AllocError>
+        ensures { IfOk result (λ kept. IsByNumber (λ k. k.number) (kept_by lease_as_kept self.now) kept.items) }
+    {
+        let mut leases = self.list_leases(alloc)?;
+        leases.sort_by_key(|lease| lease.number)?;
+        Ok(leases)
     }
 }

@@ -1,4 +1,3 @@
 pub mod Pairing
-pub mod Lists
 pub mod Reordered
 pub mod Changed

@@ -94,10 +94,3 @@ module _ (spot_of spot_of' : List ℕ → Option Spot) (name_of name_of' : ℕ �
       named = λ n t found. left_named n t (bytes_eq name n) refl (sym (spots n) ∙ found);
       numbered = λ k n found. left_numbered k n (number == k) refl (sym (names k) ∙ found);
     }
-
--- none are
-pub paired-none : (spot_of : List ℕ → Option Spot) (name_of : ℕ → Option (List ℕ)) → ((n : List ℕ) → spot_of n ≡ None) → ((k : ℕ) → name_of k ≡ None) → ArePaired spot_of name_of
-paired-none spot_of name_of no_spot no_name = record {
-  named = λ n t found. absurd (none-some t (sym (no_spot n) ∙ found));
-  numbered = λ k n found. absurd (none-some n (sym (no_name k) ∙ found));
-}

@@ -1,6 +1,8 @@
 //! What names stand for, both ways.
 
-ghost use Rattle.std.specs.Prelude.{◌≡◌, ◌+◌, ◌<◌, ◌≤◌, None, map, option_map, is_some, string_bytes, IfOk, IfSome, IfNone, OnOk};
+ghost use Rattle.std.specs.Prelude.{◌≡◌, ℕ, ◌+◌, ◌<◌, ◌≤◌, None, option_map, is_some, string_bytes, IfOk, IfSome, IfNone, OnOk};
+ghost use Rattle.std.specs.Bool.{nat_eq};
+ghost use Rattle.std.specs.List.{list_any};
 ghost use Rattle.rx_line.specs.Names.{spot_of, name_of, room_of, AreNone, IsPaired, AreSame, Binds, Forgets};
 
 use std::alloc::{AllocError, Global};
@@ -79,6 +81,13 @@ impl Names {
             Some(name) => Some(name.as_str()),
             None => None,
         }
+    }
+
+    /// The numbers that have names, in no order. Err where memory is refused.
+    pub fn numbers(&self, alloc: Global) -> Result<Vec<u64>, AllocError>
+        ensures { IfOk result (λ numbers. (k : ℕ) → is_some (name_of self.now k) ≡ list_any (nat_eq k) numbers.items) }
+    {
+        self.by_number.keys().copied().collect(alloc)
     }
 
     /// Gets room for two more names. Err where memory is refused.

@@ -1,6 +1,6 @@
 //! The pieces of an answer, in JSON.
 
-ghost use Rattle.std.specs.Prelude.{◌≡◌, ◌++◌, ◌+◌, ◌≤◌, length, string_bytes, IfOk, OnOk};
+ghost use Rattle.std.specs.Prelude.{◌≡◌, ◌++◌, ◌+◌, ◌≤◌, length, string_bytes, IfOk};
 ghost use Rattle.std.specs.String.{string_len, string_capacity};
 ghost use Rattle.rx_line.specs.Pieces.{refusal_name, cause_name, faulty_text, to_text, next_text, project_text, completed_text, error_text, note_text, ok_text, refused_text};
 
@@ -31,6 +31,7 @@ fn refusal_name(why: Refusal) -> &'static str
         Refusal::TooMany => "TooMany",
         Refusal::NoLease => "NoLease",
         Refusal::Leased => "Leased",
+        Refusal::MailLeft => "MailLeft",
     }
 }
 

@@ -23,7 +23,7 @@ fn members_of(command: &str) -> Option<&'static str> {
         "hub" => Some("name, mode"),
         "connect" => Some("hub, name"),
         "disconnect" => Some("hub"),
-        "drain" | "list" | "dump" => Some(""),
+        "drain" | "checkpoint" | "list" | "dump" => Some(""),
         _ => None,
     }
 }

@@ -119,10 +119,6 @@ pub end_grown : (ends members : List Link) (p : Place) → link_in (ends ++ alon
 end_grown ends members (End i) = read_grown (λ k. alone (End k)) ends i
 end_grown ends members (Member m) = refl
 
-pub member_grown : (ends members : List Link) (p : Place) → link_in ends (members ++ alone (Member (length members)) ∷ []) p ≡ link_in ends members p
-member_grown ends members (End i) = refl
-member_grown ends members (Member m) = read_grown (λ k. alone (Member k)) members m
-
 module _ (ends members : List Link) (room : ℕ) (tied : IsTiedIn ends members) where
   -- with more members that stand on no list
   module _ (members' : List Link) (same : (p : Place) → link_in ends members' p ≡ link_in ends members p) (more : length members ≤ length members') where

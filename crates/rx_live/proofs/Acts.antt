@@ -4,7 +4,7 @@ use Rattle.std.specs.Prelude.{is_some}
 use Rattle.std.proofs.Math.Bool.{◌||◌}
 use Rattle.std.specs.Str.{bytes_eq}
 use Rattle.std.specs.Option.{option_map_or}
-use Rattle.rx_scenario.specs.Scenario.{Name, Command, using, open_node, hold, apply, remove, lease, give_back, next, end, abort, decline, fail, dispose, make_hub, connect, disconnect, drain}
+use Rattle.rx_scenario.specs.Scenario.{Name, Command, using, open_node, hold, apply, remove, lease, give_back, next, end, abort, decline, fail, dispose, make_hub, connect, disconnect, drain, checkpoint}
 use Rattle.rx_book.specs.Requests.{Request, hub_request}
 use Rattle.rx_line.specs.declared.outcome.Cause.{Cause}
 use Rattle.rx_line.specs.declared.outcome.Cause.TheVariants.{NoName, NameTaken, Book}
@@ -17,6 +17,7 @@ use Rattle.rx_live.specs.Promise.{Act, released, with_held, Leads, no_act, hands
 use Rattle.rx_live.specs.Lines.{Runs, handed_by, IsCarried, Ends, GoesOn, no_line, one_line, IsFresh}
 use Rattle.rx_live.proofs.Binding.{or_false, alike_same}
 use Rattle.rx_live.proofs.Drops.{leads_on, leads_same}
+use Rattle.rx_live.proofs.Renewed.{refused_same}
 
 -- what an accepted command says -----------------------------------------------------------------------
 
@@ -85,6 +86,7 @@ runs_hands old new (fail node code) runs = by_goes old new _ runs
 runs_hands old new (dispose node) runs = by_goes old new _ runs
 runs_hands old new (disconnect hub) runs = by_goes old new _ runs
 runs_hands old new drain runs = no_act (λ n. ap (λ (s : Session). has_resource s n) runs.1)
+runs_hands old new checkpoint runs = no_act (same_held old new (ap (λ (s : Session). s.resources) runs.rest) (ap (λ (s : Session). s.unnamed) runs.rest))
 
 -- all of a carried line
 pub carried_leads : (old new : Session) (c : Command) (text : List ℕ) (acts : List Act) → IsCarried old c text acts new → Leads (has_resource old) acts (has_resource new)
@@ -146,3 +148,4 @@ refused_alike old new (fail node code) why runs = same_alike old new (went_none 
 refused_alike old new (dispose node) why runs = same_alike old new (went_none old new _ why runs.carries)
 refused_alike old new (disconnect hub) why runs = same_alike old new (went_none old new _ why runs.carries)
 refused_alike old new drain why runs = same_alike old new runs.1
+refused_alike old new checkpoint why runs = same_alike old new (refused_same old new why runs)

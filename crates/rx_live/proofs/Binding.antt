@@ -7,6 +7,7 @@ use Rattle.std.specs.Option.{option_map_or}
 use Rattle.std.specs.declared.alloc.AllocError.{AllocError}
 use Rattle.std.proofs.lemmas.Bool.{ne_eqb}
 use Rattle.std.proofs.lemmas.Option.{none-some, same_Some}
+use Rattle.rx_event.specs.declared.mail.Mail.{Mail}
 use Rattle.rx_event.specs.declared.event.Event.{Event}
 use Rattle.rx_event.specs.declared.refusal.Refusal.{Refusal}
 use Rattle.rx_event.specs.Calls.{Call, Holding, Leasing, GivingBack}
@@ -22,7 +23,7 @@ use Rattle.rx_book.specs.Answers.{Accepts, IsCauseOrWant}
 use Rattle.rx_line.specs.declared.names.Spot.{Spot}
 use Rattle.rx_line.specs.declared.names.Names.{Names}
 use Rattle.rx_line.specs.Names.{spot_of, name_of, IsPaired, AreSame, Binds, Forgets}
-use Rattle.rx_line.specs.declared.outcome.Cause.TheVariants.{NoName, NameTaken, Book}
+use Rattle.rx_line.specs.declared.outcome.Cause.TheVariants.{Book}
 use Rattle.rx_line.specs.declared.outcome.Outcome.{Outcome}
 use Rattle.rx_line.specs.declared.outcome.Outcome.TheVariants.{Accepted, Refused}
 use Rattle.rx_live.specs.Session.{Session, IsSound, IsPlaced, is_kept, has_resource, lease_of, lease_key_at}
@@ -34,6 +35,9 @@ use Rattle.rx_live.proofs.Soundness.{accepted_longer}
 
 pub same_names : (t : Names) → AreSame t t
 same_names t = record { spots = λ n. refl; names = λ k. refl }
+
+pub same_on : (a b c : Names) → AreSame a b → AreSame b c → AreSame a c
+same_on a b c p q = record { spots = λ n. q.spots n ∙ p.spots n; names = λ k. q.names k ∙ p.names k }
 
 pub bound_after : (old mid new : Names) (name : Name) (spot : Spot) → AreSame old mid → Binds mid name spot new → Binds old name spot new
 bound_after old mid new name spot same binds = record {
@@ -57,9 +61,6 @@ pub or_false : (a b : Bool) → (a || b) ≡ false → (a ≡ false) × (b ≡ f
 or_false true b p = absurd (cc)
 or_false false b p = (refl, p)
 
-pub free_resource : (s : Session) (name : Name) → has_resource s name ≡ false → spot_of s.resources name ≡ None
-free_resource s name free = none_of (spot_of s.resources name) (or_false (is_some (spot_of s.resources name)) (option_map_or (bytes_eq name) s.unnamed false) free).0
-
 pub not_unnamed : (s : Session) (name n : Name) → has_resource s name ≡ false → s.unnamed ≡ Some n → bytes_eq name n ≡ false
 not_unnamed s name n free is =
     sym (ap (λ (o : Option Name). option_map_or (bytes_eq name) o false) is) ∙ (or_false (is_some (spot_of s.resources name)) (option_map_or (bytes_eq name) s.unnamed false) free).1
@@ -82,49 +83,16 @@ placed_bound h k old new name spot placed binds longer within n past =
     binds.names n ∙ ap (λ (b : Bool). cond b (Some name) (name_of old n)) apart ∙ placed n (omega arith)
 
 -- open nodes
-same_open : (book : State) (t : Names) → AreOpenSame book t t
-same_open book t = record { nodes = λ n. refl; spots = λ n. inl refl; names = λ n. inl refl }
+pub same_open : (untold : Option Mail) (book : State) (t : Names) → AreOpenSame untold book t t
+same_open untold book t = record { kept = λ late. same_names t; nodes = λ n. refl; spots = λ n. inl refl; names = λ n. inl refl }
 
 -- alike ----------------------------------------------------------------------------------------------
 
 pub alike_same : (s : Session) → IsAlike s s
 alike_same s = record {
   book = refl;
-  nodes = same_open s.book s.nodes;
+  nodes = same_open s.untold s.book s.nodes;
   hubs = same_names s.hubs;
-  resources = same_names s.resources;
-  leases = same_names s.leases;
-  untold = refl;
-  unnamed = refl;
-}
-
-pub alike_resources : (s : Session) (t : Names) → AreSame s.resources t → IsAlike s (record s { resources = t })
-alike_resources s t same = record {
-  book = refl;
-  nodes = same_open s.book s.nodes;
-  hubs = same_names s.hubs;
-  resources = same;
-  leases = same_names s.leases;
-  untold = refl;
-  unnamed = refl;
-}
-
-pub alike_leases : (s : Session) (t : Names) → AreSame s.leases t → IsAlike s (record s { leases = t })
-alike_leases s t same = record {
-  book = refl;
-  nodes = same_open s.book s.nodes;
-  hubs = same_names s.hubs;
-  resources = same_names s.resources;
-  leases = same;
-  untold = refl;
-  unnamed = refl;
-}
-
-pub alike_hubs : (s : Session) (t : Names) → AreSame s.hubs t → IsAlike s (record s { hubs = t })
-alike_hubs s t same = record {
-  book = refl;
-  nodes = same_open s.book s.nodes;
-  hubs = same;
   resources = same_names s.resources;
   leases = same_names s.leases;
   untold = refl;
@@ -149,45 +117,7 @@ sound_alike old new sound alike nodes hubs resources leases = record {
   unnamed = λ name is. alike.resources.spots name ∙ sound.unnamed name (sym alike.unnamed ∙ is);
 }
 
-pub unchanged_resources : (s : Session) (t : Names) → IsSound s → AreSame s.resources t → (IsPaired s.resources → IsPaired t) → IsUnchanged s (record s { resources = t })
-unchanged_resources s t sound same paired = record {
-  alike = alike_resources s t same;
-  sound = sound_alike s (record s { resources = t }) sound (alike_resources s t same) sound.node_pairs sound.hub_pairs (paired sound.resource_pairs) sound.lease_pairs;
-}
-
-pub unchanged_leases : (s : Session) (t : Names) → IsSound s → AreSame s.leases t → (IsPaired s.leases → IsPaired t) → IsUnchanged s (record s { leases = t })
-unchanged_leases s t sound same paired = record {
-  alike = alike_leases s t same;
-  sound = sound_alike s (record s { leases = t }) sound (alike_leases s t same) sound.node_pairs sound.hub_pairs sound.resource_pairs (paired sound.lease_pairs);
-}
-
-pub unchanged_hubs : (s : Session) (t : Names) → IsSound s → AreSame s.hubs t → (IsPaired s.hubs → IsPaired t) → IsUnchanged s (record s { hubs = t })
-unchanged_hubs s t sound same paired = record {
-  alike = alike_hubs s t same;
-  sound = sound_alike s (record s { hubs = t }) sound (alike_hubs s t same) sound.node_pairs (paired sound.hub_pairs) sound.resource_pairs sound.lease_pairs;
-}
-
-pub unchanged_same : (s : Session) → IsSound s → IsUnchanged s s
-unchanged_same s sound = record { alike = alike_same s; sound = sound }
-
 -- outcomes -------------------------------------------------------------------------------------------
-
--- a name that is used is not bound
-pub given_none : {K : Type 0} (s : Session) (f : K → Request) (key : Option K) (taken : Bool) (bound : Session → Type 0) → key ≡ None → IsSound s →
-    GivesNames s (option_map f key) taken bound (Refused NoName) s
-given_none s f key taken bound none sound =
-    subst (λ (j : Option _). GivesNames s (option_map f j) taken bound (Refused NoName) s) (sym none) (record { gives = (refl, alike_same s); sound = sound })
-
-pub given_nothing : (s : Session) (asked : Option Request) (taken : Bool) (bound : Session → Type 0) → asked ≡ None → IsSound s → GivesNames s asked taken bound (Refused NoName) s
-given_nothing s asked taken bound none sound =
-    subst (λ (j : Option Request). GivesNames s j taken bound (Refused NoName) s) (sym none) (record { gives = (refl, alike_same s); sound = sound })
-
--- one that is given is bound
-pub given_taken : (s t : Session) (asked : Option Request) (why : Request) (taken : Bool) (bound : Session → Type 0) → asked ≡ Some why → taken ≡ true → IsUnchanged s t →
-    GivesNames s asked taken bound (Refused NameTaken) t
-given_taken s t asked why taken bound known is unchanged =
-    subst (λ (j : Option Request). GivesNames s j taken bound (Refused NameTaken) t) (sym known)
-    (subst (λ (b : Bool). GivesNames s (Some why) b bound (Refused NameTaken) t) (sym is) (record { gives = (refl, unchanged.alike); sound = unchanged.sound }))
 
 -- the book refuses
 pub given_refused : (s t : Session) (asked : Option Request) (call : Request) (taken : Bool) (bound : Session → Type 0) (why : Refusal) (result : Result Outcome AllocError) →

@@ -1,17 +1,15 @@
 -- Nodes that are opened and connected, and the names that they get.
-use Rattle.std.proofs.Common.{◌≡◌, ℕ, ◌+◌, ◌==◌, ◌<◌, ◌≤◌, Bool, true, false, cond, List, length, Option, Some, None, option_map, Result, Ok, Err, refl, sym, ap, ◌∙◌, arith, subst}
-use Rattle.std.specs.declared.alloc.AllocError.{AllocError}
-use Rattle.std.specs.Prelude.{IfSome, IfOk, OnErr, is_some}
+use Rattle.std.proofs.Common.{◌≡◌, ℕ, ◌+◌, ◌==◌, ◌<◌, Bool, true, false, cond, List, length, Option, Some, None, option_map, Result, Ok, Err, refl, sym, ap, ◌∙◌, arith, subst}
+use Rattle.std.specs.Prelude.{IfSome, OnErr, is_some}
 use Rattle.std.proofs.Math.Bool.{◌||◌}
+use Rattle.std.proofs.lemmas.Bool.{or_parts}
 use Rattle.std.specs.Str.{bytes_eq}
-use Rattle.std.specs.Option.{option_map_or, option_and_then}
-use Rattle.std.proofs.lemmas.Bool.{ne_eqb}
+use Rattle.std.specs.Option.{option_map_or}
 use Rattle.std.proofs.lemmas.Option.{none-some, same_Some}
 use Rattle.rx_event.specs.declared.event.Event.{Event}
 use Rattle.rx_event.specs.declared.event.Kind.{Kind}
 use Rattle.rx_event.specs.Tree.{at}
-use Rattle.rx_scenario.specs.Scenario.{Name, Site, Sort}
-use Rattle.rx_book.specs.declared.key.Key.{Key}
+use Rattle.rx_scenario.specs.Scenario.{Name}
 use Rattle.rx_book.specs.declared.answer.At.{At}
 use Rattle.rx_book.specs.declared.answer.Opened.{Opened}
 use Rattle.rx_book.specs.State.{State, IsPromised}
@@ -21,18 +19,17 @@ use Rattle.rx_book.proofs.Laws.Going.{step_longer}
 use Rattle.rx_line.specs.declared.names.Spot.{Spot}
 use Rattle.rx_line.specs.declared.names.Names.{Names}
 use Rattle.rx_line.specs.Names.{spot_of, name_of, IsPaired, AreSame, Binds}
-use Rattle.rx_line.specs.declared.outcome.Outcome.{Outcome}
 use Rattle.rx_live.specs.Session.{Session, IsSound, IsPlaced, has_resource}
-use Rattle.rx_live.specs.Given.{AreOpenSame, IsAlike, IsUnchanged, GivesNames}
-use Rattle.rx_live.specs.Openings.{kind_of, place_at, open_asked, using_at, is_open_taken, BindsMade, BindsNode, BindsUsing, BindsConnection}
+use Rattle.rx_live.specs.Given.{AreOpenSame, IsAlike, IsUnchanged}
+use Rattle.rx_live.specs.Openings.{using_at, is_node, is_open_taken, BindsMade, BindsNode, BindsUsing, BindsConnection}
 use Rattle.rx_live.proofs.Remaining.{keeps_resources, keeps_leases, kept_same, out_same, kept_used, kept_past}
 use Rattle.rx_live.proofs.Soundness.{accepted_longer}
-use Rattle.rx_live.proofs.Binding.{same_names, bound_after, none_of, some_cond, or_false, not_unnamed, placed_longer, placed_bound, sound_alike}
+use Rattle.rx_live.proofs.Binding.{same_names, bound_after, none_of, some_cond, not_unnamed, placed_longer, placed_bound, sound_alike}
 use Rattle.rx_live.proofs.Opened.{open_same, open_on, placed_open, made_placed, made_within}
 
 -- sessions that differ in the names of nodes --------------------------------------------------------
 
-pub alike_nodes : (s : Session) (t : Names) → AreOpenSame s.book s.nodes t → IsAlike s (record s { nodes = t })
+pub alike_nodes : (s : Session) (t : Names) → AreOpenSame s.untold s.book s.nodes t → IsAlike s (record s { nodes = t })
 alike_nodes s t same = record {
   book = refl;
   nodes = same;
@@ -43,22 +40,22 @@ alike_nodes s t same = record {
   unnamed = refl;
 }
 
-pub unchanged_nodes : (s : Session) (t : Names) → IsSound s → AreOpenSame s.book s.nodes t → IsPaired t → IsUnchanged s (record s { nodes = t })
+pub unchanged_nodes : (s : Session) (t : Names) → IsSound s → AreOpenSame s.untold s.book s.nodes t → IsPaired t → IsUnchanged s (record s { nodes = t })
 unchanged_nodes s t sound same paired = record {
   alike = alike_nodes s t same;
   sound = sound_alike s (record s { nodes = t }) sound (alike_nodes s t same) paired sound.hub_pairs sound.resource_pairs sound.lease_pairs;
 }
 
 -- and where room was made, too
-pub unchanged_room : (s : Session) (mid t : Names) → IsSound s → AreOpenSame s.book s.nodes mid → AreSame mid t → IsPaired t → IsUnchanged s (record s { nodes = t })
-unchanged_room s mid t sound same room paired = unchanged_nodes s t sound (open_on s.book s.nodes mid t same (open_same s.book mid t room)) paired
+pub unchanged_room : (s : Session) (mid t : Names) → IsSound s → AreOpenSame s.untold s.book s.nodes mid → AreSame mid t → IsPaired t → IsUnchanged s (record s { nodes = t })
+unchanged_room s mid t sound same room paired = unchanged_nodes s t sound (open_on s.untold s.book s.nodes mid t same (open_same s.untold s.book mid t room)) paired
 
-pub unchanged_rooms : (s : Session) (mid t r : Names) → IsSound s → AreOpenSame s.book s.nodes mid → AreSame mid t → AreSame s.resources r → IsPaired t → IsPaired r →
+pub unchanged_rooms : (s : Session) (mid t r : Names) → IsSound s → AreOpenSame s.untold s.book s.nodes mid → AreSame mid t → AreSame s.resources r → IsPaired t → IsPaired r →
     IsUnchanged s (record s { nodes = t; resources = r })
 unchanged_rooms s mid t r sound same room more paired pairs =
     let alike : IsAlike s (record s { nodes = t; resources = r }) = record {
       book = refl;
-      nodes = open_on s.book s.nodes mid t same (open_same s.book mid t room);
+      nodes = open_on s.untold s.book s.nodes mid t same (open_same s.untold s.book mid t room);
       hubs = same_names s.hubs;
       resources = more;
       leases = same_names s.leases;
@@ -69,38 +66,29 @@ unchanged_rooms s mid t r sound same room more paired pairs =
 
 -- what is bound has to be free -----------------------------------------------------------------------
 
-pub unnamed_node : (s : Session) (mid t : Names) (n : ℕ) → IsSound s → AreOpenSame s.book s.nodes mid → AreSame mid t → length s.book.history ≤ n → name_of t n ≡ None
-unnamed_node s mid t n sound same room past = room.names n ∙ placed_open s.book.history s.book s.nodes mid same sound.nodes n past
-
--- the three parts of the test on names
-pub parts_false : (a b c : Bool) → false ≡ (a || b || c) → (a ≡ false) × (b ≡ false) × (c ≡ false)
-parts_false a b c is = let one = or_false (a || b) c (sym is) in let two = or_false a b one.0 in (two.0, two.1, one.1)
-
-pub other_free : (name : Name) (spot : Spot) (old new : Names) (other : Option Name) → Binds old name spot new → option_map_or (bytes_eq name) other false ≡ false →
+other_free : (name : Name) (spot : Spot) (old new : Names) (other : Option Name) → Binds old name spot new → option_map_or (bytes_eq name) other false ≡ false →
     IfSome other (λ n. spot_of old n ≡ None) → IfSome other (λ n. spot_of new n ≡ None)
 other_free name spot old new None binds apart free = tt
 other_free name spot old new (Some n) binds apart free = binds.spots n ∙ ap (λ (b : Bool). cond b (Some spot) (spot_of old n)) apart ∙ free
 
-pub room_free : (old new : Names) (other : Option Name) → AreSame old new → IfSome other (λ n. spot_of old n ≡ None) → IfSome other (λ n. spot_of new n ≡ None)
-room_free old new None same free = tt
-room_free old new (Some n) same free = same.spots n ∙ free
+room_free : (mid t : Names) (other : Option Name) → AreSame mid t → IfSome other (λ n. spot_of mid n ≡ None) → IfSome other (λ n. spot_of t n ≡ None)
+room_free mid t None room free = tt
+room_free mid t (Some n) room free = room.spots n ∙ free
+
+apart_of : (a b c : Bool) → (a || b || c) ≡ false → b ≡ false
+apart_of a b c none = (or_parts a b (or_parts (a || b) c none).0).1
+
+-- behind a node's own name that of its connection is free still
+pub connection_free : (s : Session) (name : Name) (spot : Spot) (mid t with_node : Names) (other : Option Name) → is_open_taken s name other ≡ false → AreSame mid t → Binds t name spot with_node →
+    IfSome other (λ n. spot_of mid n ≡ None) → IfSome other (λ n. spot_of with_node n ≡ None)
+connection_free s name spot mid t with_node other taken room binds free =
+    other_free name spot t with_node other binds (apart_of (is_node s name) (option_map_or (bytes_eq name) other false) (option_map_or (is_node s) other false) taken) (room_free mid t other room free)
 
 made_number : (h k : List Event) (n : ℕ) → connection_made h k ≡ Some n → n ≡ length h + 1
 made_number h k n is = by_test (at makes_connection k (length h + 1)) is where
   by_test : (b : Bool) → cond b (Some (length h + 1)) None ≡ Some n → n ≡ length h + 1
   by_test true one = sym (same_Some (length h + 1) n one)
   by_test false one = absurd (none-some n one)
-
-pub made_unnamed : (s : Session) (book : State) (o : Opened) (name : Name) (spot : Spot) (mid t new : Names) → IsSound s → AreOpenSame s.book s.nodes mid → AreSame mid t →
-    Binds t name spot new → spot.number ≡ length s.book.history → IsOpened s.book book o → IfSome o.connected (λ k. name_of new k.number ≡ None)
-made_unnamed s book o name spot mid t new sound same room binds number opened = by_key o.connected opened.connection where
-  by_key : (c : Option Key) → option_map (λ (k : Key). k.number) c ≡ connection_made s.book.history book.history → IfSome c (λ k. name_of new k.number ≡ None)
-  by_key None is = tt
-  by_key (Some k) is =
-      let place : k.number ≡ length s.book.history + 1 = made_number s.book.history book.history k.number (sym is) in
-      let apart : (spot.number == k.number) ≡ false = ne_eqb spot.number k.number (omega (arith, number, place)) in
-      binds.names k.number ∙ ap (λ (b : Bool). cond b (Some name) (name_of t k.number)) apart
-      ∙ unnamed_node s mid t k.number sound same room (omega (arith, place))
 
 -- an opened node -------------------------------------------------------------------------------------
 
@@ -120,12 +108,12 @@ nodes_sound s asked book t sound kept paired placed accepts resources leases = r
 }
 
 -- names as some of closed nodes are forgotten, and as room is made
-module _ (s : Session) (mid t : Names) (sound : IsSound s) (same : AreOpenSame s.book s.nodes mid) (room : AreSame mid t) where
-  all_same : AreOpenSame s.book s.nodes t
-  all_same = open_on s.book s.nodes mid t same (open_same s.book mid t room)
+module _ (s : Session) (mid t : Names) (sound : IsSound s) (same : AreOpenSame s.untold s.book s.nodes mid) (room : AreSame mid t) where
+  all_same : AreOpenSame s.untold s.book s.nodes t
+  all_same = open_on s.untold s.book s.nodes mid t same (open_same s.untold s.book mid t room)
 
   placed : IsPlaced s.book.history t
-  placed = placed_open s.book.history s.book s.nodes t all_same sound.nodes
+  placed = placed_open s.untold s.book.history s.book s.nodes t all_same sound.nodes
 
   module _ (book : State) (name : Name) (spot : Spot) (with_node new : Names) (kept : IsPromised book) (paired : IsPaired new) (binds : Binds t name spot with_node)
       (number : spot.number ≡ length s.book.history) where
@@ -156,7 +144,7 @@ module _ (s : Session) (mid t : Names) (sound : IsSound s) (same : AreOpenSame s
 
 -- one with a resource --------------------------------------------------------------------------------
 
-module _ (s : Session) (mid t : Names) (sound : IsSound s) (same : AreOpenSame s.book s.nodes mid) (room : AreSame mid t)
+module _ (s : Session) (mid t : Names) (sound : IsSound s) (same : AreOpenSame s.untold s.book s.nodes mid) (room : AreSame mid t)
     (book : State) (name res : Name) (spot held : Spot) (more nodes resources : Names) (kept : IsPromised book) (pairs : IsPaired nodes) (paired : IsPaired resources)
     (binds : Binds t name spot nodes) (number : spot.number ≡ length s.book.history) (grown : AreSame s.resources more) (binds_res : Binds more res held resources)
     (number_res : held.number ≡ length s.book.history + 1) where
@@ -196,7 +184,7 @@ unnamed_used s more sound grown =
 
 -- a connection ---------------------------------------------------------------------------------------
 
-module _ (s : Session) (mid t : Names) (sound : IsSound s) (same : AreOpenSame s.book s.nodes mid) (room : AreSame mid t)
+module _ (s : Session) (mid t : Names) (sound : IsSound s) (same : AreOpenSame s.untold s.book s.nodes mid) (room : AreSame mid t)
     (book : State) (new : Names) (kept : IsPromised book) (paired : IsPaired new) (name : Option Name) (made : BindsMade t name (Some (length s.book.history)) new) where
   pub connected_bound : BindsConnection s name (record s { book = book; nodes = new })
   connected_bound = record { nodes = t; alike = alike_nodes s t (all_same s mid t sound same room); made = made; rest = refl }
@@ -213,18 +201,6 @@ module _ (s : Session) (mid t : Names) (sound : IsSound s) (same : AreOpenSame s
 
 -- what is asked --------------------------------------------------------------------------------------
 
-pub asks_open : (s : Session) (site : Site) (sort : Sort) (place : At) (kind : Kind) → place_at s site ≡ Some place → kind_of s sort ≡ Some kind →
-    open_asked s site sort ≡ Some (open_request s.book place kind)
-asks_open s site sort place kind at is =
-    ap (option_and_then (λ (p : At). option_map (open_request s.book p) (kind_of s sort))) at ∙ ap (option_map (open_request s.book place)) is
-
-pub asks_no_kind : (s : Session) (site : Site) (sort : Sort) (place : At) → place_at s site ≡ Some place → kind_of s sort ≡ None → open_asked s site sort ≡ None
-asks_no_kind s site sort place at is =
-    ap (option_and_then (λ (p : At). option_map (open_request s.book p) (kind_of s sort))) at ∙ ap (option_map (open_request s.book place)) is
-
-pub asks_no_place : (s : Session) (site : Site) (sort : Sort) → place_at s site ≡ None → open_asked s site sort ≡ None
-asks_no_place s site sort at = ap (option_and_then (λ (p : At). option_map (open_request s.book p) (kind_of s sort))) at
-
 -- outcomes -------------------------------------------------------------------------------------------
 
 pub on_err : {A E : Type 0} (result : Result A E) (P : Type 0) → P → OnErr result P
@@ -235,12 +211,3 @@ on_err (Err e) P p = p
 pub with_book : (s : Session) (book : State) (nodes resources : Names) → book ≡ s.book → IsUnchanged s (record s { nodes = nodes; resources = resources }) →
     IsUnchanged s (record s { book = book; nodes = nodes; resources = resources })
 with_book s book nodes resources same unchanged = subst (λ (b : State). IsUnchanged s (record s { book = b; nodes = nodes; resources = resources })) (sym same) unchanged
-
--- an opening as it is asked for
-pub opened_as : (s t : Session) (asked : Option Request) (call : Request) (name : Name) (here there : Option Name) (result : Result Outcome AllocError) → asked ≡ Some call → here ≡ there →
-    IfOk result (λ o. GivesNames s (Some call) (is_open_taken s name here) (BindsNode s name here) o t) →
-    IfOk result (λ o. GivesNames s asked (is_open_taken s name there) (BindsNode s name there) o t)
-opened_as s t asked call name here there (Err e) known same gives = gives
-opened_as s t asked call name here there (Ok o) known same gives =
-    subst (λ (j : Option Request). GivesNames s j (is_open_taken s name there) (BindsNode s name there) o t) (sym known)
-    (subst (λ (c : Option Name). GivesNames s (Some call) (is_open_taken s name c) (BindsNode s name c) o t) same gives)

@@ -7,7 +7,7 @@ use Rattle.std.specs.List.{Contains, list_any}
 use Rattle.std.specs.Option.{option_map_or}
 use Rattle.std.proofs.lemmas.List.{append-nil, map-append}
 use Rattle.std.proofs.lemmas.List.Elements.{All-contains}
-use Rattle.std.proofs.lemmas.Option.{none-some, same_Some}
+use Rattle.std.proofs.lemmas.Option.{none-some}
 use Rattle.std.proofs.lemmas.Slice.Eq.{bytes_eq-Decides}
 use Rattle.rx_event.specs.declared.event.Event.{Event}
 use Rattle.rx_event.specs.Events.{makes_resource, is_take_of}
@@ -171,43 +171,9 @@ dropped_taken s mid new None same none sound taken = tt
 dropped_taken s mid new (Some n) same none sound taken =
     dropped_one s new (string_bytes n) none sound (subst (λ (t : Session). TakesName t (string_bytes n) new) same taken)
 
--- one that is not told for want of memory
-pub stashed_held : (s mid : Session) (name : Name) → DropsName s name mid → (n : Name) → has_resource (record mid { unnamed = Some name }) n ≡ has_resource s n
-stashed_held s mid name drops n = by_name (bytes_eq name n) refl where
-  now : has_resource mid n ≡ is_some (spot_of mid.resources n)
-  now = or_none (is_some (spot_of mid.resources n)) _ (ap (λ (o : Option Name). option_map_or (bytes_eq n) o false) drops.gone)
-
-  by_name : (b : Bool) → bytes_eq name n ≡ b → (is_some (spot_of mid.resources n) || bytes_eq n name) ≡ has_resource s n
-  by_name true same =
-      or_true (is_some (spot_of mid.resources n)) (bytes_eq n name) (eq_sym name n same) ∙ sym (ap (has_resource s) (sym ((bytes_eq-Decides name n).0 same)) ∙ drops.was)
-  by_name false apart =
-      or_none (is_some (spot_of mid.resources n)) (bytes_eq n name) (apart_sym name n apart) ∙ sym now ∙ drops.held n ∙ ap (λ (b : Bool). cond b false (has_resource s n)) apart
-
-pub stashed_sound : (s mid : Session) (name : Name) → DropsName s name mid → IsSound mid → IsSound (record mid { unnamed = Some name })
-stashed_sound s mid name drops sound = record {
-  kept = sound.kept;
-  node_pairs = sound.node_pairs;
-  hub_pairs = sound.hub_pairs;
-  resource_pairs = sound.resource_pairs;
-  lease_pairs = sound.lease_pairs;
-  nodes = sound.nodes;
-  hubs = sound.hubs;
-  resources = sound.resources;
-  leases = sound.leases;
-  unnamed = λ n is. ap (spot_of mid.resources) (sym (same_Some name n is)) ∙ drops.free;
-}
-
-pub wrote_no_name : (s new : Session) (begun : List ℕ) → new ≡ s → WritesNoName s begun new begun
-wrote_no_name s new begun same =
-    subst (λ (t : Session). WritesNoName s begun t begun) (sym same) (record { held = λ n. refl; takes = none_taken; rest = refl; written = refl })
-
-pub wrote_stashed : (s mid : Session) (name : Name) (begun text : List ℕ) → DropsName s name mid → text ≡ begun → WritesNoName s begun (record mid { unnamed = Some name }) text
-wrote_stashed s mid name begun text drops same = record {
-  held = stashed_held s mid name drops;
-  takes = drops.takes;
-  rest = ap (λ (t : Session). record t { unnamed = Some name }) drops.rest;
-  written = same;
-}
+pub wrote_no_name : (s new : Session) (begun : List ℕ) → new ≡ s → s.book.waiting ≡ [] → WritesNoName s begun new begun
+wrote_no_name s new begun same none =
+    subst (λ (t : Session). WritesNoName s begun t begun) (sym same) (record { held = λ n. refl; takes = none_taken; all = λ told. none; rest = refl; written = refl })
 
 -- many ------------------------------------------------------------------------------------------------
 
@@ -263,6 +229,7 @@ names_ended old mid now begun before text so_far none =
         takes = takes_on so_far.releases.takes none.takes;
         rest = names_rest old mid now so_far.releases.rest none.rest;
       };
+      all = none.all;
       written = ap (λ (t : List ℕ). t ++ codes "]") none.written ∙ array_end begun (codes ",\"release\":[") (joined (map name_text all)) before so_far.written;
     }
 
@@ -270,5 +237,6 @@ pub names_none : (old now : Session) (begun text : List ℕ) → WritesNoName ol
 names_none old now begun text none = record {
   names = [];
   releases = record { leads = no_act none.held; takes = none.takes; rest = none.rest };
+  all = none.all;
   written = none.written ∙ sym (append-nil begun);
 }

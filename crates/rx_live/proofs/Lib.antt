@@ -5,8 +5,12 @@ pub mod Opened
 pub mod Tellings
 pub mod Drops
 pub mod Bound
+pub mod Forgotten
+pub mod Renewed
 pub mod Listings
 pub mod Acts
+pub mod Noted
+pub mod Dumped
 pub mod Ended
 pub mod Sent
 pub mod Ties

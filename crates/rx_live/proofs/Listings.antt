@@ -11,7 +11,7 @@ use Rattle.std.proofs.lemmas.Slice.Eq.{bytes_eq-Decides}
 use Rattle.rx_scenario.specs.Scenario.{Name}
 use Rattle.rx_line.specs.declared.names.Spot.{Spot}
 use Rattle.rx_line.specs.Names.{spot_of, name_of}
-use Rattle.rx_line.specs.Pieces.{name_text, joined, member_text}
+use Rattle.rx_line.specs.Pieces.{name_text, joined}
 use Rattle.rx_live.specs.Session.{Session, IsSound, is_kept, has_resource}
 use Rattle.rx_live.specs.Promise.{Act, released, with_held, Leads, no_act, releases}
 use Rattle.rx_live.specs.Listed.{names_below, all_names, is_nil, led_text, open_text}
@@ -53,17 +53,6 @@ pub first_step : (s : Session) (before : List Name) (k : ℕ) (first new : Bool)
     new ≡ is_nil (before ++ names_below s (k + 1))
 first_step s before k first new is next =
     next ∙ ap (λ (b : Bool). b && not (is_some (name_of s.resources k))) is ∙ sym (nil_more (before ++ names_below s k) (name_of s.resources k)) ∙ ap is_nil (sym (below_more s before k))
-
--- the array as a member
-pub member_none : (names : List Name) (begun text : List ℕ) → true ≡ is_nil names → text ≡ begun ++ open_text names → text ≡ begun ++ member_text (codes "release") (map name_text names)
-member_none [] begun text nil written = written
-member_none (name ∷ names) begun text nil written = absurd (cc)
-
-pub member_some : (names : List Name) (begun text : List ℕ) → false ≡ is_nil names → text ≡ begun ++ open_text names →
-    text ++ codes "]" ≡ begun ++ member_text (codes "release") (map name_text names)
-member_some [] begun text nil written = absurd (cc)
-member_some (name ∷ names) begun text nil written =
-    ap (λ (t : List ℕ). t ++ codes "]") written ∙ append_assoc begun (codes ",\"release\":[" ++ joined (map name_text (name ∷ names))) (codes "]")
 
 -- what is held ---------------------------------------------------------------------------------------
 

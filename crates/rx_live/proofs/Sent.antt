@@ -1,31 +1,29 @@
 -- What a line's answer says of the session.
-use Rattle.std.proofs.Common.{◌≡◌, ℕ, List, [], ◌++◌, codes, length, map, Result, Ok, Err, refl, ap, ◌∙◌, subst, String, Global, string_bytes}
-use Rattle.std.specs.Prelude.{IfOk}
+use Rattle.std.proofs.Common.{◌≡◌, ℕ, false, List, [], ◌++◌, codes, length, map, Option, Some, None, Result, Ok, Err, refl, ap, ◌∙◌, subst, String, Global, string_bytes}
+use Rattle.std.specs.Prelude.{IfOk, IfSome, is_some}
+use Rattle.std.proofs.Math.Bool.{◌||◌}
+use Rattle.std.specs.Str.{bytes_eq}
+use Rattle.std.specs.Option.{option_map_or}
 use Rattle.std.specs.declared.alloc.AllocError.{AllocError}
-use Rattle.rx_scenario.specs.Scenario.{Command}
+use Rattle.rx_scenario.specs.Scenario.{Name, Command}
+use Rattle.rx_line.specs.Names.{spot_of}
 use Rattle.rx_line.specs.Orders.{command, list, dump, IsOrderOf, IsFaulty}
 use Rattle.rx_line.specs.Pieces.{ok_text, refused_text, faulty_text, name_text, member_text}
 use Rattle.rx_line.specs.declared.outcome.Cause.{Cause}
 use Rattle.rx_line.specs.declared.outcome.Outcome.TheVariants.{Accepted, Refused}
-use Rattle.rx_live.specs.Session.{Session, IsSound}
+use Rattle.rx_live.specs.Session.{Session, IsSound, has_resource}
 use Rattle.rx_live.specs.Promise.{released, no_act}
-use Rattle.rx_live.specs.Answers.{told_text, WritesNotes, WritesNames}
+use Rattle.rx_live.specs.Answers.{told_text, WritesNotes, late_text}
 use Rattle.rx_live.specs.Listed.{all_names}
+use Rattle.rx_live.specs.Given.{IsAlike}
+use Rattle.rx_live.specs.Renewals.{Renews, as_it_was, renewed, IsFullByOpen}
+use Rattle.rx_live.specs.Dumps.{dump_text}
 use Rattle.rx_live.specs.Lines.{Runs, handed_by, TellsAll, CarriesOut, refuses, carries, is_faulty, is_refused, is_carried, is_listed, is_dumped, Sends, Ends, IsClosed}
+use Rattle.rx_live.specs.Taken.{Answered}
+use Rattle.rx_live.proofs.Drops.{leads_same}
 use Rattle.rx_live.proofs.Binding.{alike_same}
 use Rattle.rx_live.proofs.Acts.{alike_held, carried_leads, refused_alike}
 use Rattle.rx_live.proofs.Listings.{leads_all}
-
--- all that is told of a command
-pub told_all : (old mid new : Session) (begun after last text : List ℕ) → WritesNotes old begun mid after → WritesNames mid after new last → text ≡ last ++ codes "}" → TellsAll old begun new text
-told_all old mid new begun after last text notes names closed = record {
-  mid = mid;
-  told = notes.told;
-  tells = notes.tells;
-  names = names.names;
-  releases = names.releases;
-  written = closed ∙ ap (λ (t : List ℕ). t ++ codes "}") (names.written ∙ ap (λ (t : List ℕ). t ++ member_text (codes "release") (map name_text names.names)) notes.written);
-}
 
 -- a command that is carried out
 pub carried_out : (old done new : Session) (c : Command) (front text : List ℕ) → Runs old c Accepted done → front ≡ ok_text (length old.book.history) → TellsAll done front new text →
@@ -35,55 +33,65 @@ carried_out old done new c front text runs is tells =
     carries (handed_by c ++ map released all.names) (record { done = done; runs = runs; left = new; tells = all; alike = alike_same new; acts_are = refl })
 
 -- the answers of a line
-pub sends_faulty : (old : Session) (line told text : List ℕ) → IsFaulty line → text ≡ faulty_text told → Sends old line text old
-sends_faulty old line told text faulty is = record { acts = []; answer = is_faulty told faulty is; leads = no_act (λ n. refl) }
-
-pub sends_listed : (old : Session) (line text : List ℕ) → IsOrderOf line list → Sends old line text old
-sends_listed old line text order = record { acts = []; answer = is_listed order; leads = no_act (λ n. refl) }
-
-pub sends_dumped : (old : Session) (line text : List ℕ) → IsOrderOf line dump → Sends old line text old
-sends_dumped old line text order = record { acts = []; answer = is_dumped order; leads = no_act (λ n. refl) }
-
-sends_one : (old new : Session) (line text : List ℕ) (c : Command) → IsOrderOf line (command c) → CarriesOut old c text new → Sends old line text new
-sends_one old new line text c order (refuses why runs is) =
-    record { acts = []; answer = is_refused c why order runs is; leads = no_act (alike_held old new (refused_alike old new c why runs)) }
-sends_one old new line text c order (carries acts carried) =
+answered_one : (old new : Session) (line text : List ℕ) (c : Command) → IsOrderOf line (command c) → CarriesOut old c text new → Answered old line text new
+answered_one old new line text c order (refuses why runs alive is) =
+    record { acts = []; answer = is_refused c why order runs alive is; leads = no_act (alike_held old new (refused_alike old new c why runs)) }
+answered_one old new line text c order (carries acts carried) =
     record { acts = acts; answer = is_carried c order carried; leads = carried_leads old new c text acts carried }
 
-pub sends_command : (old new : Session) (line : List ℕ) (c : Command) (result : Result (String Global) AllocError) → IsOrderOf line (command c) →
-    IfOk result (λ s. CarriesOut old c (string_bytes s) new) → IfOk result (λ s. Sends old line (string_bytes s) new)
-sends_command old new line c (Err e) order carried = carried
-sends_command old new line c (Ok s) order carried = sends_one old new line (string_bytes s) c order carried
+-- of a command, where it is answered
+pub answered_command : (old new : Session) (line : List ℕ) (c : Command) (result : Result (Option (String Global)) AllocError) → IsOrderOf line (command c) →
+    IfOk result (λ a. IfSome a (λ s. CarriesOut old c (string_bytes s) new)) → IfOk result (λ a. IfSome a (λ s. Answered old line (string_bytes s) new))
+answered_command old new line c (Err e) order carried = carried
+answered_command old new line c (Ok None) order carried = carried
+answered_command old new line c (Ok (Some s)) order carried = answered_one old new line (string_bytes s) c order carried
+
+-- of the others
+pub answered_listed : (old : Session) (line text : List ℕ) → IsOrderOf line list → Answered old line text old
+answered_listed old line text order = record { acts = []; answer = is_listed order; leads = no_act (λ n. refl) }
+
+pub answered_dumped : (old : Session) (line text : List ℕ) → IsOrderOf line dump → text ≡ dump_text old → Answered old line text old
+answered_dumped old line text order is = record { acts = []; answer = is_dumped order is; leads = no_act (λ n. refl) }
+
+pub answered_faulty : (old : Session) (line told text : List ℕ) → IsFaulty line → text ≡ faulty_text told → Answered old line text old
+answered_faulty old line told text faulty is = record { acts = []; answer = is_faulty told faulty is; leads = no_act (λ n. refl) }
+
+-- as the line came, or behind a checkpoint
+pub sent_first : (old new : Session) (line text : List ℕ) → Answered old line text new → IsSound new → Sends old line text new
+sent_first old new line text answered sound =
+    record { aged = old; ages = as_it_was; acts = answered.acts; answer = answered.answer; leads = answered.leads; sound = sound }
+
+renewed_held : (old mid aged : Session) → IsAlike old mid → Renews mid aged → (n : Name) → has_resource aged n ≡ has_resource old n
+renewed_held old mid aged alike renews n =
+    (λ i. is_some (spot_of (ap (λ (s : Session). s.resources) renews.rest i) n) || option_map_or (bytes_eq n) (ap (λ (s : Session). s.unnamed) renews.rest i) false)
+    ∙ alike_held old mid alike n
+
+pub sent_again : (old mid aged new : Session) (line text : List ℕ) → IsAlike old mid → Renews mid aged → Answered aged line text new → IsSound new → Sends old line text new
+sent_again old mid aged new line text alike renews answered sound =
+    let same : (n : Name) → has_resource aged n ≡ has_resource old n = renewed_held old mid aged alike renews in
+    record {
+      aged = aged;
+      ages = renewed mid alike renews;
+      acts = answered.acts;
+      answer = answered.answer;
+      leads = leads_same (has_resource old) (has_resource aged) (has_resource new) answered.acts same answered.leads;
+      sound = sound;
+    }
 
 -- the last line
 pub ended : (old left new : Session) (front after text : List ℕ) → IsSound old → front ≡ codes "{\"closed\":true" ++ member_text (codes "release") (map name_text (all_names old)) →
-    WritesNotes old front left after → text ≡ after ++ codes "}" → IsClosed new → Ends old text new
+    WritesNotes old front left after → text ≡ after ++ late_text (is_some left.untold) ++ codes "}" → IsClosed new → Ends old text new
 ended old left new front after text sound is notes closing closed = record {
   names = all_names old;
   leads = leads_all old sound;
   told = notes.told;
   left = left;
   tells = notes.tells;
-  written = closing ∙ ap (λ (t : List ℕ). t ++ codes "}") (notes.written ∙ ap (λ (t : List ℕ). t ++ member_text (codes "notes") (map told_text notes.told)) is);
+  all_notes = notes.all;
+  written = closing ∙ ap (λ (t : List ℕ). t ++ late_text (is_some left.untold) ++ codes "}") (notes.written ∙ ap (λ (t : List ℕ). t ++ member_text (codes "notes") (map told_text notes.told)) is);
   closed = closed;
 }
 
 -- one that is refused
-pub refused_out : (old new : Session) (c : Command) (why : Cause) (result : Result (String Global) AllocError) → Runs old c (Refused why) new →
-    IfOk result (λ s. string_bytes s ≡ refused_text why) → IfOk result (λ s. CarriesOut old c (string_bytes s) new)
-refused_out old new c why (Err e) runs is = is
-refused_out old new c why (Ok s) runs is = refuses why runs is
-
--- a line, by what it asks for
-pub listed_line : (old : Session) (line : List ℕ) (result : Result (String Global) AllocError) → IsOrderOf line list → IfOk result (λ s. Sends old line (string_bytes s) old)
-listed_line old line (Err e) order = tt
-listed_line old line (Ok s) order = sends_listed old line (string_bytes s) order
-
-pub dumped_line : (old : Session) (line : List ℕ) (result : Result (String Global) AllocError) → IsOrderOf line dump → IfOk result (λ s. Sends old line (string_bytes s) old)
-dumped_line old line (Err e) order = tt
-dumped_line old line (Ok s) order = sends_dumped old line (string_bytes s) order
-
-pub faulty_line : (old : Session) (line told : List ℕ) (result : Result (String Global) AllocError) → IsFaulty line → IfOk result (λ s. string_bytes s ≡ faulty_text told) →
-    IfOk result (λ s. Sends old line (string_bytes s) old)
-faulty_line old line told (Err e) faulty is = is
-faulty_line old line told (Ok s) faulty is = sends_faulty old line told (string_bytes s) faulty is
+pub refused_out : (old new : Session) (c : Command) (why : Cause) (text : List ℕ) → Runs old c (Refused why) new → IsFullByOpen old why → text ≡ refused_text why → CarriesOut old c text new
+refused_out old new c why text runs alive is = refuses why runs alive is

@@ -3,7 +3,6 @@ use Rattle.std.proofs.Common.{◌≡◌, ℕ, ◌≤◌, true, false, Option, So
 use Rattle.std.specs.Prelude.{IfOk, IfErr, OnOk, OnErr, is_some}
 use Rattle.std.specs.declared.alloc.AllocError.{AllocError}
 use Rattle.rx_event.specs.declared.refusal.Refusal.{Refusal}
-use Rattle.rx_event.specs.declared.refusal.Refusal.TheVariants.{NoMemory}
 use Rattle.std.proofs.lemmas.Option.{none-some}
 use Rattle.rx_event.specs.declared.event.Event.{Event}
 use Rattle.rx_event.specs.Resources.{is_out}
@@ -13,9 +12,7 @@ use Rattle.rx_book.specs.State.{State, IsPromised}
 use Rattle.rx_book.specs.Requests.{Request}
 use Rattle.rx_book.specs.Answers.{Accepts, IsCause, IsCauseOrWant}
 use Rattle.rx_book.proofs.Laws.Going.{step_longer}
-use Rattle.rx_line.specs.declared.outcome.Cause.TheVariants.{NoName}
 use Rattle.rx_line.specs.declared.outcome.Outcome.{Outcome}
-use Rattle.rx_line.specs.declared.outcome.Outcome.TheVariants.{Refused}
 use Rattle.rx_live.specs.Session.{Session, IsSound, is_kept}
 use Rattle.rx_live.specs.Carried.{outcome_of, Goes}
 use Rattle.rx_live.proofs.Remaining.{keeps_resources, keeps_leases, kept_same, out_same}
@@ -51,10 +48,6 @@ goes_on s asked book (Err why) outcome sound kept resources leases accepts refus
     subst (λ (o : Outcome). Goes s (Some asked) o (record s { book = book })) (sym is)
     (record { carries = (refuses, stays); sound = subst (λ (t : Session). IsSound t) (sym stays) sound })
 
-pub stays_refused : {A : Type 0} (s : Session) (book : State) (answer : Result A Refusal) (why : Refusal) → OnErr answer (book ≡ s.book) → answer ≡ Err why → record s { book = book } ≡ s
-stays_refused s book (Err w) why same is = ap (λ (b : State). record s { book = b }) same
-stays_refused s book (Ok a) why same is = cc
-
 -- a call that takes no memory is refused for its first cause
 pub of_cause : {A : Type 0} (old : State) (asked : Request) (answer : Result A Refusal) → IfErr answer (IsCause old asked) → IfErr answer (IsCauseOrWant old asked)
 of_cause old asked (Ok a) refuses = refuses
@@ -67,15 +60,6 @@ pub call_ok : {A K : Type 0} (s : Session) (f : K → Request) (k : K) (key : Op
 call_ok s f k key found book answer (Err e) sound kept resources leases accepts refuses same told = told
 call_ok s f k key found book answer (Ok o) sound kept resources leases accepts refuses same told =
     subst (λ (j : Option _). Goes s (option_map f j) o (record s { book = book })) (sym found) (goes_on s (f k) book answer o sound kept resources leases accepts refuses same told)
-
-pub call_err : {A : Type 0} (s : Session) (book : State) (answer : Result A Refusal) (result : Result Outcome AllocError) → OnErr answer (book ≡ s.book) →
-    OnErr result (answer ≡ Err NoMemory) → OnErr result (record s { book = book } ≡ s)
-call_err s book answer (Ok o) same told = told
-call_err s book answer (Err e) same told = stays_refused s book answer NoMemory same told
-
--- and where it is not
-pub call_none : {K : Type 0} (s : Session) (f : K → Request) (key : Option K) → key ≡ None → IsSound s → Goes s (option_map f key) (Refused NoName) s
-call_none s f key none sound = subst (λ (j : Option _). Goes s (option_map f j) (Refused NoName) s) (sym none) (record { carries = (refl, refl); sound = sound })
 
 -- before the first line
 kept_none : (r : ℕ) → is_kept [] r ≡ false

@@ -1,11 +1,11 @@
 -- Notes that are told one after another.
-use Rattle.std.proofs.Common.{◌≡◌, ℕ, ◌+◌, ◌<◌, suc, List, [], ◌∷◌, ◌++◌, codes, length, map, drop, Option, Some, None, refl, sym, ap, ◌∙◌, arith, append_assoc, add-one, drop-cons}
-use Rattle.std.specs.Prelude.{IfSome, is_some, slice_get, if◌then◌else◌}
+use Rattle.std.proofs.Common.{◌≡◌, ℕ, ◌+◌, ◌<◌, ◌≤◌, suc, List, [], ◌∷◌, ◌++◌, codes, length, map, drop, Option, Some, None, refl, sym, ap, ◌∙◌, append_assoc, add-one, drop-cons, inl, inr, ◌⊎◌}
+use Rattle.std.specs.Prelude.{IfSome, IfNone, is_some, slice_get, get_or, if◌then◌else◌}
 use Rattle.std.specs.List.{flat_map}
 use Rattle.std.specs.Option.{option_to_list}
 use Rattle.std.proofs.lemmas.Grind.{flat_map-append}
-use Rattle.std.proofs.lemmas.List.{append-nil, map-append}
-use Rattle.std.proofs.lemmas.Option.{slice_get_within, get_or_from_slice_get}
+use Rattle.std.proofs.lemmas.List.{append-nil, map-append, drop_all}
+use Rattle.std.proofs.lemmas.Option.{slice_get_within, slice_get_cases, none-some, get_or_from_slice_get}
 use Rattle.rx_event.specs.declared.mail.Mail.{Mail}
 use Rattle.rx_event.specs.Notes.{notes}
 use Rattle.rx_book.specs.State.{State}
@@ -33,6 +33,19 @@ next_told s (Some m) book untold none gone next given =
       next = old ∙ dropped_one all s.book.given m (sym next) ∙ ap (λ (ms : List Mail). m ∷ ms) (sym new);
       rest = λ i. record s { book = record s.book { base = (given i).base; history = (given i).history; limit = (given i).limit; keys = (given i).keys; res_keys = (given i).res_keys; lease_keys = (given i).lease_keys; held = (given i).held; waiting = (given i).waiting; given = book.given }; untold = untold };
     }
+
+past_all : (xs : List Mail) (k : ℕ) → slice_get xs k ≡ None → length xs ≤ k
+past_all xs k none = by_case (slice_get_cases xs k).1 where
+  by_case : ((x : Mail) × (k < length xs) × (slice_get xs k ≡ Some x) × (get_or xs k x ≡ x)) ⊎ ((length xs ≤ k) × (slice_get xs k ≡ None)) → length xs ≤ k
+  by_case (inl there) = absurd (none-some there.0 (sym none ∙ there.2))
+  by_case (inr past) = past.0
+
+-- none is left
+pub none_told : (s : Session) (result : Option Mail) → s.untold ≡ None → result ≡ slice_get (notes s.book.history) s.book.given → IfNone result (to_tell s ≡ [])
+none_told s (Some m) none next = tt
+none_told s None none next =
+    let all : List Mail = notes s.book.history in
+    (λ i. option_to_list (none i) ++ drop s.book.given all) ∙ drop_all s.book.given all (past_all all s.book.given (sym next))
 
 -- nothing but what is told changes
 telling_on : (a b c : Session) → IsTelling a b → IsTelling b c → IsTelling a c
@@ -104,16 +117,6 @@ notes_ended old mid now begun before text so_far none =
         left = so_far.tells.left ∙ ap (λ (ms : List Mail). so_far.tells.mails ++ ms) (sym none.left);
         rest = telling_on old mid now so_far.tells.rest none.rest;
       };
+      all = none.all;
       written = ap (λ (t : List ℕ). t ++ codes "]") none.written ∙ array_end begun (codes ",\"notes\":[") (joined (map told_text all)) before so_far.written;
     }
-
-pub notes_none : (old now : Session) (begun text : List ℕ) → WritesNoNote old begun now text → WritesNotes old begun now text
-notes_none old now begun text none = record {
-  told = [];
-  tells = record { mails = []; are = refl; left = sym none.left; rest = none.rest };
-  written = none.written ∙ sym (append-nil begun);
-}
-
--- fewer are left
-pub fewer_notes : (old now : Session) (begun lead text : List ℕ) → WritesNote old begun lead now text → length (to_tell now) < length (to_tell old)
-fewer_notes old now begun lead text one = let l : length (to_tell old) ≡ length (one.mail ∷ to_tell now) = ap (λ (ms : List Mail). length ms) one.tells.next in omega (arith, l)

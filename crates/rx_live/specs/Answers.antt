@@ -1,5 +1,5 @@
 -- What an answer tells beside its outcome: notes, and names to be released.
-use Rattle.std.specs.Prelude.{◌≡◌, ℕ, List, [], ◌++◌, codes, map, drop}
+use Rattle.std.specs.Prelude.{◌≡◌, ℕ, ◌||◌, Bool, true, false, None, List, [], ◌++◌, codes, map, drop, is_some}
 use Rattle.std.specs.Option.{option_map_or, option_to_list}
 use Rattle.rx_note.specs.declared.note.Note.{Note}
 use Rattle.rx_event.specs.declared.mail.Mail.{Mail}
@@ -46,10 +46,15 @@ pub record TellsNotes (old : Session) (told : List Told) (new : Session) : Type 
   pub left : to_tell old ≡ mails ++ to_tell new
   pub rest : IsTelling old new
 
+-- all was told, but for a note that found no memory and those behind it
+abbrev pub IsTold : Session → Type 0
+IsTold s = s.untold ≡ None → to_tell s ≡ []
+
 -- behind what was written stands the member for the notes that were told
 pub record WritesNotes (old : Session) (begun : List ℕ) (new : Session) (text : List ℕ) : Type 0 where
   pub told : List Told
   pub tells : TellsNotes old told new
+  pub all : IsTold new
   pub written : text ≡ begun ++ member_text (codes "notes") (map told_text told)
 
 -- names ----------------------------------------------------------------------------------------------
@@ -65,8 +70,23 @@ pub record ReleasesNames (old : Session) (names : List Name) (new : Session) : T
   pub takes : Takes old.book new.book
   pub rest : new ≡ record old { book = new.book; resources = new.resources; unnamed = new.unnamed }
 
+-- nothing waits, but where a name found no memory
+abbrev pub IsReleased : Session → Type 0
+IsReleased s = s.unnamed ≡ None → s.book.waiting ≡ []
+
 -- behind what was written stands the member for them
 pub record WritesNames (old : Session) (begun : List ℕ) (new : Session) (text : List ℕ) : Type 0 where
   pub names : List Name
   pub releases : ReleasesNames old names new
+  pub all : IsReleased new
   pub written : text ≡ begun ++ member_text (codes "release") (map name_text names)
+
+-- what is put off --------------------------------------------------------------------------------------
+
+abbrev pub is_late : Session → Bool
+is_late s = is_some s.untold || is_some s.unnamed
+
+-- the member that says so
+abbrev pub late_text : (late : Bool) → List ℕ
+late_text true = codes ",\"late\":true"
+late_text false = []

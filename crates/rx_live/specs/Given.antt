@@ -1,6 +1,7 @@
 -- What a command that gives names does: nothing, where a name that it uses is not bound or one that it gives is; else what the book
 -- answers, and where that accepts it the names are bound.
-use Rattle.std.specs.Prelude.{◌≡◌, ℕ, ◌⊎◌, Bool, true, false, Option, Some, None, length}
+use Rattle.std.specs.Prelude.{◌≡◌, ℕ, ◌⊎◌, Bool, true, false, Option, Some, None, length, is_some}
+use Rattle.rx_event.specs.declared.mail.Mail.{Mail}
 use Rattle.rx_event.specs.Calls.{Holding}
 use Rattle.rx_scenario.specs.Scenario.{Name}
 use Rattle.rx_book.specs.declared.key.Key.{Key}
@@ -15,8 +16,10 @@ use Rattle.rx_line.specs.declared.outcome.Outcome.{Outcome}
 use Rattle.rx_line.specs.declared.outcome.Outcome.TheVariants.{Accepted, Refused}
 use Rattle.rx_live.specs.Session.{Session, node_in, IsSound}
 
--- the same nodes have names; what names of closed nodes are kept is not told
-pub record AreOpenSame (book : State) (old new : Names) : Type 0 where
+-- the same nodes have names; what names of closed nodes are kept is not told, but for that none is forgotten while something is still to
+-- be told
+pub record AreOpenSame (untold : Option Mail) (book : State) (old new : Names) : Type 0 where
+  pub kept : is_some untold ≡ true → AreSame old new
   pub nodes : (name : Name) → node_in book new name ≡ node_in book old name
   pub spots : (name : Name) → (spot_of new name ≡ spot_of old name) ⊎ (spot_of new name ≡ None)
   pub names : (n : ℕ) → (name_of new n ≡ name_of old n) ⊎ (name_of new n ≡ None)
@@ -24,7 +27,7 @@ pub record AreOpenSame (book : State) (old new : Names) : Type 0 where
 -- the same is bound
 pub record IsAlike (old new : Session) : Type 0 where
   pub book : new.book ≡ old.book
-  pub nodes : AreOpenSame old.book old.nodes new.nodes
+  pub nodes : AreOpenSame old.untold old.book old.nodes new.nodes
   pub hubs : AreSame old.hubs new.hubs
   pub resources : AreSame old.resources new.resources
   pub leases : AreSame old.leases new.leases

@@ -5,7 +5,11 @@ pub mod Openings
 pub mod Promise
 pub mod Answers
 pub mod Steps
+pub mod Renewals
 pub mod Listed
+pub mod Dumps
 pub mod Lines
+pub mod Taken
 pub mod Sessions
+pub mod Live
 pub mod Room

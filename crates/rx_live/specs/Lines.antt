@@ -1,7 +1,7 @@
 -- What a line is answered, and what the last line says.
 use Rattle.std.specs.Prelude.{◌≡◌, ℕ, false, List, [], ◌∷◌, ◌++◌, codes, map, length, Some, None, is_some, option_map}
 use Rattle.std.specs.Option.{option_map_or}
-use Rattle.rx_scenario.specs.Scenario.{Name, Command, using, open_node, hold, apply, remove, lease, give_back, next, end, abort, decline, fail, dispose, make_hub, connect, disconnect, drain}
+use Rattle.rx_scenario.specs.Scenario.{Name, Command, using, open_node, hold, apply, remove, lease, give_back, next, end, abort, decline, fail, dispose, make_hub, connect, disconnect, drain, checkpoint}
 use Rattle.rx_book.specs.Requests.{apply_request, remove_request, lease_request, give_back_request, next_request, end_request, abort_request, decline_request, fail_request, dispose_request, hub_request, connect_request, disconnect_request}
 use Rattle.rx_line.specs.Orders.{command, list, dump, IsOrderOf, IsFaulty}
 use Rattle.rx_line.specs.Names.{AreNone}
@@ -9,12 +9,14 @@ use Rattle.rx_line.specs.Pieces.{ok_text, refused_text, faulty_text, name_text, 
 use Rattle.rx_line.specs.declared.outcome.Cause.{Cause}
 use Rattle.rx_line.specs.declared.outcome.Outcome.{Outcome}
 use Rattle.rx_line.specs.declared.outcome.Outcome.TheVariants.{Accepted, Refused}
-use Rattle.rx_live.specs.Session.{Session, node_of, resource_of, lease_of, hub_of, has_resource}
+use Rattle.rx_live.specs.Session.{Session, node_of, resource_of, lease_of, hub_of, has_resource, IsSound}
 use Rattle.rx_live.specs.Carried.{Goes}
 use Rattle.rx_live.specs.Given.{IsAlike, GivesNames, BindsResource, BindsLease, BindsHub, FreesLease, hold_asked}
 use Rattle.rx_live.specs.Openings.{open_asked, using_asked, connection_of, is_node, is_open_taken, is_using_taken, BindsNode, BindsUsing, BindsConnection}
+use Rattle.rx_live.specs.Renewals.{Renewing, IsFullByOpen, IsAged}
 use Rattle.rx_live.specs.Promise.{Act, handed_in, released, Leads}
-use Rattle.rx_live.specs.Answers.{Told, told_text, TellsNotes, ReleasesNames}
+use Rattle.rx_live.specs.Dumps.{dump_text}
+use Rattle.rx_live.specs.Answers.{Told, told_text, TellsNotes, IsTold, ReleasesNames, IsReleased, is_late, late_text}
 
 -- a command -------------------------------------------------------------------------------------------
 
@@ -39,6 +41,7 @@ Runs old (connect hub name) o new = GivesNames old (option_map connect_request (
 Runs old (disconnect hub) o new = Goes old (option_map (λ g. disconnect_request g) (hub_of old hub)) o new
 -- nothing waits between two lines
 Runs old drain o new = (o ≡ Accepted) × (new ≡ old)
+Runs old checkpoint o new = Renewing old o new
 
 -- what it hands in where it is carried out
 abbrev pub handed_by : Command → List Act
@@ -48,14 +51,18 @@ handed_by _ = []
 
 -- its answer ------------------------------------------------------------------------------------------
 
--- behind what was written, all notes and names for which there was memory
+-- behind what was written, all notes and names; where memory was refused for one, the rest is put off, and the answer says so
 pub record TellsAll (old : Session) (begun : List ℕ) (new : Session) (text : List ℕ) : Type 0 where
   pub mid : Session
   pub told : List Told
   pub tells : TellsNotes old told mid
+  pub all_notes : IsTold mid
+  pub sound : IsSound mid
   pub names : List Name
   pub releases : ReleasesNames mid names new
-  pub written : text ≡ begun ++ member_text (codes "notes") (map told_text told) ++ member_text (codes "release") (map name_text names) ++ codes "}"
+  pub all_names : IsReleased new
+  pub written : text ≡
+      begun ++ member_text (codes "notes") (map told_text told) ++ member_text (codes "release") (map name_text names) ++ late_text (is_late new) ++ codes "}"
 
 -- a command that was carried out, what was told, and the names that it hands in and that are released
 pub record IsCarried (old : Session) (c : Command) (text : List ℕ) (acts : List Act) (new : Session) : Type 0 where
@@ -68,22 +75,26 @@ pub record IsCarried (old : Session) (c : Command) (text : List ℕ) (acts : Lis
 
 -- what a command comes to: it is refused, or carried out
 pub data CarriesOut (old : Session) (c : Command) (text : List ℕ) (new : Session) : Type 0 where
-  refuses : (why : Cause) → Runs old c (Refused why) new → text ≡ refused_text why → CarriesOut old c text new
+  refuses : (why : Cause) → Runs old c (Refused why) new → IsFullByOpen old why → text ≡ refused_text why → CarriesOut old c text new
   carries : (acts : List Act) → IsCarried old c text acts new → CarriesOut old c text new
 
 -- a line, with what its answer hands in and releases
 pub data IsAnswer (old : Session) (line text : List ℕ) : List Act → Session → Type 0 where
   is_faulty : (told : List ℕ) → IsFaulty line → text ≡ faulty_text told → IsAnswer old line text [] old
-  is_refused : {new : Session} (c : Command) (why : Cause) → IsOrderOf line (command c) → Runs old c (Refused why) new → text ≡ refused_text why → IsAnswer old line text [] new
+  is_refused : {new : Session} (c : Command) (why : Cause) → IsOrderOf line (command c) → Runs old c (Refused why) new → IsFullByOpen old why → text ≡ refused_text why → IsAnswer old line text [] new
   is_carried : {new : Session} {acts : List Act} (c : Command) → IsOrderOf line (command c) → IsCarried old c text acts new → IsAnswer old line text acts new
   is_listed : IsOrderOf line list → IsAnswer old line text [] old
-  is_dumped : IsOrderOf line dump → IsAnswer old line text [] old
+  is_dumped : IsOrderOf line dump → text ≡ dump_text old → IsAnswer old line text [] old
 
--- a line's answer, and the names that it hands in and releases
+-- a line's answer, and the names that it hands in and releases; a line that finds the history full by its age is taken again behind
+-- a checkpoint
 pub record Sends (old : Session) (line text : List ℕ) (new : Session) : Type 0 where
+  pub aged : Session
+  pub ages : IsAged old aged
   pub acts : List Act
-  pub answer : IsAnswer old line text acts new
+  pub answer : IsAnswer aged line text acts new
   pub leads : Leads (has_resource old) acts (has_resource new)
+  pub sound : IsSound new
 
 -- the last line ---------------------------------------------------------------------------------------
 
@@ -106,7 +117,10 @@ pub record Ends (old : Session) (text : List ℕ) (new : Session) : Type 0 where
   pub told : List Told
   pub left : Session
   pub tells : TellsNotes old told left
-  pub written : text ≡ codes "{\"closed\":true" ++ member_text (codes "release") (map name_text names) ++ member_text (codes "notes") (map told_text told) ++ codes "}"
+  pub all_notes : IsTold left
+  pub written : text ≡
+      codes "{\"closed\":true" ++ member_text (codes "release") (map name_text names) ++ member_text (codes "notes") (map told_text told) ++ late_text (is_some left.untold)
+      ++ codes "}"
   pub closed : IsClosed new
 
 -- sessions --------------------------------------------------------------------------------------------

@@ -1,5 +1,5 @@
 -- What a command asks that opens a node or connects a hub, and which names it gives.
-use Rattle.std.specs.Prelude.{◌≡◌, ℕ, ◌+◌, ◌||◌, Bool, false, true, Option, Some, None, length, is_some, option_map, option_and_then}
+use Rattle.std.specs.Prelude.{◌≡◌, ℕ, ◌+◌, ◌||◌, Bool, false, true, Option, Some, None, length, option_map, option_and_then}
 use Rattle.std.specs.Str.{bytes_eq}
 use Rattle.std.specs.Option.{option_map_or}
 use Rattle.rx_event.specs.declared.event.Kind.{Kind}
@@ -12,7 +12,7 @@ use Rattle.rx_book.specs.State.{State}
 use Rattle.rx_book.specs.Requests.{Request, open_request, place_of, is_known_place}
 use Rattle.rx_book.specs.Answers.{connection_made}
 use Rattle.rx_line.specs.declared.names.Names.{Names}
-use Rattle.rx_live.specs.Session.{Session, node_of, hub_of, has_resource}
+use Rattle.rx_live.specs.Session.{Session, is_node_in, node_of, hub_of, has_resource}
 use Rattle.rx_live.specs.Given.{IsAlike, NamesOne}
 
 -- the place that a site stands for
@@ -55,7 +55,7 @@ using_asked s site = option_map (using_at s.book) (place_at s site)
 -- which names are taken --------------------------------------------------------------------------------
 
 abbrev pub is_node : Session → Name → Bool
-is_node s name = is_some (node_of s name)
+is_node s name = is_node_in s.untold s.book s.nodes name
 
 abbrev pub is_open_taken : Session → Name → Option Name → Bool
 is_open_taken s name connection = is_node s name || option_map_or (bytes_eq name) connection false || option_map_or (is_node s) connection false

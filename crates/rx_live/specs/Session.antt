@@ -51,6 +51,10 @@ if_open book k = if has_key book.keys k then Some k else None
 unfoldable pub node_in : State → Names → Name → Option Key
 node_in book nodes name = option_and_then (λ spot. if_open book (key_at spot)) (spot_of nodes name)
 
+-- a name is a node's as long as that is open, and as long as something is still to be told, which may go to it
+abbrev pub is_node_in : (untold : Option Mail) → State → Names → Name → Bool
+is_node_in untold book nodes name = is_some (node_in book nodes name) || (is_some untold && is_some (spot_of nodes name))
+
 abbrev pub node_of : Session → Name → Option Key
 node_of s name = node_in s.book s.nodes name
 

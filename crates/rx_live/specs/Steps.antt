@@ -9,7 +9,7 @@ use Rattle.rx_line.specs.Names.{spot_of, name_of, Forgets}
 use Rattle.rx_line.specs.Pieces.{name_text, joined}
 use Rattle.rx_live.specs.Session.{Session, has_resource}
 use Rattle.rx_live.specs.Promise.{with_held}
-use Rattle.rx_live.specs.Answers.{Told, told_of, told_text, to_tell, IsTelling, TellsNotes, Takes, ReleasesNames}
+use Rattle.rx_live.specs.Answers.{Told, told_of, told_text, to_tell, IsTelling, IsTold, TellsNotes, Takes, ReleasesNames, IsReleased}
 
 -- the next note
 pub record TellsOne (old : Session) (mail : Mail) (new : Session) : Type 0 where
@@ -23,6 +23,7 @@ pub record WritesNote (old : Session) (begun lead : List ℕ) (new : Session) (t
 
 pub record WritesNoNote (old : Session) (begun : List ℕ) (new : Session) (text : List ℕ) : Type 0 where
   pub left : to_tell new ≡ to_tell old
+  pub all : IsTold new
   pub rest : IsTelling old new
   pub written : text ≡ begun
 
@@ -62,6 +63,7 @@ pub record WritesName (old : Session) (begun lead : List ℕ) (new : Session) (t
 pub record WritesNoName (old : Session) (begun : List ℕ) (new : Session) (text : List ℕ) : Type 0 where
   pub held : (n : Name) → has_resource new n ≡ has_resource old n
   pub takes : Takes old.book new.book
+  pub all : IsReleased new
   pub rest : new ≡ record old { book = new.book; resources = new.resources; unnamed = new.unnamed }
   pub written : text ≡ begun
 

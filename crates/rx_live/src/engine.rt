@@ -4,6 +4,7 @@ ghost use Rattle.std.specs.Prelude.{◌≡◌, ◌≤◌};
 ghost use Rattle.rx_live.specs.Lines.{IsFresh};
 ghost use Rattle.rx_live.specs.Session.{session_of, node_of, resource_of, lease_of, hub_of, has_resource, IsSound};
 
+use crate::listing::Past;
 use crate::token::Token;
 use rx_book::{Book, Key, LeaseKey, Mail, ResKey};
 use rx_line::Names;
@@ -22,6 +23,8 @@ pub struct Engine {
     pub untold: Option<Mail>,
     /// The name of a resource that was taken from the book and is still to be told.
     pub unnamed: Option<String>,
+    /// What `list` tells of the events before the last checkpoint. No contract speaks of it.
+    pub past: Past,
 }
 
 impl Engine {
@@ -30,6 +33,7 @@ impl Engine {
         requires { max_events ≤ 4294967295 }
         ensures sound { IsSound (session_of result) }
         ensures fresh { IsFresh (session_of result) }
+        ensures limit { result.book.limit ≡ max_events }
     {
         let book = Book::new(alloc, max_events);
         book.promise();
@@ -42,6 +46,7 @@ impl Engine {
             leases: Names::new(alloc),
             untold: None,
             unnamed: None,
+            past: Past::new(alloc),
         }
     }
 

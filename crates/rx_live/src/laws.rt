@@ -1,9 +1,15 @@
-//! A law of sessions, which no call needs and a caller may cite.
+//! Laws of sessions, which no call needs and a caller may cite.
 
-ghost use Rattle.rx_live.specs.Sessions.{AreNamesKept};
+ghost use Rattle.rx_live.specs.Sessions.{AreNamesKept, AreNotesTold};
 
 /// Of any list of lines: each name that a `using` or a `hold` was answered `ok` for stands in exactly one
 /// `release` behind that, before it is handed in again, up to the last line; and no other name does.
 pub fn names_are_released_once()
     ensures { AreNamesKept }
+{}
+
+/// Of any list of lines: the answers tell the notes of the events that the lines wrote, each once and in order.
+/// What was put off for want of memory are the last of them, which later answers tell.
+pub fn notes_are_told_in_order()
+    ensures { AreNotesTold }
 {}

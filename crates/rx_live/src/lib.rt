@@ -9,20 +9,27 @@
 //! - A resource's name is **held** from the answer of the `using` or the `hold` that hands it in until it
 //!   stands in a `release`. The handing in and the release are the **acts** of a line (`specs/Promise.antt`).
 //!
+//! - A line finds the history full **by its age** where a checkpoint makes room; it is then taken again behind
+//!   one (`specs/Renewals.antt`). What finds no memory in an answer is **late**, and a later answer tells it.
+//!
 //! # Promised, and not
 //!
 //! - What a line is answered, and what it leaves, is one relation between the session before, the line, the
 //!   answer and the session after (`Sends` in `specs/Lines.antt`): a faulty line changes nothing, a refused
-//!   one is refused by its first cause and changes nothing, and what an accepted one tells are the notes of
-//!   the book's history, in order, and the names of what was taken from it.
+//!   one is refused by its first cause and changes nothing, and an accepted one tells all notes of the book's
+//!   history that were not told before, in order, and the names of all that was taken from it, or says that
+//!   something is late.
+//! - A line that is refused `Full` finds no event in the history since its last checkpoint. After a checkpoint
+//!   each name of a node is that of an open one. `dump` is answered with the dump of the history, or with the
+//!   place of the checkpoint that took events away.
 //! - Of any list of lines up to the last one: each name that is handed in is released exactly once behind that,
 //!   before it is handed in again, and no other name is ([`names_are_released_once`]).
-//! - Where memory is refused a line was not taken, and nothing has changed. What is told of an accepted line and
-//!   finds no memory is told by a later answer.
-//! - Nothing is promised of the text with which `list` and `dump` are answered, nor of the words of a faulty
-//!   line. A note that is told late for want of memory, to a node that is closed by then and whose name was
-//!   given to another, has an empty name.
-//! - The name of a closed node is kept until it is given again.
+//! - Of any list of lines: the answers tell the notes of the events that were written, each once and in order
+//!   ([`notes_are_told_in_order`]).
+//! - Where memory is refused a line was not taken, and nothing has changed, but that a checkpoint may have been
+//!   made. While something is late no name of a node is forgotten.
+//! - Nothing is promised of the text with which `list` is answered, nor of the words of a faulty line. That
+//!   something is late, or a checkpoint not made, only where memory was refused is tested and not proved.
 #![tactic(auto)]
 
 mod calls;
@@ -31,14 +38,16 @@ mod dumping;
 mod engine;
 mod holding;
 mod laws;
+mod lines;
 mod listing;
 mod live;
 mod opening;
+mod renewing;
 mod running;
 mod sending;
 mod telling;
 mod token;
 
-pub use laws::names_are_released_once;
+pub use laws::{names_are_released_once, notes_are_told_in_order};
 pub use live::Live;
 pub use rx_line::faulty_text;

@@ -1,12 +1,12 @@
 //! Commands that open a node.
 
-ghost use Rattle.std.specs.Prelude.{◌≡◌, ◌<◌, ◌||◌, Some, None, false, is_some, option_map, string_bytes, IfOk, IfSome, OnErr};
+ghost use Rattle.std.specs.Prelude.{◌≡◌, ◌<◌, ◌||◌, Some, None, false, option_map, string_bytes, IfOk, IfSome, OnErr};
 ghost use Rattle.std.specs.Str.{bytes_eq};
 ghost use Rattle.std.specs.Option.{option_map_or};
 ghost use Rattle.rx_scenario.specs.Scenario.{site_of, sort_of};
 ghost use Rattle.rx_book.specs.Requests.{open_request, connect_request};
 ghost use Rattle.rx_line.specs.Names.{spot_of, name_of, room_of, IsPaired};
-ghost use Rattle.rx_live.specs.Session.{session_of, node_in, hub_of, IsSound};
+ghost use Rattle.rx_live.specs.Session.{session_of, is_node_in, hub_of, IsSound};
 ghost use Rattle.rx_live.specs.Given.{AreOpenSame, GivesNames, IsUnchanged};
 ghost use Rattle.rx_live.specs.Openings.{place_at, kind_of, connection_of, open_asked, using_asked, is_node, is_open_taken, is_using_taken};
 ghost use Rattle.rx_live.specs.Openings.{BindsMade, BindsNode, BindsUsing, BindsConnection};
@@ -14,7 +14,7 @@ ghost use Rattle.rx_live.specs.Openings.{BindsMade, BindsNode, BindsUsing, Binds
 use crate::calls::answered;
 use crate::engine::Engine;
 use crate::token::Token;
-use rx_book::{At, Book, Key, Opened, OpenedUsing};
+use rx_book::{At, Book, Key, Mail, Opened, OpenedUsing};
 use rx_event::Kind;
 use rx_line::{Cause, Names, Outcome, Spot, Twice};
 use rx_scenario::{Site, Sort};
@@ -60,17 +60,21 @@ fn connection_name(sort: Sort) -> Option<String>
     }
 }
 
-// Whether a name is an open node's. That of a closed one is forgotten, so that it can be bound.
-fn is_taken(book: &Book<Token>, nodes: &mut Names, name: &str) -> bool
+// Whether a name is a node's. That of a closed one, to which nothing is to be told, is forgotten, so that it
+// can be bound.
+fn is_taken(book: &Book<Token>, nodes: &mut Names, untold: &Option<Mail>, name: &str) -> bool
     requires { IsPaired nodes.old }
-    ensures answer { result ≡ is_some (node_in book.now nodes.old name.now) }
-    ensures same { AreOpenSame book.now nodes.old nodes.new }
+    ensures answer { result ≡ is_node_in untold.now book.now nodes.old name.now }
+    ensures same { AreOpenSame untold.now book.now nodes.old nodes.new }
     ensures paired { IsPaired nodes.new }
     ensures free { result ≡ false → spot_of nodes.new name.now ≡ None }
 {
     let Some(spot) = nodes.get(name) else {
         return false;
     };
+    if untold.is_some() {
+        return true;
+    }
     let key = Key {
         slot: spot.slot,
         number: spot.number,
@@ -83,15 +87,20 @@ fn is_taken(book: &Book<Token>, nodes: &mut Names, name: &str) -> bool
 }
 
 // The same of a name that may be left out.
-fn is_other_taken(book: &Book<Token>, nodes: &mut Names, name: &Option<String>) -> bool
+fn is_other_taken(
+    book: &Book<Token>,
+    nodes: &mut Names,
+    untold: &Option<Mail>,
+    name: &Option<String>,
+) -> bool
     requires { IsPaired nodes.old }
-    ensures answer { result ≡ option_map_or (λ n. is_some (node_in book.now nodes.old n)) (option_map string_bytes name.now) false }
-    ensures same { AreOpenSame book.now nodes.old nodes.new }
+    ensures answer { result ≡ option_map_or (is_node_in untold.now book.now nodes.old) (option_map string_bytes name.now) false }
+    ensures same { AreOpenSame untold.now book.now nodes.old nodes.new }
     ensures paired { IsPaired nodes.new }
     ensures free { result ≡ false → IfSome (option_map string_bytes name.now) (λ n. spot_of nodes.new n ≡ None) }
 {
     match name {
-        Some(name) => is_taken(book, nodes, name.as_str()),
+        Some(name) => is_taken(book, nodes, untold, name.as_str()),
         None => false,
     }
 }
@@ -107,23 +116,29 @@ fn is_same(name: &str, other: &Option<String>) -> bool
 }
 
 // Whether a node's name is taken, or that of the connection that may come with it.
-fn are_taken(book: &Book<Token>, nodes: &mut Names, name: &str, other: &Option<String>) -> bool
+fn are_taken(
+    book: &Book<Token>,
+    nodes: &mut Names,
+    untold: &Option<Mail>,
+    name: &str,
+    other: &Option<String>,
+) -> bool
     requires { IsPaired nodes.old }
-    ensures answer { result ≡ (is_some (node_in book.now nodes.old name.now)
+    ensures answer { result ≡ (is_node_in untold.now book.now nodes.old name.now
         || option_map_or (bytes_eq name.now) (option_map string_bytes other.now) false
-        || option_map_or (λ n. is_some (node_in book.now nodes.old n)) (option_map string_bytes other.now) false) }
-    ensures same { AreOpenSame book.now nodes.old nodes.new }
+        || option_map_or (is_node_in untold.now book.now nodes.old) (option_map string_bytes other.now) false) }
+    ensures same { AreOpenSame untold.now book.now nodes.old nodes.new }
     ensures paired { IsPaired nodes.new }
     ensures free { result ≡ false → spot_of nodes.new name.now ≡ None }
     ensures other_free { result ≡ false → IfSome (option_map string_bytes other.now) (λ n. spot_of nodes.new n ≡ None) }
 {
-    if is_taken(book, nodes, name) {
+    if is_taken(book, nodes, untold, name) {
         return true;
     }
     if is_same(name, other) {
         return true;
     }
-    is_other_taken(book, nodes, other)
+    is_other_taken(book, nodes, untold, other)
 }
 
 // A name, where there is one, twice.
@@ -176,7 +191,13 @@ fn open_at(
         (BindsNode (session_of engine.old) (string_bytes name) (option_map string_bytes connection)) o (session_of engine.new)) }
     ensures err { OnErr result (IsUnchanged (session_of engine.old) (session_of engine.new)) }
 {
-    if are_taken(&engine.book, &mut engine.nodes, name.as_str(), &connection) {
+    if are_taken(
+        &engine.book,
+        &mut engine.nodes,
+        &engine.untold,
+        name.as_str(),
+        &connection,
+    ) {
         return Ok(Outcome::Refused(Cause::NameTaken));
     }
     let name = Twice::new(name)?;
@@ -237,7 +258,12 @@ pub fn using(
     if engine.has_resource(res.as_str()) {
         return Ok(Outcome::Refused(Cause::NameTaken));
     }
-    if is_taken(&engine.book, &mut engine.nodes, name.as_str()) {
+    if is_taken(
+        &engine.book,
+        &mut engine.nodes,
+        &engine.untold,
+        name.as_str(),
+    ) {
         return Ok(Outcome::Refused(Cause::NameTaken));
     }
     let name = Twice::new(name)?;
@@ -271,7 +297,7 @@ pub fn connect(engine: &mut Engine, hub: &str, name: Option<String>) -> Result<O
     let Some(number) = engine.hub_of(hub) else {
         return Ok(Outcome::Refused(Cause::NoName));
     };
-    if is_other_taken(&engine.book, &mut engine.nodes, &name) {
+    if is_other_taken(&engine.book, &mut engine.nodes, &engine.untold, &name) {
         return Ok(Outcome::Refused(Cause::NameTaken));
     }
     let name = twice(name)?;

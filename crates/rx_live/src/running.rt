@@ -7,6 +7,7 @@ ghost use Rattle.rx_live.specs.Given.{IsUnchanged};
 ghost use Rattle.rx_live.specs.Lines.{Runs};
 
 use crate::engine::Engine;
+use crate::renewing::renew;
 use crate::{calls, holding, opening};
 use rx_line::Outcome;
 use rx_scenario::Command;
@@ -37,5 +38,6 @@ pub fn run(engine: &mut Engine, command: Command) -> Result<Outcome, AllocError>
         Command::Connect { hub, name } => opening::connect(engine, hub.as_str(), name),
         Command::Disconnect { hub } => calls::disconnect(engine, hub.as_str()),
         Command::Drain => Ok(Outcome::Accepted),
+        Command::Checkpoint => renew(engine),
     }
 }

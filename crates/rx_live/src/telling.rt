@@ -1,9 +1,9 @@
 //! What an answer tells beside its outcome: notes, and what is to be released.
 
-ghost use Rattle.std.specs.Prelude.{◌≡◌, ◌++◌, None, string_bytes, IfOk, IfSome, IfNone, OnOk, OnErr};
+ghost use Rattle.std.specs.Prelude.{◌≡◌, ◌++◌, None, [], string_bytes, IfOk, IfSome, IfNone, OnOk, OnErr};
 ghost use Rattle.rx_line.specs.Pieces.{name_text};
 ghost use Rattle.rx_live.specs.Session.{session_of, IsSound};
-ghost use Rattle.rx_live.specs.Answers.{told_of, told_text, WritesNotes, WritesNames};
+ghost use Rattle.rx_live.specs.Answers.{told_of, told_text, to_tell, WritesNotes, WritesNames};
 ghost use Rattle.rx_live.specs.Steps.{TellsOne, MayWriteNote, TakesName, DropsName, MayWriteName};
 ghost use Rattle.rx_live.specs.Room.{HasRoom, KeepsRoom};
 
@@ -53,6 +53,7 @@ fn next_mail(engine: &mut Engine) -> Option<Mail>
     requires { IsSound (session_of engine.old) }
     ensures some { IfSome result (λ m. TellsOne (session_of engine.old) m (session_of engine.new)) }
     ensures none { IfNone result (session_of engine.new ≡ session_of engine.old) }
+    ensures all { IfNone result (to_tell (session_of engine.old) ≡ []) }
     ensures untold { engine.new.untold ≡ None }
     ensures sound { IsSound (session_of engine.new) }
 {
@@ -86,10 +87,10 @@ fn push_next(engine: &mut Engine, text: &mut String, lead: &str) -> bool
 /// Writes the notes that were not told yet, for as many as there is memory. The rest is told later.
 pub fn tell_notes(engine: &mut Engine, text: &mut String)
     requires sound { IsSound (session_of engine.old) }
-    requires room { HasRoom 3 text.old }
+    requires room { HasRoom 15 text.old }
     ensures told { WritesNotes (session_of engine.old) (string_bytes text.old) (session_of engine.new) (string_bytes text.new) }
     ensures sound { IsSound (session_of engine.new) }
-    ensures room { HasRoom 2 text.new }
+    ensures room { HasRoom 14 text.new }
 {
     if !push_next(engine, text, ",\"notes\":[") {
         return;
@@ -103,6 +104,7 @@ fn take_name(engine: &mut Engine) -> Option<String>
     requires { IsSound (session_of engine.old) }
     ensures some { IfSome result (λ name. TakesName (session_of engine.old) (string_bytes name) (session_of engine.new)) }
     ensures none { IfNone result (session_of engine.new ≡ session_of engine.old) }
+    ensures all { IfNone result (engine.old.book.waiting ≡ []) }
     ensures sound { IsSound (session_of engine.new) }
 {
     engine.book.promise();
@@ -119,6 +121,7 @@ fn next_name(engine: &mut Engine) -> Option<String>
     requires { IsSound (session_of engine.old) }
     ensures some { IfSome result (λ name. DropsName (session_of engine.old) (string_bytes name) (session_of engine.new)) }
     ensures none { IfNone result (session_of engine.new ≡ session_of engine.old) }
+    ensures all { IfNone result (engine.old.book.waiting ≡ []) }
     ensures sound { IsSound (session_of engine.new) }
 {
     match engine.unnamed.take() {
@@ -163,10 +166,10 @@ fn push_name(engine: &mut Engine, text: &mut String, lead: &str) -> bool
 /// Takes what waits, and writes the names, for as many as there is memory. The rest is told later.
 pub fn tell_releases(engine: &mut Engine, text: &mut String)
     requires sound { IsSound (session_of engine.old) }
-    requires room { HasRoom 2 text.old }
+    requires room { HasRoom 14 text.old }
     ensures told { WritesNames (session_of engine.old) (string_bytes text.old) (session_of engine.new) (string_bytes text.new) }
     ensures sound { IsSound (session_of engine.new) }
-    ensures room { HasRoom 1 text.new }
+    ensures room { HasRoom 13 text.new }
 {
     if !push_name(engine, text, ",\"release\":[") {
         return;

@@ -1,10 +1,9 @@
 -- Marks of the numbers so far, and how many are chosen.
-use Rattle.std.proofs.Common.{◌≡◌, ℕ, zero, suc, ◌+◌, ◌-◌, ◌<◌, ◌≤◌, min, Bool, true, false, cond, List, [], ◌∷◌, ◌++◌, length, refl, sym, ap, ◌∙◌, arith, inl, inr, ◌⊎◌, nat_lt}
+use Rattle.std.proofs.Common.{◌≡◌, ℕ, zero, suc, ◌+◌, ◌-◌, ◌<◌, ◌≤◌, min, Bool, true, false, cond, List, [], ◌∷◌, ◌++◌, length, refl, ap, ◌∙◌, arith, inl, inr, ◌⊎◌, nat_lt}
 use Rattle.std.proofs.Math.Bool.{not, ◌&&◌}
-use Rattle.std.proofs.lemmas.Bool.{cases_lt, lt-ltb, le-ltb, ltb-true}
+use Rattle.std.proofs.lemmas.Bool.{cases_lt, lt-ltb, le-ltb}
 use Rattle.std.proofs.lemmas.List.{length_push}
 use Rattle.rx_picture.specs.Choice.{bit, count_below, leads, follows, is_chosen, marked, AreMarks}
-use Rattle.rx_picture.proofs.Prefixes.{same_tests}
 use Rattle.rx_picture.proofs.Ranges.{count_next}
 
 -- marks -------------------------------------------------------------------------------------------
@@ -17,9 +16,6 @@ mark_old (x ∷ xs) y (suc i) l = mark_old xs y i (omega arith)
 mark_new : (xs : List Bool) (y : Bool) → marked (xs ++ y ∷ []) (length xs) ≡ y
 mark_new [] y = refl
 mark_new (x ∷ xs) y = mark_new xs y
-
-pub marks_none : (test : ℕ → Bool) → AreMarks [] 0 test
-marks_none test = record { size = refl; each = λ n l. absurd (omega arith) }
 
 pub marks_more : (marks : List Bool) (n : ℕ) (test : ℕ → Bool) (mark : Bool) → AreMarks marks n test → mark ≡ test n → AreMarks (marks ++ mark ∷ []) (n + 1) test
 marks_more marks n test mark tied is = record {
@@ -36,19 +32,7 @@ marks_more marks n test mark tied is = record {
 
 -- room --------------------------------------------------------------------------------------------
 
-pub room_behind : (leading others limit : ℕ) → leading < limit → nat_lt others (limit - leading) ≡ nat_lt (leading + others) limit
-room_behind leading others limit l =
-    same_tests _ _ (λ passes. let m = ltb-true others (limit - leading) passes in lt-ltb (leading + others) limit (omega arith))
-    (λ passes. let m = ltb-true (leading + others) limit passes in lt-ltb others (limit - leading) (omega arith))
-
-pub no_room_behind : (leading others limit : ℕ) → limit ≤ leading → false ≡ nat_lt (leading + others) limit
-no_room_behind leading others limit l = sym (le-ltb (leading + others) limit (omega arith))
-
 -- no more than the limit are chosen -----------------------------------------------------------------
-
-pub bit_few : (b : Bool) → bit b ≤ 1
-bit_few true = omega arith
-bit_few false = omega arith
 
 few_plain : (limit most a b : ℕ) (is_among is_first : Bool) →
     bit (is_among && nat_lt (cond is_first a (most + b)) limit) + (min limit a + min (limit - most) b)

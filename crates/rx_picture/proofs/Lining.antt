@@ -3,14 +3,13 @@ use Rattle.std.proofs.Common.{◌≡◌, ℕ, zero, suc, ◌+◌, ◌<◌, ◌�
 use Rattle.std.proofs.Math.Bool.{not, ◌&&◌, ◌||◌}
 use Rattle.std.specs.Option.{option_map_or}
 use Rattle.std.proofs.lemmas.Bool.{cases_lt, lt-ltb, le-ltb, ltb-true, and_left, or_left, or_right, or_cases}
-use Rattle.std.proofs.lemmas.List.{length_push}
 use Rattle.rx_event.specs.declared.event.Event.{Event}
 use Rattle.rx_event.specs.Events.{makes_node}
 use Rattle.rx_event.specs.Tree.{at, parent, is_shut, is_open}
 use Rattle.rx_event.proofs.Laws.Openness.{is_open_step, is_open_past}
 use Rattle.rx_event.proofs.Laws.Parents.{parent-lt}
 use Rattle.rx_picture.specs.Rows.{Spans}
-use Rattle.rx_picture.specs.Tables.{IsTurn, AreLines, was_shut}
+use Rattle.rx_picture.specs.Tables.{IsTurn, was_shut}
 use Rattle.rx_picture.proofs.Prefixes.{same_tests, past_prefix, at_prefix, parent_prefix}
 
 -- numbers -----------------------------------------------------------------------------------------
@@ -93,37 +92,3 @@ get_old (x ∷ xs) y (suc i) l = get_old xs y i (omega arith)
 pub get_new : (xs : List ℕ) (y : ℕ) → get_or (xs ++ y ∷ []) (length xs) 0 ≡ y
 get_new [] y = refl
 get_new (x ∷ xs) y = get_new xs y
-
-pub lines_none : (h : List Event) → AreLines h 0 []
-lines_none h = record {
-  size = refl;
-  begun = λ n l. absurd (omega arith);
-  within = λ n l. absurd (omega arith);
-  spans = λ n l. absurd (omega arith);
-}
-
-pub lines_more : (h : List Event) (n : ℕ) (ends : List ℕ) (v : ℕ) → AreLines h n ends → n ≤ v → v ≤ length h → Spans h (λ k. is_open k n) n v → AreLines h (n + 1) (ends ++ v ∷ [])
-lines_more h n ends v tied begins stays spans = record {
-  size = length_push ends v ∙ ap (λ (j : ℕ). j + 1) tied.size;
-  begun = λ i l. by_begun i (value i l);
-  within = λ i l. by_within i (value i l);
-  spans = λ i l. by_spans i (value i l);
-} where
-  -- an older line, or the new one
-  value : (i : ℕ) → i < n + 1 → ((i < n) × (get_or (ends ++ v ∷ []) i 0 ≡ get_or ends i 0)) ⊎ ((i ≡ n) × (get_or (ends ++ v ∷ []) i 0 ≡ v))
-  value i l = by_place (cases_lt i n) where
-    by_place : (i < n) ⊎ (n ≤ i) → ((i < n) × (get_or (ends ++ v ∷ []) i 0 ≡ get_or ends i 0)) ⊎ ((i ≡ n) × (get_or (ends ++ v ∷ []) i 0 ≡ v))
-    by_place (inl m) = let size = tied.size in inl (m, get_old ends v i (omega arith))
-    by_place (inr m) = let size = tied.size in let last : i ≡ length ends = omega arith in inr (omega arith, ap (λ (j : ℕ). get_or (ends ++ v ∷ []) j 0) last ∙ get_new ends v)
-
-  by_begun : (i : ℕ) → ((i < n) × (get_or (ends ++ v ∷ []) i 0 ≡ get_or ends i 0)) ⊎ ((i ≡ n) × (get_or (ends ++ v ∷ []) i 0 ≡ v)) → i ≤ get_or (ends ++ v ∷ []) i 0
-  by_begun i (inl w) = rw w.1 (tied.begun i w.0)
-  by_begun i (inr w) = rw (w.1, w.0) begins
-
-  by_within : (i : ℕ) → ((i < n) × (get_or (ends ++ v ∷ []) i 0 ≡ get_or ends i 0)) ⊎ ((i ≡ n) × (get_or (ends ++ v ∷ []) i 0 ≡ v)) → get_or (ends ++ v ∷ []) i 0 ≤ length h
-  by_within i (inl w) = rw w.1 (tied.within i w.0)
-  by_within i (inr w) = rw w.1 stays
-
-  by_spans : (i : ℕ) → ((i < n) × (get_or (ends ++ v ∷ []) i 0 ≡ get_or ends i 0)) ⊎ ((i ≡ n) × (get_or (ends ++ v ∷ []) i 0 ≡ v)) → Spans h (λ k. is_open k i) i (get_or (ends ++ v ∷ []) i 0)
-  by_spans i (inl w) = rw w.1 (tied.spans i w.0)
-  by_spans i (inr w) = rw (w.1, w.0) spans

@@ -1,5 +1,5 @@
 -- The rows of the first places.
-use Rattle.std.proofs.Common.{◌≡◌, ℕ, ◌+◌, Bool, true, false, cond, List, [], ◌∷◌, ◌++◌, length, map, filter, Option, Some, None, refl, sym, ap, ◌∙◌, slice_get}
+use Rattle.std.proofs.Common.{◌≡◌, ℕ, ◌+◌, Bool, true, false, cond, List, [], ◌∷◌, ◌++◌, map, filter, Option, Some, None, refl, sym, ap, ◌∙◌, slice_get}
 use Rattle.std.proofs.Math.Bool.{◌&&◌}
 use Rattle.std.specs.List.{AllByRecursion, range_with_len}
 use Rattle.std.specs.Option.{option_map_or}
@@ -14,7 +14,7 @@ use Rattle.rx_event.proofs.Laws.Lists.{AllByRecursion-both}
 use Rattle.rx_picture.specs.declared.row.Row.{Row}
 use Rattle.rx_picture.specs.declared.row.Shape.{Shape}
 use Rattle.rx_picture.specs.declared.row.Shape.TheVariants.{Node, Hub, Resource, Loan}
-use Rattle.rx_picture.specs.Rows.{AreRows, IsRow, IsShape, has_row}
+use Rattle.rx_picture.specs.Rows.{IsRow, IsShape, has_row}
 use Rattle.rx_picture.specs.Tables.{IsShownAt}
 use Rattle.rx_picture.proofs.Ranges.{below_push}
 
@@ -64,11 +64,5 @@ rows_skip h shown n rows tied none = record {
   numbers =
       tied.numbers ∙ sym (next_filter (λ k. at has_row h k && shown k) n ∙ ap (λ (x : Bool). filter (λ k. at has_row h k && shown k) (range_with_len 0 n) ++ cond x (n ∷ []) []) none
       ∙ append-nil (filter (λ k. at has_row h k && shown k) (range_with_len 0 n)));
-  each = tied.each;
-}
-
-pub rows_whole : (h : List Event) (shown : ℕ → Bool) (n : ℕ) (rows : List Row) → n ≡ length h → RowsUpTo h shown n rows → AreRows h shown rows
-rows_whole h shown n rows whole tied = record {
-  numbers = tied.numbers ∙ ap (λ (k : ℕ). filter (λ k. at has_row h k && shown k) (range_with_len 0 k)) whole;
   each = tied.each;
 }

@@ -107,9 +107,6 @@ pub record ColumnsUpTo (test : ℕ → Bool) (n : ℕ) (columns : List ℕ) : Ty
   pub size : length columns ≡ n
   pub each : (k : ℕ) → k < n → get_or columns k 0 ≡ count_below test k
 
-pub columns_none : (test : ℕ → Bool) → ColumnsUpTo test 0 []
-columns_none test = record { size = refl; each = λ k l. absurd (omega arith) }
-
 pub columns_more : (test : ℕ → Bool) (n : ℕ) (columns : List ℕ) (before : ℕ) → ColumnsUpTo test n columns → before ≡ count_below test n → ColumnsUpTo test (n + 1) (columns ++ before ∷ [])
 columns_more test n columns before tied is = record {
   size = length_push columns before ∙ ap (λ (j : ℕ). j + 1) tied.size;
@@ -122,11 +119,3 @@ columns_more test n columns before tied is = record {
       let last : k ≡ length columns = omega arith in
       let here : n ≡ k = omega arith in
       ap (λ (j : ℕ). get_or (columns ++ before ∷ []) j 0) last ∙ get_new columns before ∙ is ∙ ap (count_below test) here
-
-pub columns_whole : (test : ℕ → Bool) (bound n : ℕ) (columns : List ℕ) (before : ℕ) → n ≡ bound → ColumnsUpTo test n columns → before ≡ count_below test n → AreColumns test bound (columns ++ before ∷ [])
-columns_whole test bound n columns before whole tied is =
-    let all = columns_more test n columns before tied is in
-    record {
-      size = all.size ∙ ap (λ (j : ℕ). j + 1) whole;
-      each = λ k l. all.each k (omega arith);
-    }

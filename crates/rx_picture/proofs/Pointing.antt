@@ -1,21 +1,18 @@
 -- The points of the first places.
-use Rattle.std.proofs.Common.{◌≡◌, ℕ, ◌+◌, ◌<◌, Bool, false, cond, List, [], ◌∷◌, ◌++◌, length, map, filter, refl, sym, ap, ◌∙◌, slice_get, is_some, Option, Some, append-nil}
+use Rattle.std.proofs.Common.{◌≡◌, ℕ, ◌+◌, ◌<◌, Bool, false, cond, List, [], ◌∷◌, ◌++◌, length, map, filter, sym, ap, ◌∙◌, slice_get, is_some, Option, Some, append-nil}
 use Rattle.std.proofs.Math.Bool.{◌&&◌}
 use Rattle.std.specs.List.{AllByRecursion, range_with_len}
 use Rattle.std.proofs.lemmas.List.{map-append}
 use Rattle.rx_event.specs.declared.event.Event.{Event}
 use Rattle.rx_event.proofs.Laws.Lists.{AllByRecursion-both}
 use Rattle.rx_picture.specs.declared.points.Point.{Point}
-use Rattle.rx_picture.specs.Told.{ArePoints, IsPointAt}
+use Rattle.rx_picture.specs.Told.{IsPointAt}
 use Rattle.rx_picture.proofs.Listing.{next_filter}
 use Rattle.rx_picture.proofs.Prefixes.{some_event}
 
 pub record PointsUpTo (h : List Event) (place : ℕ → Bool) (n : ℕ) (points : List Point) : Type 0 where
   pub numbers : map (λ p. p.place) points ≡ filter place (range_with_len 0 n)
   pub each : AllByRecursion (λ p. slice_get h p.place ≡ Some p.event) points
-
-pub points_none : (h : List Event) (place : ℕ → Bool) → PointsUpTo h place 0 []
-points_none h place = record { numbers = refl; each = tt }
 
 pub points_more : (h : List Event) (place : ℕ → Bool) (n : ℕ) (points : List Point) (point : Point) → PointsUpTo h place n points →
     IsPointAt h place n point → PointsUpTo h place (n + 1) (points ++ point ∷ [])
@@ -36,11 +33,5 @@ points_skip h place n points within tied none = record {
   numbers =
       tied.numbers ∙ sym (next_filter place n ∙ ap (λ (x : Bool). filter place (range_with_len 0 n) ++ cond x (n ∷ []) []) (unmarked h place n within none)
       ∙ append-nil (filter place (range_with_len 0 n)));
-  each = tied.each;
-}
-
-pub points_whole : (h : List Event) (place : ℕ → Bool) (n : ℕ) (points : List Point) → n ≡ length h → PointsUpTo h place n points → ArePoints h place points
-points_whole h place n points whole tied = record {
-  numbers = tied.numbers ∙ ap (λ (k : ℕ). filter place (range_with_len 0 k)) whole;
   each = tied.each;
 }

@@ -1,8 +1,7 @@
 -- The numbers below one more, and how many of them pass a test.
-use Rattle.std.proofs.Common.{◌≡◌, ℕ, zero, suc, ◌+◌, ◌≤◌, Bool, List, [], ◌∷◌, ◌++◌, length, ap, ◌∙◌, arith}
+use Rattle.std.proofs.Common.{◌≡◌, ℕ, zero, suc, ◌+◌, Bool, List, [], ◌∷◌, ◌++◌, ap, ◌∙◌, arith}
 use Rattle.std.specs.List.{range_with_len, count_by}
-use Rattle.std.proofs.lemmas.List.FromFn.{length-range_with_len}
-use Rattle.std.proofs.lemmas.List.Sums.{count_by-le-length, sum_by_push}
+use Rattle.std.proofs.lemmas.List.Sums.{sum_by_push}
 use Rattle.rx_picture.specs.Choice.{bit, count_below}
 
 range_push : (a n : ℕ) → range_with_len a (suc n) ≡ range_with_len a n ++ (a + n) ∷ []
@@ -20,9 +19,3 @@ below_push n =
 -- one number more
 pub count_next : (p : ℕ → Bool) (n : ℕ) → count_below p (n + 1) ≡ count_below p n + bit (p n)
 count_next p n = ap (count_by p) (below_push n) ∙ sum_by_push (λ k. bit (p k)) (range_with_len 0 n) n
-
-pub count_within : (p : ℕ → Bool) (n : ℕ) → count_below p n ≤ n
-count_within p n =
-    let size : length (range_with_len 0 n) ≡ n = length-range_with_len 0 n in
-    let most = count_by-le-length p (range_with_len 0 n) in
-    omega arith

@@ -1,6 +1,6 @@
 //! Where each shown place stands on the axis, and each shown number among the rows.
 
-ghost use Rattle.std.specs.Prelude.{◌≡◌, IfOk, length};
+ghost use Rattle.std.specs.Prelude.{IfOk, length};
 ghost use Rattle.rx_picture.specs.Choice.{marked};
 ghost use Rattle.rx_picture.specs.Drawn.{AreColumns};
 

@@ -1,6 +1,6 @@
 //! The places that are shown, and what happened there.
 
-ghost use Rattle.std.specs.Prelude.{◌≡◌, ◌&&◌, false, IfOk, MatchOption, is_some, length, slice_get};
+ghost use Rattle.std.specs.Prelude.{◌≡◌, ◌&&◌, false, IfOk, MatchOption, is_some, slice_get};
 ghost use Rattle.rx_picture.specs.Choice.{marked};
 ghost use Rattle.rx_picture.specs.Told.{ArePoints, IsPointAt};
 

@@ -1,2 +1,3 @@
 mod Written
 pub mod Laws
+mod CheckpointCauses

@@ -1,21 +1,28 @@
 -- A register after one more event, and after a note that was handed out.
-use Rattle.std.proofs.Common.{◌≡◌, ℕ, zero, suc, ◌+◌, ◌-◌, ◌<◌, ◌≤◌, Bool, true, false, List, [], ◌∷◌, ◌++◌, length, take, drop, Option, Some, None, cond, refl, sym, ap, ◌∙◌, arith, slice_get, length-append, length-drop, take-append-drop}
+use Rattle.std.proofs.Common.{◌≡◌, ℕ, zero, suc, ◌+◌, ◌-◌, ◌<◌, ◌≤◌, Bool, true, false, List, [], ◌∷◌, ◌++◌, length, take, drop, Option, Some, None, cond, refl, sym, ap, subst, ◌∙◌, arith, slice_get, length-append, length-drop, take-append-drop}
 use Rattle.std.specs.Option.{option_to_list}
+use Rattle.std.specs.VecDeque.{deque_len, deque_capacity}
 use Rattle.std.proofs.lemmas.List.{drop-append-le, drop_all, take_all}
 use Rattle.rx_event.specs.declared.event.Event.{Event}
 use Rattle.rx_event.specs.Events.{makes_resource, is_item, is_take}
 use Rattle.rx_event.specs.declared.mail.Mail.{Mail}
 use Rattle.rx_event.specs.Notes.{notes, mail_of}
 use Rattle.rx_event.specs.Moments.{moments}
-use Rattle.rx_event.specs.Kept.{nothing_kept, shown}
+use Rattle.rx_event.specs.Kept.{Kept, nothing_kept, shown}
 use Rattle.rx_event.specs.Totals.{debt}
 use Rattle.rx_event.specs.Lawful.{MayFollow}
+use Rattle.rx_event.specs.Forced.{IsSettled}
+use Rattle.rx_event.specs.Bases.{base_of, Agree}
+use Rattle.rx_event.proofs.Laws.Bases.{base_length, length_base}
+use Rattle.rx_event.proofs.Laws.Checkpoints.{base_lawful, kept_agrees, same_debt}
+use Rattle.rx_event.proofs.Laws.CheckpointMarks.{base_untold}
 use Rattle.rx_event.proofs.Laws.Counts.{notes-push}
 use Rattle.rx_event.proofs.Laws.Begin.{shown_nothing, IsLawful_nothing}
 use Rattle.rx_event.proofs.Laws.Lawful.{IsLawful-push}
 use Rattle.rx_event.proofs.Laws.Totals.{item_count-push, accepted_count-push, taken_count-push}
 use Rattle.rx_register.specs.declared.register.Register.TheInside.{Inside}
-use Rattle.rx_register.specs.Ties.{IsTied}
+use Rattle.rx_register.specs.State.{State, Rebases}
+use Rattle.rx_register.specs.Ties.{state_of, IsTied}
 use Rattle.rx_register.proofs.Laws.Empty.{debt_empty}
 
 -- so many notes are behind those that were told
@@ -56,7 +63,6 @@ at_most_one false = omega arith
 pub written : (a b : Inside) (e : Event) → IsTied a → IsWritten a b e → IsTied b
 written a b e r w = record {
   lawful = rw (w.base, w.events) (IsLawful-push a.history.base h e r.lawful w.next);
-  from_start = w.base ∙ r.from_start;
   limited = rw w.limit r.limited;
   limit = w.own_limit ∙ r.limit ∙ sym w.limit;
   begun = rw (w.base, w.events) (let l = r.begun in omega (arith, length-append h (e ∷ [])));
@@ -138,7 +144,6 @@ popped_first ns items rest told None is next some l m same = absurd (let d = len
 pub popped_inside : (a b : Inside) (o : Option Mail) → IsTied a → IsPopped (notes a.history.events) a.mail.items b.mail.items a.told o → 0 < a.told → b.history ≡ a.history → b.item_total ≡ a.item_total → b.accepted_total ≡ a.accepted_total → b.taken_total ≡ a.taken_total → b.limit ≡ a.limit → b.told ≡ a.told - 1 → IsTied b
 popped_inside a b o r p some same items accepted taken own told = record {
   lawful = rw same r.lawful;
-  from_start = rw same r.from_start;
   limited = rw same r.limited;
   begun = rw same r.begun;
   placed = rw same r.placed;
@@ -165,7 +170,6 @@ pub tied_empty : (a : Inside) → a.history.limit ≤ 4294967295 → a.limit ≡
 unfolding shown
 tied_empty a few own base events i r t told = record {
   lawful = rw (base, events) IsLawful_nothing;
-  from_start = base;
   limited = few;
   within = rw events (omega arith);
   limit = own;
@@ -186,3 +190,134 @@ tied_empty a few own base events i r t told = record {
 pub no_notes : length (notes []) ≡ 0
 unfolding notes moments
 no_notes = refl
+
+-- a base in place of the events ---------------------------------------------------------------------
+
+-- b is a with what its history leaves in place of its base and its events
+pub record IsRebased (a b : Inside) (reserved : ℕ) : Type 0 where
+  pub settled : IsSettled a.history.base a.history.events
+  pub placed : length a.history.events ≤ 9223372036854775807
+  pub closing : debt a.history.base a.history.events ≤ reserved
+  pub within : reserved ≤ a.history.limit
+  pub base : b.history.base ≡ base_of a.history.base a.history.events
+  pub events : b.history.events ≡ shown (base_of a.history.base a.history.events)
+  pub limit : b.history.limit ≡ a.history.limit
+  pub own_limit : b.limit ≡ a.limit
+  pub items : b.item_total ≡ a.item_total
+  pub accepted : b.accepted_total ≡ a.accepted_total
+  pub taken : b.taken_total ≡ a.taken_total
+  pub handed : a.told ≡ 0
+  pub told : b.told ≡ a.told
+  pub mail : b.mail ≡ a.mail
+  pub room : b.history.room ≡ reserved
+
+pub rebased : (a b : Inside) (room : ℕ) → IsTied a → IsRebased a b room → IsTied b
+rebased a b room r w = record {
+  lawful = rw (w.base, w.events) (base_lawful base h r.lawful w.settled);
+  limited = rw w.limit r.limited;
+  begun = rw (w.base, w.events) (let a = as_long in let s = shown_long in omega arith);
+  placed = rw w.base (let p = w.placed in let a = as_long in omega arith);
+  closing = rw (w.base, w.limit) (let c = w.closing in let l = w.within in let d = same_debts in omega arith);
+  within = rw (w.base, w.events) (let a = as_long in let s = shown_long in omega arith);
+  limit = w.own_limit ∙ r.limit ∙ sym w.limit;
+  item_total = rw (w.base, w.events) (w.items ∙ r.item_total ∙ same.item_total);
+  accepted_total = rw (w.base, w.events) (w.accepted ∙ r.accepted_total ∙ same.accepted_total);
+  taken_total = rw (w.base, w.events) (w.taken ∙ r.taken_total ∙ same.taken_total);
+  few_items = rw (w.base, w.events) (let f = r.few_items in let s = same.item_total in let l = shown_long in omega arith);
+  few_accepted = rw (w.base, w.events) (let f = r.few_accepted in let s = same.accepted_total in let l = shown_long in omega arith);
+  few_taken = rw (w.base, w.events) (let f = r.few_taken in let s = same.taken_total in let l = shown_long in omega arith);
+  some_told = rw all_told (omega arith);
+  queued = rw all_told (omega arith);
+  mail = rw (all_told, w.events, base_untold base h r.lawful w.settled) refl;
+}
+  where
+    base : Kept
+    base = a.history.base
+
+    h : List Event
+    h = a.history.events
+
+    all_told : b.told ≡ 0
+    all_told = w.told ∙ w.handed
+
+    same : Agree base h (base_of base h) (shown (base_of base h))
+    same = kept_agrees base h r.lawful w.settled
+
+    as_long : (base_of base h).at_length ≡ length h
+    as_long = base_length base h
+
+    shown_long : length (shown (base_of base h)) ≡ length h
+    shown_long = length_base base h
+
+    same_debts : debt base h ≡ debt (base_of base h) (shown (base_of base h))
+    same_debts = same_debt base h (base_of base h) (shown (base_of base h)) same
+
+-- what callers see of it
+pub rebases : (a b : Inside) (room : ℕ) → IsTied a → IsRebased a b room → drop a.told a.mail.items ≡ [] → Rebases (state_of a) (state_of b) room
+rebases a b room r w none = record {
+  base = w.base;
+  history = w.events ∙ ap shown (sym w.base);
+  limit = w.limit;
+  room = w.room;
+  given = rw (w.events, base_untold a.history.base a.history.events r.lawful w.settled) (omega arith);
+  pending = rw (w.told, w.mail) none;
+  mail_room = ap (λ q. deque_capacity q - deque_len q) w.mail;
+}
+
+-- where all notes were handed out, none is left of those that were told
+pub none_left : (notes told : ℕ) → told ≤ notes → notes - told ≡ notes → told ≡ 0
+none_left notes told l same = omega arith
+
+-- what a caller asks for, of a register and of what it shows ------------------------------------------
+
+pub base_long : (a : Inside) (s : State) (base : Kept) → state_of a ≡ s → base ≡ base_of s.base s.history → base.at_length ≡ length a.history.events
+base_long a s base same is = ap (λ (b : Kept). b.at_length) is ∙ base_length s.base s.history ∙ ap (λ (t : State). length t.history) (sym same)
+
+pub placed_base : (a : Inside) (s : State) (base : Kept) → state_of a ≡ s → base ≡ base_of s.base s.history → length s.history ≤ 9223372036854775807 → base.at_length ≤ 9223372036854775807
+placed_base a s base same is placed = let l = ap (λ (b : Kept). b.at_length) is ∙ base_length s.base s.history in omega arith
+
+pub record MayRebase (a : Inside) (base : Kept) (reserved : ℕ) : Type 0 where
+  pub base_is : base ≡ base_of a.history.base a.history.events
+  pub settled : IsSettled a.history.base a.history.events
+  pub handed : (state_of a).given ≡ length (notes a.history.events)
+  pub pending : drop a.told a.mail.items ≡ []
+  pub placed : length a.history.events ≤ 9223372036854775807
+  pub closing : debt a.history.base a.history.events ≤ reserved
+  pub within : reserved ≤ a.history.limit
+
+pub may_rebase : (a : Inside) (s : State) (base : Kept) (reserved : ℕ) → state_of a ≡ s → base ≡ base_of s.base s.history → IsSettled s.base s.history →
+    s.given ≡ length (notes s.history) → s.pending ≡ [] → length s.history ≤ 9223372036854775807 → debt s.base s.history ≤ reserved → reserved ≤ s.limit → MayRebase a base reserved
+may_rebase a s base reserved same is settled handed pending placed closing within = record {
+  base_is = is ∙ ap (λ (t : State). base_of t.base t.history) (sym same);
+  settled = subst (λ (t : State). IsSettled t.base t.history) (sym same) settled;
+  handed = subst (λ (t : State). t.given ≡ length (notes t.history)) (sym same) handed;
+  pending = subst (λ (t : State). t.pending ≡ []) (sym same) pending;
+  placed = subst (λ (t : State). length t.history ≤ 9223372036854775807) (sym same) placed;
+  closing = subst (λ (t : State). debt t.base t.history ≤ reserved) (sym same) closing;
+  within = subst (λ (t : State). reserved ≤ t.limit) (sym same) within;
+}
+
+pub made_rebased : (a b : Inside) (base : Kept) (reserved : ℕ) → IsTied a → MayRebase a base reserved → b.history.base ≡ base → b.history.events ≡ shown base →
+    b.history.room ≡ reserved → b.history.limit ≡ a.history.limit → b.limit ≡ a.limit → b.item_total ≡ a.item_total → b.accepted_total ≡ a.accepted_total →
+    b.taken_total ≡ a.taken_total → b.told ≡ a.told → b.mail ≡ a.mail → IsRebased a b reserved
+made_rebased a b base reserved r may same_base same_events same_room same_limit own items accepted taken told mail = record {
+  settled = may.settled;
+  placed = may.placed;
+  closing = may.closing;
+  within = may.within;
+  base = same_base ∙ may.base_is;
+  events = same_events ∙ ap shown may.base_is;
+  limit = same_limit;
+  own_limit = own;
+  items = items;
+  accepted = accepted;
+  taken = taken;
+  handed = none_left (length (notes a.history.events)) a.told r.some_told may.handed;
+  told = told;
+  mail = mail;
+  room = same_room;
+}
+
+-- what callers see of it, of a register that they saw as this
+pub rebases_seen : (a b : Inside) (s : State) (reserved : ℕ) → state_of a ≡ s → IsTied a → IsRebased a b reserved → drop a.told a.mail.items ≡ [] → Rebases s (state_of b) reserved
+rebases_seen a b s reserved same r w none = subst (λ (t : State). Rebases t (state_of b) reserved) same (rebases a b reserved r w none)

@@ -12,7 +12,7 @@ use Rattle.rx_event.specs.declared.event.Event.{Event}
 use Rattle.rx_event.specs.declared.event.Event.TheVariants.{Connect}
 use Rattle.rx_event.specs.declared.refusal.Refusal.{Refusal}
 use Rattle.rx_event.specs.declared.refusal.Refusal.TheVariants.{Full, Gone, WrongKind, PlaceTaken, NothingOwed, NotRoot, NoHub, HubOrder, Connected, NotConnected}
-use Rattle.rx_event.specs.declared.refusal.Refusal.TheVariants.{NotFresh, NoLease, NotHeld, Leased, HasChild, TooMany}
+use Rattle.rx_event.specs.declared.refusal.Refusal.TheVariants.{NotFresh, NoLease, NotHeld, Leased, HasChild, MailLeft, TooMany}
 use Rattle.rx_event.specs.Events.{makes_hub, named_by, has_source, is_leaf, is_merging, is_until, is_root, is_auto_hub, is_manual_hub}
 use Rattle.rx_event.specs.Kept.{Kept}
 use Rattle.rx_event.specs.Opened.{source_opened, notifier_opened}
@@ -20,6 +20,7 @@ use Rattle.rx_event.specs.Tree.{at, ancestors, hubs, is_open, has_open_child, op
 use Rattle.rx_event.specs.Resources.{is_owned, is_out, is_held}
 use Rattle.rx_event.specs.Climb.{stops, visits, most_visits}
 use Rattle.rx_event.specs.Moments.{is_projection, owed}
+use Rattle.rx_event.specs.Notes.{notes}
 use Rattle.rx_event.specs.Allowed.{most_hubs, most_nodes, may_abort}
 use Rattle.rx_event.specs.Totals.{debt, open_count}
 use Rattle.rx_event.specs.Calls.{Call, Opening, OpeningUsing, Holding, Applying, Removing, Leasing, GivingBack, Emitting, Ending, Aborting, Declining}
@@ -108,6 +109,10 @@ added_by h (Emitting leaf value) = 1 + count_by is_projection (stops h leaf)
 added_by h (Publishing mode) = 1
 added_by h (Connecting hub) = 1 + 1
 added_by h _ = 0
+
+-- the greatest place at which a checkpoint may be made, so that no place after it passes 64 bits
+abbrev pub most_places : ℕ
+most_places = 9223372036854775807
 
 -- the rows --------------------------------------------------------------------------------------------------------------------
 
@@ -229,6 +234,12 @@ causes base h limit is_fresh (Connecting hub) why = connecting_causes base h lim
 causes base h limit is_fresh (Disconnecting hub) why = disconnecting_causes h hub why
 -- one that waits is taken: none is refused
 causes base h limit is_fresh (Taking resource) why = false
+
+-- a checkpoint adds no event, and so is no call: it is refused while notes were not handed out, and past the last place for one
+abbrev pub checkpoint_causes : List Event → (given : ℕ) → Refusal → Bool
+checkpoint_causes h given MailLeft = nat_lt given (length (notes h))
+checkpoint_causes h given TooMany = nat_lt most_places (length h)
+checkpoint_causes h given _ = false
 
 -- the causes where a history is never full
 abbrev pub unlimited : (Refusal → Bool) → Refusal → Bool

@@ -2,7 +2,8 @@
 use Rattle.std.specs.Prelude.{◌≡◌, ℕ, ◌+◌, ◌≤◌, List, [], ◌++◌, length}
 use Rattle.rx_event.specs.declared.mail.Mail.{Mail}
 use Rattle.rx_event.specs.declared.event.Event.{Event}
-use Rattle.rx_event.specs.Kept.{Kept, nothing_kept, shown}
+use Rattle.rx_event.specs.Kept.{Kept, shown}
+use Rattle.rx_event.specs.Bases.{base_of}
 use Rattle.rx_event.specs.Notes.{notes}
 use Rattle.rx_event.specs.Totals.{debt, open_count, item_count, accepted_count, taken_count}
 use Rattle.rx_event.specs.Lawful.{IsLawful}
@@ -24,8 +25,6 @@ pub record State : Type 0 where
 -- shows may need; and no total is more than the number of events
 pub record IsPromised (s : State) : Type 0 where
   pub lawful : IsLawful s.base s.history
-  -- nothing was put in place of events yet
-  pub from_start : s.base ≡ nothing_kept
   pub limited : s.limit ≤ 4294967295
   pub begun : s.base.at_length ≤ length s.history
   pub placed : s.base.at_length ≤ 9223372036854775807
@@ -51,3 +50,14 @@ pub record Writes (old : State) (events : List Event) (new : State) : Type 0 whe
   pub pending : new.pending ≡ []
   pub room : new.room + length events ≡ old.room
   pub mail_room : new.mail_room + length (notes new.history) ≡ old.mail_room + length (notes old.history)
+
+-- what old leaves stands in place of its base and its events: nothing happened since, nothing was told since, and there is room for
+-- just so many events
+pub record Rebases (old new : State) (reserved : ℕ) : Type 0 where
+  pub base : new.base ≡ base_of old.base old.history
+  pub history : new.history ≡ shown new.base
+  pub limit : new.limit ≡ old.limit
+  pub room : new.room ≡ reserved
+  pub given : new.given ≡ 0
+  pub pending : new.pending ≡ []
+  pub mail_room : new.mail_room ≡ old.mail_room

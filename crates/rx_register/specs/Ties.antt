@@ -1,7 +1,7 @@
 -- How what a register keeps is tied to its history. No public clause cites this module.
 use Rattle.std.specs.Prelude.{◌≡◌, ◌+◌, ◌-◌, ◌≤◌, length, take, drop}
 use Rattle.std.specs.VecDeque.{deque_len, deque_capacity}
-use Rattle.rx_event.specs.Kept.{nothing_kept, shown}
+use Rattle.rx_event.specs.Kept.{shown}
 use Rattle.rx_event.specs.Notes.{notes}
 use Rattle.rx_event.specs.Totals.{item_count, accepted_count, taken_count, debt}
 use Rattle.rx_event.specs.Lawful.{IsLawful}
@@ -22,7 +22,6 @@ state_of a = record {
 
 pub record IsTied (a : Inside) : Type 0 where
   pub lawful : IsLawful a.history.base a.history.events
-  pub from_start : a.history.base ≡ nothing_kept
   pub limited : a.history.limit ≤ 4294967295
   pub begun : a.history.base.at_length ≤ length a.history.events
   pub placed : a.history.base.at_length ≤ 9223372036854775807

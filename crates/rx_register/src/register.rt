@@ -1,5 +1,6 @@
 //! What happened, by numbers alone, and what is counted of it, so that no call has to search for it.
 
+mod checkpoint;
 mod limits;
 mod mail;
 mod write;

@@ -1,70 +1,154 @@
--- The leases that are out, place by place.
-use Rattle.std.proofs.Common.{◌≡◌, ℕ, suc, ◌+◌, ◌≤◌, Bool, true, false, List, length, Option, Some, None, cond, slice_get, refl, sym, ap, ◌∙◌, arith}
+-- The leases that are out, and how many of each resource, after one more event.
+use Rattle.std.proofs.Common.{◌≡◌, ℕ, ◌-◌, ◌<◌, ◌≤◌, ◌==◌, Bool, true, false, List, [], ◌∷◌, ◌++◌, length, Option, Some, None, cond, slice_get, refl, sym, ap, ◌∙◌, arith, inl, inr, ◌⊎◌, length-append}
 use Rattle.std.proofs.Math.Bool.{not, ◌&&◌}
-use Rattle.std.specs.Prelude.{◌==◌, count_by}
-use Rattle.std.specs.List.{list_any, range_with_len}
 use Rattle.std.specs.Option.{option_and_then, option_map_or}
-use Rattle.std.proofs.lemmas.List.Sums.{sum_by_push, count_by-le-length}
+use Rattle.std.proofs.lemmas.Bool.{cases_order, cases_Bool, ne_eqb, eq-eqb, eqb-true, false≢true}
+use Rattle.std.proofs.lemmas.List.Sums.{count_by-le-length}
 use Rattle.std.proofs.lemmas.List.FromFn.{length-range_with_len}
-use Rattle.std.proofs.lemmas.Option.{same_Some, none-some}
 use Rattle.rx_event.specs.declared.event.Event.{Event}
-use Rattle.rx_event.specs.declared.event.Event.TheVariants.{Open, Lease}
-use Rattle.rx_event.specs.Events.{makes_lease, leased_of, is_lease_of, is_return_of}
-use Rattle.rx_event.specs.Tree.{at}
-use Rattle.rx_event.specs.Resources.{is_out, is_out_of}
-use Rattle.rx_event.proofs.Laws.Sums.{below_push}
+use Rattle.rx_event.specs.declared.event.Event.TheVariants.{Open, Lease, Return}
+use Rattle.rx_event.specs.Events.{makes_lease, leased_of, is_lease_of, is_return, is_return_of}
+use Rattle.rx_event.specs.Kept.{nothing_kept, shown}
+use Rattle.rx_event.specs.Lawful.{IsLawful, MayFollow}
+use Rattle.rx_event.specs.Tree.{places}
+use Rattle.rx_event.specs.Resources.{is_out, is_out_of, leases_of}
+use Rattle.rx_event.proofs.Laws.Places.{slice_get-append, slice_get_last}
+use Rattle.rx_event.proofs.Laws.Steps.{may_return}
+use Rattle.rx_event.proofs.Laws.Starts.{lawful_front, lawful_last}
+use Rattle.rx_event.proofs.Laws.Leases.{is_out-push, is_out_last, is_out_past, out_lease, leases_of-return}
+use Rattle.rx_report.specs.Tallies.{leased_out}
 
-and_no : (a : Bool) → (a && false) ≡ false
-and_no true = refl
-and_no false = refl
+nothing_before : (h : List Event) → length (shown nothing_kept) ≤ length h
+unfolding shown
+nothing_before h = omega arith
 
-and_yes : (a : Bool) → (a && true) ≡ a
-and_yes true = refl
-and_yes false = refl
+-- of a lawful history, what was there before its last event, and that this may follow
+pub front_lawful : (h : List Event) (e : Event) → IsLawful nothing_kept (h ++ e ∷ []) → IsLawful nothing_kept h
+front_lawful h e law = lawful_front nothing_kept h e (nothing_before h) law
 
--- one place ----------------------------------------------------------------------------------------
+pub last_follows : (h : List Event) (e : Event) → IsLawful nothing_kept (h ++ e ∷ []) → MayFollow nothing_kept h e
+last_follows h e law = lawful_last nothing_kept h e (nothing_before h) law
 
-not_out : (h : List Event) (l : ℕ) → list_any (is_return_of l) h ≡ true → is_out h l ≡ false
-unfolding is_out
-not_out h l back = ap (λ (b : Bool). at makes_lease h l && not b) back ∙ and_no (at makes_lease h l)
+-- which leases are out ---------------------------------------------------------------------------------
 
-pub came_back : (h : List Event) (l r : ℕ) → list_any (is_return_of l) h ≡ true → false ≡ is_out_of h r l
-came_back h l r back = sym (ap (λ (b : Bool). at (is_lease_of r) h l && b) (not_out h l back) ∙ and_no (at (is_lease_of r) h l))
+older_out : (h : List Event) (e : Event) (l : ℕ) → l < length h → leased_out (h ++ e ∷ []) l ≡ cond (is_return_of l e) None (leased_out h l)
+older_out h e l less =
+    (λ i. cond (is_out-push h e l less i) (option_and_then leased_of (slice_get-append h (e ∷ []) l less i)) None)
+    ∙ shape (is_out h l) (is_return_of l e) (option_and_then leased_of (slice_get h l))
+  where
+    shape : (a b : Bool) (x : Option ℕ) → cond (a && not b) x None ≡ cond b None (cond a x None)
+    shape true true x = refl
+    shape true false x = refl
+    shape false true x = refl
+    shape false false x = refl
 
-leases_it : (e : Event) (q r : ℕ) → leased_of e ≡ Some q → (is_lease_of r e ≡ (q == r)) × (makes_lease e ≡ true)
-leases_it (Lease p) q r found = (ap (λ (n : ℕ). n == r) (same_Some p q found), refl)
-leases_it (Open place kind) q r found = absurd (none-some q found)
-leases_it _ q r found = absurd (none-some q found)
+new_out : (h : List Event) (e : Event) → IsLawful nothing_kept h → leased_out (h ++ e ∷ []) (length h) ≡ leased_of e
+new_out h e law = (λ i. cond (is_out_last nothing_kept h e law i) (option_and_then leased_of (slice_get_last h e i)) None) ∙ by_event e where
+  by_event : (e : Event) → cond (makes_lease e) (leased_of e) None ≡ leased_of e
+  by_event (Lease r) = refl
+  by_event (Open place kind) = refl
+  by_event _ = refl
 
-pub still_out : (h : List Event) (l r q : ℕ) → option_and_then leased_of (slice_get h l) ≡ Some q → list_any (is_return_of l) h ≡ false
-    → (q == r) ≡ is_out_of h r l
-unfolding is_out
-still_out h l r q leases away = by_event (slice_get h l) leases ∙ ap (λ (b : Bool). at (is_lease_of r) h l && (at makes_lease h l && not b)) (sym away) where
-  by_event : (o : Option Event) → option_and_then leased_of o ≡ Some q
-      → (q == r) ≡ (option_map_or (is_lease_of r) o false && (option_map_or makes_lease o false && true))
-  by_event None leases = absurd (none-some q leases)
-  by_event (Some e) leases =
-      let w = leases_it e q r leases in
-      sym ((λ i. w.0 i && (w.1 i && true)) ∙ and_yes (q == r))
+none_out_past : (h : List Event) (l : ℕ) → length h ≤ l → leased_out h l ≡ None
+none_out_past h l past = ap (λ (b : Bool). cond b (option_and_then leased_of (slice_get h l)) None) (is_out_past h l past)
 
--- one place more -----------------------------------------------------------------------------------
+pub leased_out-push : (h : List Event) (e : Event) (l : ℕ) → IsLawful nothing_kept h
+    → leased_out (h ++ e ∷ []) l ≡ cond (length h == l) (leased_of e) (cond (is_return_of l e) None (leased_out h l))
+leased_out-push h e l law = by_order (cases_order (length h) l) where
+  at_end : (b : Bool) → (length h == l) ≡ b → cond b (leased_of e) (cond (is_return_of l e) None (leased_out h l))
+      ≡ cond (length h == l) (leased_of e) (cond (is_return_of l e) None (leased_out h l))
+  at_end b is = ap (λ b. cond b (leased_of e) (cond (is_return_of l e) None (leased_out h l))) (sym is)
 
-pub count_next : (h : List Event) (r place : ℕ)
-    → count_by (is_out_of h r) (range_with_len 0 (place + 1)) ≡ count_by (is_out_of h r) (range_with_len 0 place) + cond (is_out_of h r place) 1 0
-count_next h r place =
-    let longer : place + 1 ≡ suc place = omega arith in
-    ap (λ (n : ℕ). count_by (is_out_of h r) (range_with_len 0 n)) longer ∙ ap (count_by (is_out_of h r)) (below_push place)
-    ∙ sum_by_push (λ (l : ℕ). cond (is_out_of h r l) 1 0) (range_with_len 0 place) place
+  none_back : (b : Bool) (x : Option ℕ) → x ≡ None → None ≡ cond b None x
+  none_back true x none = refl
+  none_back false x none = sym none
 
--- what was counted before the place, and the lease that is out there, if one is
-pub out_counted : (h : List Event) (place : ℕ) (before after : ℕ → ℕ) (o : Option ℕ)
-    → ((r : ℕ) → before r ≡ count_by (is_out_of h r) (range_with_len 0 place)) → ((r : ℕ) → option_map_or (λ q. q == r) o false ≡ is_out_of h r place)
-    → ((r : ℕ) → after r ≡ before r + cond (option_map_or (λ q. q == r) o false) 1 0)
-    → (r : ℕ) → after r ≡ count_by (is_out_of h r) (range_with_len 0 (place + 1))
-out_counted h place before after o so_far there rose r = rose r ∙ (λ i. so_far r i + cond {A = ℕ} (there r i) 1 0) ∙ sym (count_next h r place)
+  by_order : (length h ≡ l) ⊎ ((length h < l) ⊎ (l < length h))
+      → leased_out (h ++ e ∷ []) l ≡ cond (length h == l) (leased_of e) (cond (is_return_of l e) None (leased_out h l))
+  by_order (inl same) = ap (leased_out (h ++ e ∷ [])) (sym same) ∙ new_out h e law ∙ at_end true (eq-eqb (length h) l same)
+  by_order (inr (inl past)) =
+      none_out_past (h ++ e ∷ []) l (omega (arith, length-append h (e ∷ [])))
+      ∙ none_back (is_return_of l e) (leased_out h l) (none_out_past h l (omega arith)) ∙ at_end false (ne_eqb (length h) l (omega arith))
+  by_order (inr (inr older)) = older_out h e l older ∙ at_end false (ne_eqb (length h) l (omega arith))
 
-pub few_out : (h : List Event) (r place : ℕ) → count_by (is_out_of h r) (range_with_len 0 place) ≤ place
-few_out h r place =
-    let most = count_by-le-length (is_out_of h r) (range_with_len 0 place) in
-    let long : length (range_with_len 0 place) ≡ place = length-range_with_len 0 place in
+-- where no lease is given out
+pub leased_out-plain : (h : List Event) (e : Event) (l : ℕ) → IsLawful nothing_kept h → leased_of e ≡ None
+    → leased_out (h ++ e ∷ []) l ≡ cond (is_return_of l e) None (leased_out h l)
+leased_out-plain h e l law none = leased_out-push h e l law ∙ by_end (cases_Bool (length h == l)) where
+  none_back : (b : Bool) (x : Option ℕ) → x ≡ None → None ≡ cond b None x
+  none_back true x is = refl
+  none_back false x is = sym is
+
+  by_end : ((length h == l) ≡ true) ⊎ ((length h == l) ≡ false)
+      → cond (length h == l) (leased_of e) (cond (is_return_of l e) None (leased_out h l)) ≡ cond (is_return_of l e) None (leased_out h l)
+  by_end (inl same) =
+      ap (λ b. cond b (leased_of e) (cond (is_return_of l e) None (leased_out h l))) same ∙ none
+      ∙ none_back (is_return_of l e) (leased_out h l) (let is = eqb-true (length h) l same in none_out_past h l (omega arith))
+  by_end (inr apart) = ap (λ b. cond b (leased_of e) (cond (is_return_of l e) None (leased_out h l))) apart
+
+-- how many of each resource ------------------------------------------------------------------------------
+
+lease_found : (o : Option Event) → option_map_or makes_lease o false ≡ true → (q : ℕ) × (o ≡ Some (Lease q))
+lease_found None fails = absurd (false≢true fails)
+lease_found (Some (Lease q)) holds = (q, refl)
+lease_found (Some (Open place kind)) fails = absurd (false≢true fails)
+lease_found (Some _) fails = absurd (false≢true fails)
+
+-- what is returned was out, of this resource
+pub returned_lease : (h : List Event) (l : ℕ) → MayFollow nothing_kept h (Return l) → (q : ℕ) × (slice_get h l ≡ Some (Lease q)) × (leased_out h l ≡ Some q)
+returned_lease h l next =
+    let out = may_return nothing_kept next in
+    let found = lease_found (slice_get h l) (out_lease h l out) in
+    (found.0, found.1, (λ i. cond (out i) (option_and_then leased_of (found.1 i)) None))
+
+pub leases_of_less : (h : List Event) (l q r : ℕ) → IsLawful nothing_kept h → MayFollow nothing_kept h (Return l) → slice_get h l ≡ Some (Lease q)
+    → leases_of (h ++ Return l ∷ []) r ≡ leases_of h r - cond (q == r) 1 0
+leases_of_less h l q r law next is = let back = leases_of-return nothing_kept h l q law next is r in omega arith
+
+-- no more leases are out than events happened
+pub leases_few : (h : List Event) (r : ℕ) → leases_of h r ≤ length h
+unfolding leases_of
+leases_few h r =
+    let most = count_by-le-length (is_out_of h r) (places h) in
+    let long : length (places h) ≡ length h = length-range_with_len 0 (length h) in
     omega arith
+
+-- one event more, by what it is ----------------------------------------------------------------------------
+
+pub out_leased : (h : List Event) (e : Event) (l place r : ℕ) (old new : Option ℕ) → IsLawful nothing_kept h → place ≡ length h → e ≡ Lease r
+    → old ≡ leased_out h l → new ≡ cond (place == l) (Some r) old → new ≡ leased_out (h ++ e ∷ []) l
+out_leased h e l place r old new law is leases before here =
+    here ∙ (λ i. cond (is i == l) (Some r) (before i))
+    ∙ ap (λ e. cond (length h == l) (leased_of e) (cond (is_return_of l e) None (leased_out h l))) (sym leases)
+    ∙ sym (leased_out-push h e l law)
+
+pub out_returned : (h : List Event) (e : Event) (l m : ℕ) (old new : Option ℕ) → IsLawful nothing_kept h → e ≡ Return m → old ≡ leased_out h l
+    → new ≡ cond (m == l) None old → new ≡ leased_out (h ++ e ∷ []) l
+out_returned h e l m old new law returns before here =
+    here ∙ ap (λ x. cond (m == l) None x) before ∙ ap (λ e. cond (is_return_of l e) None (leased_out h l)) (sym returns)
+    ∙ sym (leased_out-plain h e l law (ap leased_of returns))
+
+-- an event that neither gives out a lease nor takes one back
+pub record LeasesNone (e : Event) : Type 0 where
+  pub leases : leased_of e ≡ None
+  pub lease_of : (r : ℕ) → is_lease_of r e ≡ false
+  pub returns : is_return e ≡ false
+  pub return_of : (l : ℕ) → is_return_of l e ≡ false
+
+pub leases_none : (e : Event) → ((r : ℕ) → e ≡ Lease r → ⊥) → ((l : ℕ) → e ≡ Return l → ⊥) → LeasesNone e
+leases_none (Lease r) no_lease no_return = absurd (no_lease r refl)
+leases_none (Return l) no_lease no_return = absurd (no_return l refl)
+leases_none (Open place kind) no_lease no_return = record { leases = refl; lease_of = λ r. refl; returns = refl; return_of = λ l. refl }
+leases_none _ no_lease no_return = record { leases = refl; lease_of = λ r. refl; returns = refl; return_of = λ l. refl }
+
+pub out_same : (h : List Event) (e : Event) (l : ℕ) → IsLawful nothing_kept h → LeasesNone e → leased_out h l ≡ leased_out (h ++ e ∷ []) l
+out_same h e l law none = sym (leased_out-plain h e l law none.leases ∙ ap (λ b. cond b None (leased_out h l)) (none.return_of l))
+
+-- nothing happened yet
+pub none_leased : (r : ℕ) → leases_of [] r ≡ 0
+unfolding leases_of
+none_leased r = refl
+
+pub none_out : (l : ℕ) → leased_out [] l ≡ None
+unfolding is_out
+none_out l = refl

@@ -1,4 +1,7 @@
 pub mod Laws
 pub mod Texts
-pub mod Gathering
+pub mod LinesMade
 pub mod LeasesOut
+pub mod EventsCounted
+pub mod TakenUp
+pub mod WholeHistory

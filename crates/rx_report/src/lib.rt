@@ -5,8 +5,9 @@
 //! - A report has a line for each step that was refused, for each node of the scenario that is told
 //!   something, and for each resource that it handed in, one for the [`Totals`] and one for the closing
 //!   of the book. `specs/Text` defines the bytes of each line, and `specs/Lines` which lines there are.
-//! - [`Tallies`] are what each resource and each node met, by their numbers: one pass over the events and
-//!   one over the notes, so that a line is made without another.
+//! - [`Tallies`] are what each resource and each node met, by their numbers. They grow as events and notes
+//!   come: [`gather`] takes in what a book has of both, so that a checkpoint may let them go and the report
+//!   is still of the whole history.
 //!
 //! # Promised, and not
 //!
@@ -16,12 +17,15 @@
 //!   `specs/Keys`).
 #![tactic(auto)]
 
+mod counting;
+mod gathering;
 mod line;
 mod report;
 mod tallies;
 mod text;
 
+pub use gathering::gather;
 pub use line::{Account, Totals, Whereabouts};
-pub use report::{all_mail, events_of, push_nodes, push_resources, totals_of};
-pub use tallies::{Tallies, tally};
+pub use report::{events_of, push_nodes, push_resources, totals_of};
+pub use tallies::Tallies;
 pub use text::{push_all_refused, push_closed, push_totals};

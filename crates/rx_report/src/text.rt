@@ -31,6 +31,7 @@ fn refusal_name(why: Refusal) -> &'static str
         Refusal::TooMany => "TooMany",
         Refusal::NoLease => "NoLease",
         Refusal::Leased => "Leased",
+        Refusal::MailLeft => "MailLeft",
     }
 }
 

@@ -1,4 +1,6 @@
 -- A step from its parts, and how many steps there are.
+pub mod Members
+pub mod Checkpoints
 use Rattle.std.proofs.Common.{◌≡◌, ℕ, ◌+◌, List, [], ◌∷◌, ◌++◌, length, length-append, map, option_map, string_bytes, refl, sym, ap, ◌∙◌, rules}
 use Rattle.std.specs.Prelude.{sum_by}
 use Rattle.std.proofs.lemmas.List.Sums.{sum_by-cons}

@@ -1,4 +1,3 @@
 pub mod Laws
-pub mod Lists
 pub mod Steps
 pub mod Labels

@@ -6,9 +6,6 @@ use Rattle.rx_scenario.specs.Scenario.{Name, Step, steps_of, labels_in, labels_o
 abbrev pub with_front : List Step → Option (List Step) → Option (List Step)
 with_front front read = option_map (λ steps. front ++ steps) read
 
-abbrev pub with_then : Step → List Step → Step
-with_then s ss = record { label = s.label; delay = s.delay; action = s.action; followers = steps_of ss }
-
 pub labels_in-push : (ss : List Step) (s : Step) → labels_in (steps_of (ss ++ s ∷ [])) ≡ labels_in (steps_of ss) ++ labels_of s
 labels_in-push [] s = simp append-nil
 labels_in-push (x ∷ xs) s = ap (λ (ls : List (Option Name)). labels_of x ++ ls) (labels_in-push xs s)

@@ -1,2 +1,3 @@
 pub mod Scenario
 pub mod Reading
+pub mod Checkpoints

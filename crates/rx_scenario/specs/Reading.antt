@@ -8,7 +8,7 @@ use Rattle.rx_note.specs.declared.note.Terminal.{Terminal}
 use Rattle.rx_note.specs.declared.note.Terminal.TheVariants.{Completed, Error}
 use Rattle.rx_event.specs.declared.event.Mode.{Mode}
 use Rattle.rx_event.specs.declared.event.Mode.TheVariants.{Auto, Manual}
-use Rattle.rx_scenario.specs.Scenario.{Name, Site, root, source, inner, notifier, Sort, leaf, pass, flat, switch, until, sub, Command, using, open_node, hold, apply, remove, lease, give_back, next, end, abort, decline, fail, dispose, make_hub, connect, disconnect, drain, Action, command, cancel, Step, no_steps, steps_of, labels_in, Script}
+use Rattle.rx_scenario.specs.Scenario.{Name, Site, root, source, inner, notifier, Sort, leaf, pass, flat, switch, until, sub, Command, using, open_node, hold, apply, remove, lease, give_back, next, end, abort, decline, fail, dispose, make_hub, connect, disconnect, drain, checkpoint, Action, command, cancel, Step, no_steps, steps_of, labels_in, Script}
 
 -- members -----------------------------------------------------------------------------------------
 
@@ -249,6 +249,9 @@ disconnect_of d =
 unfoldable pub drain_of : Data → Option Command
 drain_of d = if is_step_of [] d then Some drain else None
 
+unfoldable pub checkpoint_of : Data → Option Command
+checkpoint_of d = if is_step_of [] d then Some checkpoint else None
+
 unfoldable pub command_by : List ℕ → Data → Option Command
 command_by what d =
     if bytes_eq what (codes "using") then using_of d
@@ -268,6 +271,7 @@ command_by what d =
     else if bytes_eq what (codes "connect") then connect_of d
     else if bytes_eq what (codes "disconnect") then disconnect_of d
     else if bytes_eq what (codes "drain") then drain_of d
+    else if bytes_eq what (codes "checkpoint") then checkpoint_of d
     else None
 
 unfoldable pub cancel_of : Data → Option Action

@@ -8,7 +8,7 @@ use Rattle.rx_scenario.specs.declared.scenario.Site.TheVariants.{Root, Source, I
 use Rattle.rx_scenario.specs.declared.scenario.Sort.{Sort as SortInCode}
 use Rattle.rx_scenario.specs.declared.scenario.Sort.TheVariants.{Leaf, Pass, Flat, Switch, Until, Sub}
 use Rattle.rx_scenario.specs.declared.scenario.Command.{Command as CommandInCode}
-use Rattle.rx_scenario.specs.declared.scenario.Command.TheVariants.{Using, Open, Hold, Apply, Remove, Lease, Return, Next, End, Abort, Decline, Fail, Dispose, Hub, Connect, Disconnect, Drain}
+use Rattle.rx_scenario.specs.declared.scenario.Command.TheVariants.{Using, Open, Hold, Apply, Remove, Lease, Return, Next, End, Abort, Decline, Fail, Dispose, Hub, Connect, Disconnect, Drain, Checkpoint}
 use Rattle.rx_scenario.specs.declared.scenario.Action.{Action as ActionInCode}
 use Rattle.rx_scenario.specs.declared.scenario.Action.TheVariants.{Command as CommandThere, Cancel}
 use Rattle.rx_scenario.specs.declared.scenario.Step.{Step as StepInCode, fold-Step}
@@ -55,6 +55,7 @@ pub data Command : Type 0 where
   connect : (hub : Name) → (name : Option Name) → Command
   disconnect : (hub : Name) → Command
   drain : Command
+  checkpoint : Command
 
 -- what a step does: a command of the book, or it takes the waiting step that has this label off the timeline
 pub data Action : Type 0 where
@@ -131,6 +132,7 @@ command_of (Hub n m) = make_hub (string_bytes n) m
 command_of (Connect h n) = connect (string_bytes h) (option_map string_bytes n)
 command_of (Disconnect h) = disconnect (string_bytes h)
 command_of Drain = drain
+command_of Checkpoint = checkpoint
 
 abbrev pub action_of : ActionInCode → Action
 action_of (CommandThere c) = command (command_of c)

@@ -15,13 +15,17 @@
 //! - [`scenario_of`] gives the scenario that a value is, and `Shape` where it is none, exactly; so does
 //!   [`action_in`] for what one step does. That `Memory` is given only where memory was refused is
 //!   tested above.
+//! - [`has_checkpoint`] says whether any of these steps makes a checkpoint, those that follow others and
+//!   those that are never executed included (`specs/Checkpoints.antt`).
 //! - There are the commands `using`, `open`, `hold`, `apply`, `remove`, `lease`, `return`, `next`,
-//!   `end`, `abort`, `decline`, `fail`, `dispose`, `hub`, `connect`, `disconnect`, `drain` and `cancel`,
-//!   at every place, for every kind of node. Anything else is `Shape`.
+//!   `end`, `abort`, `decline`, `fail`, `dispose`, `hub`, `connect`, `disconnect`, `drain`, `checkpoint`
+//!   and `cancel`, at every place, for every kind of node. Anything else is `Shape`.
 #![tactic(auto)]
 
+mod checkpoints;
 mod reading;
 mod scenario;
 
+pub use checkpoints::has_checkpoint;
 pub use reading::{action_in, scenario_of};
 pub use scenario::{Action, Command, Scenario, Site, Sort, Step, Ticks};

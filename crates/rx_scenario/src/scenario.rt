@@ -207,6 +207,8 @@ pub enum Command {
     },
     /// All that waits is taken and released.
     Drain,
+    /// The book makes a checkpoint: what its history leaves takes the history's place.
+    Checkpoint,
 }
 
 /// Where a node is to be opened, by the name of the node above.

@@ -1,6 +1,7 @@
 -- One more step of a course.
 use Rattle.std.proofs.Common.{◌≡◌, ◌≤◌, ◌+◌, ◌++◌, ◌∷◌, [], ℕ, List, length, map, string_bytes, String, Global, refl, sym, ap, subst, ◌∙◌, arith}
-use Rattle.std.specs.Prelude.{Result, Ok, Err, IfOk, Some, sum_by}
+use Rattle.std.specs.Prelude.{Result, Ok, Err, IfOk, Some, None, sum_by}
+use Rattle.rx_event.specs.declared.event.Event.{Event}
 use Rattle.rx_scenario.specs.declared.scenario.Action.TheVariants.{Command as CommandThere, Cancel}
 use Rattle.rx_scenario.specs.declared.scenario.Command.{Command as CommandInCode}
 use Rattle.rx_scenario.specs.declared.scenario.Step.{Step as StepInCode, out-Step}
@@ -11,8 +12,8 @@ use Rattle.rx_agenda.specs.declared.answer.Answer.{Answer}
 use Rattle.rx_script.specs.declared.engine.Engine.{Engine}
 use Rattle.rx_agenda.specs.Agenda.{Cancels, followed_by, next_step}
 use Rattle.rx_script.specs.Course.{limited}
-use Rattle.rx_script.specs.Progress.{Progress, Performs, executes, cancels, Advances, Leads, advanced}
-use Rattle.rx_script.specs.Engine.{IsSound, Carries, Performed, Followed, progress_of}
+use Rattle.rx_script.specs.Progress.{Performs, executes, cancels, Advances, Leads, not_begun, advanced, Ends}
+use Rattle.rx_script.specs.Engine.{stage_of, MovesOn, IsSound, Carries, Performed, Followed}
 use Rattle.rx_agenda.specs.Shown.{agenda_of, size_of, size_left}
 
 pub IfOk-map : {T E : Type 0} {A B : T → Type 0} (r : Result T E) → ((x : T) → A x → B x) → IfOk r A → IfOk r B
@@ -34,10 +35,9 @@ module _ {R : Type 0} where
   pub performed_command : (e new : Engine R) (a : AgendaInCode) (c : CommandInCode) (answer : Answer) → Carries e (command_of c) answer new
       → Performed e a (CommandThere c) answer new a
   performed_command e new a c answer carried = record {
-    performs = executes carried.executes;
+    performs = λ h w. let to = carried.executes h w in (to.0, executes to.1, to.2);
     sound = carried.sound;
     limit = carried.limit;
-    given = carried.given;
     size = omega arith;
     clock = refl;
   }
@@ -46,18 +46,19 @@ module _ {R : Type 0} where
       → Cancels (agenda_of a) (string_bytes label) answer (agenda_of now) → size_left now ≤ size_left a → now.timeline.clock ≡ a.timeline.clock
       → Performed e a (Cancel label) answer e now
   performed_cancel e a now label answer sound cancelled size clock = record {
-    performs = cancels cancelled;
+    performs = λ h w. (h, cancels cancelled, w);
     sound = sound;
     limit = refl;
-    given = refl;
     size = size;
     clock = clock;
   }
 
   module _ (e new : Engine R) (before between : AgendaInCode) (s : StepInCode) (answer : Answer)
       (done : Performed e before (out-Step s).action answer new between) where
-    performs_step : Performs (limited e.book.limit) (progress_of e before) (step_of s).action answer (progress_of new between)
-    performs_step = subst (λ t. Performs (limited e.book.limit) (progress_of e before) t.action answer (progress_of new between)) (sym (step_of-parts s)) done.performs
+    performs_step : MovesOn e new (λ p q. Performs (limited e.book.limit) (record { stage = p; agenda = agenda_of before }) (step_of s).action answer
+        (record { stage = q; agenda = agenda_of between }))
+    performs_step = subst (λ t. MovesOn e new (λ p q. Performs (limited e.book.limit) (record { stage = p; agenda = agenda_of before }) t.action answer
+        (record { stage = q; agenda = agenda_of between }))) (sym (step_of-parts s)) done.performs
 
     pub followed : (now : AgendaInCode) → agenda_of now ≡ followed_by answer (map step_of (out-Step s).then.items) (agenda_of between)
         → size_left now ≤ size_left between + sum_by size_of (out-Step s).then.items
@@ -66,29 +67,56 @@ module _ {R : Type 0} where
         let parts = size_of-parts s in
         let fewer = done.size in
         record {
-          done = progress_of new between;
+          left = agenda_of between;
           performs = performs_step;
-          stage = refl;
           follows = joined ∙ ap (λ ss. followed_by answer ss (agenda_of between)) (sym (followers-listed s));
           sound = done.sound;
           limit = done.limit;
-          given = done.given;
           size = omega arith;
           clock = clock ∙ done.clock;
         }
 
-  pub leads_more : (limit until : ℕ) (first : Progress) (e new : Engine R) (before between now : AgendaInCode) (s : StepInCode)
-      (answers pushed : List Answer) (answer : Answer)
-      → Leads (limited limit) until first answers (progress_of e before) → e.book.limit ≡ limit → next_step until (agenda_of before) ≡ Some (step_of s, agenda_of between)
-      → Followed e between s answer new now → pushed ≡ answers ++ answer ∷ [] → Leads (limited limit) until first pushed (progress_of new now)
-  leads_more limit until first e new before between now s answers pushed answer leads same comes after is_pushed =
-      let advances : Advances (limited limit) until (progress_of e before) answer (progress_of new now) = record {
-        step = step_of s;
-        rest = agenda_of between;
-        comes = comes;
-        done = after.done;
-        performs = subst (λ n. Performs (limited n) (progress_of e between) (step_of s).action answer after.done) same after.performs;
-        stage = after.stage;
-        follows = after.follows;
-      } in
-      rw is_pushed (advanced leads advances)
+  -- what a run has led to
+  abbrev pub HasLed : ℕ → ℕ → Engine R → AgendaInCode → List Answer → Engine R → AgendaInCode → Type 0
+  HasLed limit until first begun answers e now = MovesOn first e (λ s t. Leads (limited limit) until (record { stage = s; agenda = agenda_of begun }) answers
+      (record { stage = t; agenda = agenda_of now }))
+
+  pub not_led : (limit until : ℕ) (first : Engine R) (begun : AgendaInCode) (answers : List Answer) → answers ≡ [] → HasLed limit until first begun answers first begun
+  not_led limit until first begun answers none = λ h w. (
+    h,
+    subst (λ l. Leads (limited limit) until (record { stage = stage_of first h; agenda = agenda_of begun }) l (record { stage = stage_of first h; agenda = agenda_of begun }))
+        (sym none) not_begun,
+    w,
+  )
+
+  module _ (limit until : ℕ) (first e new : Engine R) (begun before between now : AgendaInCode) (s : StepInCode)
+      (answers pushed : List Answer) (answer : Answer) (same : e.book.limit ≡ limit) (comes : next_step until (agenda_of before) ≡ Some (step_of s, agenda_of between))
+      (after : Followed e between s answer new now) (is_pushed : pushed ≡ answers ++ answer ∷ []) where
+    advances : (h k : List Event) → Performs (limited e.book.limit) (record { stage = stage_of e h; agenda = agenda_of between }) (step_of s).action answer
+        (record { stage = stage_of new k; agenda = after.left })
+        → Advances (limited limit) until (record { stage = stage_of e h; agenda = agenda_of before }) answer (record { stage = stage_of new k; agenda = agenda_of now })
+    advances h k performs = record {
+      step = step_of s;
+      rest = agenda_of between;
+      comes = comes;
+      done = record { stage = stage_of new k; agenda = after.left };
+      performs = subst (λ n. Performs (limited n) (record { stage = stage_of e h; agenda = agenda_of between }) (step_of s).action answer
+          (record { stage = stage_of new k; agenda = after.left })) same performs;
+      stage = refl;
+      follows = after.follows;
+    }
+
+    pub leads_more : HasLed limit until first begun answers e before → HasLed limit until first begun pushed new now
+    leads_more led h w =
+        let to = led h w in
+        let on = after.performs to.0 to.2 in (
+          on.0,
+          subst (λ l. Leads (limited limit) until (record { stage = stage_of first h; agenda = agenda_of begun }) l (record { stage = stage_of new on.0; agenda = agenda_of now }))
+              (sym is_pushed) (advanced to.1 (advances to.0 on.0 on.1)),
+          on.2,
+        )
+
+  -- it has led to its end
+  pub has_ended : (limit until : ℕ) (first e : Engine R) (begun now : AgendaInCode) (answers : List Answer) → HasLed limit until first begun answers e now
+      → next_step until (agenda_of now) ≡ None → MovesOn first e (λ s t. Ends (limited limit) until (record { stage = s; agenda = agenda_of begun }) answers t)
+  has_ended limit until first e begun now answers led none = λ h w. let to = led h w in (to.0, record { left = agenda_of now; leads = to.1; over = none }, to.2)

@@ -1,6 +1,6 @@
--- The calls that steps make: none is the taking of a resource, and every step but a drain makes one where no cause of the scenario's
+-- The calls that steps make: none is the taking of a resource, and every step but a drain and a checkpoint makes one where no cause of the scenario's
 -- own stands.
-use Rattle.std.proofs.Common.{◌≡◌, ℕ, Bool, true, false, List, [], ◌∷◌, Option, Some, None, cond, slice_get, refl, sym, subst}
+use Rattle.std.proofs.Common.{◌≡◌, ◌⊎◌, inl, inr, ℕ, Bool, true, false, List, [], ◌∷◌, Option, Some, None, cond, slice_get, refl, sym, subst}
 use Rattle.std.proofs.Math.Bool.{◌||◌}
 use Rattle.std.specs.Prelude.{is_none, option_map}
 use Rattle.std.specs.Option.{option_and_then}
@@ -15,7 +15,7 @@ use Rattle.rx_event.specs.Calls.{Call, Opening, OpeningUsing, Holding, Applying,
 use Rattle.rx_register.specs.Claims.{IsReady}
 use Rattle.rx_agenda.specs.declared.answer.Cause.TheVariants.{NoName, NameTaken, NoStock}
 use Rattle.rx_agenda.specs.Bindings.{Binding, bound, is_unbound}
-use Rattle.rx_scenario.specs.Scenario.{Name, Site, root, source, inner, notifier, Sort, leaf, pass, flat, switch, until, sub, Command, using, open_node, hold, apply, remove, lease, give_back, next, end, abort, decline, fail, dispose, make_hub, connect, disconnect, drain}
+use Rattle.rx_scenario.specs.Scenario.{Name, Site, root, source, inner, notifier, Sort, leaf, pass, flat, switch, until, sub, Command, using, open_node, hold, apply, remove, lease, give_back, next, end, abort, decline, fail, dispose, make_hub, connect, disconnect, drain, checkpoint}
 use Rattle.rx_script.specs.Stage.{Ware, Stage, is_unbound_site, is_unbound_hub, is_empty, takes_name, own_cause, place_at, kind_at, front, call_of, after}
 
 -- what is called ---------------------------------------------------------------------------------------------------------------------
@@ -61,6 +61,7 @@ call_ready s (make_hub name mode) call called = subst (IsReady s.history) (same_
 call_ready s (connect hub name) call called = of_number (IsReady s.history) Connecting (λ n. tt) (bound s.hubs hub) call called
 call_ready s (disconnect hub) call called = of_number (IsReady s.history) Disconnecting (λ n. tt) (bound s.hubs hub) call called
 call_ready s drain call called = absurd (none-some call called)
+call_ready s checkpoint call called = absurd (none-some call called)
 
 -- that something is called -----------------------------------------------------------------------------------------------------------
 
@@ -116,7 +117,7 @@ named_called : (f : ℕ → Call) (bindings : List Binding) (name : Name) → co
     → option_map f (bound bindings name) ≡ None → ⊥
 named_called f bindings name own uncalled = bound_called f (bound bindings name) (named_alone (is_unbound bindings name) own) uncalled
 
-pub not_called : (s : Stage) (step : Command) → own_cause s step ≡ None → call_of s step ≡ None → step ≡ drain
+pub not_called : (s : Stage) (step : Command) → own_cause s step ≡ None → call_of s step ≡ None → (step ≡ drain) ⊎ (step ≡ checkpoint)
 not_called s (using name site res) own uncalled =
     let parts = no_cause_of_own (is_unbound_site s site) (takes_name s (using name site res)) (is_empty s.stock) own in
     absurd (using_called (place_at s site) (front s) (site_called s site parts.0) (stock_called s.stock parts.1) uncalled)
@@ -144,7 +145,8 @@ not_called s (connect hub name) own uncalled =
     let parts = no_cause_of_own (is_unbound s.hubs hub) (takes_name s (connect hub name)) false own in
     absurd (bound_called Connecting (bound s.hubs hub) parts.0 uncalled)
 not_called s (disconnect hub) own uncalled = absurd (named_called Disconnecting s.hubs hub own uncalled)
-not_called s drain own uncalled = refl
+not_called s drain own uncalled = inl refl
+not_called s checkpoint own uncalled = inr refl
 
 -- the history after a step -----------------------------------------------------------------------------------------------------------
 
@@ -166,3 +168,4 @@ history-after s (make_hub name mode) k = refl
 history-after s (connect hub name) k = refl
 history-after s (disconnect hub) k = refl
 history-after s drain k = refl
+history-after s checkpoint k = refl

@@ -26,12 +26,12 @@ use Rattle.rx_scenario.specs.Scenario.{Name, Command, apply, remove, next, end, 
 use Rattle.rx_script.specs.Stage.{Stage, own_cause, call_of, front_is_fresh, after}
 use Rattle.rx_agenda.specs.Bindings.{bound, is_unbound}
 use Rattle.rx_agenda.specs.Names.{key_of}
-use Rattle.rx_script.specs.Engine.{stage_of, IsSound, Carries}
+use Rattle.rx_script.specs.Engine.{IsSound, Carries}
 use Rattle.rx_report.specs.Keys.{IsNodeKey, IsHeldKey}
 use Rattle.rx_report.proofs.Laws.{has_key-is_open, has_res_key-is_held}
 use Rattle.rx_agenda.proofs.Laws.{key_of-holds}
 use Rattle.rx_script.proofs.Naming.{node_bound, node_unbound, res_bound, res_unbound}
-use Rattle.rx_script.proofs.Carrying.{Agrees, first_cause-by_key, with, refused_own, refused_there, accepted_plain}
+use Rattle.rx_script.proofs.Carrying.{Agrees, first_cause-by_key, with, refused_own, refused_there, accepted_plain, stored_stage}
 
 -- refusals by the book -----------------------------------------------------------------------------
 
@@ -76,15 +76,15 @@ dispose_step node = record { own = λ s. refl; called = λ s. refl; binds_none =
 module _ {R : Type 0} (e : Engine R) {step : Command} {name : Name} {call : ℕ → Call} (is_step : IsNodeStep step name call) (sound : IsSound e) where
   pub node_nameless : key_of e.nodes name ≡ None → Carries e step (Refused NoName) (with e e.book e.stock)
   node_nameless none =
-      let nameless : is_unbound (stage_of e).nodes name ≡ true = ap is_none (node_unbound e.nodes name none) in
-      refused_own e step NoName e.book e.stock sound refl refl (is_step.own (stage_of e) ∙ ap (λ b. cond b (Some NoName) None) nameless)
+      let nameless : is_unbound (stored_stage e).nodes name ≡ true = ap is_none (node_unbound e.nodes name none) in
+      refused_own e step NoName e.book e.stock sound refl refl (is_step.own (stored_stage e) ∙ ap (λ b. cond b (Some NoName) None) nameless)
 
   module _ (k : Key) (named : key_of e.nodes name ≡ Some k) where
-    number_named : bound (stage_of e).nodes name ≡ Some k.number
+    number_named : bound (stored_stage e).nodes name ≡ Some k.number
     number_named = node_bound e.nodes name k named
 
-    no_own_cause : own_cause (stage_of e) step ≡ None
-    no_own_cause = is_step.own (stage_of e) ∙ ap (λ o. cond (is_none o) (Some NoName) None) number_named
+    no_own_cause : own_cause (stored_stage e) step ≡ None
+    no_own_cause = is_step.own (stored_stage e) ∙ ap (λ o. cond (is_none o) (Some NoName) None) number_named
 
     known : has_key e.book.keys k ≡ is_open e.book.history k.number
     known = has_key-is_open e.book k sound.kept (key_of-holds (IsNodeKey e.book) e.nodes name k sound.nodes named)
@@ -92,21 +92,21 @@ module _ {R : Type 0} (e : Engine R) {step : Command} {name : Name} {call : ℕ 
     abbrev asked : Request
     asked = node_request e.book k (call k.number)
 
-    agrees : Agrees e.book asked (stage_of e) step
+    agrees : Agrees e.book asked (stored_stage e) step
     agrees = record {
-      called = is_step.called (stage_of e) ∙ ap (option_map call) number_named;
+      called = is_step.called (stored_stage e) ∙ ap (option_map call) number_named;
       same =
           ap first_cause (is_step.by_node k.number (has_key e.book.keys k) (causes e.book.base e.book.history e.book.limit true (call k.number)))
-          ∙ ap (λ stand. first_cause (by_key (has_key e.book.keys k) stand)) (is_step.any_front e.book.base e.book.history e.book.limit (front_is_fresh (stage_of e)) k.number)
-          ∙ first_cause-by_key (has_key e.book.keys k) (causes e.book.base e.book.history e.book.limit (front_is_fresh (stage_of e)) (call k.number))
-          (λ unknown. is_step.gone e.book.base e.book.history e.book.limit (front_is_fresh (stage_of e)) k.number ∙ ap not (sym known ∙ unknown));
+          ∙ ap (λ stand. first_cause (by_key (has_key e.book.keys k) stand)) (is_step.any_front e.book.base e.book.history e.book.limit (front_is_fresh (stored_stage e)) k.number)
+          ∙ first_cause-by_key (has_key e.book.keys k) (causes e.book.base e.book.history e.book.limit (front_is_fresh (stored_stage e)) (call k.number))
+          (λ unknown. is_step.gone e.book.base e.book.history e.book.limit (front_is_fresh (stored_stage e)) k.number ∙ ap not (sym known ∙ unknown));
     }
 
     pub node_refused : (book : State) (why : Refusal) → book ≡ e.book → IsRefusal (stands e.book (node_request e.book k (call k.number))) why → why ≢ NoMemory → Carries e step (Refused (Book why)) (with e book e.stock)
     node_refused book why same refusal other = refused_there e step asked why book e.stock sound same refl no_own_cause agrees (cause_of (stands e.book asked) why refusal other)
 
     pub node_accepted : (book : State) → IsPromised book → Accepts e.book (node_request e.book k (call k.number)) book → Carries e step Accepted (with e book e.stock)
-    node_accepted book kept accepts = accepted_plain e step asked book sound kept no_own_cause agrees accepts (is_step.binds_none (stage_of e))
+    node_accepted book kept accepts = accepted_plain e step asked book sound kept no_own_cause agrees accepts (is_step.binds_none (stored_stage e))
 
 -- commands that name one resource ------------------------------------------------------------------
 
@@ -135,15 +135,15 @@ remove_step res = record { own = λ s. refl; called = λ s. refl; binds_none = �
 module _ {R : Type 0} (e : Engine R) {step : Command} {name : Name} {call : ℕ → Call} (is_step : IsResStep step name call) (sound : IsSound e) where
   pub res_nameless : key_of e.resources name ≡ None → Carries e step (Refused NoName) (with e e.book e.stock)
   res_nameless none =
-      let nameless : is_unbound (stage_of e).resources name ≡ true = ap is_none (res_unbound e.resources name none) in
-      refused_own e step NoName e.book e.stock sound refl refl (is_step.own (stage_of e) ∙ ap (λ b. cond b (Some NoName) None) nameless)
+      let nameless : is_unbound (stored_stage e).resources name ≡ true = ap is_none (res_unbound e.resources name none) in
+      refused_own e step NoName e.book e.stock sound refl refl (is_step.own (stored_stage e) ∙ ap (λ b. cond b (Some NoName) None) nameless)
 
   module _ (k : ResKey) (named : key_of e.resources name ≡ Some k) where
-    res_number : bound (stage_of e).resources name ≡ Some k.number
+    res_number : bound (stored_stage e).resources name ≡ Some k.number
     res_number = res_bound e.resources name k named
 
-    res_no_own_cause : own_cause (stage_of e) step ≡ None
-    res_no_own_cause = is_step.own (stage_of e) ∙ ap (λ o. cond (is_none o) (Some NoName) None) res_number
+    res_no_own_cause : own_cause (stored_stage e) step ≡ None
+    res_no_own_cause = is_step.own (stored_stage e) ∙ ap (λ o. cond (is_none o) (Some NoName) None) res_number
 
     res_known : has_res_key e.book.res_keys k ≡ is_held e.book.history k.number
     res_known = has_res_key-is_held e.book k sound.kept (key_of-holds (IsHeldKey e.book) e.resources name k sound.resources named)
@@ -151,14 +151,14 @@ module _ {R : Type 0} (e : Engine R) {step : Command} {name : Name} {call : ℕ 
     abbrev res_asked : Request
     res_asked = res_request e.book k (call k.number)
 
-    res_agrees : Agrees e.book res_asked (stage_of e) step
+    res_agrees : Agrees e.book res_asked (stored_stage e) step
     res_agrees = record {
-      called = is_step.called (stage_of e) ∙ ap (option_map call) res_number;
-      same = is_step.same_cause (has_res_key e.book.res_keys k) e.book.base e.book.history e.book.limit (front_is_fresh (stage_of e)) k.number res_known;
+      called = is_step.called (stored_stage e) ∙ ap (option_map call) res_number;
+      same = is_step.same_cause (has_res_key e.book.res_keys k) e.book.base e.book.history e.book.limit (front_is_fresh (stored_stage e)) k.number res_known;
     }
 
     pub res_refused : (book : State) (why : Refusal) → book ≡ e.book → IsRefusal (stands e.book (res_request e.book k (call k.number))) why → why ≢ NoMemory → Carries e step (Refused (Book why)) (with e book e.stock)
     res_refused book why same refusal other = refused_there e step res_asked why book e.stock sound same refl res_no_own_cause res_agrees (cause_of (stands e.book res_asked) why refusal other)
 
     pub res_accepted : (book : State) → IsPromised book → Accepts e.book (res_request e.book k (call k.number)) book → Carries e step Accepted (with e book e.stock)
-    res_accepted book kept accepts = accepted_plain e step res_asked book sound kept res_no_own_cause res_agrees accepts (is_step.binds_none (stage_of e))
+    res_accepted book kept accepts = accepted_plain e step res_asked book sound kept res_no_own_cause res_agrees accepts (is_step.binds_none (stored_stage e))

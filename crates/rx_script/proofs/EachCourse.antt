@@ -1,5 +1,5 @@
 -- Each scenario with a stock has a canonical course, and so just one.
-use Rattle.std.proofs.Common.{◌≡◌, ℕ, zero, suc, ◌<◌, List, [], ◌∷◌, ◌++◌, Option, Some, None, refl, sym, ap, subst, ◌∙◌, arith, append_assoc, append-nil}
+use Rattle.std.proofs.Common.{◌≡◌, ◌⊎◌, inl, inr, ℕ, zero, suc, ◌<◌, List, [], ◌∷◌, ◌++◌, Option, Some, None, refl, sym, ap, subst, ◌∙◌, arith, append_assoc, append-nil}
 use Rattle.std.specs.Option.{option_and_then}
 use Rattle.rx_event.specs.Kept.{nothing_kept}
 use Rattle.rx_event.specs.Forced.{IsSettled}
@@ -15,9 +15,9 @@ use Rattle.rx_agenda.specs.declared.answer.Cause.{Cause}
 use Rattle.rx_agenda.specs.declared.answer.Cause.TheVariants.{NoStep, Book}
 use Rattle.rx_agenda.specs.Bindings.{bound}
 use Rattle.rx_agenda.specs.Agenda.{Agenda, empty_agenda, with_steps, followed_by, next_step, without_ticket, Cancels, taken_off, none_waits}
-use Rattle.rx_scenario.specs.Scenario.{Name, Command, drain, Action, command, cancel, Step, list_of, Script}
+use Rattle.rx_scenario.specs.Scenario.{Name, Command, drain, checkpoint, Action, command, cancel, Step, list_of, Script}
 use Rattle.rx_script.specs.Stage.{Ware, Stage, own_cause, call_of, front_is_fresh, after}
-use Rattle.rx_script.specs.Course.{in_one_order, cause_in, Executes, refused, refused_by_book, accepted, drained, Course, IsCanonicalCourseOf, HasOneCourse}
+use Rattle.rx_script.specs.Course.{in_one_order, cause_in, Executes, refused, refused_by_book, accepted, drained, checkpointed, Course, IsCanonicalCourseOf, HasOneCourse}
 use Rattle.rx_script.specs.Progress.{Progress, begin, Performs, executes, cancels, Advances, Leads, not_begun, advanced, Ends}
 use Rattle.rx_script.proofs.CoursesInOrder.{course_in_order}
 use Rattle.rx_script.proofs.Calling.{call_ready, not_called, history-after}
@@ -54,15 +54,22 @@ module _ (s : Stage) (law : IsLawful nothing_kept s.history) (settled : IsSettle
       let w : OrderedDrain s.history = ordered_drain s.history law settled in
       record { answer = Accepted; last = after s drain w.last; done = drained w.drains; law = w.drained.law; settled = w.drained.settled }
 
+  is_checked : IsExecuted s checkpoint
+  is_checked = record { answer = Accepted; last = after s checkpoint s.history; done = checkpointed; law = law; settled = settled }
+
   is_executed : (step : Command) → IsExecuted s step
   is_executed step = by_own (own_cause s step) refl where
+    by_step : (step ≡ drain) ⊎ (step ≡ checkpoint) → IsExecuted s step
+    by_step (inl is) = subst (IsExecuted s) (sym is) is_drained
+    by_step (inr is) = subst (IsExecuted s) (sym is) is_checked
+
     by_cause : (call : Call) → own_cause s step ≡ None → call_of s step ≡ Some call → (o : Option Refusal) → cause_in in_one_order s call ≡ o
         → IsExecuted s step
     by_cause call own called (Some why) stands = is_refused step (Book why) (refused_by_book own called stands)
     by_cause call own called None free = is_accepted step call own called free
 
     by_call : own_cause s step ≡ None → (o : Option Call) → call_of s step ≡ o → IsExecuted s step
-    by_call own None uncalled = subst (IsExecuted s) (sym (not_called s step own uncalled)) is_drained
+    by_call own None uncalled = by_step (not_called s step own uncalled)
     by_call own (Some call) called = by_cause call own called (cause_in in_one_order s call) refl
 
     by_own : (o : Option Cause) → own_cause s step ≡ o → IsExecuted s step

@@ -4,3 +4,4 @@ pub mod Lengths
 pub mod InOneOrder
 pub mod HubBelowUntil
 pub mod Times
+pub mod Checkpoint

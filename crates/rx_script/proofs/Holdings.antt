@@ -26,33 +26,33 @@ use Rattle.rx_script.specs.Shelf.{Shelf}
 use Rattle.rx_agenda.specs.Names.{name_of, key_of}
 use Rattle.rx_report.specs.Keys.{node_binding, res_binding, lease_binding, IsNodeKey, IsHeldKey, IsLeaseKey}
 use Rattle.rx_agenda.specs.Shown.{number_binding}
-use Rattle.rx_script.specs.Engine.{at_of, stage_of, IsSound, Carries}
+use Rattle.rx_script.specs.Engine.{at_of, IsSound, Carries}
 use Rattle.rx_report.proofs.Laws.{has_key-is_open}
 use Rattle.rx_agenda.proofs.Laws.{key_of-holds}
 use Rattle.rx_script.proofs.Naming.{node_bound, node_unbound}
 use Rattle.rx_book.proofs.Laws.Going.{accepted_continues}
 use Rattle.rx_script.proofs.Going.{node_keys_kept, held_keys_kept, lease_keys_kept}
-use Rattle.rx_script.proofs.Carrying.{Agrees, first_cause-by_key, with, refused_own, refused_there, accepted_to}
+use Rattle.rx_script.proofs.Carrying.{Agrees, first_cause-by_key, with, refused_own, refused_there, accepted_to, stored_stage, KeepsRest}
 use Rattle.rx_script.proofs.Commands.{cause_of}
 use Rattle.rx_script.proofs.Openings.{is_bound-nodes, is_bound-resources, IsPlaced, site_placed, site_nameless, new_node_key, new_held_key, nodes_bound, resources_bound, same_stage, all_pushed}
 
 -- a stock with a resource in front
 module _ {R : Type 0} (e : Engine R) (w : Ware) (rest : List Ware) (stocked : e.stock.wares ≡ w ∷ rest) where
-  pub front_stocked : front (stage_of e) ≡ Some w
+  pub front_stocked : front (stored_stage e) ≡ Some w
   front_stocked = ap (λ wares. slice_get wares 0) stocked
 
-  pub fresh_stocked : front_is_fresh (stage_of e) ≡ w.is_fresh
+  pub fresh_stocked : front_is_fresh (stored_stage e) ≡ w.is_fresh
   fresh_stocked = rw front_stocked refl
 
-  pub some_stocked : is_empty (stage_of e).stock ≡ false
+  pub some_stocked : is_empty (stored_stage e).stock ≡ false
   some_stocked = ap is_empty stocked
 
-  pub rest_stocked : drop 1 (stage_of e).stock ≡ rest
+  pub rest_stocked : drop 1 (stored_stage e).stock ≡ rest
   rest_stocked = ap (drop 1) stocked
 
   -- the causes look at that resource
   pub same_stocked : (known : Bool) (call : Call) → (known ≡ false → causes e.book.base e.book.history e.book.limit w.is_fresh call Gone ≡ true)
-      → first_cause (by_key known (causes e.book.base e.book.history e.book.limit w.is_fresh call)) ≡ first_cause (causes e.book.base e.book.history e.book.limit (front_is_fresh (stage_of e)) call)
+      → first_cause (by_key known (causes e.book.base e.book.history e.book.limit w.is_fresh call)) ≡ first_cause (causes e.book.base e.book.history e.book.limit (front_is_fresh (stored_stage e)) call)
   same_stocked known call gone =
       first_cause-by_key known (causes e.book.base e.book.history e.book.limit w.is_fresh call) gone ∙ ap (λ f. first_cause (causes e.book.base e.book.history e.book.limit f call)) (sym fresh_stocked)
 
@@ -82,7 +82,7 @@ module _ {R : Type 0} (e : Engine R) (name : Name) (site : Site) (res : Name) (s
           refused_own e (using name site res) NoStock e.book stock sound refl (same ∙ sym none) (rw (named, node_named, res_named, free, none) refl)
 
       module _ (w : Ware) (rest : List Ware) (stocked : e.stock.wares ≡ w ∷ rest) where
-        no_own_cause : own_cause (stage_of e) (using name site res) ≡ None
+        no_own_cause : own_cause (stored_stage e) (using name site res) ≡ None
         no_own_cause =
             let named = facts.named in
             let node_named = is_bound-nodes e.nodes name in
@@ -93,7 +93,7 @@ module _ {R : Type 0} (e : Engine R) (name : Name) (site : Site) (res : Name) (s
         abbrev asked : Request
         asked = record { call = OpeningUsing (place_of place) w.tag; is_known = is_known_place e.book.keys place; is_fresh = w.is_fresh }
 
-        agrees : Agrees e.book asked (stage_of e) (using name site res)
+        agrees : Agrees e.book asked (stored_stage e) (using name site res)
         agrees =
             let placed = facts.placed in
             let in_front = front_stocked e w rest stocked in
@@ -110,8 +110,8 @@ module _ {R : Type 0} (e : Engine R) (name : Name) (site : Site) (res : Name) (s
         pub using_accepted : (new : Engine R) (x : Named Key) (y : Named ResKey) → IsPromised new.book
             → Accepts e.book (record { call = OpeningUsing (place_of place) w.tag; is_known = is_known_place e.book.keys place; is_fresh = w.is_fresh }) new.book
             → x.key.number ≡ length e.book.history → IsTrue (has_key new.book.keys x.key) → name_of x ≡ name → y.key.number ≡ length e.book.history + 1 → IsTrue (has_res_key new.book.res_keys y.key) → name_of y ≡ res
-            → new.nodes ≡ e.nodes ++ x ∷ [] → new.hubs ≡ e.hubs → new.resources ≡ e.resources ++ y ∷ [] → new.leases ≡ e.leases → new.stock.wares ≡ rest → new.faults ≡ e.faults → Carries e (using name site res) Accepted new
-        using_accepted new x y kept accepts number listed same_name res_number res_listed same_res pushed same_hubs res_pushed same_leases same_stock same_faults =
+            → new.nodes ≡ e.nodes ++ x ∷ [] → new.hubs ≡ e.hubs → new.resources ≡ e.resources ++ y ∷ [] → new.leases ≡ e.leases → new.stock.wares ≡ rest → KeepsRest e new → Carries e (using name site res) Accepted new
+        using_accepted new x y kept accepts number listed same_name res_number res_listed same_res pushed same_hubs res_pushed same_leases same_stock rest_kept =
             let goes = accepted_continues e.book new.book asked accepts in
             accepted_to e new (using name site res) asked sound kept no_own_cause agrees accepts
             (same_stage new.book.history _ _ _ _ _ _ _ _ _ _
@@ -122,18 +122,18 @@ module _ {R : Type 0} (e : Engine R) (name : Name) (site : Site) (res : Name) (s
             (all_pushed (λ n. IsNodeKey new.book n.key) e.nodes new.nodes x pushed (node_keys_kept e.book new.book e.nodes sound.kept kept goes sound.nodes) (new_node_key e.book new.book asked x.key accepts number (omega arith) listed))
             (all_pushed (λ n. IsHeldKey new.book n.key) e.resources new.resources y res_pushed (held_keys_kept e.book new.book e.resources sound.kept kept goes sound.resources) (new_held_key e.book new.book asked y.key 1 accepts res_number (omega arith) res_listed))
             (subst (All (λ n. IsLeaseKey new.book n.key)) (sym same_leases) (lease_keys_kept e.book new.book e.leases sound.kept kept goes sound.leases))
-            same_faults
+            rest_kept
 
 -- holding ------------------------------------------------------------------------------------------
 
 module _ {R : Type 0} (e : Engine R) (node : Name) (res : Name) (sound : IsSound e) where
   pub hold_nameless : key_of e.nodes node ≡ None → Carries e (hold node res) (Refused NoName) (with e e.book e.stock)
   hold_nameless none =
-      let nameless : is_unbound (stage_of e).nodes node ≡ true = ap is_none (node_unbound e.nodes node none) in
+      let nameless : is_unbound (stored_stage e).nodes node ≡ true = ap is_none (node_unbound e.nodes node none) in
       refused_own e (hold node res) NoName e.book e.stock sound refl refl (rw nameless refl)
 
   module _ (k : Key) (at : key_of e.nodes node ≡ Some k) where
-    number_named : bound (stage_of e).nodes node ≡ Some k.number
+    number_named : bound (stored_stage e).nodes node ≡ Some k.number
     number_named = node_bound e.nodes node k at
 
     pub hold_taken : is_some (key_of e.resources res) ≡ true → Carries e (hold node res) (Refused NameTaken) (with e e.book e.stock)
@@ -150,7 +150,7 @@ module _ {R : Type 0} (e : Engine R) (node : Name) (res : Name) (sound : IsSound
           refused_own e (hold node res) NoStock e.book stock sound refl (same ∙ sym none) (rw (named, res_named, none) refl)
 
       module _ (w : Ware) (rest : List Ware) (stocked : e.stock.wares ≡ w ∷ rest) where
-        hold_no_own_cause : own_cause (stage_of e) (hold node res) ≡ None
+        hold_no_own_cause : own_cause (stored_stage e) (hold node res) ≡ None
         hold_no_own_cause =
             let named = number_named in
             let res_named = is_bound-resources e.resources res ∙ free in
@@ -163,7 +163,7 @@ module _ {R : Type 0} (e : Engine R) (node : Name) (res : Name) (sound : IsSound
         abbrev hold_asked : Request
         hold_asked = record { call = Holding k.number w.tag; is_known = has_key e.book.keys k; is_fresh = w.is_fresh }
 
-        hold_agrees : Agrees e.book hold_asked (stage_of e) (hold node res)
+        hold_agrees : Agrees e.book hold_asked (stored_stage e) (hold node res)
         hold_agrees =
             let named = number_named in
             let in_front = front_stocked e w rest stocked in
@@ -179,8 +179,8 @@ module _ {R : Type 0} (e : Engine R) (node : Name) (res : Name) (sound : IsSound
 
         pub hold_accepted : (new : Engine R) (y : Named ResKey) → IsPromised new.book → Accepts e.book (record { call = Holding k.number w.tag; is_known = has_key e.book.keys k; is_fresh = w.is_fresh }) new.book
             → y.key.number ≡ length e.book.history → IsTrue (has_res_key new.book.res_keys y.key) → name_of y ≡ res
-            → new.nodes ≡ e.nodes → new.hubs ≡ e.hubs → new.resources ≡ e.resources ++ y ∷ [] → new.leases ≡ e.leases → new.stock.wares ≡ rest → new.faults ≡ e.faults → Carries e (hold node res) Accepted new
-        hold_accepted new y kept accepts number listed same_res same_nodes same_hubs pushed same_leases same_stock same_faults =
+            → new.nodes ≡ e.nodes → new.hubs ≡ e.hubs → new.resources ≡ e.resources ++ y ∷ [] → new.leases ≡ e.leases → new.stock.wares ≡ rest → KeepsRest e new → Carries e (hold node res) Accepted new
+        hold_accepted new y kept accepts number listed same_res same_nodes same_hubs pushed same_leases same_stock rest_kept =
             let goes = accepted_continues e.book new.book hold_asked accepts in
             accepted_to e new (hold node res) hold_asked sound kept hold_no_own_cause hold_agrees accepts
             (same_stage new.book.history _ _ _ _ _ _ _ _ _ _ (ap (map node_binding) same_nodes) (ap (map number_binding) same_hubs)
@@ -189,7 +189,7 @@ module _ {R : Type 0} (e : Engine R) (node : Name) (res : Name) (sound : IsSound
             (subst (All (λ n. IsNodeKey new.book n.key)) (sym same_nodes) (node_keys_kept e.book new.book e.nodes sound.kept kept goes sound.nodes))
             (all_pushed (λ n. IsHeldKey new.book n.key) e.resources new.resources y pushed (held_keys_kept e.book new.book e.resources sound.kept kept goes sound.resources) (new_held_key e.book new.book hold_asked y.key 0 accepts (number ∙ sym (add-zero (length e.book.history))) (omega arith) listed))
             (subst (All (λ n. IsLeaseKey new.book n.key)) (sym same_leases) (lease_keys_kept e.book new.book e.leases sound.kept kept goes sound.leases))
-            same_faults
+            rest_kept
 
 -- a resource that was put back in front
 pub put_back : {R : Type 0} (ware : R → Ware) (old mid new : List Ware) (r back : R) → old ≡ ware r ∷ mid → back ≡ r → new ≡ ware back ∷ mid → new ≡ old

@@ -1,7 +1,14 @@
 pub mod Naming
 pub mod Going
 pub mod Advancing
+pub mod SameRows
+pub mod SameNames
+pub mod WholeHistory
 pub mod Carrying
+pub mod Checking
+pub mod Unchecked
+pub mod AllStored
+pub mod Written
 pub mod Commands
 pub mod Openings
 pub mod Nodes

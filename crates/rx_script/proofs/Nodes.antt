@@ -24,11 +24,11 @@ use Rattle.rx_script.specs.Stage.{is_unbound_hub, connection_name, own_cause, ki
 use Rattle.rx_agenda.specs.Names.{name_of, key_of}
 use Rattle.rx_report.specs.Keys.{node_binding, res_binding, lease_binding, IsNodeKey, IsHeldKey, IsLeaseKey}
 use Rattle.rx_agenda.specs.Shown.{number_binding}
-use Rattle.rx_script.specs.Engine.{at_of, kind_of, is_taken_beside, with_named, stage_of, IsSound, Carries}
+use Rattle.rx_script.specs.Engine.{at_of, kind_of, is_taken_beside, with_named, IsSound, Carries}
 use Rattle.rx_agenda.proofs.Laws.{bound-numbers}
 use Rattle.rx_book.proofs.Laws.Going.{accepted_continues}
 use Rattle.rx_script.proofs.Going.{node_keys_kept, held_keys_kept, lease_keys_kept}
-use Rattle.rx_script.proofs.Carrying.{Agrees, first_cause-by_key, with, refused_own, refused_there, accepted_to}
+use Rattle.rx_script.proofs.Carrying.{Agrees, first_cause-by_key, with, refused_own, refused_there, accepted_to, stored_stage, KeepsRest}
 use Rattle.rx_script.proofs.Commands.{cause_of}
 use Rattle.rx_script.proofs.Openings.{is_bound-nodes, taken_beside-bound, named_bound, all_named, forced_node_key, IsPlaced, site_placed, site_nameless, new_node_key, nodes_bound, same_stage, all_pushed}
 
@@ -36,8 +36,8 @@ use Rattle.rx_script.proofs.Openings.{is_bound-nodes, taken_beside-bound, named_
 
 -- what is known of the kind that a sort stands for
 record IsKind {R : Type 0} (e : Engine R) (sort : Sort) (kind : Kind) : Type 0 where
-  pub named : is_unbound_hub (stage_of e) sort ≡ false
-  pub meant : kind_at (stage_of e) sort ≡ Some kind
+  pub named : is_unbound_hub (stored_stage e) sort ≡ false
+  pub meant : kind_at (stored_stage e) sort ≡ Some kind
 
 module _ {R : Type 0} (e : Engine R) where
   sort_kind : (sort : Sort) (kind : Kind) → kind_of e.hubs sort ≡ Some kind → IsKind e sort kind
@@ -54,7 +54,7 @@ module _ {R : Type 0} (e : Engine R) where
     found None none = absurd (cc)
     found (Some number) some = refl
 
-  sort_hubless : (sort : Sort) → kind_of e.hubs sort ≡ None → is_unbound_hub (stage_of e) sort ≡ true
+  sort_hubless : (sort : Sort) → kind_of e.hubs sort ≡ None → is_unbound_hub (stored_stage e) sort ≡ true
   sort_hubless leaf none = absurd (cc)
   sort_hubless pass none = absurd (cc)
   sort_hubless flat none = absurd (cc)
@@ -102,7 +102,7 @@ module _ {R : Type 0} (e : Engine R) (name : Name) (site : Site) (sort : Sort) (
             refused_own e (open_node name site sort) NameTaken e.book e.stock sound refl refl (rw (named, hubbed, is_free, is_taken) refl)
 
         module _ (free_beside : is_taken_beside e.nodes name (connection_name sort) ≡ false) where
-          no_own_cause : own_cause (stage_of e) (open_node name site sort) ≡ None
+          no_own_cause : own_cause (stored_stage e) (open_node name site sort) ≡ None
           no_own_cause =
               let named = facts.named in
               let hubbed = known.named in
@@ -113,9 +113,9 @@ module _ {R : Type 0} (e : Engine R) (name : Name) (site : Site) (sort : Sort) (
           abbrev asked : Request
           asked = open_request e.book place kind
 
-          agrees : Agrees e.book asked (stage_of e) (open_node name site sort)
+          agrees : Agrees e.book asked (stored_stage e) (open_node name site sort)
           agrees = record {
-            called = ap (option_and_then (λ p. option_map (Opening p) (kind_at (stage_of e) sort))) facts.placed ∙ ap (option_map (Opening (place_of place))) known.meant;
+            called = ap (option_and_then (λ p. option_map (Opening p) (kind_at (stored_stage e) sort))) facts.placed ∙ ap (option_map (Opening (place_of place))) known.meant;
             same = first_cause-by_key (is_known_place e.book.keys place) (causes e.book.base e.book.history e.book.limit true (Opening (place_of place) kind)) facts.gone;
           }
 
@@ -146,9 +146,9 @@ module _ {R : Type 0} (e : Engine R) (name : Name) (site : Site) (sort : Sort) (
                 ∙ ap (with_connection bound_then (connection_name sort)) opened.connection
 
             pub open_accepted : IsPromised new.book → Accepts e.book (open_request e.book place kind) new.book
-                → new.hubs ≡ e.hubs → new.resources ≡ e.resources → new.leases ≡ e.leases → new.stock.wares ≡ e.stock.wares → new.faults ≡ e.faults
+                → new.hubs ≡ e.hubs → new.resources ≡ e.resources → new.leases ≡ e.leases → new.stock.wares ≡ e.stock.wares → KeepsRest e new
                 → Carries e (open_node name site sort) Accepted new
-            open_accepted kept accepts same_hubs same_resources same_leases same_stock same_faults =
+            open_accepted kept accepts same_hubs same_resources same_leases same_stock rest_kept =
                 let goes = accepted_continues e.book new.book asked accepts in
                 let older = node_keys_kept e.book new.book e.nodes sound.kept kept goes sound.nodes in
                 let nodes : All (λ n. IsNodeKey new.book n.key) between =
@@ -158,4 +158,4 @@ module _ {R : Type 0} (e : Engine R) (name : Name) (site : Site) (sort : Sort) (
                 (subst (All (λ n. IsNodeKey new.book n.key)) (sym named_on) (all_named (IsNodeKey new.book) between connection made nodes (forced_node_key e.book new.book made opened)))
                 (subst (All (λ n. IsHeldKey new.book n.key)) (sym same_resources) (held_keys_kept e.book new.book e.resources sound.kept kept goes sound.resources))
                 (subst (All (λ n. IsLeaseKey new.book n.key)) (sym same_leases) (lease_keys_kept e.book new.book e.leases sound.kept kept goes sound.leases))
-                same_faults
+                rest_kept

@@ -12,7 +12,7 @@ use Rattle.rx_event.specs.Calls.{Call, Taking, outside_of}
 use Rattle.rx_event.specs.Canonical.{first_forced, IsFirstStep}
 use Rattle.rx_event.proofs.Laws.InOrder.{first_is_forced}
 use Rattle.rx_event.proofs.Laws.Finishes.{one_finish}
-use Rattle.rx_scenario.specs.Scenario.{Command, Action, command, cancel, Step, Script}
+use Rattle.rx_scenario.specs.Scenario.{Command, checkpoint, Action, command, cancel, Step, Script}
 use Rattle.rx_agenda.specs.declared.answer.Answer.{Answer}
 use Rattle.rx_agenda.specs.declared.answer.Answer.TheVariants.{Accepted, Refused}
 use Rattle.rx_agenda.specs.declared.answer.Cause.{Cause}
@@ -20,7 +20,7 @@ use Rattle.rx_agenda.specs.declared.answer.Cause.TheVariants.{Book}
 use Rattle.rx_agenda.specs.Order.{Placed, Executed, done_in}
 use Rattle.rx_agenda.proofs.Laws.{Agrees, determined_so_far, cancel_alike}
 use Rattle.rx_script.specs.Stage.{Ware, Stage, start, own_cause, call_of, after}
-use Rattle.rx_script.specs.Course.{in_one_order, cause_in, DrainsInOrder, nothing_left, least_taken, Executes, refused, refused_by_book, accepted, drained}
+use Rattle.rx_script.specs.Course.{in_one_order, cause_in, DrainsInOrder, nothing_left, least_taken, Executes, refused, refused_by_book, accepted, drained, checkpointed}
 use Rattle.rx_script.specs.Course.{Does, does, leaves, Plays, none_played, one_played, Course, IsCanonicalCourseOf}
 
 -- one step ---------------------------------------------------------------------------------------------------------------------------
@@ -59,13 +59,18 @@ book_fate s (Some call) = option_map Book (cause_in in_one_order s call)
 abbrev fate : Stage → Command → Option Cause
 fate s step = option_or (own_cause s step) (book_fate s (call_of s step))
 
-abbrev GoesTo : Stage → Option Call → List Event → Type 0
-GoesTo s None k = DrainsInOrder s.history k
-GoesTo s (Some call) k = IsFirstStep nothing_kept s.history (outside_of s.history call) k
+-- a checkpoint leaves the history, and what else makes no call drains
+abbrev Rests : Stage → Command → List Event → Type 0
+Rests s checkpoint k = k ≡ s.history
+Rests s _ k = DrainsInOrder s.history k
+
+abbrev GoesTo : Stage → Command → Option Call → List Event → Type 0
+GoesTo s step None k = Rests s step k
+GoesTo s step (Some call) k = IsFirstStep nothing_kept s.history (outside_of s.history call) k
 
 abbrev Leaves : Option Cause → Stage → Command → Answer → Stage → Type 0
 Leaves (Some why) s step answer last = (answer ≡ Refused why) × (last ≡ s)
-Leaves None s step answer last = (k : List Event) × GoesTo s (call_of s step) k × (answer ≡ Accepted) × (last ≡ after s step k)
+Leaves None s step answer last = (k : List Event) × GoesTo s step (call_of s step) k × (answer ≡ Accepted) × (last ≡ after s step k)
 
 fated : {s last : Stage} {step : Command} {answer : Answer} → Executes in_one_order s step answer last → Leaves (fate s step) s step answer last
 fated {s = s} (refused {step = step} {why = why} own) =
@@ -78,18 +83,23 @@ fated {s = s} (refused_by_book {step = step} {call = call} {why = why} own calle
 fated {s = s} (accepted {step = step} {call = call} k own called none goes) =
     let is : fate s step ≡ None = ap (λ (o : Option Cause). option_or o (book_fate s (call_of s step))) own ∙ ap (book_fate s) called
     ∙ ap (option_map Book) none in
-    let to : GoesTo s (call_of s step) k = subst (λ (o : Option Call). GoesTo s o k) (sym called) goes in
+    let to : GoesTo s step (call_of s step) k = subst (λ (o : Option Call). GoesTo s step o k) (sym called) goes in
     subst (λ (f : Option Cause). Leaves f s step Accepted (after s step k)) (sym is) (k, to, refl, refl)
 fated (drained {k = k} drains) = (k, drains, refl, refl)
+fated {s = s} checkpointed = (s.history, refl, refl, refl)
 
-one_way_on : (s : Stage) (o : Option Call) (k j : List Event) → GoesTo s o k → GoesTo s o j → k ≡ j
-one_way_on s None k j one other = one_drain one other
-one_way_on s (Some call) k j one other = one_first_step s.history (outside_of s.history call) k j one other
+one_rest : (s : Stage) (step : Command) (k j : List Event) → Rests s step k → Rests s step j → k ≡ j
+one_rest s checkpoint k j one other = one ∙ sym other
+one_rest s _ k j one other = one_drain one other
+
+one_way_on : (s : Stage) (step : Command) (o : Option Call) (k j : List Event) → GoesTo s step o k → GoesTo s step o j → k ≡ j
+one_way_on s step None k j one other = one_rest s step k j one other
+one_way_on s step (Some call) k j one other = one_first_step s.history (outside_of s.history call) k j one other
 
 one_left : (f : Option Cause) (s : Stage) (step : Command) (a b : Answer) (x y : Stage) → Leaves f s step a x → Leaves f s step b y → (a ≡ b) × (x ≡ y)
 one_left (Some why) s step a b x y one other = (one.0 ∙ sym other.0, one.1 ∙ sym other.1)
 one_left None s step a b x y one other =
-    (one.2 ∙ sym other.2, one.3 ∙ ap (after s step) (one_way_on s (call_of s step) one.0 other.0 one.1 other.1) ∙ sym other.3)
+    (one.2 ∙ sym other.2, one.3 ∙ ap (after s step) (one_way_on s step (call_of s step) one.0 other.0 one.1 other.1) ∙ sym other.3)
 
 one_executed : {s x y : Stage} {step : Command} {a b : Answer} → Executes in_one_order s step a x → Executes in_one_order s step b y → (a ≡ b) × (x ≡ y)
 one_executed {s = s} {x = x} {y = y} {step = step} {a = a} {b = b} one other = one_left (fate s step) s step a b x y (fated one) (fated other)

@@ -30,12 +30,13 @@ use Rattle.rx_script.specs.Stage.{Ware, Stage, is_unbound_site, place_at, with_c
 use Rattle.rx_agenda.specs.Names.{name_of, key_of}
 use Rattle.rx_report.specs.Keys.{node_binding, res_binding, lease_binding, IsNodeKey, IsHeldKey, IsLeaseKey}
 use Rattle.rx_agenda.specs.Shown.{number_binding}
-use Rattle.rx_script.specs.Engine.{at_of, is_taken, is_taken_beside, with_named, stage_of, IsSound}
+use Rattle.rx_script.specs.Engine.{at_of, is_taken, is_taken_beside, with_named, IsSound}
 use Rattle.rx_agenda.proofs.Laws.{key_of-bind, none_there}
 use Rattle.rx_report.proofs.Laws.{has_key-is_open, has_key-contained, has_res_key-contained, has_lease_key-contained}
 use Rattle.rx_agenda.proofs.Laws.{key_of-holds, bound-numbers}
 use Rattle.rx_script.proofs.Naming.{bound-nodes, bound-resources, bound-leases, node_bound, node_unbound}
 use Rattle.rx_book.proofs.Laws.Going.{step_longer}
+use Rattle.rx_script.proofs.Carrying.{stored_stage}
 
 -- names that are taken -----------------------------------------------------------------------------
 
@@ -59,8 +60,8 @@ is_bound-hubs names name = ap is_some (bound-numbers names name)
 
 -- what is known of the place that a site stands for
 pub record IsPlaced {R : Type 0} (e : Engine R) (site : Site) (place : At) : Type 0 where
-  pub named : is_unbound_site (stage_of e) site ≡ false
-  pub placed : place_at (stage_of e) site ≡ Some (place_of place)
+  pub named : is_unbound_site (stored_stage e) site ≡ false
+  pub placed : place_at (stored_stage e) site ≡ Some (place_of place)
   pub gone : is_known_place e.book.keys place ≡ false → is_gone e.book.history (place_of place) ≡ true
 
 -- a site below a node, the place at its key, and that at its number
@@ -89,8 +90,8 @@ module _ {R : Type 0} (e : Engine R) {site : Name → Site} {at_key : Key → At
       let number = node_bound e.nodes name k is in
       let known = has_key-is_open e.book k sound.kept (key_of-holds (IsNodeKey e.book) e.nodes name k sound.nodes is) in
       let here : IsPlaced e (site name) (at_key k) = record {
-        named = below.unbound (stage_of e) name ∙ ap is_none number;
-        placed = below.placed (stage_of e) name ∙ ap (option_map at_number) number ∙ ap Some (sym (below.number k));
+        named = below.unbound (stored_stage e) name ∙ ap is_none number;
+        placed = below.placed (stored_stage e) name ∙ ap (option_map at_number) number ∙ ap Some (sym (below.number k));
         gone = λ unknown. ap (is_gone e.book.history) (below.number k) ∙ below.gone e.book.history k.number ∙ ap not (sym known ∙ sym (below.known e.book.keys k) ∙ unknown);
       } in
       subst (IsPlaced e (site name)) same here
@@ -98,11 +99,11 @@ module _ {R : Type 0} (e : Engine R) {site : Name → Site} {at_key : Key → At
   below_placed : (place : At) → IsSound e → at_of e.nodes (site name) ≡ Some place → IsPlaced e (site name) place
   below_placed place sound at = placed_by place (key_of e.nodes name) sound refl (sym (below.keyed e.nodes name) ∙ at)
 
-  nameless_by : (o : Option Key) → key_of e.nodes name ≡ o → option_map at_key o ≡ None → is_unbound_site (stage_of e) (site name) ≡ true
-  nameless_by None is at = below.unbound (stage_of e) name ∙ ap is_none (node_unbound e.nodes name is)
+  nameless_by : (o : Option Key) → key_of e.nodes name ≡ o → option_map at_key o ≡ None → is_unbound_site (stored_stage e) (site name) ≡ true
+  nameless_by None is at = below.unbound (stored_stage e) name ∙ ap is_none (node_unbound e.nodes name is)
   nameless_by (Some k) is at = absurd (cc)
 
-  below_nameless : at_of e.nodes (site name) ≡ None → is_unbound_site (stage_of e) (site name) ≡ true
+  below_nameless : at_of e.nodes (site name) ≡ None → is_unbound_site (stored_stage e) (site name) ≡ true
   below_nameless at = nameless_by (key_of e.nodes name) refl (sym (below.keyed e.nodes name) ∙ at)
 
 pub site_placed : {R : Type 0} (e : Engine R) (site : Site) (place : At) → IsSound e → at_of e.nodes site ≡ Some place → IsPlaced e site place
@@ -114,7 +115,7 @@ site_placed e (source name) place sound at = below_placed e source_below name pl
 site_placed e (inner name) place sound at = below_placed e inner_below name place sound at
 site_placed e (notifier name) place sound at = below_placed e notifier_below name place sound at
 
-pub site_nameless : {R : Type 0} (e : Engine R) (site : Site) → at_of e.nodes site ≡ None → is_unbound_site (stage_of e) site ≡ true
+pub site_nameless : {R : Type 0} (e : Engine R) (site : Site) → at_of e.nodes site ≡ None → is_unbound_site (stored_stage e) site ≡ true
 site_nameless e root at = absurd (cc)
 site_nameless e (source name) at = below_nameless e source_below name at
 site_nameless e (inner name) at = below_nameless e inner_below name at
@@ -153,10 +154,10 @@ leases_bound xs ys x number pushed same =
     ap (map lease_binding) pushed ∙ map-append lease_binding xs (x ∷ []) ∙ ap (λ n. with_binding (map lease_binding xs) (name_of x) n) same
 
 pub same_stage : (h : List Event) (n m g i r s j k : List Binding) (u v : List Ware) → n ≡ m → g ≡ i → r ≡ s → j ≡ k → u ≡ v
-    → let stage : List Binding → List Binding → List Binding → List Binding → List Ware → Stage = λ x y z l w. record { history = h; nodes = x; hubs = y; resources = z; leases = l; stock = w } in
+    → let stage : List Binding → List Binding → List Binding → List Binding → List Ware → Stage = λ x y z l w. record { history = h; checked = 0; nodes = x; hubs = y; resources = z; leases = l; stock = w } in
     stage n g r j u ≡ stage m i s k v
 same_stage h n m g i r s j k u v p o q a t =
-    let stage : List Binding → List Binding → List Binding → List Binding → List Ware → Stage = λ x y z l w. record { history = h; nodes = x; hubs = y; resources = z; leases = l; stock = w } in
+    let stage : List Binding → List Binding → List Binding → List Binding → List Ware → Stage = λ x y z l w. record { history = h; checked = 0; nodes = x; hubs = y; resources = z; leases = l; stock = w } in
     ap (λ x. stage x g r j u) p ∙ ap (λ y. stage m y r j u) o ∙ ap (λ z. stage m i z j u) q ∙ ap (λ l. stage m i s l u) a ∙ ap (λ w. stage m i s k w) t
 
 pub all_pushed : {A : Type 0} (P : A → Type 0) (xs ys : List A) (x : A) → ys ≡ xs ++ x ∷ [] → All P xs → P x → All P ys

@@ -1,40 +1,28 @@
 -- The whole report of a course.
-use Rattle.std.proofs.Common.{◌≡◌, ◌≤◌, ◌+◌, ◌++◌, ℕ, List, min, refl, sym, ap, subst, ◌∙◌, append-nil, arith}
-use Rattle.rx_event.specs.Kept.{Kept, nothing_kept}
-use Rattle.rx_event.specs.declared.event.Event.{Event}
-use Rattle.rx_event.specs.Lawful.{IsLawful}
-use Rattle.rx_event.specs.Totals.{accepted_count, taken_count, held_count, waiting_count}
+use Rattle.std.proofs.Common.{◌≡◌, ◌≤◌, ◌+◌, ◌++◌, ℕ, List, false, min, refl, sym, ap, subst, ◌∙◌, append-nil, count_by, arith}
+use Rattle.std.specs.List.{range_with_len}
+use Rattle.rx_event.specs.Kept.{nothing_kept}
+use Rattle.rx_event.specs.Bases.{Agree}
+use Rattle.rx_event.specs.Totals.{accepted_count, held_count, waiting_count}
 use Rattle.rx_event.proofs.Laws.Totals.{accepted_count-parts}
-use Rattle.rx_agenda.specs.declared.answer.Answer.{Answer}
-use Rattle.rx_scenario.specs.Scenario.{Script}
+use Rattle.rx_book.specs.State.{IsPromised}
+use Rattle.rx_scenario.specs.Scenario.{steps_of, Script}
+use Rattle.rx_script.specs.declared.engine.Engine.{Engine}
 use Rattle.rx_script.specs.Stage.{Ware, Stage, start}
 use Rattle.rx_agenda.specs.Agenda.{with_steps, empty_agenda}
 use Rattle.rx_script.specs.Course.{limited, Course, HasNoFull, IsCourseOf, HasOneCourse}
-use Rattle.rx_script.specs.Progress.{Progress, begin, Ends}
+use Rattle.rx_script.specs.Progress.{begin, Ends}
 use Rattle.rx_dump.specs.Dump.{dump}
 use Rattle.rx_script.specs.declared.Form.{Form}
 use Rattle.rx_script.specs.declared.Form.TheVariants.{Report, Dump}
-use Rattle.rx_script.specs.Report.{report, AreReportedAlike, output}
-use Rattle.rx_script.specs.Outputs.{unclosed_output, closing}
+use Rattle.rx_script.specs.Report.{report, AreReportedAlike, output, lacks_form}
+use Rattle.rx_script.specs.Outputs.{unclosed_output, closing, IsCarriedOut}
 use Rattle.rx_script.specs.Running.{IsReportedCanonically}
 use Rattle.rx_script.proofs.CoursesInOrder.{course_in_order}
 use Rattle.rx_script.proofs.OneCourse.{one_canonical_course}
 use Rattle.rx_script.proofs.SameSteps.{HasCanonical, has_canonical}
 use Rattle.rx_script.proofs.SameReports.{report_same}
-
--- no more releases met a fault than resources were accepted
-pub few_faults : (base : Kept) (h last : List Event) (faults before at_end released most : ℕ) → base ≡ nothing_kept → last ≡ h → IsLawful base h →
-    before ≤ taken_count base last → at_end ≤ released → released ≡ held_count h + waiting_count h → faults ≡ min (before + at_end) most
-    → faults ≤ accepted_count nothing_kept last
-few_faults base h last faults before at_end released most start same lawful few_before few_at_end rest sum =
-    subst (λ (b : Kept). faults ≤ accepted_count b last) start few
-  where
-    few : faults ≤ accepted_count base last
-    few =
-        let parts = accepted_count-parts base h lawful in
-        let accepted : accepted_count base last ≡ accepted_count base h = ap (accepted_count base) same in
-        let taken : taken_count base last ≡ taken_count base h = ap (taken_count base) same in
-        omega arith
+use Rattle.rx_script.proofs.Unchecked.{unchecked}
 
 outputs_whole : (form : Form) (c : Course) (faults : ℕ) → unclosed_output form c.answers c.last ++ closing form (held_count c.last.history + waiting_count c.last.history) faults ≡ output form c faults
 unfolding report
@@ -77,16 +65,40 @@ reported_alike script stock c d is room also too faults =
     let other = reported_as script stock d also too in
     sym (one.same_report faults) ∙ ap (λ (x : Course). report x faults) (other.one.only one.one.course one.one.canonical) ∙ other.same_report faults
 
-pub whole_output : (form : Form) (script : Script) (stock : List Ware) (limit : ℕ) (first last : Stage) (answers : List Answer) (h : List Event) (unclosed whole : List ℕ) (released faults : ℕ)
-    → Ends (limited limit) script.until (record { stage = first; agenda = with_steps script.steps empty_agenda }) answers last → limit ≡ script.events → first ≡ start stock → last.history ≡ h → unclosed ≡ unclosed_output form answers last
-    → released ≡ held_count h + waiting_count h → whole ≡ unclosed ++ closing form released faults → faults ≤ accepted_count nothing_kept last.history
-    → (c : Course) × (n : ℕ) × IsCourseOf script stock c × (n ≤ accepted_count nothing_kept c.last.history) × (whole ≡ output form c n)
-    × (HasNoFull c.answers → IsReportedCanonically script stock form c whole n)
-whole_output form script stock limit first last answers h unclosed whole released faults ends same_limit same_first same_history lines rest is_whole few =
-    let first_of : Stage → Progress = λ s. record { stage = s; agenda = with_steps script.steps empty_agenda } in
-    let course : Ends (limited script.events) script.until (begin stock script.steps) answers last = subst (λ n. Ends (limited n) script.until (begin stock script.steps) answers last) same_limit (subst (λ s. Ends (limited limit) script.until (first_of s) answers last) same_first ends) in
-    let left : released ≡ held_count last.history + waiting_count last.history = rest ∙ ap (λ l. held_count l + waiting_count l) (sym same_history) in
-    let c : Course = record { answers = answers; last = last } in
-    let lines_whole : whole ≡ output form c faults = is_whole ∙ ap (λ l. l ++ closing form released faults) lines ∙ ap (λ n. unclosed_output form answers last ++ closing form n faults) left ∙ outputs_whole form c faults in
-    let possible : IsCourseOf script stock c = course_in_order (limited script.events) script stock answers last course in
-    (c, faults, possible, few, lines_whole, canonical_report script stock form c whole faults possible lines_whole)
+-- all that was done and written, with the last line
+module _ {R : Type 0} (form : Form) (script : Script) (stock : List Ware) (limit : ℕ) (first : Stage) (unclosed whole : List ℕ) (new : Engine R) (released faults : ℕ)
+    (out : IsCarriedOut (limited limit) script.until (record { stage = first; agenda = with_steps script.steps empty_agenda }) form unclosed new)
+    (same_limit : limit ≡ script.events) (same_first : first ≡ start stock) (rest : released ≡ held_count new.book.history + waiting_count new.book.history)
+    (is_whole : whole ≡ unclosed ++ closing form released faults) (has_form : lacks_form form (steps_of script.steps) ≡ false) where
+  abbrev course : Course
+  course = record { answers = out.answers; last = out.last }
+
+  possible : IsCourseOf script stock course
+  possible = course_in_order (limited script.events) script stock out.answers out.last
+      (subst (λ n. Ends (limited n) script.until (begin stock script.steps) out.answers out.last) same_limit
+      (subst (λ s. Ends (limited limit) script.until (record { stage = s; agenda = with_steps script.steps empty_agenda }) out.answers out.last) same_first out.ends))
+
+  abbrev a : Agree nothing_kept out.last.history new.book.base new.book.history
+  a = out.agree
+
+  left : released ≡ held_count out.last.history + waiting_count out.last.history
+  left = rest ∙ sym (λ i. count_by (λ n. a.held n i) (range_with_len 0 (a.alike.same_length i)) + count_by (λ n. a.waiting n i) (range_with_len 0 (a.alike.same_length i)))
+
+  lines_whole : whole ≡ output form course faults
+  lines_whole =
+      is_whole ∙ ap (λ l. l ++ closing form released faults) (out.lines (λ dumped. unchecked (limited script.events) script stock course possible (ap (λ f. lacks_form f (steps_of script.steps)) (sym dumped) ∙ has_form)))
+      ∙ ap (λ n. unclosed_output form out.answers out.last ++ closing form n faults) left ∙ outputs_whole form course faults
+
+  -- no more releases met a fault than resources were accepted
+  few : (at_end most : ℕ) → IsPromised new.book → at_end ≤ released → faults ≡ min (new.faults + at_end) most → faults ≤ accepted_count nothing_kept out.last.history
+  few at_end most kept few_at_end sum =
+      let parts = accepted_count-parts new.book.base new.book.history kept.lawful in
+      let before = out.few_faults in
+      let total = a.accepted_total in
+      omega arith
+
+  pub whole_output : (at_end most : ℕ) → IsPromised new.book → at_end ≤ released → faults ≡ min (new.faults + at_end) most
+      → (c : Course) × (n : ℕ) × IsCourseOf script stock c × (n ≤ accepted_count nothing_kept c.last.history) × (whole ≡ output form c n)
+      × (HasNoFull c.answers → IsReportedCanonically script stock form c whole n)
+  whole_output at_end most kept few_at_end sum =
+      (course, faults, possible, few at_end most kept few_at_end sum, lines_whole, canonical_report script stock form course whole faults possible lines_whole)

@@ -19,7 +19,7 @@ use Rattle.rx_event.specs.Renumbered.{event_by, is_named, AreSameBy, AreSameSinc
 use Rattle.rx_event.proofs.Laws.Places.{slice_get-append, slice_get_last, at_within}
 use Rattle.rx_book.specs.Answers.{makes_connection, connection_made}
 use Rattle.rx_agenda.specs.Bindings.{Binding, bound, with_binding}
-use Rattle.rx_scenario.specs.Scenario.{Name, Command, using, open_node, hold, apply, remove, lease, give_back, next, end, abort, decline, fail, dispose, make_hub, connect, disconnect, drain}
+use Rattle.rx_scenario.specs.Scenario.{Name, Command, using, open_node, hold, apply, remove, lease, give_back, next, end, abort, decline, fail, dispose, make_hub, connect, disconnect, drain, checkpoint}
 use Rattle.rx_script.specs.Stage.{Ware, Stage, connection_name, place_at, kind_at, front, call_of, with_connection, after}
 use Rattle.rx_script.proofs.Renaming.{renamed, AllNumbers, all_numbers, renamed-same, with_binding-renamed, with_binding-all}
 use Rattle.rx_script.proofs.SameStages.{AreSameStages}
@@ -430,3 +430,4 @@ module _ (r s : ℕ → ℕ) (x y : Stage) (k j : List Event) (a : AreSameStages
   after_same (connect hub name) called = after_connect name (connect_call (bound x.hubs hub) call called)
   after_same (disconnect hub) called = base
   after_same drain called = base
+  after_same checkpoint called = absurd (none-some call called)

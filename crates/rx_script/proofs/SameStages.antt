@@ -19,7 +19,7 @@ use Rattle.rx_event.specs.Renumbered.{place_by, kind_by, call_by, AreSameBy}
 use Rattle.rx_register.proofs.Laws.SameCauses.{NamesPlace, NamesKind, NamesKnown}
 use Rattle.rx_agenda.specs.declared.answer.Cause.TheVariants.{NoName, NameTaken, NoStock}
 use Rattle.rx_agenda.specs.Bindings.{Binding, bound, is_unbound, is_bound}
-use Rattle.rx_scenario.specs.Scenario.{Name, Site, root, source, inner, notifier, Sort, leaf, pass, flat, switch, until, sub, Command, using, open_node, hold, apply, remove, lease, give_back, next, end, abort, decline, fail, dispose, make_hub, connect, disconnect, drain}
+use Rattle.rx_scenario.specs.Scenario.{Name, Site, root, source, inner, notifier, Sort, leaf, pass, flat, switch, until, sub, Command, using, open_node, hold, apply, remove, lease, give_back, next, end, abort, decline, fail, dispose, make_hub, connect, disconnect, drain, checkpoint}
 use Rattle.rx_script.specs.Stage.{Ware, Stage, is_unbound_site, is_unbound_hub, lacks_name, connection_name, takes_name, is_empty, lacks_stock, own_cause, place_at, kind_at, front, call_of}
 use Rattle.rx_script.proofs.Renaming.{renamed, AllNumbers, bound-same, is_bound-same, is_unbound-same, bound-holds}
 
@@ -84,6 +84,7 @@ module _ (r s : ℕ → ℕ) (x y : Stage) (a : AreSameStages r s x y) where
   lacks_same (connect hub name) = no_hub hub
   lacks_same (disconnect hub) = no_hub hub
   lacks_same drain = refl
+  lacks_same checkpoint = refl
 
   beside_same : (name : Name) (o : Option Name)
       → option_map_or (λ c. is_bound y.nodes c || bytes_eq name c) o false ≡ option_map_or (λ c. is_bound x.nodes c || bytes_eq name c) o false
@@ -191,6 +192,7 @@ module _ (r s : ℕ → ℕ) (x y : Stage) (a : AreSameStages r s x y) where
   call_same (connect hub name) = hub_call Connecting (λ n. refl) hub
   call_same (disconnect hub) = hub_call Disconnecting (λ n. refl) hub
   call_same drain = refl
+  call_same checkpoint = refl
 
   -- its numbers are of what they have to be --------------------------------------------------------------------------------------
 
@@ -280,3 +282,4 @@ module _ (r s : ℕ → ℕ) (x y : Stage) (a : AreSameStages r s x y) where
   call_known (connect hub name) call called = by_hub Connecting (λ n made. made) hub call called
   call_known (disconnect hub) call called = by_hub Disconnecting (λ n made. made) hub call called
   call_known drain call called = absurd (none-some call called)
+  call_known checkpoint call called = absurd (none-some call called)

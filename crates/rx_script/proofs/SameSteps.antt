@@ -1,6 +1,6 @@
 -- A course that no full history cuts short has one in the one order beside it, with the same answers, at each of whose steps the names
 -- stand for the same things.
-use Rattle.std.proofs.Common.{subst, ◌≡◌, ℕ, Bool, true, false, List, [], ◌∷◌, ◌++◌, map, Option, Some, None, refl, sym, ap, ◌∙◌}
+use Rattle.std.proofs.Common.{subst, ◌≡◌, ℕ, ◌+◌, Bool, true, false, List, [], ◌∷◌, ◌++◌, map, Option, Some, None, refl, sym, ap, ◌∙◌}
 use Rattle.std.proofs.Math.Bool.{◌||◌}
 use Rattle.std.specs.Prelude.{option_map}
 use Rattle.std.specs.List.{list_any}
@@ -34,9 +34,9 @@ use Rattle.rx_agenda.specs.declared.answer.Answer.TheVariants.{Accepted, Refused
 use Rattle.rx_agenda.specs.declared.answer.Cause.{Cause}
 use Rattle.rx_agenda.specs.declared.answer.Cause.TheVariants.{Book}
 use Rattle.rx_agenda.specs.Order.{done_in}
-use Rattle.rx_scenario.specs.Scenario.{Command, drain, Action, Step, Script}
+use Rattle.rx_scenario.specs.Scenario.{Command, drain, checkpoint, Action, Step, Script}
 use Rattle.rx_script.specs.Stage.{Ware, Stage, start, own_cause, call_of, front_is_fresh, after}
-use Rattle.rx_script.specs.Course.{limited, in_one_order, book_cause, cause_in, Executes, refused, refused_by_book, accepted, drained}
+use Rattle.rx_script.specs.Course.{limited, in_one_order, book_cause, cause_in, Executes, refused, refused_by_book, accepted, drained, checkpointed}
 use Rattle.rx_script.specs.Course.{Does, does, leaves, Plays, none_played, one_played, is_full, HasNoFull, Course, IsCourseOf, IsCanonicalCourseOf}
 use Rattle.rx_script.proofs.CoursesInOrder.{answer_in, answers_done}
 use Rattle.rx_script.proofs.Calling.{call_ready}
@@ -56,8 +56,8 @@ cause_same : (r s : ℕ → ℕ) (x y : Stage) (limit : ℕ) (call : Call) → A
 cause_same r s x y limit call a known room =
     ap (λ (fresh : Bool). first_cause (unlimited (causes nothing_kept y.history 0 fresh (call_by r call))))
     (ap (λ (w : Option Ware). option_map_or (λ v. v.is_fresh) w true) (front_same r s x y a))
-    ∙ same_cause nothing_kept r s x.history y.history a.histories 0 limit (front_is_fresh x) call known
-    ∙ never_full (causes nothing_kept x.history limit (front_is_fresh x) call) refusal_order room
+    ∙ same_cause nothing_kept r s x.history y.history a.histories 0 (x.checked + limit) (front_is_fresh x) call known
+    ∙ never_full (causes nothing_kept x.history (x.checked + limit) (front_is_fresh x) call) refusal_order room
 
 -- one command ------------------------------------------------------------------------------------------------------------------------
 
@@ -131,6 +131,29 @@ module _ (r s : ℕ → ℕ) (x y : Stage) (a : AreSameStages r s x y) where
     o : OrderedDrain y.history
     o = ordered_drain y.history a.histories.numbers.other_law a.settled_there
 
+  -- a checkpoint changes neither history
+  checked_alike : ExecutedAlike y checkpoint Accepted (after x checkpoint x.history)
+  checked_alike = record {
+    other = after y checkpoint y.history;
+    reads = r;
+    reads_back = s;
+    done = checkpointed;
+    same = record {
+      histories = a.histories;
+      settled = a.settled;
+      settled_there = a.settled_there;
+      nodes = a.nodes;
+      hubs = a.hubs;
+      resources = a.resources;
+      leases = a.leases;
+      stock = a.stock;
+      nodes_made = a.nodes_made;
+      hubs_made = a.hubs_made;
+      resources_made = a.resources_made;
+      leases_made = a.leases_made;
+    };
+  }
+
   executed_alike : {limit : ℕ} {command : Command} {answer : Answer} {last : Stage} → Executes (limited limit) x command answer last → is_full answer ≡ false
       → ExecutedAlike y command answer last
   executed_alike (refused {step = command} {why = why} own) room = not_done command why (refused (own_same r s x y a command ∙ own))
@@ -140,6 +163,7 @@ module _ (r s : ℕ → ℕ) (x y : Stage) (a : AreSameStages r s x y) where
       (λ full. false≢true (sym room ∙ ap (λ (z : Refusal). is_full (Refused (Book z))) (same_Some why Full (sym stands ∙ full)))) ∙ stands))
   executed_alike {limit = limit} (accepted {step = command} {call = call} k own called none step) room = done_alike limit command call k own called none step
   executed_alike (drained {k = k} drains) room = drained_alike k drains
+  executed_alike checkpointed room = checked_alike
 
 -- one step after another -----------------------------------------------------------------------------------------------------------
 

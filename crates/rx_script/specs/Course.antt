@@ -1,5 +1,5 @@
 -- The courses that a scenario may take: its executed steps with their answers, in their order, and what they make of a history.
-use Rattle.std.specs.Prelude.{◌≡◌, ℕ, ◌≤◌, Bool, true, false, Option, Some, None, List, [], ◌∷◌, ◌++◌, map, slice_get}
+use Rattle.std.specs.Prelude.{◌≡◌, ℕ, ◌+◌, ◌≤◌, Bool, true, false, Option, Some, None, List, [], ◌∷◌, ◌++◌, map, slice_get}
 use Rattle.std.specs.List.{list_any}
 use Rattle.rx_event.specs.Kept.{nothing_kept}
 use Rattle.rx_event.specs.declared.event.Event.{Event}
@@ -15,19 +15,19 @@ use Rattle.rx_agenda.specs.declared.answer.Answer.{Answer}
 use Rattle.rx_agenda.specs.declared.answer.Answer.TheVariants.{Accepted, Refused}
 use Rattle.rx_agenda.specs.declared.answer.Cause.{Cause}
 use Rattle.rx_agenda.specs.declared.answer.Cause.TheVariants.{Book}
-use Rattle.rx_scenario.specs.Scenario.{Name, Command, drain, Action, command, cancel, Step, Script}
+use Rattle.rx_scenario.specs.Scenario.{Name, Command, drain, checkpoint, Action, command, cancel, Step, Script}
 use Rattle.rx_script.specs.Stage.{Ware, Stage, start, own_cause, call_of, front_is_fresh, after}
 use Rattle.rx_agenda.specs.Order.{Executed, IsInOrder, AreCancelsAnswered, done_in}
 
--- how a course is taken: with so many events at most, and what is forced or drained in any order; or with no limit, and all of it in
--- the one order
+-- how a course is taken: with so many events at most from one checkpoint to the next, and what is forced or drained in any order; or
+-- with no limit, and all of it in the one order
 pub data Manner : Type 0 where
   limited : ℕ → Manner
   in_one_order : Manner
 
--- the first cause of a book's with so many events at most that stands against a step's call
+-- the first cause of a book's with so many events at most since the last checkpoint that stands against a step's call
 abbrev pub book_cause : ℕ → Stage → Call → Option Refusal
-book_cause limit s call = first_cause (causes nothing_kept s.history limit (front_is_fresh s) call)
+book_cause limit s call = first_cause (causes nothing_kept s.history (s.checked + limit) (front_is_fresh s) call)
 
 -- the first that stands; with no limit no history is full, whatever the number that the causes are given
 abbrev pub cause_in : Manner → Stage → Call → Option Refusal
@@ -59,6 +59,8 @@ pub data Executes (m : Manner) (s : Stage) : Command → Answer → Stage → Ty
       → own_cause s step ≡ None → call_of s step ≡ Some call → cause_in m s call ≡ None → StepsIn m s.history call k
       → Executes m s step Accepted (after s step k)
   drained : {k : List Event} → DrainsIn m s.history k → Executes m s drain Accepted (after s drain k)
+  -- nothing happens, and the limit counts from here
+  checkpointed : Executes m s checkpoint Accepted (after s checkpoint s.history)
 
 -- what a step does to the stage: a command what it does, and a cancel nothing
 pub data Does (m : Manner) (s : Stage) : Action → Answer → Stage → Type 0 where

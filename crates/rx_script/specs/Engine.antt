@@ -4,14 +4,18 @@ use Rattle.std.specs.Str.{bytes_eq}
 use Rattle.std.specs.Option.{option_map_or}
 use Rattle.std.specs.declared.alloc.Global.{Global}
 use Rattle.std.specs.List.{All}
-use Rattle.rx_event.specs.Kept.{nothing_kept}
+use Rattle.rx_event.specs.declared.event.Event.{Event}
+use Rattle.rx_event.specs.Kept.{nothing_kept, stored}
+use Rattle.rx_event.specs.Bases.{base_of}
+use Rattle.rx_event.specs.Lawful.{IsLawful}
+use Rattle.rx_event.specs.Forced.{IsSettled}
 use Rattle.rx_event.specs.declared.event.Kind.{Kind}
 use Rattle.rx_event.specs.declared.event.Kind.TheVariants.{Leaf, Pass, Flat, Switch, Until, Sub}
 use Rattle.rx_event.specs.Totals.{taken_count}
 use Rattle.rx_book.specs.declared.key.Key.{Key}
 use Rattle.rx_book.specs.declared.answer.At.{At}
 use Rattle.rx_book.specs.declared.answer.At.TheVariants.{Root as AtRoot, Source as AtSource, Inner as AtInner, Notifier as AtNotifier}
-use Rattle.rx_book.specs.State.{IsPromised}
+use Rattle.rx_book.specs.State.{State, IsPromised}
 use Rattle.rx_agenda.specs.declared.answer.Answer.{Answer}
 use Rattle.rx_agenda.specs.declared.names.Named.{Named}
 use Rattle.rx_script.specs.declared.engine.Engine.{Engine}
@@ -21,11 +25,13 @@ use Rattle.rx_scenario.specs.declared.scenario.Step.{Step as StepInCode}
 use Rattle.rx_scenario.specs.Scenario.{Name, Site, root, source, inner, notifier, Sort, leaf, pass, flat, switch, until, sub, Command, action_of, list_of, step_of}
 use Rattle.rx_agenda.specs.Names.{key_of}
 use Rattle.rx_agenda.specs.Shown.{number_binding, agenda_of, size_of, size_left}
+use Rattle.rx_report.specs.declared.tallies.Tallies.{Tallies}
+use Rattle.rx_report.specs.Tallies.{AreTalliesOf}
 use Rattle.rx_report.specs.Keys.{node_binding, res_binding, lease_binding, IsNodeKey, IsHeldKey, IsLeaseKey}
 use Rattle.rx_script.specs.Stage.{Stage}
-use Rattle.rx_agenda.specs.Agenda.{followed_by}
+use Rattle.rx_agenda.specs.Agenda.{Agenda, followed_by}
 use Rattle.rx_script.specs.Course.{limited, Executes}
-use Rattle.rx_script.specs.Progress.{Progress, Performs}
+use Rattle.rx_script.specs.Progress.{Performs}
 
 -- names --------------------------------------------------------------------------------------------
 
@@ -58,11 +64,36 @@ abbrev pub with_named : List (Named Key) → Option (String Global) → Option K
 with_named names (Some name) (Some key) = names ++ record { name = name; key = key } ∷ []
 with_named names _ _ = names
 
+-- the history ----------------------------------------------------------------------------------------
+
+-- the history from its first event on, of which a book stores the part since the last checkpoint alone, behind the base of the part
+-- before it, whose events and notes the tallies have
+pub record IsHistoryOf (h : List Event) (t : Tallies) (s : State) : Type 0 where
+  pub front : List Event
+  pub since : List Event
+  pub whole : h ≡ front ++ since
+  pub lawful : IsLawful nothing_kept front
+  pub settled : IsSettled nothing_kept front
+  pub base : s.base ≡ base_of nothing_kept front
+  pub history : s.history ≡ stored s.base since
+  pub tallies : AreTalliesOf front t
+  -- no note since then was handed out
+  pub given : s.given ≡ 0
+
 -- the engine ---------------------------------------------------------------------------------------
 
--- the stage that an engine is at
-abbrev pub stage_of : {R : Type 0} → Engine R → Stage
-stage_of e = record { history = e.book.history; nodes = map node_binding e.nodes; hubs = map number_binding e.hubs; resources = map res_binding e.resources; leases = map lease_binding e.leases; stock = e.stock.wares }
+-- the stage that an engine is at, where this is its history
+abbrev pub stage_of : {R : Type 0} → Engine R → List Event → Stage
+stage_of e h =
+    record {
+      history = h;
+      checked = e.book.base.at_length;
+      nodes = map node_binding e.nodes;
+      hubs = map number_binding e.hubs;
+      resources = map res_binding e.resources;
+      leases = map lease_binding e.leases;
+      stock = e.stock.wares;
+    }
 
 -- what an engine keeps
 pub record IsSound {R : Type 0} (e : Engine R) : Type 0 where
@@ -71,40 +102,39 @@ pub record IsSound {R : Type 0} (e : Engine R) : Type 0 where
   pub resources : All (λ n. IsHeldKey e.book n.key) e.resources
   pub leases : All (λ n. IsLeaseKey e.book n.key) e.leases
   pub faults : e.faults ≤ taken_count e.book.base e.book.history
-  -- a scenario makes no checkpoint
-  pub base : e.book.base ≡ nothing_kept
 
--- the step was executed with this answer, and all else is as before
+-- whatever history the old engine has, it goes on to one of the new engine, and the stages are in this relation
+abbrev pub MovesOn : {R : Type 0} → Engine R → Engine R → (Stage → Stage → Type 0) → Type 0
+MovesOn old new IsDone =
+    (h : List Event) → IsHistoryOf h old.tallies old.book
+    → (k : List Event) × IsDone (stage_of old h) (stage_of new k) × IsHistoryOf k new.tallies new.book
+
+-- the step was executed with this answer
 pub record Carries {R : Type 0} (old : Engine R) (step : Command) (answer : Answer) (new : Engine R) : Type 0 where
-  pub executes : Executes (limited old.book.limit) (stage_of old) step answer (stage_of new)
+  pub executes : MovesOn old new (λ s t. Executes (limited old.book.limit) s step answer t)
   pub sound : IsSound new
   pub limit : new.book.limit ≡ old.book.limit
-  pub given : new.book.given ≡ old.book.given
 
 -- the agenda ---------------------------------------------------------------------------------------
 
-abbrev pub progress_of : {R : Type 0} → Engine R → AgendaInCode → Progress
-progress_of e a = record { stage = stage_of e; agenda = agenda_of a }
-
--- what a step does was done with this answer, and all else is as before
+-- what a step does was done with this answer
 pub record Performed {R : Type 0} (old : Engine R) (before : AgendaInCode) (action : ActionInCode) (answer : Answer)
     (new : Engine R) (now : AgendaInCode) : Type 0 where
-  pub performs : Performs (limited old.book.limit) (progress_of old before) (action_of action) answer (progress_of new now)
+  pub performs : MovesOn old new (λ s t. Performs (limited old.book.limit) (record { stage = s; agenda = agenda_of before }) (action_of action) answer
+      (record { stage = t; agenda = agenda_of now }))
   pub sound : IsSound new
   pub limit : new.book.limit ≡ old.book.limit
-  pub given : new.book.given ≡ old.book.given
   pub size : size_left now ≤ size_left before
   pub clock : now.timeline.clock ≡ before.timeline.clock
 
--- the step was taken with this answer, what follows it is to come, and all else is as before
+-- the step was taken with this answer, and what follows it is to come
 pub record Followed {R : Type 0} (old : Engine R) (before : AgendaInCode) (step : StepInCode) (answer : Answer)
     (new : Engine R) (now : AgendaInCode) : Type 0 where
-  pub done : Progress
-  pub performs : Performs (limited old.book.limit) (progress_of old before) (step_of step).action answer done
-  pub stage : stage_of new ≡ done.stage
-  pub follows : agenda_of now ≡ followed_by answer (list_of (step_of step).followers) done.agenda
+  pub left : Agenda
+  pub performs : MovesOn old new (λ s t. Performs (limited old.book.limit) (record { stage = s; agenda = agenda_of before }) (step_of step).action answer
+      (record { stage = t; agenda = left }))
+  pub follows : agenda_of now ≡ followed_by answer (list_of (step_of step).followers) left
   pub sound : IsSound new
   pub limit : new.book.limit ≡ old.book.limit
-  pub given : new.book.given ≡ old.book.given
   pub size : size_left now < size_left before + size_of step
   pub clock : now.timeline.clock ≡ before.timeline.clock

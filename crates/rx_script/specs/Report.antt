@@ -1,5 +1,5 @@
 -- The report of a course, and its dump.
-use Rattle.std.specs.Prelude.{◌≡◌, ℕ, ◌+◌, List, ◌++◌}
+use Rattle.std.specs.Prelude.{◌≡◌, ℕ, ◌+◌, Bool, false, List, ◌++◌}
 use Rattle.rx_event.specs.Kept.{nothing_kept}
 use Rattle.rx_event.specs.Totals.{held_count, waiting_count}
 use Rattle.rx_dump.specs.Dump.{dump}
@@ -8,7 +8,8 @@ use Rattle.rx_report.specs.Text.{totals_line, closed_line}
 use Rattle.rx_report.specs.Lines.{refused_lines, node_lines, res_lines, totals_of}
 use Rattle.rx_script.specs.declared.Form.{Form}
 use Rattle.rx_script.specs.declared.Form.TheVariants.{Report, Dump}
-use Rattle.rx_scenario.specs.Scenario.{Script}
+use Rattle.rx_scenario.specs.Scenario.{Steps, Script}
+use Rattle.rx_scenario.specs.Checkpoints.{has_checkpoint}
 use Rattle.rx_script.specs.Stage.{Ware, Stage}
 use Rattle.rx_script.specs.Course.{Course, HasNoFull, IsCourseOf}
 
@@ -31,3 +32,8 @@ AreReportedAlike =
 abbrev pub output : Form → Course → ℕ → List ℕ
 output Report c faults = report c faults
 output Dump c faults = dump c.last.history
+
+-- a scenario that may make a checkpoint has no dump, since a book lets its events go there
+abbrev pub lacks_form : Form → Steps → Bool
+lacks_form Report steps = false
+lacks_form Dump steps = has_checkpoint steps

@@ -1,16 +1,16 @@
 -- What a run makes of its input, said of the bytes that a reader had and has left, and of those that a writer held and holds.
-use Rattle.std.specs.Prelude.{◌≡◌, ℕ, ◌≤◌, Some, None, Option, List}
+use Rattle.std.specs.Prelude.{◌≡◌, ℕ, ◌≤◌, Some, None, Option, List, false, true}
 use Rattle.serde_json.specs.Data.{Data}
 use Rattle.rx_event.specs.Kept.{nothing_kept}
 use Rattle.rx_event.specs.Totals.{accepted_count}
 use Rattle.rx_device.specs.Input.{GivesJson}
-use Rattle.rx_scenario.specs.Scenario.{Script}
+use Rattle.rx_scenario.specs.Scenario.{steps_of, Script}
 use Rattle.rx_scenario.specs.Reading.{scenario_of}
 use Rattle.rx_script.specs.declared.Form.{Form}
 use Rattle.rx_script.specs.declared.Form.TheVariants.{Report}
 use Rattle.rx_script.specs.Stage.{Ware}
 use Rattle.rx_script.specs.Course.{Course, HasNoFull, IsCourseOf, HasOneCourse}
-use Rattle.rx_script.specs.Report.{report, output}
+use Rattle.rx_script.specs.Report.{report, output, lacks_form}
 
 -- the course, of which the text is written, is reported as the one canonical course of the scenario with this stock: so but for the
 -- count of faults the report rests on nothing but the scenario, the tags of the resources, and which of them a book takes
@@ -30,6 +30,7 @@ pub record IsOutputOf (value : Data) (stock : List Ware) (form : Form) (text : L
   pub faults : ℕ
   pub few_faults : faults ≤ accepted_count nothing_kept course.last.history
   pub lines : text ≡ output form course faults
+  pub has_form : lacks_form form (steps_of script.steps) ≡ false
   -- where no step was refused because the history was full
   pub canonical : HasNoFull course.answers → IsReportedCanonically script stock form course text faults
 
@@ -41,8 +42,13 @@ pub record Runs (stock : List Ware) (form : Form) (given left : Option (List ℕ
   pub output : IsOutputOf value stock form text
   pub written : Writes text
 
--- the reader gave JSON that is no scenario
-pub record GivesNoScenario (old new : Option (List ℕ)) : Type 0 where
+-- nothing is to be written: the value is no scenario, or one that lacks this form
+pub data GivesNoOutput (value : Data) (form : Form) : Type 0 where
+  no_scenario : scenario_of value ≡ None → GivesNoOutput value form
+  no_form : {script : Script} → scenario_of value ≡ Some script → lacks_form form (steps_of script.steps) ≡ true → GivesNoOutput value form
+
+-- the reader gave JSON of which nothing is to be written in this form
+pub record LacksOutput (form : Form) (old new : Option (List ℕ)) : Type 0 where
   pub value : Data
   pub gave : GivesJson old new value
-  pub no_scenario : scenario_of value ≡ None
+  pub none : GivesNoOutput value form

@@ -14,7 +14,7 @@ use Rattle.rx_book.specs.Answers.{connection_made}
 use Rattle.rx_agenda.specs.declared.answer.Cause.{Cause}
 use Rattle.rx_agenda.specs.declared.answer.Cause.TheVariants.{NoName, NameTaken, NoStock}
 use Rattle.rx_agenda.specs.Bindings.{Binding, bound, is_unbound, is_bound, with_binding}
-use Rattle.rx_scenario.specs.Scenario.{Name, Site, root, source, inner, notifier, Sort, leaf, pass, flat, switch, until, sub, Command, using, open_node, hold, apply, remove, lease, give_back, next, end, abort, decline, fail, dispose, make_hub, connect, disconnect, drain}
+use Rattle.rx_scenario.specs.Scenario.{Name, Site, root, source, inner, notifier, Sort, leaf, pass, flat, switch, until, sub, Command, using, open_node, hold, apply, remove, lease, give_back, next, end, abort, decline, fail, dispose, make_hub, connect, disconnect, drain, checkpoint}
 
 -- a resource of the stock: its tag, and whether a book would take it
 pub record Ware : Type 0 where
@@ -25,10 +25,11 @@ pub record Ware : Type 0 where
 abbrev pub ware_of : {T : Type 0} → Ghosts T → T → Ware
 ware_of g x = record { tag = g.tag_of x; is_fresh = is_fresh_in g x }
 
--- what has happened, what the names of nodes, of hubs, of resources and of leases stand for, in order of binding, and what is left
--- of the stock
+-- what has happened from the first event on, how many events came before the last checkpoint, what the names of nodes, of hubs, of
+-- resources and of leases stand for, in order of binding, and what is left of the stock
 pub record Stage : Type 0 where
   pub history : List Event
+  pub checked : ℕ
   pub nodes : List Binding
   pub hubs : List Binding
   pub resources : List Binding
@@ -37,7 +38,7 @@ pub record Stage : Type 0 where
 
 -- before the first step
 abbrev pub start : List Ware → Stage
-start stock = record { history = []; nodes = []; hubs = []; resources = []; leases = []; stock = stock }
+start stock = record { history = []; checked = 0; nodes = []; hubs = []; resources = []; leases = []; stock = stock }
 
 -- the causes of the scenario's own -----------------------------------------------------------------
 
@@ -71,6 +72,7 @@ lacks_name s (make_hub name mode) = false
 lacks_name s (connect hub name) = is_unbound s.hubs hub
 lacks_name s (disconnect hub) = is_unbound s.hubs hub
 lacks_name s drain = false
+lacks_name s checkpoint = false
 
 -- the name for the connection that the opening of a subscriber makes, if it is given one
 abbrev pub connection_name : Sort → Option Name
@@ -96,6 +98,7 @@ takes_name s (make_hub name mode) = is_bound s.hubs name
 takes_name s (connect hub name) = option_map_or (is_bound s.nodes) name false
 takes_name s (disconnect hub) = false
 takes_name s drain = false
+takes_name s checkpoint = false
 
 abbrev pub is_empty : List Ware → Bool
 is_empty [] = true
@@ -120,6 +123,7 @@ lacks_stock s (make_hub name mode) = false
 lacks_stock s (connect hub name) = false
 lacks_stock s (disconnect hub) = false
 lacks_stock s drain = false
+lacks_stock s checkpoint = false
 
 -- the first of these that stands
 abbrev pub own_cause : Stage → Command → Option Cause
@@ -172,6 +176,7 @@ call_of s (make_hub name mode) = Some (Publishing mode)
 call_of s (connect hub name) = option_map Connecting (bound s.hubs hub)
 call_of s (disconnect hub) = option_map Disconnecting (bound s.hubs hub)
 call_of s drain = None
+call_of s checkpoint = None
 
 -- what follows -------------------------------------------------------------------------------------
 
@@ -182,7 +187,7 @@ with_connection bindings _ _ = bindings
 
 -- after an accepted step that took the history to k: a node or a hub is numbered by the place of the event that made it, a
 -- resource by the place of its acceptance, and a lease by the place where it was given out. The connection of a subscriber's hub is
--- named where the history has made one
+-- named where the history has made one. A checkpoint comes after all events so far
 abbrev pub after : Stage → Command → List Event → Stage
 after s (using name site res) k = record s { history = k; nodes = with_binding s.nodes name (length s.history); resources = with_binding s.resources res (length s.history + 1); stock = drop 1 s.stock }
 after s (open_node name site sort) k = record s { history = k; nodes = with_connection (with_binding s.nodes name (length s.history)) (connection_name sort) (connection_made s.history k) }
@@ -201,3 +206,4 @@ after s (make_hub name mode) k = record s { history = k; hubs = with_binding s.h
 after s (connect hub name) k = record s { history = k; nodes = with_connection s.nodes name (Some (length s.history)) }
 after s (disconnect hub) k = record s { history = k }
 after s drain k = record s { history = k }
+after s checkpoint k = record s { history = k; checked = length k }

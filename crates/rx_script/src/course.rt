@@ -1,11 +1,12 @@
 //! Steps that are carried out one after the other, each the one that comes next.
 
-ghost use Rattle.std.specs.Prelude.{◌≡◌, ◌≤◌, map, IfOk, OnOk};
+ghost use Rattle.std.specs.Prelude.{◌≤◌, map, IfOk, OnOk};
 ghost use Rattle.rx_scenario.specs.Scenario.{step_of};
 ghost use Rattle.rx_script.specs.Course.{limited};
 ghost use Rattle.rx_script.specs.Progress.{Ends};
 ghost use Rattle.rx_agenda.specs.Agenda.{with_steps, empty_agenda};
-ghost use Rattle.rx_script.specs.Engine.{stage_of, progress_of, IsSound, Performed, Followed};
+ghost use Rattle.rx_agenda.specs.Shown.{agenda_of};
+ghost use Rattle.rx_script.specs.Engine.{MovesOn, IsSound, Performed, Followed};
 
 use crate::engine::Engine;
 use crate::execute::execute;
@@ -55,9 +56,9 @@ fn take_all<R: Resource>(
     requires sound { IsSound engine.old }
     requires ends { until ≤ 1000000000000000 }
     requires clock { agenda.old.timeline.clock ≤ until }
-    ensures course { IfOk result (λ v. Ends (limited engine.old.book.limit) until (progress_of engine.old agenda.old) v.items (stage_of engine.new)) }
+    ensures course { IfOk result (λ v. MovesOn engine.old engine.new (λ s t. Ends (limited engine.old.book.limit) until
+        (record { stage = s; agenda = agenda_of agenda.old }) v.items t)) }
     ensures sound { OnOk result (IsSound engine.new) }
-    ensures given { OnOk result (engine.new.book.given ≡ engine.old.book.given) }
 {
     let mut answers = Vec::new(alloc);
     while let Some(step) = next_step(agenda, until) {
@@ -75,10 +76,9 @@ pub fn run_course<R: Resource>(
 ) -> Result<Vec<Answer>, AllocError>
     requires sound { IsSound engine.old }
     requires ends { until ≤ 1000000000000000 }
-    ensures course { IfOk result (λ v. Ends (limited engine.old.book.limit) until
-        (record { stage = stage_of engine.old; agenda = with_steps (map step_of steps.items) empty_agenda }) v.items (stage_of engine.new)) }
+    ensures course { IfOk result (λ v. MovesOn engine.old engine.new (λ s t. Ends (limited engine.old.book.limit) until
+        (record { stage = s; agenda = with_steps (map step_of steps.items) empty_agenda }) v.items t)) }
     ensures sound { OnOk result (IsSound engine.new) }
-    ensures given { OnOk result (engine.new.book.given ≡ engine.old.book.given) }
 {
     let mut agenda = empty_agenda(alloc);
     add_all(&mut agenda, steps)?;

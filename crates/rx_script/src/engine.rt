@@ -1,23 +1,25 @@
 //! A scenario at work: a book, what its names stand for, and the stock that is left.
 
-ghost use Rattle.std.specs.Prelude.{◌≡◌, ◌≢◌, ◌≤◌, map, string_bytes, IfOk, OnErr};
+ghost use Rattle.std.specs.Prelude.{◌≡◌, ◌≢◌, ◌≤◌, [], map, string_bytes, IfOk, OnErr};
 ghost use Rattle.rx_event.specs.declared.refusal.Refusal.{Refusal};
 ghost use Rattle.rx_agenda.specs.declared.answer.Answer.{Answer};
 ghost use Rattle.rx_agenda.specs.declared.answer.Cause.{Cause};
-ghost use Rattle.rx_scenario.specs.Scenario.{site_of, using, hold as holding, apply as applying, remove as removing, lease as leasing, give_back as giving_back, next as emitting, end as ending, abort as aborting, decline as declining, fail as failing, dispose as disposing, drain as draining};
+ghost use Rattle.rx_scenario.specs.Scenario.{site_of, using, hold as holding, apply as applying, remove as removing, lease as leasing, give_back as giving_back, next as emitting, end as ending, abort as aborting, decline as declining, fail as failing, dispose as disposing, drain as draining, checkpoint as checkpointing};
 ghost use Rattle.rx_script.specs.Stage.{start, ware_of};
-ghost use Rattle.rx_script.specs.Engine.{at_of, stage_of, IsSound, Carries};
+ghost use Rattle.rx_script.specs.Engine.{at_of, stage_of, IsHistoryOf, IsSound, Carries};
 
 use crate::stock::Stock;
 use rx_agenda::{Answer, Cause, Names};
 use rx_book::{At, Book, Key, LeaseKey, ResKey};
 use rx_event::{Refusal, Terminal};
+use rx_report::{Tallies, gather};
 use rx_resource::Resource;
 use rx_scenario::Site;
 use std::alloc::{AllocError, Global};
 
 /// A book, the names of its nodes, of its hubs, of its resources and of its leases in order of binding,
-/// the stock that is left, and how many releases have met a fault. A hub goes by its number.
+/// the stock that is left, what is to be reported of the events and notes that a checkpoint let go, and
+/// how many releases have met a fault. A hub goes by its number.
 pub struct Engine<R: Resource> {
     pub book: Book<R>,
     pub nodes: Names<Key>,
@@ -25,6 +27,7 @@ pub struct Engine<R: Resource> {
     pub resources: Names<ResKey>,
     pub leases: Names<LeaseKey>,
     pub stock: Stock<R>,
+    pub tallies: Tallies,
     pub faults: u64,
 }
 
@@ -38,6 +41,7 @@ impl<R: Resource> Drop for Engine<R> {
             resources: _resources,
             leases: _leases,
             stock: _stock,
+            tallies: _tallies,
             faults: _faults,
         } = self;
     }
@@ -47,9 +51,9 @@ impl<R: Resource> Drop for Engine<R> {
 pub fn begin<R: Resource>(alloc: Global, max_events: u64, stock: Vec<R>) -> Engine<R>
     requires { max_events ≤ 4294967295 }
     ensures sound { IsSound result }
-    ensures stage { stage_of result ≡ start (map (ware_of R.Resource) stock.items) }
+    ensures stage { stage_of result [] ≡ start (map (ware_of R.Resource) stock.items) }
+    ensures history { IsHistoryOf [] result.tallies result.book }
     ensures limit { result.book.limit ≡ max_events }
-    ensures given { result.book.given ≡ 0 }
 {
     let book = Book::new(alloc, max_events);
     book.promise();
@@ -60,6 +64,7 @@ pub fn begin<R: Resource>(alloc: Global, max_events: u64, stock: Vec<R>) -> Engi
         resources: Names::new(alloc),
         leases: Names::new(alloc),
         stock: Stock::new(stock),
+        tallies: Tallies::new(alloc),
         faults: 0,
     }
 }
@@ -360,4 +365,25 @@ pub fn drain<R: Resource>(engine: &mut Engine<R>)
     let closed = engine.book.release_waiting();
     engine.book.promise();
     engine.faults = engine.faults.saturating_add(closed.faults);
+}
+
+/// The book makes a checkpoint. What is to be reported of its events and notes is gathered first, since they
+/// are let go.
+///
+/// It is never refused: all notes are handed out before, and the 9,223,372,036,854,775,807 events past which a
+/// book makes none are out of reach, since a scenario has at most 65,536 steps and at most 4,294,967,295 events
+/// come between two checkpoints. A run that came so far would end here, as where memory is refused.
+pub fn checkpoint<R: Resource>(engine: &mut Engine<R>) -> Result<Answer, AllocError>
+    requires { IsSound engine.old }
+    ensures { IfOk result (λ a. Carries engine.old checkpointing a engine.new) }
+{
+    gather(&mut engine.tallies, &mut engine.book)?;
+    engine.book.promise();
+    match engine.book.checkpoint() {
+        Ok(_) => {
+            engine.book.promise();
+            Ok(Answer::Accepted)
+        }
+        Err(_) => Err(AllocError),
+    }
 }

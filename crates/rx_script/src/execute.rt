@@ -5,8 +5,8 @@ ghost use Rattle.rx_scenario.specs.Scenario.{command_of};
 ghost use Rattle.rx_script.specs.Engine.{IsSound, Carries};
 
 use crate::engine::{
-    Engine, abort, apply, decline, dispose, drain, end, fail, give_back, hold, lease, next, remove,
-    using,
+    Engine, abort, apply, checkpoint, decline, dispose, drain, end, fail, give_back, hold, lease,
+    next, remove, using,
 };
 use crate::hubs::{connect, disconnect, hub};
 use crate::opening::open;
@@ -41,5 +41,6 @@ pub fn execute<R: Resource>(engine: &mut Engine<R>, command: Command) -> Result<
             drain(engine);
             Ok(Answer::Accepted)
         }
+        Command::Checkpoint => checkpoint(engine),
     }
 }

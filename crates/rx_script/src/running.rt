@@ -1,24 +1,23 @@
 //! From a scenario's bytes to its report or its dump.
 
+ghost use Rattle.rx_event.specs.declared.event.Event.{Event as Happening};
 ghost use Rattle.rx_event.specs.Kept.{nothing_kept};
-ghost use Rattle.std.specs.Prelude.{◌≡◌, ◌≢◌, ◌≤◌, ◌⊎◌, ◌++◌, ℕ, List, None, false, true, map, string_bytes, IfOk, IfErr, OnOk, IsErrOf};
+ghost use Rattle.std.specs.Prelude.{◌≡◌, ◌≢◌, ◌≤◌, ◌⊎◌, ◌++◌, ℕ, List, false, true, map, string_bytes, IfOk, IfErr, OnOk, IsErrOf};
 ghost use Rattle.std.specs.Io.KnownBytes.{Appends};
 ghost use Rattle.serde_json.specs.View.{view};
-ghost use Rattle.rx_event.specs.Totals.{accepted_count, taken_count};
+ghost use Rattle.rx_event.specs.Totals.{accepted_count};
 ghost use Rattle.rx_device.specs.Device.{device_of, KeepsDevice, has_failed, has_stopped, HasReadFault, HasWriteFault, IsFresh, AppendsPrefix};
 ghost use Rattle.rx_device.specs.Input.{GivesTooMuch, GivesNoJson};
-ghost use Rattle.rx_scenario.specs.Scenario.{step_of, script_of};
+ghost use Rattle.rx_scenario.specs.Scenario.{step_of, steps_of, script_of};
 ghost use Rattle.rx_scenario.specs.Reading.{scenario_of};
-ghost use Rattle.rx_agenda.specs.declared.answer.Answer.{Answer};
-ghost use Rattle.rx_script.specs.Stage.{Stage, ware_of};
+ghost use Rattle.rx_script.specs.Stage.{ware_of};
 ghost use Rattle.rx_script.specs.Course.{limited, Course, HasNoFull, IsCourseOf};
-ghost use Rattle.rx_script.specs.Progress.{Ends};
 ghost use Rattle.rx_agenda.specs.Agenda.{with_steps, empty_agenda};
-ghost use Rattle.rx_script.specs.Report.{unclosed_report, output};
+ghost use Rattle.rx_script.specs.Report.{unclosed_report, output, lacks_form};
 ghost use Rattle.rx_dump.specs.Dump.{dump};
-ghost use Rattle.rx_script.specs.Engine.{stage_of, IsSound};
-ghost use Rattle.rx_script.specs.Outputs.{unclosed_output, closing};
-ghost use Rattle.rx_script.specs.Running.{IsReportedCanonically, IsOutputOf, Runs, GivesNoScenario};
+ghost use Rattle.rx_script.specs.Engine.{stage_of, IsHistoryOf, IsSound};
+ghost use Rattle.rx_script.specs.Outputs.{unclosed_output, closing, IsCarriedOut};
+ghost use Rattle.rx_script.specs.Running.{IsReportedCanonically, IsOutputOf, Runs, GivesNoOutput, LacksOutput};
 
 use crate::Form;
 use crate::closing::close;
@@ -29,11 +28,11 @@ use rx_book::Book;
 use rx_device::{ScriptError, ShapeError, Watched, read_value, write_text};
 use rx_dump::push_dump;
 use rx_report::{
-    all_mail, events_of, push_all_refused, push_closed, push_nodes, push_resources, push_totals,
-    tally, totals_of,
+    events_of, gather, push_all_refused, push_closed, push_nodes, push_resources, push_totals,
+    totals_of,
 };
 use rx_resource::Resource;
-use rx_scenario::{Scenario, Step, scenario_of};
+use rx_scenario::{Scenario, Step, has_checkpoint, scenario_of};
 use serde_json::Value;
 use std::alloc::{AllocError, Global};
 use std::io::{Read, Write};
@@ -46,34 +45,29 @@ fn unclosed_report<S: Resource>(
     answers: &[Answer],
 ) -> Result<String, AllocError>
     requires sound { IsSound engine.old }
-    requires given { engine.old.book.given ≡ 0 }
-    ensures ok { IfOk result (λ s. string_bytes s ≡ unclosed_report answers.now (stage_of engine.old)) }
+    ensures ok { IfOk result (λ s. (h : List Happening) → IsHistoryOf h engine.old.tallies engine.old.book
+        → string_bytes s ≡ unclosed_report answers.now (stage_of engine.old h)) }
     ensures base { OnOk result (engine.new.book.base ≡ engine.old.book.base) }
     ensures history { OnOk result (engine.new.book.history ≡ engine.old.book.history) }
     ensures faults { OnOk result (engine.new.faults ≡ engine.old.faults) }
 {
-    let mail = all_mail(alloc, &mut engine.book)?;
+    gather(&mut engine.tallies, &mut engine.book)?;
     engine.book.promise();
-    let events = events_of(alloc, &engine.book)?;
-    let events = events.as_slice();
-    let tallies = tally(alloc, events, mail.as_slice())?;
     let mut text = String::new(alloc);
     push_all_refused(&mut text, answers)?;
     push_nodes(
         &mut text,
-        events,
-        &tallies,
+        &engine.tallies,
         &engine.book,
         engine.nodes.in_order(),
     )?;
     push_resources(
         &mut text,
-        events,
-        &tallies,
+        &engine.tallies,
         &engine.book,
         engine.resources.in_order(),
     )?;
-    push_totals(&mut text, totals_of(events, &engine.book))?;
+    push_totals(&mut text, totals_of(&engine.tallies, &engine.book))?;
     Ok(text)
 }
 
@@ -95,8 +89,9 @@ fn unclosed_output<S: Resource>(
     form: Form,
 ) -> Result<String, AllocError>
     requires sound { IsSound engine.old }
-    requires given { engine.old.book.given ≡ 0 }
-    ensures ok { IfOk result (λ s. string_bytes s ≡ unclosed_output form answers.now (stage_of engine.old)) }
+    ensures ok { IfOk result (λ s. (h : List Happening) → IsHistoryOf h engine.old.tallies engine.old.book
+        → (form ≡ Form.Dump → engine.old.book.base.at_length ≡ 0)
+        → string_bytes s ≡ unclosed_output form answers.now (stage_of engine.old h)) }
     ensures base { OnOk result (engine.new.book.base ≡ engine.old.book.base) }
     ensures history { OnOk result (engine.new.book.history ≡ engine.old.book.history) }
     ensures faults { OnOk result (engine.new.faults ≡ engine.old.faults) }
@@ -116,12 +111,11 @@ fn carry_out<S: Resource>(
     form: Form,
 ) -> Result<String, AllocError>
     requires sound { IsSound engine.old }
-    requires given { engine.old.book.given ≡ 0 }
     requires ends { until ≤ 1000000000000000 }
-    ensures ok { IfOk result (λ s. (answers : List Answer) × (last : Stage) × Ends (limited engine.old.book.limit) until
-        (record { stage = stage_of engine.old; agenda = with_steps (map step_of steps.items) empty_agenda }) answers last
-        × (last.history ≡ engine.new.book.history) × (engine.new.faults ≤ taken_count engine.new.book.base last.history) × (string_bytes s ≡ unclosed_output form answers last)
-        × (engine.new.book.base ≡ nothing_kept)) }
+    ensures ok { IfOk result (λ s. (h : List Happening) → IsHistoryOf h engine.old.tallies engine.old.book
+        → IsCarriedOut (limited engine.old.book.limit) until
+        (record { stage = stage_of engine.old h; agenda = with_steps (map step_of steps.items) empty_agenda })
+        form (string_bytes s) engine.new) }
 {
     let answers = run_course(alloc, engine, steps, until)?;
     unclosed_output(alloc, engine, answers.as_slice(), form)
@@ -146,6 +140,7 @@ fn text_of<S: Resource>(
 ) -> Result<String, AllocError>
     requires limited { scenario.events ≤ 4294967295 }
     requires ends { scenario.until ≤ 1000000000000000 }
+    requires has_form { lacks_form form (steps_of (script_of scenario).steps) ≡ false }
     ensures { IfOk result (λ s. (c : Course) × (faults : ℕ) × IsCourseOf (script_of scenario) (map (ware_of S.Resource) stock.items) c
         × (faults ≤ accepted_count nothing_kept c.last.history) × (string_bytes s ≡ output form c faults)
         × (HasNoFull c.answers → IsReportedCanonically (script_of scenario) (map (ware_of S.Resource) stock.items) form c (string_bytes s) faults)) }
@@ -165,6 +160,16 @@ fn text_of<S: Resource>(
     Ok(text)
 }
 
+// Whether the form is that of a dump, and the scenario may make a checkpoint.
+fn lacks_form(form: Form, steps: &[Step]) -> bool
+    ensures { result ≡ lacks_form form (steps_of (map step_of steps.now)) }
+{
+    match form {
+        Form::Report => false,
+        Form::Dump => has_checkpoint(steps),
+    }
+}
+
 // What is written of the scenario that the value is.
 fn output_of<S: Resource>(
     alloc: Global,
@@ -173,9 +178,12 @@ fn output_of<S: Resource>(
     form: Form,
 ) -> Result<String, ShapeError>
     ensures ok { IfOk result (λ s. IsOutputOf (view value.now) (map (ware_of S.Resource) stock.items) form (string_bytes s)) }
-    ensures shape { IsErrOf result ShapeError.Shape → scenario_of (view value.now) ≡ None }
+    ensures shape { IsErrOf result ShapeError.Shape → GivesNoOutput (view value.now) form }
 {
     let scenario = scenario_of(alloc, value)?;
+    if lacks_form(form, scenario.steps.as_slice()) {
+        return Err(ShapeError::Shape);
+    }
     match text_of(alloc, scenario, stock, form) {
         Ok(text) => Ok(text),
         Err(AllocError) => Err(ShapeError::Memory),
@@ -183,7 +191,8 @@ fn output_of<S: Resource>(
 }
 
 /// Runs the scenario that the reader has left, in JSON, on a new book, with these resources as its
-/// stock, and writes what the form says: its report, or the dump of its history before the closing.
+/// stock, and writes what the form says: its report, or the dump of its history before the closing. A
+/// scenario with a checkpoint has no dump, since the book lets events go there; that is `Shape`.
 ///
 /// The book is closed in every outcome, and before the first byte is written: each resource that it
 /// accepted was released once. Those that it never accepted are dropped unreleased. Only with
@@ -210,7 +219,7 @@ pub fn run<R: Read, W: Write, S: Resource>(
         → GivesTooMuch (R.remaining (device_of reader.old)) (R.remaining (device_of reader.new))
         ⊎ GivesNoJson (R.remaining (device_of reader.old)) (R.remaining (device_of reader.new)) }
     ensures shape { IsErrOf result ScriptError.Shape
-        → GivesNoScenario (R.remaining (device_of reader.old)) (R.remaining (device_of reader.new)) }
+        → LacksOutput form (R.remaining (device_of reader.old)) (R.remaining (device_of reader.new)) }
 
     // With a write fault a front of it is written, and with any other fault nothing.
     ensures front { IsErrOf result ScriptError.Write

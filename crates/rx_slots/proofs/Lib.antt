@@ -1,2 +1,3 @@
+pub mod Laws
 pub mod SlotsLemmas
 pub mod KeptLemmas

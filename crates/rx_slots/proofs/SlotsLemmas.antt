@@ -1,12 +1,13 @@
 -- Lemmas on what a contract sees of `Slots`, for this crate and its callers.
-use Rattle.std.proofs.Common.{◌≡◌, ◌≢◌, ℕ, zero, suc, ◌+◌, ◌-◌, ◌<◌, List, [], ◌∷◌, ◌++◌, length, get_or, set, replicate, Option, Some, None, is_some, IsSome, refl, sym, ap, ◌∙◌, inl, inr, arith, rules, true≢false}
+use Rattle.std.proofs.Common.{◌≡◌, ◌≢◌, ℕ, zero, suc, ◌+◌, ◌-◌, ◌<◌, List, [], ◌∷◌, ◌++◌, length, get_or, set, replicate, Option, Some, None, is_some, IsSome, refl, sym, ap, ◌∙◌, inl, inr, arith, true≢false}
 use Rattle.std.specs.List.{sum_by}
 use Rattle.std.proofs.lemmas.Bool.{cases_eq, cases_lt}
-use Rattle.std.proofs.lemmas.List.Sums.{sum_by-set, sum_by-cons}
+use Rattle.std.proofs.lemmas.List.Sums.{sum_by-cons}
 use Rattle.std.proofs.lemmas.List.{length-set, length-append, length-replicate, get_or_past, get_or-set_same, get_or-set_other}
 use Rattle.rx_slots.specs.declared.Entry.{Entry}
 use Rattle.rx_slots.specs.declared.Key.{Key}
 use Rattle.rx_slots.specs.Slots.{Slots, slot_count, entry_at, with_number, find, placed, Changes, KeepsOthers}
+use Rattle.rx_slots.proofs.Laws.Found.{with_number-other, found_entry}
 
 -- nothing more is read past the end of a list that is longer by nothing
 pub get_or-append-nothing : {X : Type 0} (xs : List (Option X)) (more k : ℕ) → get_or (xs ++ replicate more None) k None ≡ get_or xs k None
@@ -38,38 +39,6 @@ module _ {T : Type 0} where
       let more = slot + 1 - length entries in
       let nothing : Option (Entry T) = None in
       omega (arith, length-set (entries ++ replicate more nothing) slot (Some e), length-append entries (replicate more nothing), length-replicate more nothing)
-
-  -- what a sum gains by an insert
-  pub sum_by-placed : (f : Option (Entry T) → ℕ) → f None ≡ 0 → (entries : List (Option (Entry T))) (slot : ℕ) (e : Entry T) → sum_by f (placed entries slot e) + f (get_or entries slot None) ≡ sum_by f entries + f (Some e)
-  sum_by-placed f nothing entries slot e =
-      let more = slot + 1 - length entries in
-      let none : Option (Entry T) = None in
-      let longer = entries ++ replicate more none in
-      let within : slot < length longer = omega (arith, length-append entries (replicate more none), length-replicate more none) in
-      let same : sum_by f longer ≡ sum_by f entries = sum_by-same_reads f nothing longer entries (get_or-append-nothing entries more) in
-      let read : f (get_or longer slot None) ≡ f (get_or entries slot None) = ap f (get_or-append-nothing entries more slot) in
-      omega (arith, sum_by-set f longer slot (Some e) None within)
-
-  -- the number of an entry finds its value
-  pub with_number-same : (number : ℕ) (e : Entry T) → e.number ≡ number → with_number number (Some e) ≡ Some e.value
-  with_number-same number e same = search rules
-
-  -- another number finds nothing
-  pub with_number-other : (number : ℕ) (e : Entry T) → e.number ≢ number → with_number number (Some e) ≡ None
-  with_number-other number e differs = search rules
-
-  -- where a number finds a value, the entry has that number
-  pub numbered_entry : (number : ℕ) (at : Option (Entry T)) → IsSome (with_number number at) → (e : Entry T) × (at ≡ Some e) × (e.number ≡ number)
-  numbered_entry number None some = absurd (true≢false (sym some))
-  numbered_entry number (Some e) some =
-      elim (cases_eq e.number number) [
-        | inl same ↦ (e, refl, same)
-        | inr differs ↦ absurd (true≢false (sym (rw (with_number-other number e differs) at some)))
-      ]
-
-  -- a key that finds a value has the number of its slot
-  pub found_entry : (s : Slots T) (key : Key) → IsSome (find s key) → (e : Entry T) × (entry_at s key.slot ≡ Some e) × (e.number ≡ key.number)
-  found_entry s key found = numbered_entry key.number (entry_at s key.slot) found
 
   -- a slot with an entry is below the count of slots
   pub within_count : (s : Slots T) (slot : ℕ) (e : Entry T) → entry_at s slot ≡ Some e → slot < slot_count s

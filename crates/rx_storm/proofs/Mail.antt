@@ -1,7 +1,7 @@
 -- Mail that is taken note by note.
 use Rattle.std.proofs.Common.{◌≡◌, ◌+◌, ◌-◌, ◌≤◌, ℕ, zero, suc, List, [], ◌∷◌, length, arith, sym, ◌∙◌}
 use Rattle.std.specs.Prelude.{None, min, slice_get}
-use Rattle.std.proofs.Math.Nat.{min-eq_left, min-eq_right}
+use Rattle.std.proofs.Math.Nat.{min-eq_left}
 
 slice_get-past : {A : Type 0} (xs : List A) (n : ℕ) → slice_get xs n ≡ None → length xs ≤ n
 slice_get-past [] n missing = omega arith
@@ -16,9 +16,3 @@ all_taken xs from taken most within missing few =
     let left : length xs - from ≡ taken = omega arith in
     let fits : length xs - from ≤ most = omega arith in
     sym (min-eq_left fits ∙ left)
-
--- and where so many were taken, that is what is counted
-pub most_taken : (left from taken : ℕ) → from + taken ≤ left → taken ≡ min (left - from) taken
-most_taken left from taken within =
-    let few : taken ≤ left - from = omega arith in
-    sym (min-eq_right few)

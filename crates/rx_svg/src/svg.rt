@@ -1,8 +1,8 @@
 //! A drawing as an SVG document, with the verdict of the audit.
 
-ghost use Rattle.std.specs.Prelude.{◌≡◌, ◌+◌, ◌++◌, ◌≤◌, string_bytes, OnOk, IfOk, flat_map, length};
+ghost use Rattle.std.specs.Prelude.{◌≡◌, ◌+◌, ◌++◌, ◌≤◌, string_bytes, OnOk, IfOk, flat_map};
 ghost use Rattle.rx_svg.specs.Lane.{row_text, tick_text, told_text};
-ghost use Rattle.rx_svg.specs.Page.{lanes_shown, places_shown, height_of, head_text, point_text, below_text, listed_text, list_text, untaken_text, lawful_text, unlawful_text, unsettled_text, verdict_text, break_text, shares_text, under_text, lanes_text, svg_text, IsPicture};
+ghost use Rattle.rx_svg.specs.Page.{lanes_shown, places_shown, head_text, point_text, below_text, listed_text, list_text, untaken_text, lawful_text, unlawful_text, unsettled_text, verdict_text, break_text, shares_text, under_text, lanes_text, svg_text, IsPicture};
 
 use crate::lanes::{push_row, push_tick, push_told, value_at, x_of};
 use crate::pieces::{Piece, push_pieces};

@@ -1,6 +1,5 @@
 pub mod Keys
 pub mod Written
-pub mod Rewritten
 pub mod Parents
 pub mod Below
 pub mod Newest

@@ -20,3 +20,4 @@ pub mod LeafRings
 pub mod CloseSteps
 pub mod LeafSteps
 pub mod CutLemmas
+pub mod KeptLists

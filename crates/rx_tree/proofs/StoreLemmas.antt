@@ -24,18 +24,6 @@ module _ {X Y : Type 0} (f : X → Y) where
   pub entry_at-project : (s : Slots X) (i : ℕ) → entry_at (project f s) i ≡ option_map (on_entry f) (entry_at s i)
   entry_at-project s i = get_or-map (option_map (on_entry f)) s.entries i None
 
-  pub value_at-project : (s : Slots X) (i : ℕ) → value_at (project f s) i ≡ option_map f (value_at s i)
-  value_at-project s i = ap (option_map (λ e. e.value)) (entry_at-project s i) ∙ of (entry_at s i) where
-    of : (o : Option (Entry X)) → option_map (λ e. e.value) (option_map (on_entry f) o) ≡ option_map f (option_map (λ e. e.value) o)
-    of None = refl
-    of (Some e) = refl
-
-  pub number_at-project : (s : Slots X) (i : ℕ) → number_at (project f s) i ≡ number_at s i
-  number_at-project s i = ap (option_map (λ e. e.number)) (entry_at-project s i) ∙ of (entry_at s i) where
-    of : (o : Option (Entry X)) → option_map (λ e. e.number) (option_map (on_entry f) o) ≡ option_map (λ e. e.number) o
-    of None = refl
-    of (Some e) = refl
-
   pub find-project : (s : Slots X) (key : Key) → find (project f s) key ≡ option_map f (find s key)
   find-project s key = ap (with_number key.number) (entry_at-project s key.slot) ∙ of (entry_at s key.slot) where
     of : (o : Option (Entry X)) → with_number key.number (option_map (on_entry f) o) ≡ option_map f (with_number key.number o)

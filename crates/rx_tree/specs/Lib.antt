@@ -4,6 +4,7 @@ pub mod Closing
 pub mod Cuts
 pub mod Owed
 pub mod Resources
+pub mod Bases
 pub mod Rings
 pub mod Places
 pub mod Store

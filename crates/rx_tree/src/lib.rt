@@ -36,6 +36,7 @@
 //! live or released: none is released here, and a tree that is dropped drops its resources.
 #![tactic(auto)]
 
+mod checkpoint;
 mod links;
 mod node;
 mod records;

@@ -40,7 +40,7 @@ fn sibling_ring(node: Node) -> Option<Place>
 /// the observable, and so all that it subscribed to), and what is held at it then waits for its
 /// release, as the resource of Using does.
 pub struct Tree<R: Resource> {
-    store: Store<R>,
+    pub(crate) store: Store<R>,
 }
 
 // Written out, so that where a tree is let go there is one call to prove, and not the drop of each field in turn.

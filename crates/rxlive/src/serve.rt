@@ -7,8 +7,9 @@ use std::io::{Read, Result as IoResult, Write};
 /// The most bytes of a line, without the byte that ends it.
 const MOST_BYTES: usize = 65_536;
 
-/// The most events of a history.
-const MOST_EVENTS: u64 = 4_294_967_295;
+/// The most events of a history since its last checkpoint, with those that closing everything may need: four for
+/// each of the most nodes that may be open, as for one that holds a leased resource.
+const MOST_EVENTS: u64 = 4_194_304;
 
 /// What is answered in want of memory, where nothing has changed.
 const NO_MEMORY: &str = "{\"refused\":\"NoMemory\"}";

@@ -2,14 +2,12 @@
 //! document.
 #![tactic(auto)]
 
-ghost use Rattle.std.specs.Prelude.{◌≡◌, Some, List, IfOk, string_bytes};
+ghost use Rattle.std.specs.Prelude.{IfOk, string_bytes};
 ghost use Rattle.serde_json.specs.Data.{Data};
 ghost use Rattle.serde_json.specs.View.{view};
-ghost use Rattle.rx_event.specs.declared.event.Event.{Event};
 ghost use Rattle.rx_device.specs.Device.{device_of, IsFresh};
 ghost use Rattle.rx_device.specs.Input.{GivesJson};
 ghost use Rattle.rx_dump.specs.History.{history_of};
-ghost use Rattle.rx_svg.specs.Page.{IsPicture};
 ghost use Rattle.rxpicture.specs.Pictured.{IsPictureOn};
 
 use rx_device::{ScriptError, ShapeError, Watched, read_value, write_text};

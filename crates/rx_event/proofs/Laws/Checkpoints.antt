@@ -156,7 +156,7 @@ module _ (b : Kept) (h : List Event) (c : Kept) (k : List Event) (a : Agree b h 
     leases = same_leases i;
   })
 
-same_debt : (b : Kept) (h : List Event) (c : Kept) (k : List Event) → Agree b h c k → debt b h ≡ debt c k
+pub same_debt : (b : Kept) (h : List Event) (c : Kept) (k : List Event) → Agree b h c k → debt b h ≡ debt c k
 unfolding debt
 same_debt b h c k a =
     sum_by-same (debt_of c k) (debt_of b h) (length h) (λ n l. each n (is_open h n) refl) ∙
@@ -190,10 +190,10 @@ list_continues b h es law longer =
     let since : longer.since ≡ law.since ++ es = same_rest (shown b) longer.since (law.since ++ es) whole in
     subst (λ k. Continues b k es) (sym law.reads) (continues_list b (shown b) law.since es (subst (λ k. Continues b (shown b) k) since longer.each))
 
-kept_agrees : (b : Kept) (h : List Event) → IsLawful b h → IsSettled b h → Agree b h (base_of b h) (shown (base_of b h))
+pub kept_agrees : (b : Kept) (h : List Event) → IsLawful b h → IsSettled b h → Agree b h (base_of b h) (shown (base_of b h))
 kept_agrees b h law settled = base_agrees b h (sound_of b h law) settled
 
-base_lawful : (b : Kept) (h : List Event) → IsLawful b h → IsSettled b h → IsLawful (base_of b h) (shown (base_of b h))
+pub base_lawful : (b : Kept) (h : List Event) → IsLawful b h → IsSettled b h → IsLawful (base_of b h) (shown (base_of b h))
 base_lawful b h law settled = IsLawful_empty (base_of b h) (base_started b h law settled)
 
 after_base : (b : Kept) (h es : List Event) → IsLawful b h → IsSettled b h → IsLawful b (h ++ es) → GoesOn b h (base_of b h) (shown (base_of b h)) es

@@ -1,5 +1,5 @@
 -- Neither a closing nor what is forced opens a root or connects a hub that a caller connects, so what a caller holds open grows less.
-use Rattle.std.proofs.Common.{◌≡◌, ℕ, ◌+◌, ◌<◌, ◌≤◌, Bool, true, false, List, [], ◌∷◌, ◌++◌, length, map, Option, Some, None, cond, refl, sym, ap, subst, ◌∙◌, arith, inl, inr, ◌⊎◌, slice_get, append_assoc, append-nil}
+use Rattle.std.proofs.Common.{◌≡◌, ℕ, ◌+◌, ◌<◌, ◌≤◌, Bool, true, false, List, [], ◌∷◌, ◌++◌, length, Option, Some, None, cond, refl, sym, ap, ◌∙◌, arith, inl, inr, ◌⊎◌, slice_get, append_assoc, append-nil}
 use Rattle.std.proofs.Math.Bool.{◌&&◌, not}
 use Rattle.std.specs.List.{count_by, list_all}
 use Rattle.std.specs.Option.{option_map_or}
@@ -13,7 +13,6 @@ use Rattle.rx_event.specs.Events.{makes_node, makes_hub, is_root, is_auto_hub, i
 use Rattle.rx_event.specs.Tree.{at, places, is_open, open_connections}
 use Rattle.rx_event.specs.Forced.{mirrored, fired, failed, completed, cut, left, connecting, due, IsDue, IsForced}
 use Rattle.rx_event.specs.Lawful.{stays, more, IsForcedOn, IsLawful}
-use Rattle.rx_event.specs.Calls.{Disconnecting, IsStepOf}
 use Rattle.rx_event.specs.Claims.Closing.{is_open_root, is_manual_connect, is_manual_connection, open_root_count, manual_connection_count, IsLetGo, makes_neither, MakesNeither}
 use Rattle.rx_event.proofs.Laws.Places.{slice_get-append, cases_push}
 use Rattle.rx_event.proofs.Laws.Openness.{is_open_within, is_open_cut, is_open_outside-close}
@@ -306,8 +305,3 @@ one_listed base h law g c connects alive = by_list (open_connections h g) refl (
       let first : (slice_get h d ≡ Some (Connect g)) × (is_open h d ≡ true) = first_connection h g d [] found in
       ap (λ (n : ℕ). n ∷ []) (one_connection base h law g d c (record { one = rw first.0 (eq-eqb g g refl); one_open = first.1; other = rw connects (eq-eqb g g refl); other_open = alive }))
   by_list (d ∷ e ∷ cs) found few = absurd (omega arith)
-
-pub disconnection_closes : (base : Kept) → (h k : List Event) (g c : ℕ) → IsLawful base h → slice_get h c ≡ Some (Connect g) → is_open h c ≡ true → IsStepOf base h (Disconnecting g) k →
-    IsForcedOn base (h ++ Close c ∷ []) k
-disconnection_closes base h k g c law connects alive step =
-    subst (λ (cs : List ℕ). IsForcedOn base (h ++ map (λ n. Close n) cs) k) (one_listed base h law g c connects alive) step.forced

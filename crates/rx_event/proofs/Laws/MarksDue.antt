@@ -245,11 +245,6 @@ settled_quiet base h settled n made o at_n = by_event (due_at made (marks_of bas
   by_event None none = refl
   by_event (Some e) found = absurd (settled.none e (due_at_forced base h n made e (λ g d. settled.none (Connect g) (connecting d)) o at_n found))
 
--- without a hub what the marks give is forced
-pub forced_hubless : (base : Kept) → (h : List Event) → list_any makes_hub h ≡ false → (n : ℕ) (made e : Event) → is_open h n ≡ true → slice_get h n ≡ Some made →
-    due_at made (marks_of base h n) n ≡ Some e → IsForced base h e
-forced_hubless base h hubless n made e o at_n found = due_at_forced base h n made e (λ g d. hub_at h is_auto_hub auto_makes_hub hubless g d.auto) o at_n found
-
 -- what is due at a node, if not by the end of a connection, its marks give an end of it
 pub due_by_marks : (base : Kept) → (h : List Event) (n : ℕ) (made : Event) (t : Terminal) → slice_get h n ≡ Some made → ¬ SourceEnded h n t → IsDue base h (End n t) →
     (u : Terminal) × (due_at made (marks_of base h n) n ≡ Some (End n u))

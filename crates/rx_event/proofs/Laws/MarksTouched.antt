@@ -1,5 +1,5 @@
 -- An event changes the marks of one node at most, but for an item.
-use Rattle.std.proofs.Common.{◌≡◌, ℕ, ℤ, ◌+◌, ◌-◌, ◌<◌, ◌≤◌, Bool, true, false, List, [], ◌∷◌, ◌++◌, length, Some, None, cond, refl, sym, ap, ◌∙◌, arith, inl, inr, ◌⊎◌, ◌==◌, slice_get}
+use Rattle.std.proofs.Common.{◌≡◌, ℕ, ℤ, ◌+◌, ◌-◌, ◌<◌, Bool, true, false, List, [], ◌∷◌, ◌++◌, length, Some, None, cond, refl, sym, ap, ◌∙◌, arith, inl, inr, ◌⊎◌, ◌==◌, slice_get}
 use Rattle.std.proofs.Math.Bool.{not, ◌&&◌, ◌||◌}
 use Rattle.std.specs.Prelude.{if◌then◌else◌}
 use Rattle.std.specs.List.{list_any, count_by}
@@ -16,17 +16,14 @@ use Rattle.rx_event.specs.declared.event.Kind.TheVariants.{Leaf, Pass, Flat, Swi
 use Rattle.rx_event.specs.declared.event.Event.{Event}
 use Rattle.rx_event.specs.declared.event.Event.TheVariants.{Open, Hub, Connect, Accept, Use, Remove, Lease, Return, Item, Decline, End, Close, Take}
 use Rattle.rx_event.specs.declared.marks.Marks.{Marks}
-use Rattle.rx_event.specs.Events.{is_merging, is_source_of, is_inner_of, is_switch, makes_node}
+use Rattle.rx_event.specs.Events.{is_merging, is_source_of, is_inner_of, is_switch}
 use Rattle.rx_event.specs.Tree.{at, parent, is_open}
 use Rattle.rx_event.specs.Climb.{Stop, Delivery, Projection, Firing, stops}
 use Rattle.rx_event.specs.Moments.{is_fired, is_firing_of, is_projection_to}
-use Rattle.rx_event.specs.Forced.{IsForced}
 use Rattle.rx_event.specs.Marks.{touches, after_source, after_notifier, after_inner, after_decline, after_child, after_stops, blank_marks, completes_source, passes_on, child_terminal, source_completed, open_children, marks_of, due_at}
-use Rattle.rx_event.specs.Lawful.{forced, MayFollow, IsLawful}
+use Rattle.rx_event.specs.Lawful.{MayFollow, IsLawful}
 use Rattle.rx_event.proofs.Laws.Openness.{is_open_within}
-use Rattle.rx_event.proofs.Laws.Steps.{forced_kind, may_open, may_decline}
-use Rattle.rx_event.specs.Totals.{debt}
-use Rattle.rx_event.proofs.Laws.Debt.{debt_falls-end, debt_falls-close}
+use Rattle.rx_event.proofs.Laws.Steps.{may_open, may_decline}
 use Rattle.rx_event.proofs.Laws.Searches.{or_false}
 use Rattle.rx_event.proofs.Laws.MarksFound.{open_children_none}
 use Rattle.rx_event.proofs.Laws.MarksAfter.{same_marks, marks-item, marks-decline, marks_kept, marks-source, marks-notifier}
@@ -183,15 +180,3 @@ blank_quiet _ n = refl
 
 pub quiet_new : (base : Kept) → (h : List Event) (e : Event) → IsLawful base h → MayFollow base h e → due_at e (marks_of base (h ++ e ∷ []) (length h)) (length h) ≡ None
 quiet_new base h e law next = ap (λ m. due_at e m (length h)) (marks-new base h e law next) ∙ blank_quiet e (length h)
-
--- what has nothing to do, and is not touched, has nothing to do
-pub quiet_untouched : (base : Kept) → (h : List Event) (e : Event) → IsLawful base h → MayFollow base h e → (n : ℕ) (made : Event) → n < length h → is_open (h ++ e ∷ []) n ≡ true →
-    touches h n e ≡ false → due_at made (marks_of base h n) n ≡ None → due_at made (marks_of base (h ++ e ∷ []) n) n ≡ None
-quiet_untouched base h e law next n made l o apart quiet = ap (λ m. due_at made m n) (marks_untouched base h e law next n l o apart) ∙ quiet
-
--- each forced event but a Connect lowers the debt
-pub forced_falls : (base : Kept) → (h : List Event) (e : Event) → IsLawful base h → IsForced base h e → makes_node e ≡ false → debt base (h ++ e ∷ []) + 1 ≤ debt base h
-forced_falls base h (End c t) law f no_node = debt_falls-end base h c t law (forced f)
-forced_falls base h (Close c) law f no_node = debt_falls-close base h c law (forced f)
-forced_falls base h (Connect g) law f no_node = absurd (false≢true (sym no_node))
-forced_falls base h _ law f no_node = absurd (false≢true (forced_kind base f))

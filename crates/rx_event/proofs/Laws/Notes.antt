@@ -17,7 +17,6 @@ use Rattle.rx_event.specs.declared.event.Event.TheVariants.{Item, End}
 use Rattle.rx_event.specs.Events.{is_root}
 use Rattle.rx_event.specs.Tree.{at, is_open}
 use Rattle.rx_event.specs.Climb.{Stop, Delivery, Projection, Firing, stops}
-use Rattle.rx_event.specs.Moments.{moments}
 use Rattle.rx_event.specs.declared.mail.Mail.{Mail}
 use Rattle.rx_event.specs.Notes.{notes, notes_to, told, mail_of}
 use Rattle.rx_event.specs.Lawful.{MayFollow, IsLawful}
@@ -40,10 +39,6 @@ notes_in n mail = map (λ m. m.note) (filter (λ m. m.to == n) mail)
 pub notes_to-push : (h : List Event) (e : Event) (n : ℕ) → notes_to (h ++ e ∷ []) n ≡ notes_to h n ++ notes_in n (mail_of h e)
 notes_to-push h e n =
     ap (notes_in n) (notes-push h e) ∙ ap (map (λ (m : Mail). m.note)) (filter-append (λ (m : Mail). m.to == n) (notes h) (mail_of h e)) ∙ map-append (λ (m : Mail). m.note) (filter (λ (m : Mail). m.to == n) (notes h)) (filter (λ (m : Mail). m.to == n) (mail_of h e))
-
-pub notes_to_empty : (n : ℕ) → notes_to [] n ≡ []
-unfolding notes moments
-notes_to_empty n = refl
 
 -- one item ----------------------------------------------------------------------------------------
 

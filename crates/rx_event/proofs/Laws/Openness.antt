@@ -1,9 +1,9 @@
 -- Which nodes are open after one more event.
-use Rattle.std.proofs.Common.{◌≡◌, ℕ, zero, suc, ◌<◌, ◌≤◌, Bool, true, false, List, [], ◌∷◌, ◌++◌, length, drop, Option, Some, None, refl, sym, ap, ◌∙◌, arith, inl, inr, ◌⊎◌, nat_lt, ◌==◌, length-append, append-nil, append_assoc}
+use Rattle.std.proofs.Common.{◌≡◌, ℕ, zero, suc, ◌<◌, ◌≤◌, Bool, true, false, List, [], ◌∷◌, ◌++◌, length, drop, Option, Some, None, refl, sym, ap, ◌∙◌, arith, inl, inr, ◌⊎◌, nat_lt, length-append, append-nil, append_assoc}
 use Rattle.std.proofs.Math.Bool.{not, ◌&&◌, ◌||◌}
 use Rattle.std.specs.List.{list_any, list_all, AllByRecursion}
 use Rattle.std.specs.Option.{option_and_then, option_map_or}
-use Rattle.std.proofs.lemmas.Bool.{cases_Bool, cases_lt, cases_order, ltb-true, lt-ltb, le-ltb, and_parts, both_ways, eq-eqb}
+use Rattle.std.proofs.lemmas.Bool.{cases_Bool, cases_lt, cases_order, ltb-true, lt-ltb, le-ltb, and_parts, both_ways}
 use Rattle.std.proofs.lemmas.Option.{cond_some, option_and_then_some, slice_get_past}
 use Rattle.std.proofs.lemmas.List.{drop-append-le}
 use Rattle.std.proofs.lemmas.List.Folds.{list_any-append}
@@ -165,15 +165,6 @@ is_cut_none h e n s = none (ancestors h n) where
   none [] = refl
   none (a ∷ xs) = rw (not_shut h a e s) (none xs)
 
--- an end shuts just the nodes that it is above
-pub is_open-end : (h : List Event) (c : ℕ) (t : Terminal) (n : ℕ) → n < length h →
-    is_open (h ++ End c t ∷ []) n ≡ (is_open h n && list_all (λ a. not (c == a)) (ancestors h n))
-is_open-end h c t n l = is_open-push h (End c t) n l
-
-pub is_open-close : (h : List Event) (c : ℕ) (n : ℕ) → n < length h →
-    is_open (h ++ Close c ∷ []) n ≡ (is_open h n && list_all (λ a. not (c == a)) (ancestors h n))
-is_open-close h c n l = is_open-push h (Close c) n l
-
 -- beyond the end there is no node
 pub is_open_past : (h : List Event) (n : ℕ) → length h ≤ n → is_open h n ≡ false
 is_open_past h n l = is_open_step h n ∙ rw (slice_get_past h n l) refl
@@ -200,10 +191,6 @@ is_open_within h n o = within (cases_lt n (length h)) where
   within (inl l) = l
   within (inr g) = absurd (both_ways _ (is_open_past h n g) o)
 
--- n is among its ancestors
-pub self_tested : (h : List Event) (n : ℕ) (q : ℕ → Bool) → list_all q (ancestors h n) ≡ true → q n ≡ true
-self_tested h n q a = let b = rw (ancestors_step h n) at a in (and_parts (q n) (list_all q (option_map_or (ancestors h) (parent h n) [])) b).0
-
 -- what is open after an event that makes no node was open before
 pub open_before : (h : List Event) (e : Event) (p : ℕ) → makes_node e ≡ false → is_open (h ++ e ∷ []) p ≡ true → is_open h p ≡ true
 open_before h e p no_node o = by_place (cases_order p (length h)) where
@@ -211,20 +198,6 @@ open_before h e p no_node o = by_place (cases_order p (length h)) where
   by_place (inr (inl l)) = (and_parts _ _ (sym (is_open-push h e p l) ∙ o)).0
   by_place (inl same) = absurd (both_ways _ (is_open_step (h ++ e ∷ []) (length h) ∙ rw (slice_get_last h e, no_node) refl) (ap (is_open (h ++ e ∷ [])) (sym same) ∙ o))
   by_place (inr (inr g)) = let l = is_open_within (h ++ e ∷ []) p o in absurd (omega (arith, length-append {A = Event}))
-
--- an open node of a history with an end more was open before, and is not what ended
-pub open_before_end : (h : List Event) (q : ℕ) (u : Terminal) (p : ℕ) → is_open (h ++ End q u ∷ []) p ≡ true →
-    (p < length h) × (is_open h p ≡ true) × (q ≡ p → ⊥)
-open_before_end h q u p o = (within, parts.0, λ same. both_ways _ (ap not (eq-eqb q p same)) (self_tested h p (λ a. not (q == a)) parts.1)) where
-  within : p < length h
-  within = by_place (cases_order p (length h)) where
-    by_place : (p ≡ length h) ⊎ ((p < length h) ⊎ (length h < p)) → p < length h
-    by_place (inr (inl l)) = l
-    by_place (inl same) = absurd (both_ways _ (is_open_step (h ++ End q u ∷ []) (length h) ∙ rw (slice_get_last h (End q u)) refl) (ap (is_open (h ++ End q u ∷ [])) (sym same) ∙ o))
-    by_place (inr (inr g)) = let l = is_open_within (h ++ End q u ∷ []) p o in absurd (omega (arith, length-append {A = Event}))
-
-  parts : (is_open h p ≡ true) × (list_all (λ a. not (q == a)) (ancestors h p) ≡ true)
-  parts = and_parts _ _ (sym (is_open-push h (End q u) p within) ∙ o)
 
 -- an event that neither shuts nor makes a node leaves each number as it was
 pub is_open_unchanged : (h : List Event) (e : Event) → shuts_none e ≡ true → makes_node e ≡ false → (n : ℕ) → is_open (h ++ e ∷ []) n ≡ is_open h n

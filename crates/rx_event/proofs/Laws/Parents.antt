@@ -1,14 +1,14 @@
 -- Parents and ancestors in a longer history.
-use Rattle.std.proofs.Common.{◌≡◌, ℕ, zero, suc, ◌<◌, ◌≤◌, true, false, List, [], ◌∷◌, ◌++◌, length, Option, Some, None, refl, sym, ap, ◌∙◌, arith, inl, inr, ◌⊎◌, nat_lt, ◌==◌, slice_get, length-append}
+use Rattle.std.proofs.Common.{◌≡◌, ℕ, zero, suc, ◌<◌, ◌≤◌, true, false, List, [], ◌∷◌, ◌++◌, length, Option, Some, None, refl, sym, ap, ◌∙◌, arith, inl, inr, ◌⊎◌, nat_lt, ◌==◌, slice_get}
 use Rattle.std.specs.List.{AllByRecursion, list_any}
 use Rattle.std.specs.Option.{option_and_then, option_map_or}
-use Rattle.std.proofs.lemmas.Bool.{cases_order, ltb-true, eqb-true, or_cases, or_right, false≢true}
-use Rattle.std.proofs.lemmas.Option.{cond_some, option_and_then_some, slice_get_within, none-some}
+use Rattle.std.proofs.lemmas.Bool.{ltb-true, eqb-true, or_cases, or_right, false≢true}
+use Rattle.std.proofs.lemmas.Option.{cond_some, option_and_then_some, slice_get_within}
 use Rattle.rx_event.specs.declared.event.Event.{Event}
 use Rattle.rx_event.specs.declared.event.Event.TheVariants.{Open}
 use Rattle.rx_event.specs.Events.{parent_named, makes_node}
 use Rattle.rx_event.specs.Tree.{parent, if_less, ancestors, ancestors_within, is_within}
-use Rattle.rx_event.proofs.Laws.Places.{slice_get-append, slice_get_last}
+use Rattle.rx_event.proofs.Laws.Places.{slice_get-append}
 
 -- parents have smaller numbers
 pub parent-lt : (h : List Event) (n p : ℕ) → parent h n ≡ Some p → p < n
@@ -85,18 +85,6 @@ parent_name h n p e below at_n =
 names_no_parent : (e : Event) → makes_node e ≡ false → parent_named e ≡ None
 names_no_parent (Open place kind) n = cc
 names_no_parent _ n = refl
-
--- an event that makes no node brings no child
-pub old_child : (h : List Event) (e : Event) → makes_node e ≡ false → (p c : ℕ) → parent (h ++ e ∷ []) c ≡ Some p → c < length h
-unfolding parent
-old_child h e no_node p c below = by_place (cases_order c (length h)) where
-  last_none : parent (h ++ e ∷ []) (length h) ≡ None
-  last_none = rw (slice_get_last h e, names_no_parent e no_node) refl
-
-  by_place : (c ≡ length h) ⊎ ((c < length h) ⊎ (length h < c)) → c < length h
-  by_place (inr (inl l)) = l
-  by_place (inl same) = absurd (none-some p (sym (ap (parent (h ++ e ∷ [])) same ∙ last_none) ∙ below))
-  by_place (inr (inr g)) = let l = parent_within (h ++ e ∷ []) c p below in absurd (omega (arith, length-append {A = Event}))
 
 -- what n is within ---------------------------------------------------------------------------------
 

@@ -70,13 +70,6 @@ projections_past = by_pushes (λ h. (f : ℕ) → length h ≤ f → projections
 
 -- owed --------------------------------------------------------------------------------------------
 
--- nothing is owed beyond the end
-pub owed_past : (base : Kept) → (h : List Event) → IsLawful base h → (f : ℕ) → length h ≤ f → owed base h f ≡ 0
-unfolding owed
-owed_past base h law f l =
-    let p = projections_past h f l in
-    ap (λ k. option_map_or (λ (x : BaseNode). x.owed + count_by (pays f) (shown base) + projections h f) k (projections h f) - count_by (pays f) h) (law.started.unkept f (let w = shown_within base h law in omega arith)) ∙ (omega arith)
-
 -- a new node owes nothing
 pub owed_new : (base : Kept) → (h : List Event) → IsLawful base h → (e : Event) → owed base (h ++ e ∷ []) (length h) ≡ 0
 unfolding owed

@@ -4,7 +4,6 @@ use Rattle.std.proofs.Common.{arith, inl, inr, ◌⊎◌, ◌==◌, nat_lt, slic
 use Rattle.std.proofs.Math.Bool.{not, ◌&&◌, ◌||◌}
 use Rattle.std.specs.List.{list_any}
 use Rattle.std.specs.Option.{option_and_then, option_map_or}
-use Rattle.std.specs.Cmp.{both_ways as same_test}
 use Rattle.std.proofs.lemmas.Grind.{common_steps}
 use Rattle.std.proofs.lemmas.Bool.{cases_order, cases_Bool, both_ways, false≢true, and_parts, or_cases, or_right, or_from, and_right, ne_eqb, eqb-true}
 use Rattle.std.proofs.lemmas.Bool.{not-true, lt-ltb}
@@ -234,21 +233,6 @@ leased_stays base h e law r none leased =
     leased_where (h ++ e ∷ []) r (at-append makes_resource h (e ∷ []) r less ∙ made) (let some = leased_some h r leased in let kept = leases_of_kept base h
     e law none r in omega arith)
 
--- a lease leaves held what is held, and nothing more
-pub is_held-lease : (base : Kept) → (h : List Event) (q : ℕ) → IsLawful base h → MayFollow base h (Lease q) → (r : ℕ) → is_held (h ++ Lease q ∷ []) r ≡
-    is_held h r
-is_held-lease base h q law next r = by_place (cases_order r (length h)) where
-  stays : r < length h → is_held h r ≡ true → is_held (h ++ Lease q ∷ []) r ≡ true
-  stays l held = by_part (held_parts h r held) where
-    by_part : (is_owned h r ≡ true) ⊎ (is_leased h r ≡ true) → is_held (h ++ Lease q ∷ []) r ≡ true
-    by_part (inl owned) = owned_held (h ++ Lease q ∷ []) r (is_owned_kept base h (Lease q) law r l refl refl ∙ owned)
-    by_part (inr leased) = leased_held (h ++ Lease q ∷ []) r (leased_stays base h (Lease q) law r refl leased)
-
-  by_place : (r ≡ length h) ⊎ ((r < length h) ⊎ (length h < r)) → is_held (h ++ Lease q ∷ []) r ≡ is_held h r
-  by_place (inr (inl l)) = same_test (is_held (h ++ Lease q ∷ []) r) (is_held h r) (held_old base h (Lease q) law next r l) (stays l)
-  by_place (inl same) = ap (is_held (h ++ Lease q ∷ [])) same ∙ is_held_last base h (Lease q) law ∙ sym (is_held_past h r (omega arith))
-  by_place (inr (inr g)) = is_held_past (h ++ Lease q ∷ []) r (omega (arith, length-append {A = Event})) ∙ sym (is_held_past h r (omega arith))
-
 -- after a return just that resource is leased no more of which it was the last lease
 pub is_leased-return : (base : Kept) → (h : List Event) (l q : ℕ) → IsLawful base h → MayFollow base h (Return l) → slice_get h l ≡ Some (Lease q) → (r : ℕ)
     → r < length h →
@@ -290,14 +274,6 @@ is_taken-push h e r l = rw (at-append makes_resource h (e ∷ []) r l, list_any-
   shape true true c = refl
   shape true false true = refl
   shape true false false = refl
-
-pub is_taken_kept : (h : List Event) (e : Event) (r : ℕ) → r < length h → is_take_of r e ≡ false → is_taken (h ++ e ∷ []) r ≡ is_taken h r
-is_taken_kept h e r l leaves = is_taken-push h e r l ∙ ap (λ t. is_taken h r || (at makes_resource h r && t)) leaves ∙ shape (is_taken h r)
-    (at makes_resource h r) where
-      shape : (t a : Bool) → (t || (a && false)) ≡ t
-      shape true a = refl
-      shape false true = refl
-      shape false false = refl
 
 -- what is taken is a resource
 pub taken_resource : (h : List Event) (r : ℕ) → is_taken h r ≡ true → at makes_resource h r ≡ true
@@ -425,13 +401,6 @@ is_waiting-loses base h e law r l none unleased leaves =
     shape false false k true = refl
     shape false false k false = refl
 
--- an event that shuts no node leaves what it neither removes, leases, returns nor takes
-pub is_waiting_kept : (base : Kept) → (h : List Event) (e : Event) → IsLawful base h → (r : ℕ) → r < length h → shuts_none e ≡ true → is_remove_of r e ≡ false →
-    is_return e ≡ false → is_lease_of r e ≡ false → is_take_of r e ≡ false → is_waiting (h ++ e ∷ []) r ≡ is_waiting h r
-unfolding is_waiting
-is_waiting_kept base h e law r l s keeps none unleased leaves =
-    (λ i. at-append makes_resource h (e ∷ []) r l i && not (is_held_kept base h e law r l s keeps none unleased i) && not (is_taken_kept h e r l leaves i))
-
 -- after the end or the closing of c, what was owned within c waits, but what is leased
 pub is_waiting-end : (base : Kept) → (h : List Event) (c : ℕ) (t : Terminal) → IsLawful base h → (r n : ℕ) → node_of h r ≡ Some n →
     is_waiting (h ++ End c t ∷ []) r ≡ (is_waiting h r || (is_owned h r && is_within h c n && not (is_leased h r)))
@@ -460,27 +429,6 @@ is_waiting_new base h e law next = is_waiting_last base h e law ∙ by_event e n
   by_event (Accept n tag) next = ap not (may_accept base next)
   by_event _ next = refl
 
--- after a taking all that waited still does, but that
-pub is_waiting-take : (base : Kept) → (h : List Event) (q : ℕ) → IsLawful base h → (r : ℕ) → is_waiting (h ++ Take q ∷ []) r ≡ (is_waiting h r && not (q == r))
-unfolding is_waiting
-is_waiting-take base h q law r = by_place (cases_order r (length h)) where
-  shape : (a b t k : Bool) → ((a && not b) && not (t || (a && k))) ≡ (((a && not b) && not t) && not k)
-  shape false b t k = refl
-  shape true true t k = refl
-  shape true false true k = refl
-  shape true false false k = refl
-
-  gone : length h ≤ r → (is_waiting h r && not (q == r)) ≡ false
-  gone l = ap (λ w. w && not (q == r)) (is_waiting_past h r l)
-
-  by_place : (r ≡ length h) ⊎ ((r < length h) ⊎ (length h < r)) → is_waiting (h ++ Take q ∷ []) r ≡ (is_waiting h r && not (q == r))
-  by_place (inr (inl l)) =
-      (λ i. at-append makes_resource h (Take q ∷ []) r l i && not (is_held_kept base h (Take q) law r l refl refl refl refl i) && not
-      (is_taken-push h (Take q) r l i)) ∙
-      shape (at makes_resource h r) (is_held h r) (is_taken h r) (q == r)
-  by_place (inl same) = ap (is_waiting (h ++ Take q ∷ [])) same ∙ is_waiting_last base h (Take q) law ∙ sym (gone (omega arith))
-  by_place (inr (inr g)) = is_waiting_past (h ++ Take q ∷ []) r (omega (arith, length-append {A = Event})) ∙ sym (gone (omega arith))
-
 -- after a removal what was removed waits too, if it has no lease out
 pub is_waiting-remove : (base : Kept) → (h : List Event) (q : ℕ) → IsLawful base h → (r : ℕ) → r < length h →
     is_waiting (h ++ Remove q ∷ []) r ≡ (is_waiting h r || (is_owned h r && q == r && not (is_leased h r)))
@@ -491,17 +439,6 @@ is_waiting-remove base h q law r l =
     cut_none : (o : Option ℕ) → option_map_or (is_cut h (Remove q)) o false ≡ false
     cut_none None = refl
     cut_none (Some n) = is_cut_none h (Remove q) n refl
-
--- after a lease as much waits
-pub is_waiting-lease : (base : Kept) → (h : List Event) (q : ℕ) → IsLawful base h → MayFollow base h (Lease q) → (r : ℕ) → is_waiting (h ++ Lease q ∷ []) r
-    ≡ is_waiting h r
-unfolding is_waiting
-is_waiting-lease base h q law next r = by_place (cases_order r (length h)) where
-  by_place : (r ≡ length h) ⊎ ((r < length h) ⊎ (length h < r)) → is_waiting (h ++ Lease q ∷ []) r ≡ is_waiting h r
-  by_place (inr (inl l)) =
-      (λ i. at-append makes_resource h (Lease q ∷ []) r l i && not (is_held-lease base h q law next r i) && not (is_taken_kept h (Lease q) r l refl i))
-  by_place (inl same) = ap (is_waiting (h ++ Lease q ∷ [])) same ∙ is_waiting_last base h (Lease q) law ∙ sym (is_waiting_past h r (omega arith))
-  by_place (inr (inr g)) = is_waiting_past (h ++ Lease q ∷ []) r (omega (arith, length-append {A = Event})) ∙ sym (is_waiting_past h r (omega arith))
 
 -- after a return that waits too of which it was the last lease, if it is not owned
 pub is_waiting-return : (base : Kept) → (h : List Event) (l q : ℕ) → IsLawful base h → MayFollow base h (Return l) → slice_get h l ≡ Some (Lease q) → (r : ℕ) →
@@ -621,28 +558,6 @@ moves_parts (Return l) m = absurd (false≢true m)
 moves_parts (Take q) m = absurd (false≢true m)
 moves_parts (End n t) m = absurd (false≢true m)
 moves_parts (Close n) m = absurd (false≢true m)
-
--- it leaves held what is held, and nothing more
-pub is_held_unchanged : (base : Kept) → (h : List Event) (e : Event) → IsLawful base h → moves_none e ≡ true → (r : ℕ) → is_held (h ++ e ∷ []) r ≡ is_held h r
-is_held_unchanged base h e law m r = by_place (cases_order r (length h)) where
-  parts : MovesNone e
-  parts = moves_parts e m
-
-  by_place : (r ≡ length h) ⊎ ((r < length h) ⊎ (length h < r)) → is_held (h ++ e ∷ []) r ≡ is_held h r
-  by_place (inr (inl l)) = is_held_kept base h e law r l parts.shuts (parts.removes r) parts.returns (parts.leases r)
-  by_place (inl same) = ap (is_held (h ++ e ∷ [])) same ∙ is_held_last base h e law ∙ ap (λ o. option_map_or (is_open h) o false) parts.named ∙ sym (is_held_past h r (omega arith))
-  by_place (inr (inr g)) = is_held_past (h ++ e ∷ []) r (omega (arith, length-append {A = Event})) ∙ sym (is_held_past h r (omega arith))
-
--- and waiting what waits
-pub is_waiting_unchanged : (base : Kept) → (h : List Event) (e : Event) → IsLawful base h → moves_none e ≡ true → (r : ℕ) → is_waiting (h ++ e ∷ []) r ≡ is_waiting h r
-is_waiting_unchanged base h e law m r = by_place (cases_order r (length h)) where
-  parts : MovesNone e
-  parts = moves_parts e m
-
-  by_place : (r ≡ length h) ⊎ ((r < length h) ⊎ (length h < r)) → is_waiting (h ++ e ∷ []) r ≡ is_waiting h r
-  by_place (inr (inl l)) = is_waiting_kept base h e law r l parts.shuts (parts.removes r) parts.returns (parts.leases r) (parts.takes r)
-  by_place (inl same) = ap (is_waiting (h ++ e ∷ [])) same ∙ is_waiting_last base h e law ∙ ap (λ b. b && not (option_map_or (is_open h) (node_of_accept e) false)) parts.accepts ∙ sym (is_waiting_past h r (omega arith))
-  by_place (inr (inr g)) = is_waiting_past (h ++ e ∷ []) r (omega (arith, length-append {A = Event})) ∙ sym (is_waiting_past h r (omega arith))
 
 -- a new resource is held
 pub is_held_new : (base : Kept) → (h : List Event) (e : Event) → IsLawful base h → MayFollow base h e → is_held (h ++ e ∷ []) (length h) ≡ makes_resource e

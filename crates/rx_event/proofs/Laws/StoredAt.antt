@@ -1,11 +1,15 @@
 -- Places of a stored history.
-use Rattle.std.proofs.Common.{◌≡◌, ℕ, zero, suc, ◌+◌, ◌-◌, ◌≤◌, List, [], ◌∷◌, ◌++◌, length, ap, ◌∙◌, arith, slice_get, length-append}
+use Rattle.std.proofs.Common.{◌≡◌, ℕ, zero, suc, ◌+◌, ◌-◌, ◌≤◌, List, [], ◌∷◌, ◌++◌, length, ap, ◌∙◌, arith, slice_get, length-append, append-nil}
 use Rattle.rx_event.specs.declared.event.Event.{Event}
 use Rattle.rx_event.specs.Kept.{Kept, shown}
 use Rattle.rx_event.proofs.Laws.Bases.{length-shown}
 
 pub length_stored : (b : Kept) (es : List Event) → length (shown b ++ es) ≡ b.at_length + length es
 length_stored b es = length-append (shown b) es ∙ ap (λ n. n + length es) (length-shown b)
+
+-- with nothing since
+pub stored_nothing : (b : Kept) → shown b ++ [] ≡ shown b
+stored_nothing b = append-nil (shown b)
 
 slice_get-after : {X : Type 0} (xs ys : List X) (n : ℕ) → length xs ≤ n → slice_get (xs ++ ys) n ≡ slice_get ys (n - length xs)
 slice_get-after [] ys n past = ap (slice_get ys) (let e : n ≡ n - 0 = omega arith in e)

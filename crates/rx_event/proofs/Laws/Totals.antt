@@ -19,13 +19,13 @@ use Rattle.rx_event.specs.Resources.{is_owned, is_leased, is_held, is_waiting, u
 use Rattle.rx_event.specs.Totals.{item_count, accepted_count, taken_count, owned_count, held_count, waiting_count, open_count}
 use Rattle.rx_event.specs.Lawful.{MayFollow, IsLawful}
 use Rattle.rx_event.proofs.Laws.Parents.{ancestors_step}
-use Rattle.rx_event.proofs.Laws.Openness.{is_cut, is_cut_none, is_cut_inner, is_cut_inner_flat, is_open_cut, is_open_last, is_open_made, is_open_within, is_open_last_none, shuts_none}
+use Rattle.rx_event.proofs.Laws.Openness.{is_cut, is_cut_none, is_cut_inner, is_open_cut, is_open_last, is_open_made, is_open_within, is_open_last_none, shuts_none}
 use Rattle.rx_event.proofs.Laws.Steps.{by_events, may_open, may_accept, may_use, may_remove, may_take}
 use Rattle.rx_event.proofs.Laws.Sums.{sum_by-places-push, sums_balance, sum_by-same, sum_by_no_rise, sum_by_falls, sum_by_none, sum_by_one, count_by_one}
 use Rattle.rx_event.proofs.Laws.Switches.{is_cut-inner_switch}
-use Rattle.rx_event.proofs.Laws.Resources.{loses, node_of, moves_none, is_owned-push, is_owned_last, is_owned-remove, held_is, owned_held, is_held_last}
-use Rattle.rx_event.proofs.Laws.Resources.{is_held_within, is_held_kept, held_old, is_held-lease, is_held_unchanged, is_waiting-unheld, is_waiting_new}
-use Rattle.rx_event.proofs.Laws.Resources.{is_waiting_within, is_waiting_unchanged, is_waiting_past, is_held_past, waiting_parts}
+use Rattle.rx_event.proofs.Laws.Resources.{loses, node_of, is_owned-push, is_owned_last, is_owned-remove, held_is, owned_held, is_held_last}
+use Rattle.rx_event.proofs.Laws.Resources.{is_held_within, is_held_kept, held_old, is_waiting-unheld, is_waiting_new}
+use Rattle.rx_event.proofs.Laws.Resources.{is_waiting_within, waiting_parts}
 use Rattle.rx_event.proofs.Laws.Leases.{is_owned_within, is_leased_kept}
 
 pub one_if : {a b : Bool} → a ≡ b → cond {A = ℕ} a 1 0 ≡ cond {A = ℕ} b 1 0
@@ -201,21 +201,6 @@ held_waiting_count-push base h e law next =
     let n = one_if (accepts_open base h e next) in
     omega arith
 
--- an event that moves no resource
-pub held_count_unchanged : (base : Kept) → (h : List Event) (e : Event) → IsLawful base h → moves_none e ≡ true → held_count (h ++ e ∷ []) ≡ held_count h
-held_count_unchanged base h e law m =
-    let older = sum_by-same (λ r. cond (is_held h r) 1 0) (λ r. cond (is_held (h ++ e ∷ []) r) 1 0) (length h) (λ r l. one_if (is_held_unchanged base h e law m r)) in
-    let last = sum_by-places-push (λ r. cond (is_held (h ++ e ∷ []) r) 1 0) h e in
-    let new = one_if (is_held_unchanged base h e law m (length h) ∙ is_held_past h (length h) (omega arith)) in
-    omega arith
-
-pub waiting_count_unchanged : (base : Kept) → (h : List Event) (e : Event) → IsLawful base h → moves_none e ≡ true → waiting_count (h ++ e ∷ []) ≡ waiting_count h
-waiting_count_unchanged base h e law m =
-    let older = sum_by-same (λ r. cond (is_waiting h r) 1 0) (λ r. cond (is_waiting (h ++ e ∷ []) r) 1 0) (length h) (λ r l. one_if (is_waiting_unchanged base h e law m r)) in
-    let last = sum_by-places-push (λ r. cond (is_waiting (h ++ e ∷ []) r) 1 0) h e in
-    let new = one_if (is_waiting_unchanged base h e law m (length h) ∙ is_waiting_past h (length h) (omega arith)) in
-    omega arith
-
 -- an acceptance at an open node
 accept_keeps : (h : List Event) (n tag r : ℕ) → loses h (Accept n tag) r ≡ false
 accept_keeps h n tag r = by_node (node_of h r) where
@@ -246,35 +231,10 @@ held_count-accept base h n tag law o =
     let c = one_if o in
     omega arith
 
-pub waiting_count-accept : (base : Kept) → (h : List Event) (n tag : ℕ) → IsLawful base h → MayFollow base h (Accept n tag) → waiting_count (h ++ Accept n tag ∷ []) ≡ waiting_count h
-waiting_count-accept base h n tag law next =
-    let b = waiting_count-push base h (Accept n tag) law next in
-    let k = lost_none h (Accept n tag) (λ r l. is_held_kept base h (Accept n tag) law r l refl refl refl refl) in
-    omega arith
-
--- a taking of what waits
-pub held_count-take : (base : Kept) → (h : List Event) (q : ℕ) → IsLawful base h → held_count (h ++ Take q ∷ []) ≡ held_count h
-held_count-take base h q law =
-    let b = held_count-kept base h (Take q) law (λ r l. is_held_kept base h (Take q) law r l refl refl refl refl) in
-    omega arith
-
 pub waiting_count-take : (base : Kept) → (h : List Event) (q : ℕ) → IsLawful base h → MayFollow base h (Take q) → waiting_count (h ++ Take q ∷ []) + 1 ≡ waiting_count h
 waiting_count-take base h q law next =
     let b = waiting_count-push base h (Take q) law next in
     let k = lost_none h (Take q) (λ r l. is_held_kept base h (Take q) law r l refl refl refl refl) in
-    omega arith
-
--- a lease
-pub held_count-lease : (base : Kept) → (h : List Event) (q : ℕ) → IsLawful base h → MayFollow base h (Lease q) → held_count (h ++ Lease q ∷ []) ≡ held_count h
-held_count-lease base h q law next =
-    let b = held_count-kept base h (Lease q) law (λ r l. is_held-lease base h q law next r) in
-    omega arith
-
-pub waiting_count-lease : (base : Kept) → (h : List Event) (q : ℕ) → IsLawful base h → MayFollow base h (Lease q) → waiting_count (h ++ Lease q ∷ []) ≡
-    waiting_count h
-waiting_count-lease base h q law next =
-    let b = waiting_count-push base h (Lease q) law next in
-    let k = lost_none h (Lease q) (λ r l. is_held-lease base h q law next r) in
     omega arith
 
 -- a removal of what is owned
@@ -425,11 +385,6 @@ open_count_falls-end h c t o = let b = open_count-end h c t in let s = within_so
 
 pub open_count_falls-close : (h : List Event) (c : ℕ) → is_open h c ≡ true → open_count (h ++ Close c ∷ []) + 1 ≤ open_count h
 open_count_falls-close h c o = let b = open_count-close h c in let s = within_some h c o in omega arith
-
--- an inner of a FlatMap is one open node more
-pub open_count-inner_flat : (base : Kept) → (h : List Event) (f : ℕ) (kind : Kind) → MayFollow base h (Open (Inner f) kind) → at is_switch h f ≡ false →
-    open_count (h ++ Open (Inner f) kind ∷ []) ≡ open_count h + 1
-open_count-inner_flat base h f kind next flat = open_count_uncut base h (Open (Inner f) kind) next (is_cut_inner_flat h f kind flat)
 
 -- an inner of a Switch comes in place of the open inner c, and of what is open below it
 pub open_count-inner_switch : (base : Kept) → (h : List Event) (f c : ℕ) (kind : Kind) → IsLawful base h → MayFollow base h (Open (Inner f) kind) → at is_switch h f ≡ true →

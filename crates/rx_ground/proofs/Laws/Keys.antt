@@ -1,14 +1,12 @@
 -- What stands in slots, what a tree holds and what waits in it: the lists that contracts see, and what keys find.
-use Rattle.std.proofs.Common.{◌≡◌, Bool, true, false, Some}
-use Rattle.std.proofs.Math.Bool.{not}
+use Rattle.std.proofs.Common.{◌≡◌, Bool, true, Some}
 use Rattle.std.specs.List.{Contains}
-use Rattle.std.proofs.lemmas.Bool.{not-true, not_from_false}
 use Rattle.rx_slots.specs.declared.Key.{Key}
 use Rattle.rx_slots.specs.Slots.{Slots, find}
 use Rattle.rx_tree.specs.declared.node.Stowed.{Stowed}
 use Rattle.rx_tree.specs.Tree.{Tree}
 use Rattle.rx_tree.specs.Resources.{is_held}
-use Rattle.rx_ground.specs.Shown.{Kept, kept_in, held_in, waiting_in}
+use Rattle.rx_ground.specs.Shown.{Kept, kept_in, held_in}
 use Rattle.rx_ground.proofs.Listed.{filter_member, filter_has, kept_found, kept_listed}
 
 module _ {X : Type 0} (slots : Slots X) where
@@ -35,16 +33,3 @@ module _ {T : Type 0} (tree : Tree T) where
   finds_held key x found held =
       let here : Kept (Stowed T) = record { key = key; value = x } in
       filter_has holds (kept_in tree.resources) here (kept_listed tree.resources key x found) held
-
-  -- one that is listed as waiting is found under its key, and not held
-  pub waiting_finds : (k : Kept (Stowed T)) → Contains (waiting_in tree) k →
-      (find tree.resources k.key ≡ Some k.value) × (is_held tree.nodes k.value ≡ false)
-  waiting_finds k c =
-      let m = filter_member (λ j. not (holds j)) (kept_in tree.resources) k c in
-      (kept_found tree.resources k m.0, not-true _ m.1)
-
-  pub finds_waiting : (key : Key) (x : Stowed T) → find tree.resources key ≡ Some x → is_held tree.nodes x ≡ false →
-      Contains (waiting_in tree) (record { key = key; value = x })
-  finds_waiting key x found unheld =
-      let here : Kept (Stowed T) = record { key = key; value = x } in
-      filter_has (λ j. not (holds j)) (kept_in tree.resources) here (kept_listed tree.resources key x found) (not_from_false _ unheld)

@@ -1,5 +1,5 @@
 -- Marks that are set on the way change nothing of it.
-use Rattle.std.proofs.Common.{◌≡◌, ◌≢◌, ℕ, zero, suc, ◌+◌, ◌++◌, List, [], ◌∷◌, length, Option, Some, None, IsSome, IfSome, is_some, option_map}
+use Rattle.std.proofs.Common.{◌≡◌, ◌≢◌, ℕ, zero, suc, ◌+◌, ◌++◌, List, [], ◌∷◌, Option, Some, None, IsSome, IfSome, is_some, option_map}
 use Rattle.std.proofs.Common.{refl, sym, ap, ◌∙◌, inl, inr, ◌⊎◌}
 use Rattle.std.specs.Prelude.{false, if◌then◌else◌}
 use Rattle.std.specs.List.{AllByRecursion, filter_map}
@@ -20,8 +20,8 @@ use Rattle.rx_flow.specs.declared.stop.Stop.{Stop}
 use Rattle.rx_flow.specs.declared.stop.Stop.TheVariants.{Delivery, Projection, Firing, Connection}
 use Rattle.rx_flow.specs.Way.{made_of, above_of, if_merging, stop_made, stop_of, onward_of, way_within, way, end_of}
 use Rattle.rx_hub.specs.Hubs.{Hub}
-use Rattle.rx_hub.specs.Walk.{subscribers_of, onward_by, onward_over, visited_over, climb_over, arrival, arrival_at, stops_over}
-use Rattle.rx_hub.specs.Route.{Route, todo, visits_left, stops_left, all_visits, ReachesFrom, IsOrdered, IsUnderWay}
+use Rattle.rx_hub.specs.Walk.{subscribers_of, onward_by, onward_over, visited_over, arrival, arrival_at}
+use Rattle.rx_hub.specs.Route.{Route, todo, visits_left, stops_left, ReachesFrom, IsOrdered, IsUnderWay}
 
 -- two trees of the same nodes -------------------------------------------------------------------------
 
@@ -141,21 +141,9 @@ alike_marked old new key marks rewrites = record {
   by_key k f same (inr other) = ap f (rewrites.others k other)
 
 module _ (old new : Slots Node) (key : Key) (marks : Marks) (rewrites : Rewrites old new key (with_marks marks)) where
-  -- the climb and the stops of each node's item are the same
-  pub climb_over-marked : (hubs : List Hub) (node : Key) → climb_over new hubs node ≡ climb_over old hubs node
-  climb_over-marked hubs node = visited_same old new (alike_marked old new key marks rewrites) hubs (suc most_visits) (node ∷ [])
-
-  pub stops_over-marked : (hubs : List Hub) (node : Key) → stops_over new hubs node ≡ stops_over old hubs node
-  stops_over-marked hubs node = stops_same old new (alike_marked old new key marks rewrites) hubs (suc most_visits) (node ∷ [])
-
   -- and so is what is left of a way
   pub stops_left-marked : (hubs : List Hub) (route : Route) → stops_left new hubs route ≡ stops_left old hubs route
   stops_left-marked hubs route = stops_same old new (alike_marked old new key marks rewrites) hubs (visits_left route) (todo hubs route)
-
-  pub all_visits-marked : (hubs : List Hub) (route : Route) → all_visits new hubs route ≡ all_visits old hubs route
-  all_visits-marked hubs route =
-      ap (λ (keys : List Key). route.visits + length keys)
-      (visited_same old new (alike_marked old new key marks rewrites) hubs (visits_left route) (todo hubs route))
 
   -- which may go on over the new tree
   pub ordered-marked : (hubs : List Hub) → IsOrdered old hubs → IsOrdered new hubs

@@ -4,7 +4,7 @@ use Rattle.std.specs.List.{AllByRecursion}
 use Rattle.std.proofs.lemmas.Option.{none-some}
 use Rattle.rx_event.specs.declared.refusal.Refusal.{Refusal}
 use Rattle.rx_event.specs.declared.refusal.Refusal.TheVariants.{NoMemory, Full, Gone, WrongKind, PlaceTaken, NothingOwed, NotRoot, NoHub, HubOrder, Connected}
-use Rattle.rx_event.specs.declared.refusal.Refusal.TheVariants.{NotConnected, NotFresh, NoLease, NotHeld, Leased, HasChild, TooMany}
+use Rattle.rx_event.specs.declared.refusal.Refusal.TheVariants.{NotConnected, NotFresh, NoLease, NotHeld, Leased, HasChild, MailLeft, TooMany}
 use Rattle.rx_event.specs.Refusals.{first_of_these, first_cause, refusal_order}
 
 none_of : (stands : Refusal → Bool) (whys : List Refusal) → first_of_these stands whys ≡ None → AllByRecursion (λ why. stands why ≡ false) whys
@@ -32,6 +32,7 @@ no_cause stands none why = by_order (none_of stands refusal_order none) why wher
   by_order a NotHeld = a.1.1.1.1.1.1.1.1.1.1.1.0
   by_order a Leased = a.1.1.1.1.1.1.1.1.1.1.1.1.0
   by_order a HasChild = a.1.1.1.1.1.1.1.1.1.1.1.1.1.0
-  by_order a TooMany = a.1.1.1.1.1.1.1.1.1.1.1.1.1.1.0
-  by_order a Full = a.1.1.1.1.1.1.1.1.1.1.1.1.1.1.1.0
-  by_order a NoMemory = a.1.1.1.1.1.1.1.1.1.1.1.1.1.1.1.1.0
+  by_order a MailLeft = a.1.1.1.1.1.1.1.1.1.1.1.1.1.1.0
+  by_order a TooMany = a.1.1.1.1.1.1.1.1.1.1.1.1.1.1.1.0
+  by_order a Full = a.1.1.1.1.1.1.1.1.1.1.1.1.1.1.1.1.0
+  by_order a NoMemory = a.1.1.1.1.1.1.1.1.1.1.1.1.1.1.1.1.1.0

@@ -3,7 +3,7 @@
 ghost use Rattle.serde_json.specs.View.{view};
 ghost use Rattle.rx_scenario.specs.Scenario.{command_of as command_meant, action_of as action_meant};
 ghost use Rattle.rx_device.specs.Gives.{Gives};
-ghost use Rattle.rx_scenario.specs.Reading.{using_of, open_of, hold_of, apply_of, remove_of, lease_of, return_of, next_of, end_of, abort_of, decline_of, fail_of, dispose_of, hub_of, connect_of, disconnect_of, drain_of, command_by, cancel_of, action_by, action_in};
+ghost use Rattle.rx_scenario.specs.Reading.{using_of, open_of, hold_of, apply_of, remove_of, lease_of, return_of, next_of, end_of, abort_of, decline_of, fail_of, dispose_of, hub_of, connect_of, disconnect_of, drain_of, checkpoint_of, command_by, cancel_of, action_by, action_in};
 
 use super::members::{
     code_in, is_step_of, kind_in, mode_in, name_in, optional_name_in, site_in, terminal_in,
@@ -216,6 +216,16 @@ fn drain_of(object: &Value) -> Result<Command, ShapeError>
     Ok(Command::Drain)
 }
 
+#[tactic(auto, unfolding(crate::specs::Reading::checkpoint_of))]
+fn checkpoint_of(object: &Value) -> Result<Command, ShapeError>
+    ensures { Gives command_meant result (checkpoint_of (view object.now)) }
+{
+    if !is_step_of(object, &[]) {
+        return Err(ShapeError::Shape);
+    }
+    Ok(Command::Checkpoint)
+}
+
 #[tactic(auto, unfolding(crate::specs::Reading::command_by))]
 fn command_by(alloc: Global, what: &str, object: &Value) -> Result<Command, ShapeError>
     ensures { Gives command_meant result (command_by what.now (view object.now)) }
@@ -238,6 +248,7 @@ fn command_by(alloc: Global, what: &str, object: &Value) -> Result<Command, Shap
         "connect" => connect_of(alloc, object),
         "disconnect" => disconnect_of(alloc, object),
         "drain" => drain_of(object),
+        "checkpoint" => checkpoint_of(object),
         _ => Err(ShapeError::Shape),
     }
 }

@@ -98,6 +98,7 @@ falling =
 abbrev at_four : Stage
 at_four = record {
   history = four;
+  checked = 0;
   nodes = record { name = a; number = 0 } ∷ record { name = b; number = 2 } ∷ [];
   hubs = [];
   resources = record { name = a; number = 1 } ∷ record { name = b; number = 3 } ∷ [];

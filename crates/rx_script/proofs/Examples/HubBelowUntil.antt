@@ -128,6 +128,7 @@ to_end = ordered_to leaf_made true (Ending 5 Completed) ended (stands_after (Ope
 abbrev stage : List Event → Stage
 stage k = record {
   history = k;
+  checked = 0;
   nodes = record { name = u; number = 1 } ∷ record { name = s; number = 2 } ∷ record { name = c; number = 3 } ∷ record { name = n; number = 4 }
       ∷ record { name = l; number = 5 } ∷ [];
   hubs = record { name = h; number = 0 } ∷ [];

@@ -59,7 +59,7 @@ led_on {p = p} c rest call k comes own called free step before = record {
     rest = rest;
     comes = comes;
     done = record { stage = after p.stage c k; agenda = rest };
-    performs = executes (accepted k own called (roomy_first p.stage.history limit (front_is_fresh p.stage) call (omega arith) ∙ free) step);
+    performs = executes (accepted k own called (roomy_first p.stage.history (p.stage.checked + limit) (front_is_fresh p.stage) call (omega arith) ∙ free) step);
     stage = refl;
     follows = refl;
   });

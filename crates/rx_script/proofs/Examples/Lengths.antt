@@ -158,6 +158,7 @@ long_on = plain_step long true (Opening Root Leaf) to_long.lawful to_long.settle
 abbrev at_leaf : Stage
 at_leaf = record {
   history = leaf_made;
+  checked = 0;
   nodes = record { name = u; number = 1 } ∷ record { name = s; number = 2 } ∷ record { name = c; number = 3 } ∷ record { name = n; number = 4 }
       ∷ record { name = l; number = 5 } ∷ [];
   hubs = record { name = g; number = 0 } ∷ [];
@@ -181,6 +182,7 @@ led_to_leaf =
 abbrev last_stage : List Event → ℕ → Stage
 last_stage k number = record {
   history = k;
+  checked = 0;
   nodes = record { name = u; number = 1 } ∷ record { name = s; number = 2 } ∷ record { name = c; number = 3 } ∷ record { name = n; number = 4 }
       ∷ record { name = l; number = 5 } ∷ record { name = x; number = number } ∷ [];
   hubs = record { name = g; number = 0 } ∷ [];

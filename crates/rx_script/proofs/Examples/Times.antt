@@ -98,6 +98,7 @@ to_disposal = ordered_to told true (Disposing 1) disposed (stands_after (Emittin
 abbrev last_stage : Stage
 last_stage = record {
   history = disposed;
+  checked = 0;
   nodes = record { name = s; number = 1 } ∷ record { name = c; number = 2 } ∷ record { name = l; number = 3 } ∷ [];
   hubs = record { name = h; number = 0 } ∷ [];
   resources = [];

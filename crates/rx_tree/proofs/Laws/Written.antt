@@ -1,11 +1,11 @@
 -- What slots find after a write of one record.
-use Rattle.std.proofs.Common.{◌≡◌, ◌≢◌, ℕ, ◌<◌, length, get_or, set, Option, Some, None, is_some, IsSome, option_map, refl, sym, ap, ◌∙◌, inl, inr, rules}
+use Rattle.std.proofs.Common.{◌≡◌, ◌≢◌, ℕ, ◌<◌, length, get_or, set, Option, Some, None, is_some, refl, sym, ap, ◌∙◌, inl, inr, rules}
 use Rattle.std.proofs.Common.{true≢false}
 use Rattle.std.proofs.lemmas.Bool.{cases_eq, cases_lt}
-use Rattle.std.proofs.lemmas.List.{get_or_past, get_or-set_same, get_or-set_other, set-get_or}
+use Rattle.std.proofs.lemmas.List.{get_or_past, get_or-set_same, get_or-set_other}
 use Rattle.rx_slots.specs.declared.Entry.{Entry}
 use Rattle.rx_slots.specs.declared.Key.{Key}
-use Rattle.rx_slots.specs.Slots.{Slots, entry_of, entry_at, number_at, value_at, key_at, with_number, find, with_value, with_value_at, KeepsOthers}
+use Rattle.rx_slots.specs.Slots.{Slots, entry_of, entry_at, with_number, find, KeepsOthers}
 use Rattle.rx_tree.proofs.Laws.Keys.{same_key}
 
 module _ {X : Type 0} where
@@ -41,10 +41,6 @@ module _ {X : Type 0} where
         | inr past ↦ absurd (true≢false (ap is_some (sym at ∙ get_or_past s.entries slot None past)))
       ]
 
-  -- a key that finds a value is that of its slot
-  pub key_found : (s : Slots X) (key : Key) (x : X) → find s key ≡ Some x → key_at s key.slot ≡ Some key
-  key_found s key x found = ap (option_map (λ e. record { slot = key.slot; number = e.number })) (entry_found s key x found)
-
   -- two keys of one slot that find values are one
   pub one_key : (s : Slots X) (a b : Key) (x y : X) → a.slot ≡ b.slot → find s a ≡ Some x → find s b ≡ Some y → (a ≡ b) × (x ≡ y)
   one_key s a b x y slot found_a found_b =
@@ -77,44 +73,3 @@ module _ {X : Type 0} where
               sym (ap (with_number k.number) was ∙ with_number-other k.number (entry_of key.number before) other)
           | inr apart ↦ ap (with_number k.number) (elsewhere k.slot apart)
         ]
-
-  -- a value at a slot is that of a key
-  pub key_of_value : (s : Slots X) (slot : ℕ) (x : X) → value_at s slot ≡ Some x → (key : Key) × (key.slot ≡ slot) × (key_at s slot ≡ Some key) ×
-      (find s key ≡ Some x)
-  key_of_value s slot x value = of (entry_at s slot) refl value where
-    of : (o : Option (Entry X)) → entry_at s slot ≡ o → option_map (λ e. e.value) o ≡ Some x → (key : Key) × (key.slot ≡ slot) × (key_at s slot ≡ Some key) ×
-        (find s key ≡ Some x)
-    of None at value = absurd (true≢false (ap is_some (sym value)))
-    of (Some e) at value =
-        let key : Key = record { slot = slot; number = e.number } in (
-          key,
-          refl,
-          ap (option_map (λ y. record { slot = slot; number = y.number })) at,
-          ap (with_number e.number) at ∙ with_number-same e.number e refl ∙
-              value,
-        )
-
-  -- and to write at the slot is to write at the key
-  pub with_value_at-key : (s : Slots X) (slot : ℕ) (key : Key) (x y : X) → key.slot ≡ slot → find s key ≡ Some x → with_value_at s slot y ≡ with_value s key y
-  with_value_at-key s slot key x y same found =
-      let at : entry_at s slot ≡ Some (entry_of key.number x) = ap (entry_at s) (sym same) ∙ entry_found s key x found in
-      let put : option_map (λ number. entry_of number y) (number_at s slot) ≡ Some (entry_of key.number y) =
-      ap (λ o. option_map (λ number. entry_of number y) (option_map (λ e. e.number) o)) at in
-      let back = sym same in
-      λ i. record s { entries = set s.entries (back i) (put i) }
-
-  -- to write what stands there changes nothing
-  pub with_value-same : (s : Slots X) (key : Key) (x : X) → find s key ≡ Some x → with_value s key x ≡ s
-  with_value-same s key x found =
-      let kept : set s.entries key.slot (Some (entry_of key.number x)) ≡ s.entries =
-      ap (λ o. set s.entries key.slot o) (sym (entry_found s key x found)) ∙ set-get_or s.entries key.slot None in
-      λ i. record s { entries = kept i }
-
-  -- a number at a slot is found there
-  pub number_found : (s : Slots X) (slot number : ℕ) → number_at s slot ≡ Some number → IsSome (find s (record { slot = slot; number = number }))
-  number_found s slot number at = of (entry_at s slot) refl at where
-    of : (o : Option (Entry X)) → entry_at s slot ≡ o → option_map (λ e. e.number) o ≡ Some number → IsSome (find s (record { slot = slot; number = number }))
-    of None read at = absurd (true≢false (ap is_some (sym at)))
-    of (Some e) read at =
-        let same : e.number ≡ number = cc in
-        ap is_some (ap (with_number number) read ∙ with_number-same number e same)

@@ -1,4 +1,4 @@
-use Rattle.std.proofs.Common.{length, take, get_or, arith}
+use Rattle.std.proofs.Common.{length, arith}
 use Rattle.rx_event.specs.declared.event.Place.TheVariants.{Root}
 use Rattle.rx_event.specs.declared.event.Kind.TheVariants.{Leaf}
 use Rattle.rx_event.specs.declared.event.Event.{Event}

@@ -1,14 +1,15 @@
-use Rattle.std.proofs.Common.{◌≡◌, false, Option, Some, length, refl, sym, ap, ◌∙◌, subst, option_map, string_bytes}
+use Rattle.std.proofs.Common.{◌≡◌, false, Option, Some, None, length, refl, sym, ap, ◌∙◌, subst, option_map, string_bytes}
+use Rattle.std.specs.Prelude.{IfSome}
 use Rattle.rx_scenario.specs.Scenario.{Name}
 use Rattle.rx_book.specs.declared.key.Key.{Key}
 use Rattle.rx_book.specs.Requests.{open_request}
 use Rattle.rx_book.specs.Answers.{Accepts}
 use Rattle.rx_line.specs.declared.names.Spot.{Spot}
-use Rattle.rx_line.specs.Names.{Binds}
+use Rattle.rx_line.specs.Names.{spot_of, Binds}
 use Rattle.rx_live.specs.Session.{session_of}
 use Rattle.rx_live.specs.Openings.{is_open_taken, BindsMade, BindsNode}
 use Rattle.rx_live.proofs.Binding.{given_accepted, given_refused}
-use Rattle.rx_live.proofs.Bound.{unchanged_room, on_err, with_book, opened_bound, opened_sound}
+use Rattle.rx_live.proofs.Bound.{unchanged_room, connection_free, on_err, with_book, opened_bound, opened_sound}
 use Rattle.rx_live.proofs.opening.open_at.Goals as goal
 
 pub returns-in_err-make_room-clause-err : goal.returns-in_err-make_room-clause-err
@@ -65,3 +66,17 @@ returns-in-Ok-clause-ok c =
     opened connection c.in-Ok.ensures.ok made)
     (opened_sound s mid t c.requires c.are_taken.ensures.same c.make_room.ensures.same book name spot with_node new c.promise.ensures paired binds number
     c.args.place c.args.kind opened connection c.in-Ok.ensures.ok made accepts)
+
+pub bind_made-requires-clause-free : goal.bind_made-requires-clause-free
+bind_made-requires-clause-free c =
+    let s = session_of c.args.engine.now in
+    let t = c.make_room.new.self in
+    let spot = c.spot_of.result in
+    let with_node = c.bind.new.self in
+    let name : Name = string_bytes c.args.name in
+    let connection : Option Name = option_map string_bytes c.args.connection in
+    let free : is_open_taken s name connection ≡ false =
+    ap (λ (n : Name). is_open_taken s n connection) (sym c.as_str.ensures.value) ∙ sym c.are_taken.ensures.answer ∙ c.if-are_taken.false in
+    let binds : Binds t name spot with_node = subst (λ (n : Name). Binds t n spot with_node) c.in_ok-name.ensures c.bind.ensures.binds in
+    subst (λ (o : Option Name). IfSome o (λ n. spot_of with_node n ≡ None)) (sym c.in_ok-connection.ensures)
+    (connection_free s name spot c.are_taken.new.nodes t with_node connection free c.make_room.ensures.same binds (c.are_taken.ensures.other_free c.if-are_taken.false))

@@ -1,4 +1,4 @@
-use Rattle.std.proofs.Common.{subst, string_bytes}
+use Rattle.std.proofs.Common.{subst, string_bytes, sym, ◌∙◌}
 use Rattle.rx_scenario.specs.Scenario.{command_of}
 use Rattle.rx_line.specs.declared.outcome.Outcome.{Outcome}
 use Rattle.rx_line.specs.declared.outcome.Outcome.TheVariants.{Accepted, Refused}
@@ -6,30 +6,42 @@ use Rattle.rx_live.specs.Session.{session_of}
 use Rattle.rx_live.specs.Lines.{Runs}
 use Rattle.rx_live.proofs.Acts.{refused_alike}
 use Rattle.rx_live.proofs.Bound.{on_err}
+use Rattle.rx_live.proofs.Renewed.{full_by_age, full_by_open}
 use Rattle.rx_live.proofs.Sent.{carried_out, refused_out}
 use Rattle.rx_live.proofs.sending.carry_out.Goals as goal
 
-pub returns-in-Refused-clause-ok : goal.returns-in-Refused-clause-ok
-returns-in-Refused-clause-ok c =
+pub returns-then-is_full_by_age-clause-none : goal.returns-then-is_full_by_age-clause-none
+returns-then-is_full_by_age-clause-none c =
     let old = session_of c.args.engine.now in
     let new = session_of c.run.new.engine in
     let runs : Runs old (command_of c.args.command) (Refused c.in-Refused.why) new =
-    subst (λ (o : Outcome). Runs old (command_of c.args.command) o new) c.in-Refused.is c.in_ok-why.ensures.ok in
-    refused_out old new (command_of c.args.command) c.in-Refused.why c.refused_text.result runs c.refused_text.ensures
+    subst (λ (o : Outcome). Runs old (command_of c.args.command) o new) c.in-Refused.is c.in_ok-run.ensures.ok in
+    full_by_age old new c.in-Refused.why (refused_alike old new (command_of c.args.command) c.in-Refused.why runs) (sym c.is_full_by_age.ensures ∙ c.if-is_full_by_age.true)
 
-pub returns-in-Refused-clause-err : goal.returns-in-Refused-clause-err
-returns-in-Refused-clause-err c =
+pub returns-in_err-refused_text-in-Refused-clause-err : goal.returns-in_err-refused_text-in-Refused-clause-err
+returns-in_err-refused_text-in-Refused-clause-err c =
     let old = session_of c.args.engine.now in
     let new = session_of c.run.new.engine in
     let runs : Runs old (command_of c.args.command) (Refused c.in-Refused.why) new =
-    subst (λ (o : Outcome). Runs old (command_of c.args.command) o new) c.in-Refused.is c.in_ok-why.ensures.ok in
-    on_err c.refused_text.result _ (record { alike = refused_alike old new (command_of c.args.command) c.in-Refused.why runs; sound = c.run.ensures.sound })
+    subst (λ (o : Outcome). Runs old (command_of c.args.command) o new) c.in-Refused.is c.in_ok-run.ensures.ok in
+    on_err c.from_residual-in_err-refused_text-in-Refused.result _
+    (record { alike = refused_alike old new (command_of c.args.command) c.in-Refused.why runs; sound = c.run.ensures.sound })
 
-pub returns-in-Accepted-clause-ok : goal.returns-in-Accepted-clause-ok
-returns-in-Accepted-clause-ok c =
+pub returns-in-Accepted-clause-some : goal.returns-in-Accepted-clause-some
+returns-in-Accepted-clause-some c =
     let old = session_of c.args.engine.now in
     let done = session_of c.run.new.engine in
     let runs : Runs old (command_of c.args.command) Accepted done =
-    subst (λ (o : Outcome). Runs old (command_of c.args.command) o done) c.in-Accepted.is c.in_ok-why.ensures.ok in
+    subst (λ (o : Outcome). Runs old (command_of c.args.command) o done) c.in-Accepted.is c.in_ok-run.ensures.ok in
     carried_out old done (session_of c.tell.new.engine) (command_of c.args.command) (string_bytes c.in_ok-text.text) (string_bytes c.tell.result) runs c.in_ok-text.ensures.text
     c.tell.ensures.tells
+
+pub returns-in_ok-refused_text-in-Refused-clause-some : goal.returns-in_ok-refused_text-in-Refused-clause-some
+returns-in_ok-refused_text-in-Refused-clause-some c =
+    let old = session_of c.args.engine.now in
+    let new = session_of c.run.new.engine in
+    let why = c.in-Refused.why in
+    let runs : Runs old (command_of c.args.command) (Refused why) new = subst (λ (o : Outcome). Runs old (command_of c.args.command) o new) c.in-Refused.is c.in_ok-run.ensures.ok in
+    refused_out old new (command_of c.args.command) why (string_bytes c.in_ok-refused_text-in-Refused.field-0) runs
+    (full_by_open old new why c.requires.kept (refused_alike old new (command_of c.args.command) why runs) (sym c.is_full_by_age.ensures ∙ c.if-is_full_by_age.false))
+    c.in_ok-refused_text-in-Refused.ensures

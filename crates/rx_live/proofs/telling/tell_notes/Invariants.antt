@@ -9,7 +9,7 @@ abbrev pub invariant-notes : goal.invariant-notes
 invariant-notes l = record {
   written : AreNotesWritten (session_of l.fn.engine) (string_bytes l.fn.text) (session_of l.engine) (string_bytes l.text);
   sound : IsSound (session_of l.engine);
-  room : HasRoom 3 l.text;
+  room : HasRoom 15 l.text;
 }
 
 abbrev pub decreases-notes : goal.decreases-notes

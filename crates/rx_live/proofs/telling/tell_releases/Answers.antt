@@ -9,7 +9,7 @@ pub names-init : goal.names-init
 names-init c = record {
   written = names_begun (session_of c.args.engine.now) (session_of c.push_name.new.engine) (string_bytes c.args.text.now) (string_bytes c.push_name.new.text) c.if-not-push_name.ensures.told;
   sound = c.push_name.ensures.sound;
-  room = c.push_name.ensures.room 2 (omega arith) c.requires.room;
+  room = c.push_name.ensures.room 14 (omega arith) c.requires.room;
 }
 
 pub names-preserved : goal.names-preserved
@@ -17,7 +17,7 @@ names-preserved c = record {
   written = names_more (session_of c.args.engine.now) (session_of c.names.engine) (session_of c.push_name-in-names.new.engine) (string_bytes c.args.text.now) (string_bytes c.names.text)
       (string_bytes c.push_name-in-names.new.text) c.names.invariant.written c.names-test.ensures.told;
   sound = c.push_name-in-names.ensures.sound;
-  room = c.push_name-in-names.ensures.room 2 (omega arith) c.names.invariant.room;
+  room = c.push_name-in-names.ensures.room 14 (omega arith) c.names.invariant.room;
 }
 
 pub returns-clause-told : goal.returns-clause-told
@@ -29,16 +29,16 @@ returns-clause-told c =
     (names_ended old (session_of c.names.engine) now begun (string_bytes c.names.text) (string_bytes c.push_name-in-names.new.text) c.names.invariant.written c.names-test.ensures.told)
 
 pub returns-then-not-push_name-clause-room : goal.returns-then-not-push_name-clause-room
-returns-then-not-push_name-clause-room c = let r : HasRoom 2 c.args.text.now = c.requires.room in c.push_name.ensures.room 1 (omega arith) (omega (arith, r))
+returns-then-not-push_name-clause-room c = let r : HasRoom 14 c.args.text.now = c.requires.room in c.push_name.ensures.room 13 (omega arith) (omega (arith, r))
 
 pub put-requires : goal.put-requires
 put-requires c =
-    let r : HasRoom 2 c.push_name-in-names.new.text = c.push_name-in-names.ensures.room 2 (omega arith) c.names.invariant.room in
+    let r : HasRoom 14 c.push_name-in-names.new.text = c.push_name-in-names.ensures.room 14 (omega arith) c.names.invariant.room in
     record { room = omega (arith, r) }
 
 pub returns-clause-room : goal.returns-clause-room
 returns-clause-room c =
-    let r : HasRoom 2 c.push_name-in-names.new.text = c.push_name-in-names.ensures.room 2 (omega arith) c.names.invariant.room in
+    let r : HasRoom 14 c.push_name-in-names.new.text = c.push_name-in-names.ensures.room 14 (omega arith) c.names.invariant.room in
     omega (arith, r, c.put.ensures.len, c.put.ensures.capacity)
 
 pub returns-then-not-push_name-clause-told : goal.returns-then-not-push_name-clause-told

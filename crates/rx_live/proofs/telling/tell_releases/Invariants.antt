@@ -8,7 +8,7 @@ abbrev pub invariant-names : goal.invariant-names
 invariant-names l = record {
   written : AreNamesWritten (session_of l.fn.engine) (string_bytes l.fn.text) (session_of l.engine) (string_bytes l.text);
   sound : IsSound (session_of l.engine);
-  room : HasRoom 2 l.text;
+  room : HasRoom 14 l.text;
 }
 
 abbrev pub decreases-names : goal.decreases-names

@@ -1,9 +1,10 @@
--- A front of the history is copied.
+-- A front of the history is copied, where no checkpoint was made.
 use Rattle.std.proofs.Common.{◌≡◌, ◌-◌, length, take, vec_len}
+use Rattle.rx_event.specs.Kept.{nothing_kept}
 use Rattle.rx_report.proofs.report.events_of.Given as goal
 
 abbrev pub invariant-loop-event : goal.invariant-loop-event
-invariant-loop-event g l = l.events.items ≡ take (vec_len l.events) l.book.history
+invariant-loop-event g l = l.book.base ≡ nothing_kept → l.events.items ≡ take (vec_len l.events) l.book.history
 
 abbrev pub decreases-loop-event : goal.decreases-loop-event
 decreases-loop-event g l = length l.book.history - vec_len l.events

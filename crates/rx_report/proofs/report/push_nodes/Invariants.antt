@@ -1,8 +1,11 @@
 -- The lines of the nodes so far.
-use Rattle.std.proofs.Common.{◌≡◌, ◌++◌, take, map, string_bytes}
+use Rattle.std.proofs.Common.{◌≡◌, ◌++◌, List, take, map, string_bytes}
+use Rattle.rx_event.specs.declared.event.Event.{Event}
 use Rattle.rx_report.specs.Lines.{node_lines}
 use Rattle.rx_report.specs.Keys.{node_binding}
+use Rattle.rx_report.specs.Tallies.{IsWhole}
 use Rattle.rx_report.proofs.report.push_nodes.Given as goal
 
 abbrev pub invariant-loop-named : goal.invariant-loop-named
-invariant-loop-named g l = string_bytes l.text ≡ string_bytes l.initial.text ++ node_lines l.book.history (map node_binding (take l.named-index l.nodes))
+invariant-loop-named g l = (h : List Event) → IsWhole h l.tallies l.book
+    → string_bytes l.text ≡ string_bytes l.initial.text ++ node_lines h (map node_binding (take l.named-index l.nodes))

@@ -1,4 +1,5 @@
-use Rattle.std.proofs.Common.{rules, arith}
+use Rattle.std.proofs.Common.{ap, rules, arith}
+use Rattle.rx_script.proofs.AllStored.{begun}
 use Rattle.rx_script.proofs.engine.begin.Goals as goal
 
 pub returns-clause-sound : goal.returns-clause-sound
@@ -8,5 +9,9 @@ returns-clause-sound g c = record {
   resources = search rules;
   leases = search rules;
   faults = omega arith;
-  base = search rules;
 }
+
+pub returns-clause-history : goal.returns-clause-history
+returns-clause-history g c =
+    begun c.new-6.result c.new-book.result (ap (λ s. s.base) c.new-book.ensures) (ap (λ s. s.history) c.new-book.ensures) (ap (λ s. s.given) c.new-book.ensures)
+    c.new-6.ensures.counts c.new-6.ensures.notes

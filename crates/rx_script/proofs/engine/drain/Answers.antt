@@ -1,4 +1,4 @@
-use Rattle.std.proofs.Common.{◌≤◌, ◌+◌, refl, arith}
+use Rattle.std.proofs.Common.{◌≤◌, ◌+◌, arith}
 use Rattle.rx_script.proofs.Carrying.{drained_to}
 use Rattle.rx_script.proofs.engine.drain.Goals as goal
 
@@ -7,5 +7,5 @@ returns g c =
     let few = c.release_waiting-closed.ensures.faults in
     let sum = c.saturating_add-engine.ensures in
     let faults : c.saturating_add-engine.result ≤ c.args.engine.now.faults + c.release_waiting-closed.result.released = omega arith in
-    drained_to c.args.engine.now _ c.release_waiting-closed.result.released c.requires c.promise.ensures c.release_waiting-closed.ensures.drains c.release_waiting-closed.ensures.continues refl refl refl refl refl
-    c.release_waiting-closed.ensures.released faults
+    drained_to c.args.engine.now _ c.saturating_add-engine.result c.requires c.release_waiting-closed.ensures.drains c.release_waiting-closed.ensures.continues
+    c.release_waiting-closed.result.released c.promise.ensures c.release_waiting-closed.ensures.released faults

@@ -29,7 +29,7 @@ returns-in_ok-bind-in-Ok g c =
     let free : is_some (key_of c.args.engine.now.resources (string_bytes c.args.res)) ≡ false = cc in
     let pushed : c.bind.new.self ≡ c.args.engine.now.resources ++ record { name = c.args.res; key = c.in-Ok.held } ∷ [] = c.in_ok-bind-in-Ok.ensures in
     hold_accepted c.args.engine.now c.args.node.now (string_bytes c.args.res) c.requires c.in-Some.key at free _ c.take.new.self.wares c.in-Some-take.ensures.some
-    _ (record { name = c.args.res; key = c.in-Ok.held }) c.promise.ensures c.in-Ok.ensures.accepted c.in-Ok.ensures.ok.number c.in-Ok.ensures.ok.listed refl refl refl pushed refl refl refl
+    _ (record { name = c.args.res; key = c.in-Ok.held }) c.promise.ensures c.in-Ok.ensures.accepted c.in-Ok.ensures.ok.number c.in-Ok.ensures.ok.listed refl refl refl pushed refl refl (refl, refl)
 
 pub returns-in-Err : goal.returns-in-Err
 returns-in-Err g c =

@@ -23,7 +23,7 @@ returns-in_ok-bind-in-Ok g c =
     let pushed : c.bind.new.self ≡ c.args.engine.now.leases ++ record { name = c.args.name; key = c.in-Ok.lease } ∷ [] = c.in_ok-bind-in-Ok.ensures in
     lease_accepted c.args.engine.now c.args.res.now (string_bytes c.args.name) c.requires c.in-Some.key at free
     _ (record { name = c.args.name; key = c.in-Ok.lease }) c.promise.ensures c.in-Ok.ensures.accepted c.in-Ok.ensures.ok.number c.in-Ok.ensures.ok.listed
-    refl refl refl refl pushed refl refl
+    refl refl refl refl pushed refl (refl, refl)
 
 pub returns-in-Err : goal.returns-in-Err
 returns-in-Err g c =

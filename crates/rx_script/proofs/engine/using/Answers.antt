@@ -43,7 +43,7 @@ returns-in_ok-bind-in-Ok-2 g c =
     let res_pushed : c.bind-in-Ok.new.self ≡ c.args.engine.now.resources ++ record { name = c.args.res; key = c.in-Ok.opened.res } ∷ [] = c.in_ok-bind-in-Ok-2.ensures in
     using_accepted c.args.engine.now (string_bytes c.args.name) (site_of c.args.site.now) (string_bytes c.args.res) c.requires c.in-Some.place at (or_from _ _ node_free res_free) _ c.take.new.self.wares c.in-Some-take.ensures.some
     _ (record { name = c.args.name; key = c.in-Ok.opened.key }) (record { name = c.args.res; key = c.in-Ok.opened.res }) c.promise.ensures c.in-Ok.ensures.accepted
-    c.in-Ok.ensures.ok.key.number c.in-Ok.ensures.ok.key.listed refl c.in-Ok.ensures.ok.res.number c.in-Ok.ensures.ok.res.listed refl pushed refl res_pushed refl refl refl
+    c.in-Ok.ensures.ok.key.number c.in-Ok.ensures.ok.key.listed refl c.in-Ok.ensures.ok.res.number c.in-Ok.ensures.ok.res.listed refl pushed refl res_pushed refl refl (refl, refl)
 
 pub returns-in-Err : goal.returns-in-Err
 returns-in-Err g c =

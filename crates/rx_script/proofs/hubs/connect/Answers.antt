@@ -23,7 +23,7 @@ returns-in_ok-bind_connection-in-Ok g c =
     let free : is_taken c.args.engine.now.nodes (option_map string_bytes c.args.name) ≡ false = cc in
     let named_on : c.bind_connection.new.nodes ≡ with_named c.args.engine.now.nodes c.args.name (Some c.in-Ok.connection) = c.in_ok-bind_connection-in-Ok.ensures in
     connect_accepted c.args.engine.now c.args.hub.now c.args.name c.requires c.in-Some.number at free
-    _ c.in-Ok.connection c.promise.ensures c.in-Ok.ensures.accepted c.in-Ok.ensures.ok named_on refl refl refl refl refl
+    _ c.in-Ok.connection c.promise.ensures c.in-Ok.ensures.accepted c.in-Ok.ensures.ok named_on refl refl refl refl (refl, refl)
 
 pub returns-in-Err : goal.returns-in-Err
 returns-in-Err g c =

@@ -1,4 +1,4 @@
-use Rattle.std.proofs.Common.{refl, ap, ◌∙◌, arith}
+use Rattle.std.proofs.Common.{ap, ◌∙◌, arith}
 use Rattle.rx_event.specs.Kept.{Kept}
 use Rattle.rx_event.specs.Totals.{accepted_count, taken_count}
 use Rattle.rx_book.proofs.Closings.{disposed_out, disposed_taken, disposed_accepted, root_found, root_missing, disposable, less_room}

@@ -22,4 +22,5 @@ returns c =
         untold = refl;
         unnamed = refl;
       };
+      limit = ap (λ (b : State). b.limit) c.new-book.ensures;
     }

@@ -1,6 +1,6 @@
 use Rattle.std.proofs.Common.{◌∙◌, sym}
 use Rattle.rx_scenario.specs.Reading.{has_only_steps}
-use Rattle.rx_scenario.proofs.Lists.{list_all_keys}
+use Rattle.rx_scenario.proofs.Laws.Members.{list_all_keys}
 use Rattle.rx_scenario.proofs.reading.members.has_only_steps.Goals as goal
 
 pub returns : goal.returns

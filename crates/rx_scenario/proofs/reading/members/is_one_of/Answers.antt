@@ -1,6 +1,6 @@
 use Rattle.std.proofs.Common.{◌∙◌, sym}
 use Rattle.rx_scenario.specs.Reading.{is_one_of}
-use Rattle.rx_scenario.proofs.Lists.{list_any_map}
+use Rattle.rx_scenario.proofs.Laws.Members.{list_any_map}
 use Rattle.rx_scenario.proofs.reading.members.is_one_of.Goals as goal
 
 pub returns : goal.returns

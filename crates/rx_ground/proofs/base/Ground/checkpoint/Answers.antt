@@ -1,0 +1,17 @@
+use Rattle.std.proofs.Common.{refl, sym, subst}
+use Rattle.rx_hub.specs.Due.{IsQuiet}
+use Rattle.rx_ground.specs.Shown.{Ground}
+use Rattle.rx_ground.proofs.Rebased.{settled_quiet_hubs}
+use Rattle.rx_ground.proofs.Checkpointing.{standing_after}
+use Rattle.rx_ground.proofs.base.Ground.checkpoint.Goals as goal
+
+pub forget_ends-requires : goal.forget_ends-requires
+forget_ends-requires g c =
+    let b = c.args.self.now in
+    subst (λ (s : Ground _). IsQuiet s.hubs.hubs) (sym c.self.view_is)
+    (settled_quiet_hubs b.register.base b.register.history b.hubs.hubs c.requires.standing.tied.published c.requires.standing.settled)
+
+pub returns-clause-standing : goal.returns-clause-standing
+returns-clause-standing g c =
+    standing_after g.R.Resource _ c.args.self.now _ c.load-load.result.debt c.self.view_is c.promise.ensures.register c.requires.standing
+    c.in_ok-rebase.ensures.ok c.load-load.ensures.load.debt refl c.forget_ends.ensures refl refl

@@ -1,0 +1,22 @@
+use Rattle.std.proofs.Common.{sym, ap, subst, ◌∙◌}
+use Rattle.rx_event.specs.Bases.{base_of}
+use Rattle.rx_register.specs.State.{IsPromised as IsRegisterPromised}
+use Rattle.rx_tree.specs.Tree.{AreApart, IsPromised as IsTreePromised}
+use Rattle.rx_hub.specs.Hubs.{IsPromised as IsHubsPromised}
+use Rattle.rx_ground.specs.Shown.{Ground}
+use Rattle.rx_ground.specs.Ties.{IsStanding}
+use Rattle.rx_ground.proofs.Checkpointing.{whole_base}
+use Rattle.rx_ground.proofs.base.Ground.kept_base.Goals as goal
+
+pub returns : goal.returns
+returns g c =
+    c.new.ensures ∙
+    whole_base g.R.Resource _
+    (subst (λ (b : Ground _). IsStanding g.R.Resource b) (sym c.self.view_is) c.requires.standing)
+    (subst (λ (b : Ground _). IsRegisterPromised b.register) (sym c.self.view_is) c.promise.ensures.register)
+    (subst (λ (b : Ground _). IsTreePromised b.tree) (sym c.self.view_is) c.promise.ensures.tree)
+    (subst (λ (b : Ground _). IsHubsPromised b.hubs) (sym c.self.view_is) c.promise.ensures.hubs)
+    (subst (λ (b : Ground _). AreApart b.leases) (sym c.self.view_is) c.promise.ensures.leases)
+    _ _ _ _ _ _ _ _ c.len.ensures c.items.ensures c.accepted.ensures c.taken.ensures c.in_ok-hubs.ensures c.in_ok-nodes.ensures c.in_ok-resources.ensures
+    c.in_ok-leases.ensures ∙
+    ap (λ (b : Ground _). base_of b.register.base b.register.history) c.self.view_is

@@ -1,0 +1,7 @@
+use Rattle.std.proofs.Common.{◌∙◌}
+use Rattle.std.proofs.lemmas.Result.{IfOk-weaker}
+use Rattle.rx_hub.proofs.Forgotten.{kept_of_all}
+use Rattle.rx_hub.proofs.hubs.Hubs.base_hubs.Goals as goal
+
+pub returns : goal.returns
+returns c = IfOk-weaker c.list_hubs.result _ _ (λ kept is. is ∙ kept_of_all c.args.self.now.hubs) c.list_hubs.ensures

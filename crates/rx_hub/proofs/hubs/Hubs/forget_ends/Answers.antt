@@ -1,0 +1,17 @@
+use Rattle.std.proofs.Common.{sym, subst}
+use Rattle.rx_hub.specs.Chains.{IsLinked}
+use Rattle.rx_hub.specs.Due.{IsQuiet}
+use Rattle.rx_hub.specs.Hubs.{Hubs}
+use Rattle.rx_hub.proofs.Forgotten.{linked_forgot, shown_forgot}
+use Rattle.rx_hub.proofs.hubs.Hubs.forget_ends.Goals as goal
+
+pub invariant_of-self : goal.invariant_of-self
+invariant_of-self c =
+    let s = c.self.inside in
+    subst (λ (t : Hubs). IsLinked t s.waiting s.due) (sym c.forget_ends.ensures)
+    (linked_forgot s.store s.waiting s.due (subst (λ (v : Hubs). IsQuiet v.hubs) (sym c.self.view_is) c.requires) c.self.invariant)
+
+pub returns : goal.returns
+returns c =
+    let s = c.self.inside in
+    rw (← c.self.view_is) (shown_forgot s.store c.forget_ends.new.self s.waiting.members c.forget_ends.ensures)

@@ -1,0 +1,17 @@
+use Rattle.std.proofs.Common.{List, vec_capacity, sym, subst}
+use Rattle.rx_hub.specs.declared.hub.Published.{Published}
+use Rattle.rx_hub.specs.Store.{IsKept}
+use Rattle.rx_hub.proofs.Stored.{kept_forgot, store_forgot}
+use Rattle.rx_hub.proofs.store.Store.forget_ends.Goals as goal
+
+pub invariant_of-self : goal.invariant_of-self
+invariant_of-self c =
+    let s = c.self.inside in
+    subst (λ (ps : List Published). IsKept ps s.subscribers s.numbers.items) (sym c.forget_all.ensures.items)
+    (kept_forgot s.records.items s.subscribers s.numbers.items c.self.invariant)
+
+pub returns : goal.returns
+returns c =
+    let s = c.self.inside in
+    rw (← c.self.view_is) (store_forgot s.records.items c.forget_all.new.records.items s.subscribers s.numbers.items (vec_capacity s.records)
+    (vec_capacity c.forget_all.new.records) c.forget_all.ensures.items c.forget_all.ensures.capacity)

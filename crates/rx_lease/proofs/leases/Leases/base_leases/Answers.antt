@@ -1,0 +1,11 @@
+use Rattle.std.proofs.Common.{List, rules, subst}
+use Rattle.std.specs.List.Sorted.{IsPermutation}
+use Rattle.std.proofs.lemmas.List.Sorted.{IsNonDecreasingBy-from_sort_by_key}
+use Rattle.rx_event.specs.declared.base.BaseLease.{BaseLease}
+use Rattle.rx_lease.proofs.leases.Leases.base_leases.Goals as goal
+
+pub returns : goal.returns
+returns c = record {
+  same = subst (λ (xs : List BaseLease). IsPermutation xs c.sort_by_key.new.self.items) c.in_ok-leases.ensures c.sort_by_key.ensures.permutation;
+  rising = IsNonDecreasingBy-from_sort_by_key (λ k. k.number) _ c.in_ok-sort_by_key.ensures.sorted (λ a r q k. search rules);
+}

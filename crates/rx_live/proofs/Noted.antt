@@ -1,0 +1,236 @@
+-- The notes of a session's events, and those that its answers tell.
+use Rattle.std.proofs.Common.{◌≡◌, ℕ, ◌≤◌, Bool, true, false, List, [], ◌∷◌, ◌++◌, drop, length, Option, Some, None, refl, sym, ap, ◌∙◌, arith, subst, append_assoc}
+use Rattle.std.specs.Prelude.{is_some}
+use Rattle.std.specs.Option.{option_to_list}
+use Rattle.std.proofs.lemmas.List.{append-nil, drop_at, drop-append-le}
+use Rattle.rx_event.specs.declared.mail.Mail.{Mail}
+use Rattle.rx_event.specs.declared.event.Event.{Event}
+use Rattle.rx_event.specs.Kept.{Kept}
+use Rattle.rx_event.specs.Notes.{notes, mail_of}
+use Rattle.rx_event.specs.Moments.{moments}
+use Rattle.rx_event.specs.Calls.{Call, outside_of, IsStepOf}
+use Rattle.rx_event.specs.Lawful.{IsForcedOn, stays, more}
+use Rattle.rx_event.proofs.Laws.Counts.{notes-push}
+use Rattle.rx_scenario.specs.Scenario.{Command, using, open_node, hold, apply, remove, lease, give_back, next, end, abort, decline, fail, dispose, make_hub, connect, disconnect, drain, checkpoint}
+use Rattle.rx_book.specs.State.{State}
+use Rattle.rx_book.specs.Requests.{Request, hub_request, take_request}
+use Rattle.rx_book.specs.Answers.{Accepts}
+use Rattle.rx_line.specs.declared.outcome.Outcome.TheVariants.{Accepted}
+use Rattle.rx_live.specs.Session.{Session, hub_of}
+use Rattle.rx_live.specs.Carried.{Carries, Goes}
+use Rattle.rx_live.specs.Given.{IsAlike, Gives, BindsHub}
+use Rattle.rx_live.specs.Answers.{to_tell, Takes, none_taken, one_taken}
+use Rattle.rx_live.specs.Renewals.{Renews, IsAged, as_it_was, renewed}
+use Rattle.rx_live.specs.Lines.{Runs, IsCarried, IsAnswer, is_faulty, is_refused, is_carried, is_listed, is_dumped, GoesOn, no_line, one_line, IsFresh}
+use Rattle.rx_live.specs.Promise.{Act}
+use Rattle.rx_live.specs.Sessions.{told_by, written_of, written_by, told_in, written_in}
+use Rattle.rx_live.proofs.Acts.{refused_alike}
+
+-- a history that goes on ------------------------------------------------------------------------------
+
+-- its notes go on
+record GoesOnNoted (h k : List Event) : Type 0 where
+  pub rest : List Mail
+  pub is : notes k ≡ notes h ++ rest
+
+noted_none : (h : List Event) → GoesOnNoted h h
+noted_none h = record { rest = []; is = sym (append-nil (notes h)) }
+
+noted_on : {h k l : List Event} → GoesOnNoted h k → GoesOnNoted k l → GoesOnNoted h l
+noted_on {h} p q = record { rest = p.rest ++ q.rest; is = q.is ∙ ap (λ (ms : List Mail). ms ++ q.rest) p.is ∙ append_assoc (notes h) p.rest q.rest }
+
+noted_events : (h es : List Event) → GoesOnNoted h (h ++ es)
+noted_events h [] = record { rest = []; is = ap notes (append-nil h) ∙ sym (append-nil (notes h)) }
+noted_events h (e ∷ es) =
+    let first : GoesOnNoted h (h ++ e ∷ []) = record { rest = mail_of h e; is = notes-push h e } in
+    subst (λ (k : List Event). GoesOnNoted h k) (append_assoc h (e ∷ []) es) (noted_on first (noted_events (h ++ e ∷ []) es))
+
+noted_forced : (base : Kept) → {h k : List Event} → IsForcedOn base h k → GoesOnNoted h k
+noted_forced base {h} stays = noted_none h
+noted_forced base (more {h} {k} {e} before is_forced) = noted_on (noted_forced base before) (record { rest = mail_of k e; is = notes-push k e })
+
+noted_step : (base : Kept) (h k : List Event) (call : Call) → IsStepOf base h call k → GoesOnNoted h k
+noted_step base h k call step = noted_on (noted_events h (outside_of h call)) (noted_forced base step.forced)
+
+-- a session that goes on ------------------------------------------------------------------------------
+
+-- no more notes were handed out than there are
+abbrev IsBehind : Session → Type 0
+IsBehind s = s.book.given ≤ length (notes s.book.history)
+
+-- the notes of its events are to be told behind those that were
+record Owes (old new : Session) : Type 0 where
+  pub goes : GoesOnNoted old.book.history new.book.history
+  pub owed : to_tell new ≡ to_tell old ++ goes.rest
+
+owes_more : (old new : Session) → GoesOnNoted old.book.history new.book.history → new.book.given ≡ old.book.given → new.untold ≡ old.untold → IsBehind old → Owes old new
+owes_more old new goes given untold behind =
+    let before : List Mail = notes old.book.history in
+    let front : List Mail = option_to_list old.untold in
+    record {
+      goes = goes;
+      owed = (λ i. option_to_list (untold i) ++ drop (given i) (goes.is i))
+          ∙ ap (λ (ms : List Mail). front ++ ms) (drop-append-le old.book.given before goes.rest behind)
+          ∙ sym (append_assoc front (drop old.book.given before) goes.rest);
+    }
+
+owes_call : (old new : Session) (asked : Request) → Accepts old.book asked new.book → new.untold ≡ old.untold → IsBehind old → Owes old new
+owes_call old new asked accepts untold behind = owes_more old new (noted_step old.book.base old.book.history new.book.history asked.call accepts.step) accepts.given untold behind
+
+-- a command -------------------------------------------------------------------------------------------
+
+owes_given : (old new : Session) (asked : Option Request) (taken : Bool) (bound : Session → Type 0) → Gives old asked taken bound Accepted new → (bound new → new.untold ≡ old.untold) →
+    IsBehind old → Owes old new
+owes_given old new None taken bound gives untold behind = let e = gives.0 in absurd (cc)
+owes_given old new (Some call) true bound gives untold behind = let e = gives.0 in absurd (cc)
+owes_given old new (Some call) false bound gives untold behind = owes_call old new call gives.0 (untold gives.1) behind
+
+owes_carried : (old new : Session) (asked : Option Request) → Goes old asked Accepted new → IsBehind old → Owes old new
+owes_carried old new asked goes = by_asked asked goes.carries where
+  by_asked : (o : Option Request) → Carries old o Accepted new → IsBehind old → Owes old new
+  by_asked None carries behind = let e = carries.0 in absurd (cc)
+  by_asked (Some call) carries behind = owes_call old new call carries.0 (ap (λ (s : Session). s.untold) carries.1) behind
+
+owes_same : (old new : Session) → new ≡ old → IsBehind old → Owes old new
+owes_same old new same behind = owes_more old new (subst (λ (s : Session). GoesOnNoted old.book.history s.book.history) (sym same) (noted_none old.book.history))
+    (ap (λ (s : Session). s.book.given) same) (ap (λ (s : Session). s.untold) same) behind
+
+-- a command goes on with the notes, or begins anew behind a checkpoint
+data RunsNoted (old new : Session) (c : Command) : Type 0 where
+  goes_on : ((before after : List Mail) → written_of c before after ≡ drop (length before) after) → Owes old new → RunsNoted old new c
+  begins : ((before after : List Mail) → written_of c before after ≡ after) → Renews old new → RunsNoted old new c
+
+noted_run : (old new : Session) (c : Command) → Runs old c Accepted new → IsBehind old → RunsNoted old new c
+noted_run old new (using name site res) runs behind = goes_on (λ b a. refl) (owes_given old new _ _ _ runs.gives (λ binds. ap (λ (s : Session). s.untold) binds.rest) behind)
+noted_run old new (hold node res) runs behind = goes_on (λ b a. refl) (owes_given old new _ _ _ runs.gives (λ binds. ap (λ (s : Session). s.untold) binds.rest) behind)
+noted_run old new (open_node name site sort) runs behind = goes_on (λ b a. refl) (owes_given old new _ _ _ runs.gives (λ binds. ap (λ (s : Session). s.untold) binds.rest) behind)
+noted_run old new (lease res name) runs behind = goes_on (λ b a. refl) (owes_given old new _ _ _ runs.gives (λ binds. ap (λ (s : Session). s.untold) binds.rest) behind)
+noted_run old new (give_back name) runs behind = goes_on (λ b a. refl) (owes_given old new _ _ _ runs.gives (λ binds. ap (λ (s : Session). s.untold) binds.rest) behind)
+noted_run old new (make_hub name mode) runs behind =
+    goes_on (λ b a. refl) (owes_given old new (Some (hub_request mode)) (is_some (hub_of old name)) (BindsHub old name) runs.gives (λ binds. ap (λ (s : Session). s.untold) binds.rest) behind)
+noted_run old new (connect hub name) runs behind = goes_on (λ b a. refl) (owes_given old new _ _ _ runs.gives (λ binds. ap (λ (s : Session). s.untold) binds.rest) behind)
+noted_run old new (apply res word) runs behind = goes_on (λ b a. refl) (owes_carried old new _ runs behind)
+noted_run old new (remove res) runs behind = goes_on (λ b a. refl) (owes_carried old new _ runs behind)
+noted_run old new (next node value) runs behind = goes_on (λ b a. refl) (owes_carried old new _ runs behind)
+noted_run old new (end node terminal) runs behind = goes_on (λ b a. refl) (owes_carried old new _ runs behind)
+noted_run old new (abort node code) runs behind = goes_on (λ b a. refl) (owes_carried old new _ runs behind)
+noted_run old new (decline node) runs behind = goes_on (λ b a. refl) (owes_carried old new _ runs behind)
+noted_run old new (fail node code) runs behind = goes_on (λ b a. refl) (owes_carried old new _ runs behind)
+noted_run old new (dispose node) runs behind = goes_on (λ b a. refl) (owes_carried old new _ runs behind)
+noted_run old new (disconnect hub) runs behind = goes_on (λ b a. refl) (owes_carried old new _ runs behind)
+noted_run old new drain runs behind = goes_on (λ b a. refl) (owes_same old new runs.1 behind)
+noted_run old new checkpoint runs behind = begins (λ b a. refl) runs
+
+-- what is released -----------------------------------------------------------------------------------
+
+noted_takes : {a b : State} → Takes a b → GoesOnNoted a.history b.history
+noted_takes {a} none_taken = noted_none a.history
+noted_takes {a} {b} (one_taken mid r before accepts) = noted_on (noted_takes before) (noted_step mid.base mid.history b.history (take_request r).call accepts.step)
+
+given_takes : {a b : State} → Takes a b → b.given ≡ a.given
+given_takes none_taken = refl
+given_takes (one_taken mid r before accepts) = accepts.given ∙ given_takes before
+
+-- a line ----------------------------------------------------------------------------------------------
+
+-- of what was to be told and what it wrote an answer tells the front
+record Balances (old new : Session) (written told : List Mail) : Type 0 where
+  pub is : to_tell old ++ written ≡ told ++ to_tell new
+
+alike_tells : (old new : Session) → IsAlike old new → to_tell new ≡ to_tell old
+alike_tells old new alike = λ i. option_to_list (alike.untold i) ++ drop (alike.book i).given (notes (alike.book i).history)
+
+nil_last : (xs ys : List Mail) → xs ++ ys ≡ [] → ys ≡ []
+nil_last [] ys is = is
+nil_last (x ∷ xs) ys is = absurd (cc)
+
+-- behind a checkpoint there are no notes yet
+begun_silent : (old new : Session) → Renews old new → notes new.book.history ≡ []
+begun_silent old new renews =
+    nil_last (option_to_list new.untold) (notes new.book.history)
+    (ap (λ (g : ℕ). option_to_list new.untold ++ drop g (notes new.book.history)) (sym renews.book.given) ∙ renews.untold)
+
+-- what was told and released after the command was carried out
+module _ (old new : Session) (c : Command) (text : List ℕ) (acts : List Act) (carried : IsCarried old c text acts new) where
+  later : Owes carried.tells.mid carried.left
+  later = owes_more carried.tells.mid carried.left (noted_takes carried.tells.releases.takes) (given_takes carried.tells.releases.takes)
+      (ap (λ (s : Session). s.untold) carried.tells.releases.rest) carried.tells.sound.kept.given
+
+  all_notes : notes new.book.history ≡ notes carried.done.book.history ++ later.goes.rest
+  all_notes = ap (λ (b : State). notes b.history) carried.alike.book ∙ later.goes.is
+      ∙ ap (λ (s : Session). notes s.book.history ++ later.goes.rest) carried.tells.tells.rest
+
+  last_told : (front : List Mail) → to_tell carried.done ≡ front → front ++ later.goes.rest ≡ carried.tells.tells.mails ++ to_tell new
+  last_told front is =
+      let mails : List Mail = carried.tells.tells.mails in
+      ap (λ (ms : List Mail). ms ++ later.goes.rest) (sym is ∙ carried.tells.tells.left)
+      ∙ append_assoc mails (to_tell carried.tells.mid) later.goes.rest
+      ∙ ap (λ (ms : List Mail). mails ++ ms) (sym later.owed ∙ sym (alike_tells carried.left new carried.alike))
+
+  carried_balances : IsBehind old → Balances old new (written_of c (notes old.book.history) (notes new.book.history)) carried.tells.tells.mails
+  carried_balances behind = by_run (noted_run old carried.done c carried.runs behind) where
+    before : List Mail
+    before = notes old.book.history
+
+    by_run : RunsNoted old carried.done c → Balances old new (written_of c (notes old.book.history) (notes new.book.history)) carried.tells.tells.mails
+    by_run (goes_on is one) =
+        let all : notes new.book.history ≡ before ++ (one.goes.rest ++ later.goes.rest) =
+        all_notes ∙ ap (λ (ms : List Mail). ms ++ later.goes.rest) one.goes.is ∙ append_assoc before one.goes.rest later.goes.rest in
+        let wrote : written_of c before (notes new.book.history) ≡ one.goes.rest ++ later.goes.rest =
+        is before (notes new.book.history) ∙ ap (drop (length before)) all ∙ drop_at before (one.goes.rest ++ later.goes.rest) (length before) refl in
+        record {
+          is = ap (λ (ms : List Mail). to_tell old ++ ms) wrote
+              ∙ sym (append_assoc (to_tell old) one.goes.rest later.goes.rest)
+              ∙ last_told (to_tell old ++ one.goes.rest) one.owed;
+        }
+    by_run (begins is renews) =
+        let wrote : written_of c before (notes new.book.history) ≡ later.goes.rest =
+        is before (notes new.book.history) ∙ all_notes ∙ ap (λ (ms : List Mail). ms ++ later.goes.rest) (begun_silent old carried.done renews) in
+        record { is = (λ i. renews.told i ++ wrote i) ∙ last_told [] renews.untold }
+
+-- where nothing was written or told
+idle : (old new : Session) → to_tell new ≡ to_tell old → Balances old new [] []
+idle old new same = record { is = append-nil (to_tell old) ∙ sym same }
+
+answer_balances : (old new : Session) (line text : List ℕ) (acts : List Act) → IsBehind old → (answer : IsAnswer old line text acts new) →
+    Balances old new (written_by old new line text acts answer) (told_by old new line text acts answer)
+answer_balances old new line text acts behind (is_faulty told faulty is) = idle old old refl
+answer_balances old new line text acts behind (is_refused c why order runs by_open is) = idle old new (alike_tells old new (refused_alike old new c why runs))
+answer_balances old new line text acts behind (is_carried c order carried) = carried_balances old new c text acts carried behind
+answer_balances old new line text acts behind (is_listed order) = idle old old refl
+answer_balances old new line text acts behind (is_dumped order is) = idle old old refl
+
+-- a checkpoint before it
+aged_tells : (old aged : Session) → IsAged old aged → to_tell aged ≡ to_tell old
+aged_tells old aged as_it_was = refl
+aged_tells old aged (renewed mid alike renews) = renews.untold ∙ sym renews.told ∙ alike_tells old mid alike
+
+aged_behind : (old aged : Session) → IsAged old aged → IsBehind old → IsBehind aged
+aged_behind old aged as_it_was behind = behind
+aged_behind old aged (renewed mid alike renews) behind = let none = renews.book.given in omega (arith, none)
+
+-- many lines ------------------------------------------------------------------------------------------
+
+all_balance : {first last : Session} {acts : List Act} → IsBehind first → (goes : GoesOn first acts last) → to_tell first ++ written_in goes ≡ told_in goes ++ to_tell last
+all_balance {first} behind no_line = append-nil (to_tell first)
+all_balance {first} {last} behind (one_line line text new sent rest) =
+    let told : List Mail = told_by sent.aged new line text sent.acts sent.answer in
+    let wrote : List Mail = written_by sent.aged new line text sent.acts sent.answer in
+    let one : Balances sent.aged new wrote told = answer_balances sent.aged new line text sent.acts (aged_behind first sent.aged sent.ages behind) sent.answer in
+    ap (λ (ms : List Mail). ms ++ (wrote ++ written_in rest)) (sym (aged_tells first sent.aged sent.ages))
+    ∙ sym (append_assoc (to_tell sent.aged) wrote (written_in rest))
+    ∙ ap (λ (ms : List Mail). ms ++ written_in rest) one.is
+    ∙ append_assoc told (to_tell new) (written_in rest)
+    ∙ ap (λ (ms : List Mail). told ++ ms) (all_balance sent.sound.kept.given rest)
+    ∙ sym (append_assoc told (told_in rest) (to_tell last))
+
+no_notes : notes [] ≡ []
+unfolding notes moments
+no_notes = refl
+
+pub session_told : (first last : Session) (acts : List Act) → IsFresh first → (goes : GoesOn first acts last) → written_in goes ≡ told_in goes ++ to_tell last
+session_told first last acts fresh goes =
+    let silent : notes first.book.history ≡ [] = ap notes fresh.history ∙ no_notes in
+    let behind : IsBehind first = let g = fresh.given in omega (arith, g) in
+    let nothing : to_tell first ≡ [] = λ i. option_to_list (fresh.untold i) ++ drop (fresh.given i) (silent i) in
+    ap (λ (ms : List Mail). ms ++ written_in goes) (sym nothing) ∙ all_balance behind goes

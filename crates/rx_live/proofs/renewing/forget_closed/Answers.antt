@@ -1,0 +1,31 @@
+use Rattle.std.proofs.Common.{◌≡◌, None, Some, sym, ◌∙◌}
+use Rattle.rx_live.proofs.Binding.{same_open}
+use Rattle.rx_live.proofs.Forgotten.{spot_at, left_nameless, left_open, forgot_one, left_forgotten}
+use Rattle.rx_live.proofs.renewing.forget_closed.Goals as goal
+
+pub returns-in_default-clause-same : goal.returns-in_default-clause-same
+returns-in_default-clause-same c = same_open None c.args.book.now c.args.nodes.now
+
+pub returns-in_default-clause-left : goal.returns-in_default-clause-left
+returns-in_default-clause-left c = left_nameless c.args.book.now c.args.nodes.now c.args.number c.requires (sym c.spot_at.ensures ∙ c.in_default.is)
+
+pub returns-then-is_open-clause-same : goal.returns-then-is_open-clause-same
+returns-then-is_open-clause-same c = same_open None c.args.book.now c.args.nodes.now
+
+pub returns-then-is_open-clause-left : goal.returns-then-is_open-clause-left
+returns-then-is_open-clause-left c =
+    let found : spot_at c.args.nodes.now c.args.number ≡ Some c.in-Some.spot = sym c.spot_at.ensures ∙ c.in-Some.is in
+    left_open c.args.book.now c.args.nodes.now c.args.number c.in-Some.spot found (sym c.is_open.ensures ∙ c.if-is_open.true)
+
+pub returns-clause-same : goal.returns-clause-same
+returns-clause-same c =
+    let found : spot_at c.args.nodes.now c.args.number ≡ Some c.in-Some.spot = sym c.spot_at.ensures ∙ c.in-Some.is in
+    (forgot_one c.args.book.now c.args.nodes.now c.forget-name.new.self c.args.number c.in-Some.spot c.forget-name.result c.requires found
+    (sym c.is_open.ensures ∙ c.if-is_open.false) c.forget-name.ensures.value c.forget-name.ensures.some).0
+
+pub returns-clause-left : goal.returns-clause-left
+returns-clause-left c =
+    let found : spot_at c.args.nodes.now c.args.number ≡ Some c.in-Some.spot = sym c.spot_at.ensures ∙ c.in-Some.is in
+    left_forgotten c.args.book.now c.forget-name.new.self c.args.number
+    (forgot_one c.args.book.now c.args.nodes.now c.forget-name.new.self c.args.number c.in-Some.spot c.forget-name.result c.requires found
+    (sym c.is_open.ensures ∙ c.if-is_open.false) c.forget-name.ensures.value c.forget-name.ensures.some).1

@@ -1,0 +1,51 @@
+-- What a book that stores a base, and tallies, say of the whole history.
+use Rattle.std.proofs.Common.{◌≡◌, ℕ, Bool, false, List, length, Option, Some, None, refl, sym, ap, ◌∙◌}
+use Rattle.std.proofs.Math.Bool.{◌&&◌}
+use Rattle.std.specs.Prelude.{slice_get, count_by, is_some}
+use Rattle.std.specs.List.{list_any, range_with_len}
+use Rattle.std.specs.Option.{option_and_then, option_map_or}
+use Rattle.rx_event.specs.declared.event.Event.{Event}
+use Rattle.rx_event.specs.declared.event.Event.TheVariants.{Open, Accept}
+use Rattle.rx_event.specs.Events.{makes_resource, is_take_of}
+use Rattle.rx_event.specs.Tree.{places, is_open}
+use Rattle.rx_event.specs.Resources.{is_held, is_taken}
+use Rattle.rx_event.specs.Totals.{open_count, held_count, waiting_count}
+use Rattle.rx_book.specs.declared.key.Key.{Key}
+use Rattle.rx_book.specs.declared.key.ResKey.{ResKey}
+use Rattle.rx_book.specs.State.{State, has_key, has_res_key, accepted_tag, IsPromised}
+use Rattle.rx_report.specs.declared.tallies.Tallies.{Tallies}
+use Rattle.rx_report.specs.Keys.{IsNodeKey, IsHeldKey}
+use Rattle.rx_report.specs.Tallies.{IsWhole}
+use Rattle.rx_report.proofs.Laws.{has_key-is_open, has_res_key-is_held}
+
+-- what is counted at each place alike
+same_count : (p q : ℕ → Bool) (h k : List Event) → length h ≡ length k → ((n : ℕ) → p n ≡ q n) → count_by p (places h) ≡ count_by q (places k)
+same_count p q h k long same = (λ i. count_by (λ n. same n i) (range_with_len 0 (long i)))
+
+module _ (h : List Event) (t : Tallies) (s : State) (w : IsWhole h t s) where
+  pub open_total : open_count s.history ≡ open_count h
+  open_total = sym (same_count _ _ h s.history w.agree.alike.same_length w.agree.alike.same_open)
+
+  pub held_total : held_count s.history ≡ held_count h
+  held_total = sym (same_count _ _ h s.history w.agree.alike.same_length w.agree.held)
+
+  pub waiting_total : waiting_count s.history ≡ waiting_count h
+  waiting_total = sym (same_count _ _ h s.history w.agree.alike.same_length w.agree.waiting)
+
+  -- what a key that the book gave is good for
+  pub open_here : (k : Key) → IsPromised s → IsNodeKey s k → has_key s.keys k ≡ is_open h k.number
+  open_here k kept known = has_key-is_open s k kept known ∙ sym (w.agree.alike.same_open k.number)
+
+  pub held_here : (k : ResKey) → IsPromised s → IsHeldKey s k → has_res_key s.res_keys k ≡ is_held h k.number
+  held_here k kept known = has_res_key-is_held s k kept known ∙ sym (w.agree.held k.number)
+
+-- a resource that has a tag was accepted
+accepted_there : (o : Option Event) → is_some (option_and_then accepted_tag o) ≡ option_map_or makes_resource o false
+accepted_there None = refl
+accepted_there (Some (Accept node tag)) = refl
+accepted_there (Some (Open place kind)) = refl
+accepted_there (Some _) = refl
+
+pub tagged-taken : (h : List Event) (r : ℕ) → (is_some (option_and_then accepted_tag (slice_get h r)) && list_any (is_take_of r) h) ≡ is_taken h r
+unfolding is_taken
+tagged-taken h r = ap (λ b. b && list_any (is_take_of r) h) (accepted_there (slice_get h r))

@@ -1,0 +1,60 @@
+-- Where no checkpoint was made, as at the beginning, the book stores the whole history.
+use Rattle.std.proofs.Common.{◌≡◌, List, [], ◌∷◌, ◌++◌, length, refl, sym, ap, subst, ◌∙◌, append-nil, arith}
+use Rattle.rx_event.specs.declared.event.Event.{Event}
+use Rattle.rx_event.specs.Kept.{Kept, nothing_kept, shown}
+use Rattle.rx_event.specs.Bases.{base_of}
+use Rattle.rx_event.specs.Moments.{moments}
+use Rattle.rx_event.specs.Notes.{notes}
+use Rattle.rx_event.proofs.Laws.Begin.{IsLawful_nothing, shown_nothing, empty_base}
+use Rattle.rx_register.proofs.Laws.Empty.{settled_empty}
+use Rattle.rx_book.specs.State.{State}
+use Rattle.rx_report.specs.declared.tallies.Tallies.{Tallies}
+use Rattle.rx_report.specs.Tallies.{AreCountsOf, AreNotesOf}
+use Rattle.rx_script.specs.Engine.{IsHistoryOf}
+use Rattle.rx_script.proofs.WholeHistory.{kept_length}
+
+-- nothing is kept of nothing
+pub base_nothing : base_of nothing_kept [] ≡ nothing_kept
+unfolding base_of
+base_nothing = λ i. record {
+  at_length = 0;
+  items = 0;
+  accepted = empty_base.accepted [] i;
+  taken = 0;
+  hubs = [];
+  nodes = [];
+  resources = [];
+  leases = [];
+}
+
+none_before : (h : List Event) → length h ≡ 0 → h ≡ []
+none_before [] none = refl
+none_before (e ∷ h) none = absurd (omega arith)
+
+module _ {t : Tallies} {s : State} {h : List Event} (w : IsHistoryOf h t s) (unchecked : s.base.at_length ≡ 0) where
+  no_front : w.front ≡ []
+  no_front = none_before w.front (sym (kept_length w.front w.lawful w.settled s.base w.base) ∙ unchecked)
+
+  pub no_base : s.base ≡ nothing_kept
+  no_base = w.base ∙ ap (base_of nothing_kept) no_front ∙ base_nothing
+
+  pub all_stored : s.history ≡ h
+  all_stored = w.history ∙ ap (λ (b : Kept). shown b ++ w.since) no_base ∙ ap (λ (l : List Event). l ++ w.since) (shown_nothing ∙ sym no_front) ∙ sym w.whole
+
+-- before the first event
+no_notes : notes [] ≡ []
+unfolding notes moments
+no_notes = refl
+
+pub begun : (t : Tallies) (s : State) → s.base ≡ nothing_kept → s.history ≡ [] → s.given ≡ 0 → AreCountsOf [] t → AreNotesOf [] t → IsHistoryOf [] t s
+begun t s same_base same_history none_given counts noted = record {
+  front = [];
+  since = [];
+  whole = refl;
+  lawful = IsLawful_nothing;
+  settled = settled_empty nothing_kept;
+  base = same_base ∙ sym base_nothing;
+  history = same_history ∙ sym shown_nothing ∙ ap shown (sym same_base) ∙ sym (append-nil (shown s.base));
+  tallies = record { counts = counts; notes = subst (λ mail. AreNotesOf mail t) (sym no_notes) noted };
+  given = none_given;
+}

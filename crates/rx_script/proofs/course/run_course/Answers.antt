@@ -1,0 +1,16 @@
+use Rattle.std.proofs.Common.{◌≡◌, map, ap, subst, ◌∙◌}
+use Rattle.std.specs.Prelude.{IfOk}
+use Rattle.rx_scenario.specs.Scenario.{step_of}
+use Rattle.rx_agenda.specs.Agenda.{Agenda, with_steps, empty_agenda}
+use Rattle.rx_agenda.specs.Shown.{agenda_of}
+use Rattle.rx_script.specs.Course.{limited}
+use Rattle.rx_script.specs.Progress.{Ends}
+use Rattle.rx_script.specs.Engine.{MovesOn}
+use Rattle.rx_script.proofs.course.run_course.Goals as goal
+
+pub returns-clause-course : goal.returns-clause-course
+returns-clause-course g c =
+    let same : agenda_of c.add_all.new.agenda ≡ with_steps (map step_of c.args.steps.items) empty_agenda =
+    c.in_ok-add_all.ensures.ok ∙ ap (with_steps (map step_of c.args.steps.items)) c.empty_agenda-agenda.ensures.value in
+    subst (λ (a : Agenda). IfOk c.take_all.result (λ v. MovesOn c.args.engine.now c.take_all.new.engine
+    (λ s t. Ends (limited c.args.engine.now.book.limit) c.args.until (record { stage = s; agenda = a }) v.items t))) same c.take_all.ensures.course
