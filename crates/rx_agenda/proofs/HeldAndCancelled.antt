@@ -10,7 +10,7 @@ use Rattle.rx_agenda.specs.Order.{Origin, Turn, Placed, Executed, IsScheduledBef
 use Rattle.rx_agenda.specs.Order.{IsHeld, by_scenario, by_step, WaitsUnder, IsMeant, IsCancelled, IsDue, IsExecuted, WaitsAt, IsAnswered}
 use Rattle.rx_agenda.specs.Order.{one_waits, no_step_waits, AreCancelsAnswered}
 use Rattle.rx_agenda.proofs.Members.{get_push, get_old, get_last}
-use Rattle.rx_agenda.proofs.PlacedSteps.{PlacedAgenda, IsPending, Takes}
+use Rattle.rx_agenda.proofs.PlacedSteps.{PlacedAgenda, IsPending, IsWithin, Takes}
 use Rattle.rx_agenda.proofs.EntriesRise.{FirstOf, IsReady}
 use Rattle.rx_agenda.proofs.StepsJoin.{IsOneOf, IsReadyAt, one_of_get, get_one_of}
 use Rattle.rx_agenda.proofs.LeastStepLeaves.{TakesWell, takes_well, Says}
@@ -26,7 +26,7 @@ pub record IsTakenBy (Ever : Placed → Type 0) (s : Step) (answer : Answer) (y 
 -- what is to come after a step's action
 pub record ActsWell (Ever : Placed → Type 0) (now : Turn) (next : Origin) (g : PlacedAgenda) (s : Step) (answer : Answer) (left : PlacedAgenda) : Type 0 where
   pub ready : IsReady Ever now next left
-  pub from : (y : Placed) → IsPending left y → IsPending g y
+  pub from : IsWithin left g
   pub gone : (y : Placed) → IsPending g y → IsPending left y ⊎ IsTakenBy Ever s answer y
   pub kept : (y : Placed) → IsPending left y → ¬ IsTakenBy Ever s answer y
   pub says : (label : Name) → s.action ≡ cancel label → Says Ever g label answer

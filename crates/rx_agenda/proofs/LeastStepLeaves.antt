@@ -12,7 +12,7 @@ use Rattle.rx_agenda.specs.declared.answer.Answer.TheVariants.{Accepted, Refused
 use Rattle.rx_agenda.specs.declared.answer.Cause.TheVariants.{NoStep}
 use Rattle.rx_agenda.specs.Order.{Origin, Turn, Placed, IsScheduledBefore, IsEarlierTurn, ComesBefore, WaitsUnder}
 use Rattle.rx_agenda.proofs.Members.{IsIn, Pairwise, pairwise_removed, pairwise_cases, removed_in, removed_or_stays, removed_apart, lookup_at, lookup_in}
-use Rattle.rx_agenda.proofs.PlacedSteps.{Entry, PlacedAgenda, IsPending, Pops, of_turn, of_timeline, without_first, without_entry, Takes, takes}
+use Rattle.rx_agenda.proofs.PlacedSteps.{Entry, PlacedAgenda, IsPending, IsWithin, Pops, of_turn, of_timeline, without_first, without_entry, Takes, takes}
 use Rattle.rx_agenda.proofs.PlacedSteps.{leaves, without_placed}
 use Rattle.rx_agenda.proofs.EntriesRise.{IsEntry, Rises, FirstOf, IsReady}
 
@@ -247,7 +247,7 @@ module _ (Ever : Placed → Type 0) (until : ℕ) (now : Turn) (next : Origin) (
 
   pub record TakesWell (label : Name) (answer : Answer) (left : PlacedAgenda) : Type 0 where
     pub ready : IsReady Ever now next left
-    pub from : (y : Placed) → IsPending left y → IsPending g y
+    pub from : IsWithin left g
     pub gone : (y : Placed) → IsPending g y → IsPending left y ⊎ IsTakenOff label answer y
     pub kept : (y : Placed) → IsPending left y → ¬ IsTakenOff label answer y
     pub says : Says Ever g label answer

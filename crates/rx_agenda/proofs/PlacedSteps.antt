@@ -37,6 +37,10 @@ IsWaiting g x = (e : Entry) × IsIn e g.timeline.work × (e.1.item ≡ x)
 abbrev pub IsPending : PlacedAgenda → Placed → Type 0
 IsPending g x = IsIn x g.turn ⊎ IsWaiting g x
 
+-- nothing is to come that was not before
+abbrev pub IsWithin : PlacedAgenda → PlacedAgenda → Type 0
+IsWithin left g = (y : Placed) → IsPending left y → IsPending g y
+
 -- a step joins
 abbrev pub with_placed_after : Option ℕ → Placed → PlacedAgenda → PlacedAgenda
 with_placed_after None x g = record { timeline = g.timeline; turn = g.turn ++ x ∷ []; labels = g.labels }

@@ -1,5 +1,5 @@
 -- Where bytes have nothing to be written of them: a text is that of one value alone.
-use Rattle.std.proofs.Common.{◌≡◌, ℕ, Option, Some, None, List, [], ◌++◌, append-nil, sym, ap, subst, ◌∙◌, inr}
+use Rattle.std.proofs.Common.{◌≡◌, ℕ, Option, Some, None, List, ◌++◌, append-nil, sym, ap, subst, ◌∙◌, inr}
 use Rattle.std.proofs.lemmas.Option.{same_Some}
 use Rattle.serde_json.specs.Data.{Data}
 use Rattle.rx_device.specs.Input.{IsJsonOf}

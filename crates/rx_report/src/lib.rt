@@ -1,4 +1,4 @@
-//! The report of a scenario: what a book's history and its keys show, line by line.
+//! The report of a scenario: what its book met and what its keys show, line by line.
 //!
 //! # Vocabulary
 //!
@@ -13,6 +13,9 @@
 //!
 //! - Each `push_` call writes just its lines behind the text. It answers Err only where memory was
 //!   refused, which is no clause; the text may have part of the lines then.
+//! - The lines are those of the whole history, of which the tallies are, where what the book stores agrees
+//!   with it (`IsWhole` of `specs/Tallies`): a checkpoint changes no line. That the two go together is for
+//!   who keeps them.
 //! - A call that reads a key wants to be shown that the book gave it (`IsNodeKey` and `IsHeldKey` of
 //!   `specs/Keys`).
 #![tactic(auto)]

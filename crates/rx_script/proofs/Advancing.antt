@@ -81,20 +81,23 @@ module _ {R : Type 0} where
   HasLed limit until first begun answers e now = MovesOn first e (λ s t. Leads (limited limit) until (record { stage = s; agenda = agenda_of begun }) answers
       (record { stage = t; agenda = agenda_of now }))
 
-  pub not_led : (limit until : ℕ) (first : Engine R) (begun : AgendaInCode) (answers : List Answer) → answers ≡ [] → HasLed limit until first begun answers first begun
+  pub not_led : (limit until : ℕ) (first : Engine R) (begun : AgendaInCode) (answers : List Answer) → answers ≡ []
+      → HasLed limit until first begun answers first begun
   not_led limit until first begun answers none = λ h w. (
     h,
-    subst (λ l. Leads (limited limit) until (record { stage = stage_of first h; agenda = agenda_of begun }) l (record { stage = stage_of first h; agenda = agenda_of begun }))
-        (sym none) not_begun,
+    subst (λ l. Leads (limited limit) until (record { stage = stage_of first h; agenda = agenda_of begun }) l
+        (record { stage = stage_of first h; agenda = agenda_of begun })) (sym none) not_begun,
     w,
   )
 
   module _ (limit until : ℕ) (first e new : Engine R) (begun before between now : AgendaInCode) (s : StepInCode)
-      (answers pushed : List Answer) (answer : Answer) (same : e.book.limit ≡ limit) (comes : next_step until (agenda_of before) ≡ Some (step_of s, agenda_of between))
+      (answers pushed : List Answer) (answer : Answer) (same : e.book.limit ≡ limit)
+      (comes : next_step until (agenda_of before) ≡ Some (step_of s, agenda_of between))
       (after : Followed e between s answer new now) (is_pushed : pushed ≡ answers ++ answer ∷ []) where
     advances : (h k : List Event) → Performs (limited e.book.limit) (record { stage = stage_of e h; agenda = agenda_of between }) (step_of s).action answer
         (record { stage = stage_of new k; agenda = after.left })
-        → Advances (limited limit) until (record { stage = stage_of e h; agenda = agenda_of before }) answer (record { stage = stage_of new k; agenda = agenda_of now })
+        → Advances (limited limit) until (record { stage = stage_of e h; agenda = agenda_of before }) answer
+        (record { stage = stage_of new k; agenda = agenda_of now })
     advances h k performs = record {
       step = step_of s;
       rest = agenda_of between;
@@ -111,8 +114,8 @@ module _ {R : Type 0} where
         let to = led h w in
         let on = after.performs to.0 to.2 in (
           on.0,
-          subst (λ l. Leads (limited limit) until (record { stage = stage_of first h; agenda = agenda_of begun }) l (record { stage = stage_of new on.0; agenda = agenda_of now }))
-              (sym is_pushed) (advanced to.1 (advances to.0 on.0 on.1)),
+          subst (λ l. Leads (limited limit) until (record { stage = stage_of first h; agenda = agenda_of begun }) l
+              (record { stage = stage_of new on.0; agenda = agenda_of now })) (sym is_pushed) (advanced to.1 (advances to.0 on.0 on.1)),
           on.2,
         )
 

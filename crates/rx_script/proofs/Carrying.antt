@@ -53,7 +53,8 @@ stored_stage e = with_history (stage_of e []) e.book.history 0
 
 -- the engine with another book and stock
 abbrev pub with : {R : Type 0} → Engine R → State → Shelf → Engine R
-with e book stock = record { book = book; nodes = e.nodes; hubs = e.hubs; resources = e.resources; leases = e.leases; stock = stock; tallies = e.tallies; faults = e.faults }
+with e book stock =
+    record { book = book; nodes = e.nodes; hubs = e.hubs; resources = e.resources; leases = e.leases; stock = stock; tallies = e.tallies; faults = e.faults }
 
 -- no release met a fault, and nothing was gathered for the report
 abbrev pub KeepsRest : {R : Type 0} → Engine R → Engine R → Type 0
@@ -73,7 +74,8 @@ module _ {t : Tallies} {s : State} {h : List Event} (w : IsHistoryOf h t s) (kep
       (subst (Agree nothing_kept (w.front ++ w.since) s.base) (sym w.history) (whole_agree w.front w.lawful w.settled s.base w.base w.since stored_lawful))
 
   -- the causes against a call are the same
-  cause_same : (fresh : Bool) (call : Call) → first_cause (causes nothing_kept h (s.base.at_length + s.limit) fresh call) ≡ first_cause (causes s.base s.history s.limit fresh call)
+  cause_same : (fresh : Bool) (call : Call)
+      → first_cause (causes nothing_kept h (s.base.at_length + s.limit) fresh call) ≡ first_cause (causes s.base s.history s.limit fresh call)
   cause_same fresh call =
       let same_end : nothing_kept.at_length + (s.base.at_length + s.limit) ≡ s.base.at_length + s.limit = omega arith in
       same_row nothing_kept h s.base s.history history_agrees history_lawful (s.base.at_length + s.limit) s.limit same_end fresh call
@@ -88,7 +90,8 @@ module _ {t : Tallies} {s : State} {h : List Event} (w : IsHistoryOf h t s) (kep
   on_stored : (events : List Event) → stored s.base (w.since ++ events) ≡ s.history ++ events
   on_stored events = sym (append_assoc (shown s.base) w.since events) ∙ ap (λ (l : List Event). l ++ events) (sym w.history)
 
-  history_on : (u : Tallies) (new : State) (events : List Event) → u ≡ t → new.base ≡ s.base → new.given ≡ s.given → new.history ≡ stored s.base (w.since ++ events)
+  history_on : (u : Tallies) (new : State) (events : List Event) → u ≡ t → new.base ≡ s.base → new.given ≡ s.given
+      → new.history ≡ stored s.base (w.since ++ events)
       → IsHistoryOf (on events) u new
   history_on u new events same_tallies same_base same_given same_history = record {
     front = w.front;
@@ -105,22 +108,30 @@ module _ {t : Tallies} {s : State} {h : List Event} (w : IsHistoryOf h t s) (kep
 -- carrying out ---------------------------------------------------------------------------------------
 
 -- nothing was changed
-pub unchanged : {R : Type 0} (e : Engine R) (step : Command) (answer : Answer) (book : State) (stock : Shelf) → IsSound e → book ≡ e.book → stock.wares ≡ e.stock.wares
-    → ((h : List Event) → IsHistoryOf h e.tallies e.book → Executes (limited e.book.limit) (stage_of e h) step answer (stage_of e h)) → Carries e step answer (with e book stock)
+pub unchanged : {R : Type 0} (e : Engine R) (step : Command) (answer : Answer) (book : State) (stock : Shelf) → IsSound e → book ≡ e.book
+    → stock.wares ≡ e.stock.wares
+    → ((h : List Event) → IsHistoryOf h e.tallies e.book → Executes (limited e.book.limit) (stage_of e h) step answer (stage_of e h))
+    → Carries e step answer (with e book stock)
 unchanged {R} e step answer book stock sound same_book same_stock executes =
     let at_book : Carries e step answer (with e e.book stock) = record {
-      executes = λ h w. (h, subst (λ wares. Executes (limited e.book.limit) (stage_of e h) step answer (record (stage_of e h) { stock = wares })) (sym same_stock) (executes h w), w);
+      executes = λ h w. (
+        h,
+        subst (λ wares. Executes (limited e.book.limit) (stage_of e h) step answer (record (stage_of e h) { stock = wares })) (sym same_stock) (executes h w),
+        w,
+      );
       sound = record { kept = sound.kept; nodes = sound.nodes; resources = sound.resources; leases = sound.leases; faults = sound.faults };
       limit = refl;
     } in
     subst (λ b. Carries e step answer (with e b stock)) (sym same_book) at_book
 
-pub refused_own : {R : Type 0} (e : Engine R) (step : Command) (why : Cause) (book : State) (stock : Shelf) → IsSound e → book ≡ e.book → stock.wares ≡ e.stock.wares
+pub refused_own : {R : Type 0} (e : Engine R) (step : Command) (why : Cause) (book : State) (stock : Shelf) → IsSound e → book ≡ e.book
+    → stock.wares ≡ e.stock.wares
     → own_cause (stored_stage e) step ≡ Some why → Carries e step (Refused why) (with e book stock)
 refused_own e step why book stock sound same_book same_stock own =
     unchanged e step (Refused why) book stock sound same_book same_stock (λ h w. refused (own_kept (stored_stage e) h e.book.base.at_length step ∙ own))
 
-pub refused_there : {R : Type 0} (e : Engine R) (step : Command) (asked : Request) (why : Refusal) (book : State) (stock : Shelf) → IsSound e → book ≡ e.book → stock.wares ≡ e.stock.wares
+pub refused_there : {R : Type 0} (e : Engine R) (step : Command) (asked : Request) (why : Refusal) (book : State) (stock : Shelf) → IsSound e
+    → book ≡ e.book → stock.wares ≡ e.stock.wares
     → own_cause (stored_stage e) step ≡ None → Agrees e.book asked (stored_stage e) step
     → first_cause (stands e.book asked) ≡ Some why → Carries e step (Refused (Book why)) (with e book stock)
 refused_there e step asked why book stock sound same_book same_stock own agrees cause =
@@ -171,7 +182,8 @@ pub accepted_to : {R : Type 0} (e new : Engine R) (step : Command) (asked : Requ
     → own_cause (stored_stage e) step ≡ None → Agrees e.book asked (stored_stage e) step
     → Accepts e.book asked new.book
     → stored_stage new ≡ after (stored_stage e) step new.book.history
-    → All (λ n. IsNodeKey new.book n.key) new.nodes → All (λ n. IsHeldKey new.book n.key) new.resources → All (λ n. IsLeaseKey new.book n.key) new.leases → KeepsRest e new
+    → All (λ n. IsNodeKey new.book n.key) new.nodes → All (λ n. IsHeldKey new.book n.key) new.resources
+    → All (λ n. IsLeaseKey new.book n.key) new.leases → KeepsRest e new
     → Carries e step Accepted new
 accepted_to e new step asked sound kept own agrees accepts staged nodes resources leases rest = record {
   executes = goes_to e new step asked sound own agrees accepts staged rest;
@@ -201,16 +213,19 @@ accepted_plain e step asked book sound kept own agrees accepts plain =
     (lease_keys_kept e.book book e.leases sound.kept kept goes sound.leases) (refl, refl)
 
 -- taking and releasing all that waits
-module _ {R : Type 0} (e : Engine R) (book : State) (faults : ℕ) (sound : IsSound e) (drains : Drains e.book.base e.book.history book.history) (goes : Continues e.book book) where
+module _ {R : Type 0} (e : Engine R) (book : State) (faults : ℕ) (sound : IsSound e) (drains : Drains e.book.base e.book.history book.history)
+    (goes : Continues e.book book) where
   -- the engine after it
   abbrev pub drained_engine : Engine R
-  drained_engine = record { book = book; nodes = e.nodes; hubs = e.hubs; resources = e.resources; leases = e.leases; stock = e.stock; tallies = e.tallies; faults = faults }
+  drained_engine =
+      record { book = book; nodes = e.nodes; hubs = e.hubs; resources = e.resources; leases = e.leases; stock = e.stock; tallies = e.tallies; faults = faults }
 
   drains_to : (h : List Event) → IsHistoryOf h e.tallies e.book
       → (k : List Event) × Executes (limited e.book.limit) (stage_of e h) drain Accepted (stage_of drained_engine k) × IsHistoryOf k e.tallies book
   drains_to h w = (
     on w sound.kept over.events,
-    subst (λ b. Executes (limited e.book.limit) (stage_of e h) drain Accepted (with_history (stage_of e h) (on w sound.kept over.events) b.at_length)) (sym goes.base)
+    subst (λ b. Executes (limited e.book.limit) (stage_of e h) drain Accepted (with_history (stage_of e h)
+        (on w sound.kept over.events) b.at_length)) (sym goes.base)
         (drained (subst (λ (l : List Event). Drains nothing_kept l (on w sound.kept over.events)) (sym w.whole) over.drains)),
     history_on w sound.kept e.tallies book over.events refl goes.base goes.given over.same,
   ) where
@@ -218,7 +233,8 @@ module _ {R : Type 0} (e : Engine R) (book : State) (faults : ℕ) (sound : IsSo
     over = drain_over w.front w.lawful w.settled e.book.base w.base w.since book.history (stored_lawful w sound.kept)
         (subst (λ (l : List Event). Drains e.book.base l book.history) w.history drains)
 
-  pub drained_to : (released : ℕ) → IsPromised book → taken_count book.base book.history ≡ taken_count e.book.base e.book.history + released → faults ≤ e.faults + released
+  pub drained_to : (released : ℕ) → IsPromised book → taken_count book.base book.history ≡ taken_count e.book.base e.book.history + released
+      → faults ≤ e.faults + released
       → Carries e drain Accepted drained_engine
   drained_to released kept rose few = record {
     executes = drains_to;

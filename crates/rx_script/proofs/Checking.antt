@@ -50,7 +50,8 @@ module _ {t : Tallies} {s : State} {h : List Event} (w : IsHistoryOf h t s) (kep
   }
 
 -- keys that a book gave stay so
-module _ (s mid new : State) (same : mid.history ≡ s.history) (same_keys : mid.keys ≡ s.keys) (same_res : mid.res_keys ≡ s.res_keys) (same_leases : mid.lease_keys ≡ s.lease_keys)
+module _ (s mid new : State) (same : mid.history ≡ s.history) (same_keys : mid.keys ≡ s.keys) (same_res : mid.res_keys ≡ s.res_keys)
+    (same_leases : mid.lease_keys ≡ s.lease_keys)
     (made : Checkpoints mid new) where
   long : length s.history ≡ length new.history
   long = ap length (sym same) ∙ made.agree.alike.same_length
@@ -65,20 +66,23 @@ module _ (s mid new : State) (same : mid.history ≡ s.history) (same_keys : mid
   held_key_stays : (k : ResKey) → IsHeldKey s k → IsHeldKey new k
   held_key_stays k known = record {
     within = let less = known.within in let l = long in omega arith;
-    found = λ held. subst (λ keys. Contains keys k) (sym (made.res_keys ∙ same_res)) (known.found (ap (λ l. is_held l k.number) (sym same) ∙ made.agree.held k.number ∙ held));
+    found = λ held. subst (λ keys. Contains keys k) (sym (made.res_keys ∙ same_res))
+        (known.found (ap (λ l. is_held l k.number) (sym same) ∙ made.agree.held k.number ∙ held));
   }
 
   lease_key_stays : (k : LeaseKey) → IsLeaseKey s k → IsLeaseKey new k
   lease_key_stays k known = record {
     within = let less = known.within in let l = long in omega arith;
-    found = λ out. subst (λ keys. Contains keys k) (sym (made.lease_keys ∙ same_leases)) (known.found (ap (λ l. is_out l k.number) (sym same) ∙ made.agree.out k.number ∙ out));
+    found = λ out. subst (λ keys. Contains keys k) (sym (made.lease_keys ∙ same_leases))
+        (known.found (ap (λ l. is_out l k.number) (sym same) ∙ made.agree.out k.number ∙ out));
   }
 
 -- the engine after it
 module _ {R : Type 0} (e : Engine R) (t : Tallies) (given : ℕ) (book : State) (sound : IsSound e) (kept : IsPromised book)
     (gathers : Gathers e.tallies t e.book) (made : Checkpoints (record e.book { given = given }) book) where
   abbrev pub checked_engine : Engine R
-  checked_engine = record { book = book; nodes = e.nodes; hubs = e.hubs; resources = e.resources; leases = e.leases; stock = e.stock; tallies = t; faults = e.faults }
+  checked_engine =
+      record { book = book; nodes = e.nodes; hubs = e.hubs; resources = e.resources; leases = e.leases; stock = e.stock; tallies = t; faults = e.faults }
 
   module _ (h : List Event) (w : IsHistoryOf h e.tallies e.book) where
     here : book.base.at_length ≡ length h
@@ -90,7 +94,8 @@ module _ {R : Type 0} (e : Engine R) (t : Tallies) (given : ℕ) (book : State) 
       since = [];
       whole = sym (append-nil h);
       lawful = history_lawful w sound.kept;
-      settled = settled_too e.book.base e.book.history nothing_kept h (agree_back nothing_kept h e.book.base e.book.history (history_agrees w sound.kept)) sound.kept.settled;
+      settled = settled_too e.book.base e.book.history nothing_kept h
+          (agree_back nothing_kept h e.book.base e.book.history (history_agrees w sound.kept)) sound.kept.settled;
       base = made.base ∙ sym (checkpoints_agree.one_base nothing_kept h e.book.base e.book.history (history_agrees w sound.kept));
       history = made.history ∙ sym (append-nil (shown book.base));
       tallies = gathered w sound.kept t gathers;

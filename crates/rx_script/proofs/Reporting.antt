@@ -24,7 +24,8 @@ use Rattle.rx_script.proofs.SameSteps.{HasCanonical, has_canonical}
 use Rattle.rx_script.proofs.SameReports.{report_same}
 use Rattle.rx_script.proofs.Unchecked.{unchecked}
 
-outputs_whole : (form : Form) (c : Course) (faults : ℕ) → unclosed_output form c.answers c.last ++ closing form (held_count c.last.history + waiting_count c.last.history) faults ≡ output form c faults
+outputs_whole : (form : Form) (c : Course) (faults : ℕ)
+    → unclosed_output form c.answers c.last ++ closing form (held_count c.last.history + waiting_count c.last.history) faults ≡ output form c faults
 unfolding report
 outputs_whole Report c faults = refl
 outputs_whole Dump c faults = append-nil (dump c.last.history)
@@ -66,7 +67,8 @@ reported_alike script stock c d is room also too faults =
     sym (one.same_report faults) ∙ ap (λ (x : Course). report x faults) (other.one.only one.one.course one.one.canonical) ∙ other.same_report faults
 
 -- all that was done and written, with the last line
-module _ {R : Type 0} (form : Form) (script : Script) (stock : List Ware) (limit : ℕ) (first : Stage) (unclosed whole : List ℕ) (new : Engine R) (released faults : ℕ)
+module _ {R : Type 0} (form : Form) (script : Script) (stock : List Ware) (limit : ℕ) (first : Stage) (unclosed whole : List ℕ) (new : Engine R)
+    (released faults : ℕ)
     (out : IsCarriedOut (limited limit) script.until (record { stage = first; agenda = with_steps script.steps empty_agenda }) form unclosed new)
     (same_limit : limit ≡ script.events) (same_first : first ≡ start stock) (rest : released ≡ held_count new.book.history + waiting_count new.book.history)
     (is_whole : whole ≡ unclosed ++ closing form released faults) (has_form : lacks_form form (steps_of script.steps) ≡ false) where
@@ -76,21 +78,25 @@ module _ {R : Type 0} (form : Form) (script : Script) (stock : List Ware) (limit
   possible : IsCourseOf script stock course
   possible = course_in_order (limited script.events) script stock out.answers out.last
       (subst (λ n. Ends (limited n) script.until (begin stock script.steps) out.answers out.last) same_limit
-      (subst (λ s. Ends (limited limit) script.until (record { stage = s; agenda = with_steps script.steps empty_agenda }) out.answers out.last) same_first out.ends))
+      (subst (λ s. Ends (limited limit) script.until (record { stage = s; agenda = with_steps script.steps empty_agenda }) out.answers out.last)
+      same_first out.ends))
 
   abbrev a : Agree nothing_kept out.last.history new.book.base new.book.history
   a = out.agree
 
   left : released ≡ held_count out.last.history + waiting_count out.last.history
-  left = rest ∙ sym (λ i. count_by (λ n. a.held n i) (range_with_len 0 (a.alike.same_length i)) + count_by (λ n. a.waiting n i) (range_with_len 0 (a.alike.same_length i)))
+  left = rest ∙ sym (λ i. count_by (λ n. a.held n i) (range_with_len 0 (a.alike.same_length i))
+      + count_by (λ n. a.waiting n i) (range_with_len 0 (a.alike.same_length i)))
 
   lines_whole : whole ≡ output form course faults
   lines_whole =
-      is_whole ∙ ap (λ l. l ++ closing form released faults) (out.lines (λ dumped. unchecked (limited script.events) script stock course possible (ap (λ f. lacks_form f (steps_of script.steps)) (sym dumped) ∙ has_form)))
+      is_whole ∙ ap (λ l. l ++ closing form released faults) (out.lines (λ dumped.
+      unchecked (limited script.events) script stock course possible (ap (λ f. lacks_form f (steps_of script.steps)) (sym dumped) ∙ has_form)))
       ∙ ap (λ n. unclosed_output form out.answers out.last ++ closing form n faults) left ∙ outputs_whole form course faults
 
   -- no more releases met a fault than resources were accepted
-  few : (at_end most : ℕ) → IsPromised new.book → at_end ≤ released → faults ≡ min (new.faults + at_end) most → faults ≤ accepted_count nothing_kept out.last.history
+  few : (at_end most : ℕ) → IsPromised new.book → at_end ≤ released → faults ≡ min (new.faults + at_end) most
+      → faults ≤ accepted_count nothing_kept out.last.history
   few at_end most kept few_at_end sum =
       let parts = accepted_count-parts new.book.base new.book.history kept.lawful in
       let before = out.few_faults in

@@ -142,7 +142,8 @@ module _ (b : Kept) (h : List Event) (c : Kept) (k : List Event) (a : Agree b h 
   order_at : (g p : ℕ) → is_open h p ≡ true → list_any (at (connects_up_to g) h) (ancestors h p) ≡ list_any (at (connects_up_to g) k) (ancestors k p)
   order_at g p o =
       same_any (at (connects_up_to g) h) (at (connects_up_to g) k) (ancestors h p)
-      (each_same (λ n. is_open h n ≡ true) (at (connects_up_to g) h) (at (connects_up_to g) k) (on_open (connects_up_to g)) (ancestors h p) (ancestors_open h p o))
+      (each_same (λ n. is_open h n ≡ true) (at (connects_up_to g) h) (at (connects_up_to g) k) (on_open (connects_up_to g))
+      (ancestors h p) (ancestors_open h p o))
       ∙ ap (list_any (at (connects_up_to g) k)) (ancestors_alike h k a.alike p o)
 
   order_same : (place : Place) (kind : Kind) → OpenPlace place → is_out_of_order h place kind ≡ is_out_of_order k place kind
@@ -161,7 +162,8 @@ module _ (b : Kept) (h : List Event) (c : Kept) (k : List Event) (a : Agree b h 
     by_open : (o : Bool) → is_open h n ≡ o → is_open_child_of h p n ≡ is_open_child_of k p n
     by_open true o = λ i. a.alike.same_open n i && option_map_or (λ q. q == p) (parent_alike h k a.alike n o i) false
     by_open false o =
-        ap (λ z. z && option_map_or (λ q. q == p) (parent h n) false) o ∙ sym (ap (λ z. z && option_map_or (λ q. q == p) (parent k n) false) (sym (a.alike.same_open n) ∙ o))
+        ap (λ z. z && option_map_or (λ q. q == p) (parent h n) false) o
+        ∙ sym (ap (λ z. z && option_map_or (λ q. q == p) (parent k n) false) (sym (a.alike.same_open n) ∙ o))
 
   children_same : (p : ℕ) → has_open_child h p ≡ has_open_child k p
   children_same p = λ i. list_any (λ n. child_same p n i) (range_with_len 0 (a.alike.same_length i))
@@ -188,11 +190,14 @@ module _ (b : Kept) (h : List Event) (c : Kept) (k : List Event) (a : Agree b h 
       by_cause o NothingOwed = unowed_same place o
       by_cause o HubOrder = order_same place kind o
       by_cause o TooMany = crowded_same (nodes_opened h kind) (nodes_opened k kind) (opened_same kind)
-      by_cause o Full = over_same (added_by h (Opening place kind)) (added_by k (Opening place kind)) (λ i. 1 + end_at place + 2 * cond (forces_same kind i) 1 0)
+      by_cause o Full = over_same (added_by h (Opening place kind)) (added_by k (Opening place kind))
+          (λ i. 1 + end_at place + 2 * cond (forces_same kind i) 1 0)
       by_cause o _ = refl
 
-      by_gone : (is_gone h place ≡ true) ⊎ (is_gone h place ≡ false) → first_cause (opening_causes b h n place kind) ≡ first_cause (opening_causes c k m place kind)
-      by_gone (inl gone) = gone_first (opening_causes b h n place kind) (opening_causes c k m place kind) (without_same kind) gone (sym (gone_same place) ∙ gone)
+      by_gone : (is_gone h place ≡ true) ⊎ (is_gone h place ≡ false)
+          → first_cause (opening_causes b h n place kind) ≡ first_cause (opening_causes c k m place kind)
+      by_gone (inl gone) =
+          gone_first (opening_causes b h n place kind) (opening_causes c k m place kind) (without_same kind) gone (sym (gone_same place) ∙ gone)
       by_gone (inr here) = same_first (opening_causes b h n place kind) (opening_causes c k m place kind) (by_cause (open_place place here))
 
     using_same : (fresh : Bool) (place : Place) (tag : ℕ) → first_cause (using_causes b h n fresh place tag) ≡ first_cause (using_causes c k m fresh place tag)
@@ -206,7 +211,8 @@ module _ (b : Kept) (h : List Event) (c : Kept) (k : List Event) (a : Agree b h 
       by_cause o Full = over_same (added_by h (OpeningUsing place tag)) (added_by k (OpeningUsing place tag)) refl
       by_cause o _ = refl
 
-      by_gone : (is_gone h place ≡ true) ⊎ (is_gone h place ≡ false) → first_cause (using_causes b h n fresh place tag) ≡ first_cause (using_causes c k m fresh place tag)
+      by_gone : (is_gone h place ≡ true) ⊎ (is_gone h place ≡ false)
+          → first_cause (using_causes b h n fresh place tag) ≡ first_cause (using_causes c k m fresh place tag)
       by_gone (inl gone) = gone_first (using_causes b h n fresh place tag) (using_causes c k m fresh place tag) refl gone (sym (gone_same place) ∙ gone)
       by_gone (inr here) = same_first (using_causes b h n fresh place tag) (using_causes c k m fresh place tag) (by_cause (open_place place here))
 

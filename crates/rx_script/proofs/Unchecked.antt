@@ -13,7 +13,8 @@ use Rattle.rx_script.specs.Course.{Manner, Executes, refused, refused_by_book, a
 
 -- the executed steps ---------------------------------------------------------------------------------
 
-module _ (steps : List Step) (until : ℕ) (executed : List Executed) (order : IsInOrder steps until executed) (none : has_checkpoint (steps_of steps) ≡ false) where
+module _ (steps : List Step) (until : ℕ) (executed : List Executed) (order : IsInOrder steps until executed)
+    (none : has_checkpoint (steps_of steps) ≡ false) where
   held_plain : (k : ℕ) → ((i : ℕ) (e : Executed) → i < k → slice_get executed i ≡ Some e → makes_checkpoint e.placed.step ≡ false)
       → (x : Placed) → x.origin.holder < suc k → IsHeld steps executed x → makes_checkpoint x.step ≡ false
   held_plain k before x less (by_scenario i s there) =
@@ -34,14 +35,16 @@ after-checked s (using name site res) k other = refl
 after-checked s checkpoint k other = absurd (other refl)
 after-checked s _ k other = refl
 
-executed_unchecked : {m : Manner} {s last : Stage} {step : Command} {answer : Answer} → ¬ (step ≡ checkpoint) → Executes m s step answer last → last.checked ≡ s.checked
+executed_unchecked : {m : Manner} {s last : Stage} {step : Command} {answer : Answer} → ¬ (step ≡ checkpoint) → Executes m s step answer last
+    → last.checked ≡ s.checked
 executed_unchecked other (refused own) = refl
 executed_unchecked other (refused_by_book own called stands) = refl
 executed_unchecked {s = s} other (accepted {step = step} k own called none goes) = after-checked s step k other
 executed_unchecked other (drained drains) = refl
 executed_unchecked other checkpointed = absurd (other refl)
 
-did_unchecked : {m : Manner} {s last : Stage} {action : Action} {answer : Answer} → ¬ (action ≡ command checkpoint) → Does m s action answer last → last.checked ≡ s.checked
+did_unchecked : {m : Manner} {s last : Stage} {action : Action} {answer : Answer} → ¬ (action ≡ command checkpoint) → Does m s action answer last
+    → last.checked ≡ s.checked
 did_unchecked other (does done) = executed_unchecked (λ is. other (ap command is)) done
 did_unchecked other leaves = refl
 
@@ -62,6 +65,8 @@ each_plain : (es : List Executed) → ((i : ℕ) (e : Executed) → slice_get es
 each_plain [] each = tt
 each_plain (e ∷ es) each = (each 0 e refl, each_plain es (λ i x there. each (suc i) x there))
 
-pub unchecked : (m : Manner) (script : Script) (stock : List Ware) (c : Course) → IsCourseIn m script stock c → has_checkpoint (steps_of script.steps) ≡ false → c.last.checked ≡ 0
+pub unchecked : (m : Manner) (script : Script) (stock : List Ware) (c : Course) → IsCourseIn m script stock c
+    → has_checkpoint (steps_of script.steps) ≡ false → c.last.checked ≡ 0
 unchecked m script stock c is none =
-    played_unchecked is.plays (each_plain is.executed (λ i e there. all_plain script.steps script.until is.executed is.in_order none (suc i) i e (omega arith) there))
+    played_unchecked is.plays (each_plain is.executed
+    (λ i e there. all_plain script.steps script.until is.executed is.in_order none (suc i) i e (omega arith) there))

@@ -33,7 +33,8 @@ none_shown : (h : List Event) → length (shown nothing_kept) ≤ length h
 none_shown h = subst (λ (l : List Event). length l ≤ length h) (sym shown_nothing) (omega arith)
 
 -- a front that a checkpoint put a base in place of
-module _ (front : List Event) (law : IsLawful nothing_kept front) (settled : IsSettled nothing_kept front) (b : Kept) (is : b ≡ base_of nothing_kept front) where
+module _ (front : List Event) (law : IsLawful nothing_kept front) (settled : IsSettled nothing_kept front) (b : Kept)
+    (is : b ≡ base_of nothing_kept front) where
   pub shown_length : length (shown b) ≡ length front
   shown_length = ap (λ (x : Kept). length (shown x)) is ∙ length_base nothing_kept front
 
@@ -41,7 +42,8 @@ module _ (front : List Event) (law : IsLawful nothing_kept front) (settled : IsS
   kept_length = ap (λ (x : Kept). x.at_length) is ∙ base_length nothing_kept front
 
   pub whole_lawful : (es : List Event) → IsLawful b (shown b ++ es) → IsLawful nothing_kept (front ++ es)
-  whole_lawful es stored_law = (checkpoints_agree.continued nothing_kept front es law settled).1 (subst (λ (x : Kept). IsLawful x (shown x ++ es)) is stored_law)
+  whole_lawful es stored_law =
+      (checkpoints_agree.continued nothing_kept front es law settled).1 (subst (λ (x : Kept). IsLawful x (shown x ++ es)) is stored_law)
 
   pub whole_agree : (es : List Event) → IsLawful b (shown b ++ es) → Agree nothing_kept (front ++ es) b (shown b ++ es)
   whole_agree es stored_law = subst (λ (x : Kept). Agree nothing_kept (front ++ es) x (shown x ++ es)) (sym is)
@@ -75,7 +77,8 @@ module _ (front : List Event) (law : IsLawful nothing_kept front) (settled : IsS
       on = subst (λ (l : List Event). IsForcedOn nothing_kept (front ++ es) l)
           (append_assoc front (es ++ w.events) (e ∷ []) ∙ ap (λ (l : List Event). front ++ l) (append_assoc es w.events (e ∷ [])))
           (more w.on (forced_too b (shown b ++ (es ++ w.events)) nothing_kept (front ++ (es ++ w.events))
-          (agree_back nothing_kept (front ++ (es ++ w.events)) b (shown b ++ (es ++ w.events)) (whole_agree (es ++ w.events) (subst (IsLawful b) w.same w.lawful)))
+          (agree_back nothing_kept (front ++ (es ++ w.events)) b (shown b ++ (es ++ w.events))
+          (whole_agree (es ++ w.events) (subst (IsLawful b) w.same w.lawful)))
           (subst (λ (l : List Event). IsForced b l e) w.same g)));
       lawful = IsLawful-push b m e w.lawful (forced g);
     }
@@ -95,7 +98,8 @@ module _ (front : List Event) (law : IsLawful nothing_kept front) (settled : IsS
           (subst (λ (l : List Event). IsForcedOn nothing_kept (front ++ (es ++ outside)) (front ++ l)) (append_assoc es outside w.events) w.on);
       lawful = whole_lawful (es ++ (outside ++ w.events)) law_k;
       settled = settled_too b (shown b ++ (es ++ (outside ++ w.events))) nothing_kept (front ++ (es ++ (outside ++ w.events)))
-          (agree_back nothing_kept (front ++ (es ++ (outside ++ w.events))) b (shown b ++ (es ++ (outside ++ w.events))) (whole_agree (es ++ (outside ++ w.events)) law_k))
+          (agree_back nothing_kept (front ++ (es ++ (outside ++ w.events))) b (shown b ++ (es ++ (outside ++ w.events)))
+          (whole_agree (es ++ (outside ++ w.events)) law_k))
           (subst (IsSettled b) ends step.settled);
     };
   } where
@@ -178,7 +182,8 @@ module _ (front : List Event) (law : IsLawful nothing_kept front) (settled : IsS
 
   told_none : ToldSince []
   told_none law_es =
-      ap notes (append-nil front) ∙ sym (append-nil (notes front)) ∙ ap (λ (l : List _). notes front ++ l) (sym stored_untold ∙ ap notes (sym (append-nil (shown b))))
+      ap notes (append-nil front) ∙ sym (append-nil (notes front))
+      ∙ ap (λ (l : List _). notes front ++ l) (sym stored_untold ∙ ap notes (sym (append-nil (shown b))))
 
   told_one : (es : List Event) (e : Event) → ToldSince es → ToldSince (es ++ e ∷ [])
   told_one es e before law_more =

@@ -44,12 +44,14 @@ module _ {R : Type 0} (e : Engine R) (sound : IsSound e) (h : List Event) (w : I
   dump_whole text unchecked dumped = dumped (no_base w unchecked) ∙ ap dump (all_stored w unchecked)
 
 -- what holds where a text was written
-pub written_of : {T E P Q S : Type 0} {A B : T → Type 0} (r : Result T E) → OnOk r P → OnOk r Q → OnOk r S → ((x : T) → P → Q → S → A x → B x) → IfOk r A → IfOk r B
+pub written_of : {T E P Q S : Type 0} {A B : T → Type 0} (r : Result T E) → OnOk r P → OnOk r Q → OnOk r S → ((x : T) → P → Q → S → A x → B x) → IfOk r A
+    → IfOk r B
 written_of (Ok x) p q s f a = f x p q s a
 written_of (Err e) p q s f a = a
 
 -- a run that led here, and what is written of it
-pub carried_out : {R : Type 0} (m : Manner) (until : ℕ) (first : Progress) (form : Form) (text : List ℕ) (e new : Engine R) (answers : List Answer) (k : List Event)
+pub carried_out : {R : Type 0} (m : Manner) (until : ℕ) (first : Progress) (form : Form) (text : List ℕ) (e new : Engine R)
+    (answers : List Answer) (k : List Event)
     → IsSound e → Ends m until first answers (stage_of e k) → IsHistoryOf k e.tallies e.book
     → ((form ≡ Dump → e.book.base.at_length ≡ 0) → text ≡ unclosed_output form answers (stage_of e k))
     → new.book.base ≡ e.book.base → new.book.history ≡ e.book.history → new.faults ≡ e.faults → IsCarriedOut m until first form text new
@@ -59,7 +61,8 @@ carried_out m until first form text e new answers k sound ends w lines same_base
   ends = ends;
   lines = lines;
   lawful = history_lawful w sound.kept;
-  agree = subst (λ b. Agree nothing_kept k b new.book.history) base_stays (subst (Agree nothing_kept k e.book.base) history_stays (history_agrees w sound.kept));
+  agree = subst (λ b. Agree nothing_kept k b new.book.history) base_stays
+      (subst (Agree nothing_kept k e.book.base) history_stays (history_agrees w sound.kept));
   few_faults = few;
 } where
   base_stays : e.book.base ≡ new.book.base

@@ -56,8 +56,8 @@ fn take_all<R: Resource>(
     requires sound { IsSound engine.old }
     requires ends { until ≤ 1000000000000000 }
     requires clock { agenda.old.timeline.clock ≤ until }
-    ensures course { IfOk result (λ v. MovesOn engine.old engine.new (λ s t. Ends (limited engine.old.book.limit) until
-        (record { stage = s; agenda = agenda_of agenda.old }) v.items t)) }
+    ensures course { IfOk result (λ v. MovesOn engine.old engine.new (λ s t.
+        Ends (limited engine.old.book.limit) until (record { stage = s; agenda = agenda_of agenda.old }) v.items t)) }
     ensures sound { OnOk result (IsSound engine.new) }
 {
     let mut answers = Vec::new(alloc);
@@ -76,8 +76,8 @@ pub fn run_course<R: Resource>(
 ) -> Result<Vec<Answer>, AllocError>
     requires sound { IsSound engine.old }
     requires ends { until ≤ 1000000000000000 }
-    ensures course { IfOk result (λ v. MovesOn engine.old engine.new (λ s t. Ends (limited engine.old.book.limit) until
-        (record { stage = s; agenda = with_steps (map step_of steps.items) empty_agenda }) v.items t)) }
+    ensures course { IfOk result (λ v. MovesOn engine.old engine.new (λ s t.
+        Ends (limited engine.old.book.limit) until (record { stage = s; agenda = with_steps (map step_of steps.items) empty_agenda }) v.items t)) }
     ensures sound { OnOk result (IsSound engine.new) }
 {
     let mut agenda = empty_agenda(alloc);

@@ -17,8 +17,12 @@
 //!   follow it without a delay come behind each other, and the next turn begins when this one is over.
 //!   What is to come is the **agenda**. What would follow a refused step is dropped, and a step that
 //!   waits can be cancelled by its label.
+//! - At a **checkpoint** the book puts what its history leaves in place of the events so far (`rx_book`).
+//!   For a course nothing happens there, but that the limit of events counts from there. What is to be
+//!   reported of those events is gathered before (`rx_report`), so a report is of the whole run.
 //! - A **course** of a scenario is the list of the answers of its steps, and where it is at its end: the
-//!   history, what the names stand for, and the stock that is left. `rx_agenda` defines which step comes
+//!   history from its first event on, how many events came before the last checkpoint, what the names
+//!   stand for, and the stock that is left. `rx_agenda` defines which step comes
 //!   next, `specs/` a course as a relation (`Course`), and the report of one (`Report`), in the lines
 //!   that `rx_report` defines; what a run makes of its input is said in `Running`.
 //! - A [`Watched`] reader or writer notes whether the device behind it failed, so that the contract of
@@ -30,7 +34,8 @@
 //!
 //! - Where [`run`] answers Ok, no call of a device failed, the reader was read to its end, and what was
 //!   written is the report of a course of the scenario that its bytes are, or the dump of that course's
-//!   history, and nothing else. Each error comes only for its cause, and a cause of `Syntax` or `Shape`
+//!   history, and nothing else. A scenario that has a checkpoint anywhere has no dump, which is `Shape`:
+//!   a dump is a history from place 0. Each error comes only for its cause, and a cause of `Syntax` or `Shape`
 //!   is never passed over. With an error nothing was written, but for a front of the text with `Write`.
 //! - Where no step was refused `Full`, that report is, but for the count of faults, the one of the
 //!   **canonical course**, of which a scenario with a stock has just one: it has no limit of events,
@@ -70,6 +75,6 @@ pub use rx_dump::{a_dump_is_read_back, check};
 pub enum Form {
     /// What became of each node and resource, and the totals.
     Report,
-    /// The history before the closing, in JSON.
+    /// The history before the closing, in JSON. A scenario with a checkpoint has none.
     Dump,
 }
