@@ -1,5 +1,6 @@
 pub mod Laws
 pub mod Places
+pub mod PlaceKinds
 pub mod StoreLemmas
 pub mod UseSteps
 pub mod WaitSteps

@@ -37,6 +37,7 @@
 #![tactic(auto)]
 
 mod checkpoint;
+mod linked;
 mod links;
 mod node;
 mod records;

@@ -16,9 +16,10 @@ ghost use Rattle.std.proofs.Math.Bool.{not};
 ghost use Rattle.std.specs.Option.{option_map_or, option_and_then};
 ghost use Rattle.rx_tree.specs.declared.links.Place.TheVariants.{Children, Held, Sibling, Noted, Stored as At};
 
+use crate::linked::Linked;
 use crate::links::{Link, Place};
 use crate::node::{Node, Stowed};
-use crate::store::{Counts, Linked, Store, Stored};
+use crate::store::{Counts, Store, Stored};
 use rx_event::Marks;
 use rx_slots::Key;
 use std::alloc::AllocError;
@@ -28,7 +29,7 @@ impl<R: Drop> Store<R> {
     pub(crate) fn node(&self, key: Key) -> Option<Node>
         ensures { result ≡ find (nodes_of self.now) key }
     {
-        Some(self.nodes.get(key)?.node)
+        Some(self.nodes.get(key)?.node())
     }
 
     // The key of the node at a slot.
@@ -91,8 +92,8 @@ impl<R: Drop> Store<R> {
         ensures resources { self.new.resources ≡ self.old.resources }
     {
         if let Some(linked) = self.nodes.get_mut(key) {
-            let before = linked.node.marks.owed;
-            linked.node.marks = marks;
+            let before = linked.node().marks.owed;
+            linked.set_marks(marks);
             self.owed = self.owed + marks.owed - before;
         }
     }
@@ -114,10 +115,12 @@ impl<R: Drop> Store<R> {
         // No more resources are held and wait than there are slots, so their count fits.
         let _slots = self.resources.slot_count();
         let linked = self.nodes.take(key)?;
-        self.waiting_count.free += linked.held_count.free;
-        self.waiting_count.lent += linked.held_count.lent;
-        self.owed -= linked.node.marks.owed;
-        Some(linked.node)
+        let count = linked.held_count();
+        let node = linked.node();
+        self.waiting_count.free += count.free;
+        self.waiting_count.lent += count.lent;
+        self.owed -= node.marks.owed;
+        Some(node)
     }
 
     // How many resources a slot's node owns.
@@ -125,7 +128,7 @@ impl<R: Drop> Store<R> {
         ensures { result ≡ held_count_at self.now slot }
     {
         match self.nodes.value_at(slot) {
-            Some(linked) => linked.held_count,
+            Some(linked) => linked.held_count(),
             None => Counts::zero(),
         }
     }
@@ -141,7 +144,7 @@ impl<R: Drop> Store<R> {
         ensures resources { self.new.resources ≡ self.old.resources }
     {
         if let Some(linked) = self.nodes.value_at_mut(slot) {
-            linked.held_count = count;
+            linked.set_held_count(count);
         }
     }
 
