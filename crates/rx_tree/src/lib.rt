@@ -40,6 +40,7 @@ mod checkpoint;
 mod linked;
 mod links;
 mod node;
+mod origin;
 mod records;
 mod store;
 mod subtree;

@@ -1,26 +1,31 @@
 //! The record of a node with its links, as it stands at a slot.
 
-ghost use Rattle.std.specs.Prelude.{◌≡◌};
+ghost use Rattle.std.specs.Prelude.{◌≡◌, IsTrue, option_map};
+ghost use Rattle.rx_event.specs.Events.{makes_node, parent_named};
 ghost use Rattle.rx_tree.specs.Store.{alone, no_counts};
 ghost use Rattle.rx_tree.specs.Tree.{with_marks};
 ghost use Rattle.rx_tree.specs.declared.links.Place.TheVariants.{Children, Held, Sibling, Noted};
 
 use crate::links::{Link, LinkKinds, LinkSlots, Place};
 use crate::node::Node;
+use crate::origin::{KindWord, Origin, PlaceWord};
 use crate::store::Counts;
 use rx_event::Marks;
 use std::marker::Model;
 
-/// The record of a node with its links. A link's slots and its kinds stand apart, so that a record
-/// takes little memory.
+/// The record of a node with its links. Numbers stand apart from kinds and words, which are a byte
+/// each, so that a record takes little memory.
 #[derive(Drop)]
 pub(crate) struct Linked {
-    node: Node,
+    origin: Origin,
+    marks: Marks,
     sibling: LinkSlots,
     noted: LinkSlots,
     children: LinkSlots,
     held: LinkSlots,
     held_count: Counts,
+    place: PlaceWord,
+    kind: KindWord,
     sibling_kinds: LinkKinds,
     noted_kinds: LinkKinds,
     children_kinds: LinkKinds,
@@ -32,21 +37,24 @@ impl Model for Linked {
 
     ghost Value = { LinkedNode };
 
-    ghost use Rattle.rx_tree.specs.Record.{link_of};
+    ghost use Rattle.rx_tree.specs.Record.{link_of, node_of};
 
     ghost view = { λ l. record {
-        node = l.node;
-        sibling = link_of l.sibling l.sibling_kinds;
-        noted = link_of l.noted l.noted_kinds;
-        children = link_of l.children l.children_kinds;
-        held = link_of l.held l.held_kinds;
-        held_count = l.held_count;
+      node = node_of l.place l.kind l.origin l.marks;
+      sibling = link_of l.sibling l.sibling_kinds;
+      noted = link_of l.noted l.noted_kinds;
+      children = link_of l.children l.children_kinds;
+      held = link_of l.held l.held_kinds;
+      held_count = l.held_count;
     } };
 }
 
 impl Linked {
     // A record at a slot that stands on no ring.
+    #[tactic(auto, using(crate::proofs::Origins::node_back))]
     pub(crate) fn alone(node: Node, slot: usize) -> Self
+        requires makes { IsTrue (makes_node node.made) }
+        requires named { parent_named node.made ≡ option_map (λ key. key.number) node.above }
         ensures node { result.node ≡ node }
         ensures sibling { result.sibling ≡ alone (Sibling slot) }
         ensures noted { result.noted ≡ alone (Noted slot) }
@@ -59,12 +67,15 @@ impl Linked {
         let children = Link::alone(Place::Children(slot));
         let held = Link::alone(Place::Held(slot));
         Linked {
-            node,
+            origin: Origin::of(node),
+            marks: node.marks,
             sibling: sibling.slots(),
             noted: noted.slots(),
             children: children.slots(),
             held: held.slots(),
             held_count: Counts::zero(),
+            place: PlaceWord::of(node.made),
+            kind: KindWord::of(node.made),
             sibling_kinds: sibling.kinds(),
             noted_kinds: noted.kinds(),
             children_kinds: children.kinds(),
@@ -76,14 +87,18 @@ impl Linked {
     pub(crate) fn node(&self) -> Node
         ensures { result ≡ self.now.node }
     {
-        self.node
+        Node {
+            made: self.origin.made(self.place, self.kind),
+            above: self.origin.above(self.place),
+            marks: self.marks,
+        }
     }
 
     // Writes its marks.
     pub(crate) fn set_marks(&mut self, marks: Marks)
         ensures { self.new ≡ record self.old { node = with_marks marks self.old.node } }
     {
-        self.node.marks = marks;
+        self.marks = marks;
     }
 
     // How many resources it owns.

@@ -1,7 +1,8 @@
 //! The records of a store as they come, change and go, and how many resources wait and are held.
 
 ghost use Rattle.std.specs.Prelude.{◌≡◌, ◌+◌, ◌<◌, ◌≤◌, ◌^◌, IsTrue, ◌==◌, ◌&&◌, cond, IsOk, IfOk, IfSome, IfErr, OnOk};
-ghost use Rattle.std.specs.Prelude.{OnErr, OnSome, Some, false};
+ghost use Rattle.std.specs.Prelude.{OnErr, OnSome, Some, false, option_map};
+ghost use Rattle.rx_event.specs.Events.{makes_node, parent_named};
 ghost use Rattle.rx_slots.specs.declared.Key.{Key};
 ghost use Rattle.rx_tree.specs.declared.node.Stowed.{Stowed};
 ghost use Rattle.rx_slots.specs.Slots.{find, key_at, Changes, entry_of};
@@ -62,6 +63,8 @@ impl<R: Drop> Store<R> {
         requires homes { (key : Key) (stowed : Stowed R) → find (resources_of self.old) key ≡ Some stowed →
             stowed.node.number < number }
         requires owes_nothing { node.marks.owed ≡ 0 }
+        requires makes { IsTrue (makes_node node.made) }
+        requires named { parent_named node.made ≡ option_map (λ key. key.number) node.above }
         ensures ok { IfOk result (λ key. Inserts (nodes_of self.old) (nodes_of self.new) key number node) }
         ensures counted { OnOk result (IsCounted self.new) }
         ensures links { KeepsLinks self.old self.new }
