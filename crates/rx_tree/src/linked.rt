@@ -122,6 +122,7 @@ impl Linked {
         self.sibling.link(self.sibling_kinds)
     }
 
+    // Writes that link.
     #[tactic(auto, using(crate::proofs::PlaceKinds::links_back))]
     pub(crate) fn set_sibling(&mut self, link: Link)
         ensures { self.new ≡ record self.old { sibling = link } }
@@ -130,6 +131,7 @@ impl Linked {
         self.sibling_kinds = link.kinds();
     }
 
+    // Writes where it leads next.
     #[tactic(auto, using(crate::proofs::PlaceKinds::leads_back))]
     pub(crate) fn set_sibling_next(&mut self, to: Place)
         ensures { self.new ≡ record self.old { sibling = record self.old.sibling { next = to } } }
@@ -138,6 +140,7 @@ impl Linked {
         self.sibling_kinds.next = to.kind();
     }
 
+    // Writes where it leads back.
     #[tactic(auto, using(crate::proofs::PlaceKinds::leads_back))]
     pub(crate) fn set_sibling_previous(&mut self, to: Place)
         ensures { self.new ≡ record self.old { sibling = record self.old.sibling { previous = to } } }
@@ -153,6 +156,7 @@ impl Linked {
         self.noted.link(self.noted_kinds)
     }
 
+    // Writes that link.
     #[tactic(auto, using(crate::proofs::PlaceKinds::links_back))]
     pub(crate) fn set_noted(&mut self, link: Link)
         ensures { self.new ≡ record self.old { noted = link } }
@@ -161,6 +165,7 @@ impl Linked {
         self.noted_kinds = link.kinds();
     }
 
+    // Writes where it leads next.
     #[tactic(auto, using(crate::proofs::PlaceKinds::leads_back))]
     pub(crate) fn set_noted_next(&mut self, to: Place)
         ensures { self.new ≡ record self.old { noted = record self.old.noted { next = to } } }
@@ -169,6 +174,7 @@ impl Linked {
         self.noted_kinds.next = to.kind();
     }
 
+    // Writes where it leads back.
     #[tactic(auto, using(crate::proofs::PlaceKinds::leads_back))]
     pub(crate) fn set_noted_previous(&mut self, to: Place)
         ensures { self.new ≡ record self.old { noted = record self.old.noted { previous = to } } }
@@ -184,6 +190,7 @@ impl Linked {
         self.children.link(self.children_kinds)
     }
 
+    // Writes that link.
     #[tactic(auto, using(crate::proofs::PlaceKinds::links_back))]
     pub(crate) fn set_children(&mut self, link: Link)
         ensures { self.new ≡ record self.old { children = link } }
@@ -192,6 +199,7 @@ impl Linked {
         self.children_kinds = link.kinds();
     }
 
+    // Writes where it leads next.
     #[tactic(auto, using(crate::proofs::PlaceKinds::leads_back))]
     pub(crate) fn set_children_next(&mut self, to: Place)
         ensures { self.new ≡ record self.old { children = record self.old.children { next = to } } }
@@ -200,6 +208,7 @@ impl Linked {
         self.children_kinds.next = to.kind();
     }
 
+    // Writes where it leads back.
     #[tactic(auto, using(crate::proofs::PlaceKinds::leads_back))]
     pub(crate) fn set_children_previous(&mut self, to: Place)
         ensures { self.new ≡ record self.old { children = record self.old.children { previous = to } } }
@@ -215,6 +224,7 @@ impl Linked {
         self.held.link(self.held_kinds)
     }
 
+    // Writes that link.
     #[tactic(auto, using(crate::proofs::PlaceKinds::links_back))]
     pub(crate) fn set_held(&mut self, link: Link)
         ensures { self.new ≡ record self.old { held = link } }
@@ -223,6 +233,7 @@ impl Linked {
         self.held_kinds = link.kinds();
     }
 
+    // Writes where it leads next.
     #[tactic(auto, using(crate::proofs::PlaceKinds::leads_back))]
     pub(crate) fn set_held_next(&mut self, to: Place)
         ensures { self.new ≡ record self.old { held = record self.old.held { next = to } } }
@@ -231,6 +242,7 @@ impl Linked {
         self.held_kinds.next = to.kind();
     }
 
+    // Writes where it leads back.
     #[tactic(auto, using(crate::proofs::PlaceKinds::leads_back))]
     pub(crate) fn set_held_previous(&mut self, to: Place)
         ensures { self.new ≡ record self.old { held = record self.old.held { previous = to } } }

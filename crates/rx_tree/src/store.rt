@@ -105,7 +105,10 @@ impl<R: Drop> Store<R> {
         }
     }
 
+    // The calls on links are inlined, so that no kind is asked for where the caller writes it.
+
     // What comes after a place and before it: itself where nothing stands there.
+    #[inline(always)]
     pub(crate) fn link(&self, place: Place) -> Link
         ensures { result ≡ link_at self.now place }
     {
@@ -138,6 +141,7 @@ impl<R: Drop> Store<R> {
     }
 
     // Writes what comes after a place and before it.
+    #[inline(always)]
     fn set_link(&mut self, place: Place, link: Link)
         requires there { IsTrue (is_there self.old place) }
         ensures linked { (q : _) → link_at self.new q ≡ set_link_at place link self.old q }
@@ -176,6 +180,7 @@ impl<R: Drop> Store<R> {
     }
 
     // Writes what comes after a place.
+    #[inline(always)]
     fn set_next(&mut self, place: Place, to: Place)
         requires there { IsTrue (is_there self.old place) }
         ensures next { (q : _) → next_of self.new q ≡ set_step places place to (next_of self.old) q }
@@ -215,6 +220,7 @@ impl<R: Drop> Store<R> {
     }
 
     // Writes what comes before a place.
+    #[inline(always)]
     fn set_previous(&mut self, place: Place, to: Place)
         requires there { IsTrue (is_there self.old place) }
         ensures next { (q : _) → next_of self.new q ≡ next_of self.old q }
@@ -254,6 +260,7 @@ impl<R: Drop> Store<R> {
     }
 
     // Lets one place come directly before another.
+    #[inline(always)]
     fn tie(&mut self, one: Place, other: Place)
         requires one { IsTrue (is_there self.old one) }
         requires other { IsTrue (is_there self.old other) }
@@ -266,6 +273,7 @@ impl<R: Drop> Store<R> {
     }
 
     // Puts a place last on a ring.
+    #[inline(always)]
     pub(crate) fn join(&mut self, end: Place, place: Place)
         requires end { IsTrue (is_there self.old end) }
         requires place { IsTrue (is_there self.old place) }
@@ -287,6 +295,7 @@ impl<R: Drop> Store<R> {
     }
 
     // Lets its ring pass a place by, whose own link stays as it was.
+    #[inline(always)]
     pub(crate) fn pass_by(&mut self, place: Place)
         requires before { IsTrue (is_there self.old (previous_of self.old place)) }
         requires after { IsTrue (is_there self.old (next_of self.old place)) }
@@ -299,6 +308,7 @@ impl<R: Drop> Store<R> {
     }
 
     // Takes a place off its ring.
+    #[inline(always)]
     pub(crate) fn leave(&mut self, place: Place)
         requires place { IsTrue (is_there self.old place) }
         requires before { IsTrue (is_there self.old (previous_of self.old place)) }
@@ -312,6 +322,7 @@ impl<R: Drop> Store<R> {
     }
 
     // Puts what a ring goes over at the end of another ring.
+    #[inline(always)]
     pub(crate) fn merge(&mut self, from: Place, into: Place)
         requires from { IsTrue (is_there self.old from) }
         requires into { IsTrue (is_there self.old into) }
