@@ -11,7 +11,7 @@ use Rattle.rx_slots.specs.declared.Key.{Key}
 use Rattle.rx_slots.specs.Slots.{Slots, entry_of, value_at, find, Changes}
 use Rattle.rx_tree.specs.declared.node.Node.{Node}
 use Rattle.rx_tree.specs.declared.node.Stowed.{Stowed}
-use Rattle.rx_tree.specs.declared.store.Linked.{Linked}
+use Rattle.rx_tree.specs.declared.linked.Linked.{Linked}
 use Rattle.rx_tree.specs.declared.store.Counts.{Counts}
 use Rattle.rx_tree.specs.declared.store.Store.{Store}
 use Rattle.rx_tree.specs.declared.store.Stored.{Stored as Kept}

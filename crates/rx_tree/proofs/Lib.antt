@@ -1,5 +1,7 @@
 pub mod Laws
 pub mod Places
+pub mod PlaceKinds
+pub mod Origins
 pub mod StoreLemmas
 pub mod UseSteps
 pub mod WaitSteps

@@ -13,7 +13,7 @@ use Rattle.rx_slots.specs.Slots.{Slots, entry_of, entry_at, value_at, number_at,
 use Rattle.rx_tree.specs.declared.links.Link.{Link}
 use Rattle.rx_tree.specs.declared.links.Place.{Place}
 use Rattle.rx_tree.specs.declared.links.Place.TheVariants.{Roots, Due, Waiting, Children, Held, Sibling, Noted, Stored}
-use Rattle.rx_tree.specs.declared.store.Linked.{Linked}
+use Rattle.rx_tree.specs.declared.linked.Linked.{Linked}
 use Rattle.rx_tree.specs.declared.store.Stored.{Stored as Kept}
 use Rattle.rx_tree.specs.declared.store.Store.{Store}
 use Rattle.rx_tree.specs.Store.{on_entry, project, alone, link_at, set_link_at, Relinks, KeepsLinks, Inserts, Takes_out, no_counts}

@@ -7,5 +7,6 @@ pub mod Resources
 pub mod Bases
 pub mod Rings
 pub mod Places
+pub mod Record
 pub mod Store
 pub mod Ties

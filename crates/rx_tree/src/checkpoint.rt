@@ -19,10 +19,11 @@ impl<R: Resource> Store<R> {
         ensures { result ≡ option_map node_as_kept (entry_at (nodes_of self.now) slot) }
     {
         let entry = self.nodes.entry_at(slot)?;
-        let marks = entry.value.node.marks;
+        let node = entry.value.node();
+        let marks = node.marks;
         Some(BaseNode {
             number: entry.number,
-            made: entry.value.node.made,
+            made: node.made,
             source_opened: marks.source_opened,
             notifier_opened: marks.notifier_opened,
             source_completed: marks.source_completed,

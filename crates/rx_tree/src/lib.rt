@@ -37,8 +37,10 @@
 #![tactic(auto)]
 
 mod checkpoint;
+mod linked;
 mod links;
 mod node;
+mod origin;
 mod records;
 mod store;
 mod subtree;

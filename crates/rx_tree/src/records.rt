@@ -1,7 +1,8 @@
 //! The records of a store as they come, change and go, and how many resources wait and are held.
 
 ghost use Rattle.std.specs.Prelude.{◌≡◌, ◌+◌, ◌<◌, ◌≤◌, ◌^◌, IsTrue, ◌==◌, ◌&&◌, cond, IsOk, IfOk, IfSome, IfErr, OnOk};
-ghost use Rattle.std.specs.Prelude.{OnErr, OnSome, Some, false};
+ghost use Rattle.std.specs.Prelude.{OnErr, OnSome, Some, false, option_map};
+ghost use Rattle.rx_event.specs.Events.{makes_node, parent_named};
 ghost use Rattle.rx_slots.specs.declared.Key.{Key};
 ghost use Rattle.rx_tree.specs.declared.node.Stowed.{Stowed};
 ghost use Rattle.rx_slots.specs.Slots.{find, key_at, Changes, entry_of};
@@ -16,9 +17,10 @@ ghost use Rattle.std.proofs.Math.Bool.{not};
 ghost use Rattle.std.specs.Option.{option_map_or, option_and_then};
 ghost use Rattle.rx_tree.specs.declared.links.Place.TheVariants.{Children, Held, Sibling, Noted, Stored as At};
 
+use crate::linked::Linked;
 use crate::links::{Link, Place};
 use crate::node::{Node, Stowed};
-use crate::store::{Counts, Linked, Store, Stored};
+use crate::store::{Counts, Store, Stored};
 use rx_event::Marks;
 use rx_slots::Key;
 use std::alloc::AllocError;
@@ -28,7 +30,7 @@ impl<R: Drop> Store<R> {
     pub(crate) fn node(&self, key: Key) -> Option<Node>
         ensures { result ≡ find (nodes_of self.now) key }
     {
-        Some(self.nodes.get(key)?.node)
+        Some(self.nodes.get(key)?.node())
     }
 
     // The key of the node at a slot.
@@ -61,6 +63,8 @@ impl<R: Drop> Store<R> {
         requires homes { (key : Key) (stowed : Stowed R) → find (resources_of self.old) key ≡ Some stowed →
             stowed.node.number < number }
         requires owes_nothing { node.marks.owed ≡ 0 }
+        requires makes { IsTrue (makes_node node.made) }
+        requires named { parent_named node.made ≡ option_map (λ key. key.number) node.above }
         ensures ok { IfOk result (λ key. Inserts (nodes_of self.old) (nodes_of self.new) key number node) }
         ensures counted { OnOk result (IsCounted self.new) }
         ensures links { KeepsLinks self.old self.new }
@@ -91,8 +95,8 @@ impl<R: Drop> Store<R> {
         ensures resources { self.new.resources ≡ self.old.resources }
     {
         if let Some(linked) = self.nodes.get_mut(key) {
-            let before = linked.node.marks.owed;
-            linked.node.marks = marks;
+            let before = linked.node().marks.owed;
+            linked.set_marks(marks);
             self.owed = self.owed + marks.owed - before;
         }
     }
@@ -114,10 +118,12 @@ impl<R: Drop> Store<R> {
         // No more resources are held and wait than there are slots, so their count fits.
         let _slots = self.resources.slot_count();
         let linked = self.nodes.take(key)?;
-        self.waiting_count.free += linked.held_count.free;
-        self.waiting_count.lent += linked.held_count.lent;
-        self.owed -= linked.node.marks.owed;
-        Some(linked.node)
+        let count = linked.held_count();
+        let node = linked.node();
+        self.waiting_count.free += count.free;
+        self.waiting_count.lent += count.lent;
+        self.owed -= node.marks.owed;
+        Some(node)
     }
 
     // How many resources a slot's node owns.
@@ -125,7 +131,7 @@ impl<R: Drop> Store<R> {
         ensures { result ≡ held_count_at self.now slot }
     {
         match self.nodes.value_at(slot) {
-            Some(linked) => linked.held_count,
+            Some(linked) => linked.held_count(),
             None => Counts::zero(),
         }
     }
@@ -141,7 +147,7 @@ impl<R: Drop> Store<R> {
         ensures resources { self.new.resources ≡ self.old.resources }
     {
         if let Some(linked) = self.nodes.value_at_mut(slot) {
-            linked.held_count = count;
+            linked.set_held_count(count);
         }
     }
 

@@ -7,8 +7,9 @@ ghost use Rattle.rx_tree.specs.Store.{alone, link_at, set_link_at, next_of, prev
 ghost use Rattle.rx_tree.specs.Store.{is_there, no_counts, count_if, one_more, one_less, Relinks};
 ghost use Rattle.rx_tree.specs.declared.links.Place.TheVariants.{Roots, Due, Waiting, Children, Held, Sibling, Noted};
 
+use crate::linked::Linked;
 use crate::links::{Link, Place};
-use crate::node::{Node, Stowed};
+use crate::node::Stowed;
 use rx_slots::Slots;
 use std::alloc::Global;
 
@@ -53,43 +54,6 @@ impl Counts {
             counts.free -= 1;
         }
         counts
-    }
-}
-
-/// The record of a node with its links.
-#[derive(Clone, Copy)]
-pub(crate) struct Linked {
-    pub(crate) node: Node,
-    /// Among its siblings.
-    pub(crate) sibling: Link,
-    /// Among the nodes that may be due.
-    pub(crate) noted: Link,
-    /// To its first and last child.
-    pub(crate) children: Link,
-    /// To the first and last resource that it owns and that has no lease out.
-    pub(crate) held: Link,
-    /// How many resources it owns.
-    pub(crate) held_count: Counts,
-}
-
-impl Linked {
-    // A record at a slot that stands on no ring.
-    pub(crate) fn alone(node: Node, slot: usize) -> Self
-        ensures node { result.node ≡ node }
-        ensures sibling { result.sibling ≡ alone (Sibling slot) }
-        ensures noted { result.noted ≡ alone (Noted slot) }
-        ensures children { result.children ≡ alone (Children slot) }
-        ensures held { result.held ≡ alone (Held slot) }
-        ensures held_count { result.held_count ≡ no_counts }
-    {
-        Linked {
-            node,
-            sibling: Link::alone(Place::Sibling(slot)),
-            noted: Link::alone(Place::Noted(slot)),
-            children: Link::alone(Place::Children(slot)),
-            held: Link::alone(Place::Held(slot)),
-            held_count: Counts::zero(),
-        }
     }
 }
 
@@ -141,7 +105,10 @@ impl<R: Drop> Store<R> {
         }
     }
 
+    // The calls on links are inlined, so that no kind is asked for where the caller writes it.
+
     // What comes after a place and before it: itself where nothing stands there.
+    #[inline(always)]
     pub(crate) fn link(&self, place: Place) -> Link
         ensures { result ≡ link_at self.now place }
     {
@@ -151,19 +118,19 @@ impl<R: Drop> Store<R> {
             Place::Due => self.due,
             Place::Waiting => self.waiting,
             Place::Children(slot) => match self.nodes.value_at(slot) {
-                Some(linked) => linked.children,
+                Some(linked) => linked.children(),
                 None => alone,
             },
             Place::Held(slot) => match self.nodes.value_at(slot) {
-                Some(linked) => linked.held,
+                Some(linked) => linked.held(),
                 None => alone,
             },
             Place::Sibling(slot) => match self.nodes.value_at(slot) {
-                Some(linked) => linked.sibling,
+                Some(linked) => linked.sibling(),
                 None => alone,
             },
             Place::Noted(slot) => match self.nodes.value_at(slot) {
-                Some(linked) => linked.noted,
+                Some(linked) => linked.noted(),
                 None => alone,
             },
             Place::Stored(slot) => match self.resources.value_at(slot) {
@@ -174,6 +141,7 @@ impl<R: Drop> Store<R> {
     }
 
     // Writes what comes after a place and before it.
+    #[inline(always)]
     fn set_link(&mut self, place: Place, link: Link)
         requires there { IsTrue (is_there self.old place) }
         ensures linked { (q : _) → link_at self.new q ≡ set_link_at place link self.old q }
@@ -185,22 +153,22 @@ impl<R: Drop> Store<R> {
             Place::Waiting => self.waiting = link,
             Place::Children(slot) => {
                 if let Some(linked) = self.nodes.value_at_mut(slot) {
-                    linked.children = link;
+                    linked.set_children(link);
                 }
             }
             Place::Held(slot) => {
                 if let Some(linked) = self.nodes.value_at_mut(slot) {
-                    linked.held = link;
+                    linked.set_held(link);
                 }
             }
             Place::Sibling(slot) => {
                 if let Some(linked) = self.nodes.value_at_mut(slot) {
-                    linked.sibling = link;
+                    linked.set_sibling(link);
                 }
             }
             Place::Noted(slot) => {
                 if let Some(linked) = self.nodes.value_at_mut(slot) {
-                    linked.noted = link;
+                    linked.set_noted(link);
                 }
             }
             Place::Stored(slot) => {
@@ -212,6 +180,7 @@ impl<R: Drop> Store<R> {
     }
 
     // Writes what comes after a place.
+    #[inline(always)]
     fn set_next(&mut self, place: Place, to: Place)
         requires there { IsTrue (is_there self.old place) }
         ensures next { (q : _) → next_of self.new q ≡ set_step places place to (next_of self.old) q }
@@ -224,22 +193,22 @@ impl<R: Drop> Store<R> {
             Place::Waiting => self.waiting.next = to,
             Place::Children(slot) => {
                 if let Some(linked) = self.nodes.value_at_mut(slot) {
-                    linked.children.next = to;
+                    linked.set_children_next(to);
                 }
             }
             Place::Held(slot) => {
                 if let Some(linked) = self.nodes.value_at_mut(slot) {
-                    linked.held.next = to;
+                    linked.set_held_next(to);
                 }
             }
             Place::Sibling(slot) => {
                 if let Some(linked) = self.nodes.value_at_mut(slot) {
-                    linked.sibling.next = to;
+                    linked.set_sibling_next(to);
                 }
             }
             Place::Noted(slot) => {
                 if let Some(linked) = self.nodes.value_at_mut(slot) {
-                    linked.noted.next = to;
+                    linked.set_noted_next(to);
                 }
             }
             Place::Stored(slot) => {
@@ -251,6 +220,7 @@ impl<R: Drop> Store<R> {
     }
 
     // Writes what comes before a place.
+    #[inline(always)]
     fn set_previous(&mut self, place: Place, to: Place)
         requires there { IsTrue (is_there self.old place) }
         ensures next { (q : _) → next_of self.new q ≡ next_of self.old q }
@@ -263,22 +233,22 @@ impl<R: Drop> Store<R> {
             Place::Waiting => self.waiting.previous = to,
             Place::Children(slot) => {
                 if let Some(linked) = self.nodes.value_at_mut(slot) {
-                    linked.children.previous = to;
+                    linked.set_children_previous(to);
                 }
             }
             Place::Held(slot) => {
                 if let Some(linked) = self.nodes.value_at_mut(slot) {
-                    linked.held.previous = to;
+                    linked.set_held_previous(to);
                 }
             }
             Place::Sibling(slot) => {
                 if let Some(linked) = self.nodes.value_at_mut(slot) {
-                    linked.sibling.previous = to;
+                    linked.set_sibling_previous(to);
                 }
             }
             Place::Noted(slot) => {
                 if let Some(linked) = self.nodes.value_at_mut(slot) {
-                    linked.noted.previous = to;
+                    linked.set_noted_previous(to);
                 }
             }
             Place::Stored(slot) => {
@@ -290,6 +260,7 @@ impl<R: Drop> Store<R> {
     }
 
     // Lets one place come directly before another.
+    #[inline(always)]
     fn tie(&mut self, one: Place, other: Place)
         requires one { IsTrue (is_there self.old one) }
         requires other { IsTrue (is_there self.old other) }
@@ -302,6 +273,7 @@ impl<R: Drop> Store<R> {
     }
 
     // Puts a place last on a ring.
+    #[inline(always)]
     pub(crate) fn join(&mut self, end: Place, place: Place)
         requires end { IsTrue (is_there self.old end) }
         requires place { IsTrue (is_there self.old place) }
@@ -323,6 +295,7 @@ impl<R: Drop> Store<R> {
     }
 
     // Lets its ring pass a place by, whose own link stays as it was.
+    #[inline(always)]
     pub(crate) fn pass_by(&mut self, place: Place)
         requires before { IsTrue (is_there self.old (previous_of self.old place)) }
         requires after { IsTrue (is_there self.old (next_of self.old place)) }
@@ -335,6 +308,7 @@ impl<R: Drop> Store<R> {
     }
 
     // Takes a place off its ring.
+    #[inline(always)]
     pub(crate) fn leave(&mut self, place: Place)
         requires place { IsTrue (is_there self.old place) }
         requires before { IsTrue (is_there self.old (previous_of self.old place)) }
@@ -348,6 +322,7 @@ impl<R: Drop> Store<R> {
     }
 
     // Puts what a ring goes over at the end of another ring.
+    #[inline(always)]
     pub(crate) fn merge(&mut self, from: Place, into: Place)
         requires from { IsTrue (is_there self.old from) }
         requires into { IsTrue (is_there self.old into) }

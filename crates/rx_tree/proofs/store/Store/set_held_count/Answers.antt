@@ -11,15 +11,15 @@ returns-in-Some-clause-links g c =
     let at = sym c.value_at_mut.ensures.value ∙ ap option_copied_mut c.in-Some.is in
     let a = c.args.self.now in
     let l = record c.in-Some.linked.now { held_count = c.args.count } in
-    keeps_links a (record c.args.self.now
+    rw c.set_held_count.ensures (keeps_links a (record c.args.self.now
     { nodes = with_value_at c.args.self.now.nodes c.args.slot (record c.in-Some.linked.now { held_count = c.args.count }) })
     refl refl refl
     (λ j. part-kept (λ l. l.children) (alone (Children j)) a.nodes c.args.slot c.in-Some.linked.now l j at refl)
     (λ j. part-kept (λ l. l.held) (alone (Held j)) a.nodes c.args.slot c.in-Some.linked.now l j at refl)
     (λ j. part-kept (λ l. l.sibling) (alone (Sibling j)) a.nodes c.args.slot c.in-Some.linked.now l j at refl)
     (λ j. part-kept (λ l. l.noted) (alone (Noted j)) a.nodes c.args.slot c.in-Some.linked.now l j at refl)
-    (λ j. refl)
+    (λ j. refl))
 
 pub returns-in-Some-clause-nodes : goal.returns-in-Some-clause-nodes
-returns-in-Some-clause-nodes g c = project-written (λ l. l.node) c.args.self.now.nodes c.args.slot c.in-Some.linked.now
-    (record c.in-Some.linked.now { held_count = c.args.count }) (sym c.value_at_mut.ensures.value ∙ ap option_copied_mut c.in-Some.is) refl
+returns-in-Some-clause-nodes g c = rw c.set_held_count.ensures (project-written (λ l. l.node) c.args.self.now.nodes c.args.slot c.in-Some.linked.now
+    (record c.in-Some.linked.now { held_count = c.args.count }) (sym c.value_at_mut.ensures.value ∙ ap option_copied_mut c.in-Some.is) refl)

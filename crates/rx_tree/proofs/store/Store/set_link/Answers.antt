@@ -6,42 +6,42 @@ use Rattle.rx_tree.proofs.store.Store.set_link.Goals as goal
 
 pub returns-in-Some-clause-linked : goal.returns-in-Some-clause-linked
 returns-in-Some-clause-linked g c =
-    rw c.in-Children.is (linked-Children c.args.self.now c.in-Children.slot c.args.link c.in-Some.linked.now
+    rw (c.in-Children.is, c.set_children.ensures) (linked-Children c.args.self.now c.in-Children.slot c.args.link c.in-Some.linked.now
     (sym c.value_at_mut.ensures.value ∙ ap option_copied_mut c.in-Some.is))
 
 pub returns-in-Some-clause-rest : goal.returns-in-Some-clause-rest
 returns-in-Some-clause-rest g c =
-    relinks-Children c.args.self.now c.in-Children.slot c.args.link c.in-Some.linked.now (sym c.value_at_mut.ensures.value ∙ ap option_copied_mut c.in-Some.is)
+    rw c.set_children.ensures (relinks-Children c.args.self.now c.in-Children.slot c.args.link c.in-Some.linked.now (sym c.value_at_mut.ensures.value ∙ ap option_copied_mut c.in-Some.is))
 
 pub returns-in-Some-value_at_mut-clause-linked : goal.returns-in-Some-value_at_mut-clause-linked
 returns-in-Some-value_at_mut-clause-linked g c =
-    rw c.in-Held.is (linked-Held c.args.self.now c.in-Held.slot c.args.link c.in-Some-value_at_mut.linked.now
+    rw (c.in-Held.is, c.set_held.ensures) (linked-Held c.args.self.now c.in-Held.slot c.args.link c.in-Some-value_at_mut.linked.now
     (sym c.value_at_mut-in-Held.ensures.value ∙ ap option_copied_mut c.in-Some-value_at_mut.is))
 
 pub returns-in-Some-value_at_mut-clause-rest : goal.returns-in-Some-value_at_mut-clause-rest
 returns-in-Some-value_at_mut-clause-rest g c =
-    relinks-Held c.args.self.now c.in-Held.slot c.args.link c.in-Some-value_at_mut.linked.now
-    (sym c.value_at_mut-in-Held.ensures.value ∙ ap option_copied_mut c.in-Some-value_at_mut.is)
+    rw c.set_held.ensures (relinks-Held c.args.self.now c.in-Held.slot c.args.link c.in-Some-value_at_mut.linked.now
+    (sym c.value_at_mut-in-Held.ensures.value ∙ ap option_copied_mut c.in-Some-value_at_mut.is))
 
 pub returns-in-Some-value_at_mut-2-clause-linked : goal.returns-in-Some-value_at_mut-2-clause-linked
 returns-in-Some-value_at_mut-2-clause-linked g c =
-    rw c.in-Sibling.is (linked-Sibling c.args.self.now c.in-Sibling.slot c.args.link c.in-Some-value_at_mut-2.linked.now
+    rw (c.in-Sibling.is, c.set_sibling.ensures) (linked-Sibling c.args.self.now c.in-Sibling.slot c.args.link c.in-Some-value_at_mut-2.linked.now
     (sym c.value_at_mut-in-Sibling.ensures.value ∙ ap option_copied_mut c.in-Some-value_at_mut-2.is))
 
 pub returns-in-Some-value_at_mut-2-clause-rest : goal.returns-in-Some-value_at_mut-2-clause-rest
 returns-in-Some-value_at_mut-2-clause-rest g c =
-    relinks-Sibling c.args.self.now c.in-Sibling.slot c.args.link c.in-Some-value_at_mut-2.linked.now
-    (sym c.value_at_mut-in-Sibling.ensures.value ∙ ap option_copied_mut c.in-Some-value_at_mut-2.is)
+    rw c.set_sibling.ensures (relinks-Sibling c.args.self.now c.in-Sibling.slot c.args.link c.in-Some-value_at_mut-2.linked.now
+    (sym c.value_at_mut-in-Sibling.ensures.value ∙ ap option_copied_mut c.in-Some-value_at_mut-2.is))
 
 pub returns-in-Some-value_at_mut-3-clause-linked : goal.returns-in-Some-value_at_mut-3-clause-linked
 returns-in-Some-value_at_mut-3-clause-linked g c =
-    rw c.in-Noted.is (linked-Noted c.args.self.now c.in-Noted.slot c.args.link c.in-Some-value_at_mut-3.linked.now
+    rw (c.in-Noted.is, c.set_noted.ensures) (linked-Noted c.args.self.now c.in-Noted.slot c.args.link c.in-Some-value_at_mut-3.linked.now
     (sym c.value_at_mut-in-Noted.ensures.value ∙ ap option_copied_mut c.in-Some-value_at_mut-3.is))
 
 pub returns-in-Some-value_at_mut-3-clause-rest : goal.returns-in-Some-value_at_mut-3-clause-rest
 returns-in-Some-value_at_mut-3-clause-rest g c =
-    relinks-Noted c.args.self.now c.in-Noted.slot c.args.link c.in-Some-value_at_mut-3.linked.now
-    (sym c.value_at_mut-in-Noted.ensures.value ∙ ap option_copied_mut c.in-Some-value_at_mut-3.is)
+    rw c.set_noted.ensures (relinks-Noted c.args.self.now c.in-Noted.slot c.args.link c.in-Some-value_at_mut-3.linked.now
+    (sym c.value_at_mut-in-Noted.ensures.value ∙ ap option_copied_mut c.in-Some-value_at_mut-3.is))
 
 pub returns-in-Some-value_at_mut-4-clause-linked : goal.returns-in-Some-value_at_mut-4-clause-linked
 returns-in-Some-value_at_mut-4-clause-linked g c =

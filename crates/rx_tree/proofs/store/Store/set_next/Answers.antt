@@ -8,52 +8,52 @@ use Rattle.rx_tree.proofs.TieLemmas.{wrote_next, left_previous}
 use Rattle.rx_tree.proofs.store.Store.set_next.Goals as goal
 
 pub returns-in-Some-clause-next : goal.returns-in-Some-clause-next
-returns-in-Some-clause-next g c = rw c.in-Children.is (wrote_next (link_at c.args.self.now) _ (Children c.in-Children.slot) (record c.in-Some.linked.now.children { next = c.args.to })
+returns-in-Some-clause-next g c = rw (c.in-Children.is, c.set_children_next.ensures) (wrote_next (link_at c.args.self.now) _ (Children c.in-Children.slot) (record c.in-Some.linked.now.children { next = c.args.to })
     (linked-Children c.args.self.now c.in-Children.slot (record c.in-Some.linked.now.children { next = c.args.to }) c.in-Some.linked.now (sym c.value_at_mut.ensures.value ∙ ap option_copied_mut c.in-Some.is)) c.args.to refl)
 
 pub returns-in-Some-clause-previous : goal.returns-in-Some-clause-previous
-returns-in-Some-clause-previous g c = left_previous (link_at c.args.self.now) _ (Children c.in-Children.slot) (record c.in-Some.linked.now.children { next = c.args.to })
+returns-in-Some-clause-previous g c = rw c.set_children_next.ensures (left_previous (link_at c.args.self.now) _ (Children c.in-Children.slot) (record c.in-Some.linked.now.children { next = c.args.to })
     (linked-Children c.args.self.now c.in-Children.slot (record c.in-Some.linked.now.children { next = c.args.to }) c.in-Some.linked.now (sym c.value_at_mut.ensures.value ∙ ap option_copied_mut c.in-Some.is))
-    (sym (ap (λ o. (option_map_or (λ l. l.children) o (alone (Children c.in-Children.slot))).previous) (sym c.value_at_mut.ensures.value ∙ ap option_copied_mut c.in-Some.is)))
+    (sym (ap (λ o. (option_map_or (λ l. l.children) o (alone (Children c.in-Children.slot))).previous) (sym c.value_at_mut.ensures.value ∙ ap option_copied_mut c.in-Some.is))))
 
 pub returns-in-Some-clause-rest : goal.returns-in-Some-clause-rest
-returns-in-Some-clause-rest g c = relinks-Children c.args.self.now c.in-Children.slot (record c.in-Some.linked.now.children { next = c.args.to }) c.in-Some.linked.now (sym c.value_at_mut.ensures.value ∙ ap option_copied_mut c.in-Some.is)
+returns-in-Some-clause-rest g c = rw c.set_children_next.ensures (relinks-Children c.args.self.now c.in-Children.slot (record c.in-Some.linked.now.children { next = c.args.to }) c.in-Some.linked.now (sym c.value_at_mut.ensures.value ∙ ap option_copied_mut c.in-Some.is))
 
 pub returns-in-Some-value_at_mut-clause-next : goal.returns-in-Some-value_at_mut-clause-next
-returns-in-Some-value_at_mut-clause-next g c = rw c.in-Held.is (wrote_next (link_at c.args.self.now) _ (Held c.in-Held.slot) (record c.in-Some-value_at_mut.linked.now.held { next = c.args.to })
+returns-in-Some-value_at_mut-clause-next g c = rw (c.in-Held.is, c.set_held_next.ensures) (wrote_next (link_at c.args.self.now) _ (Held c.in-Held.slot) (record c.in-Some-value_at_mut.linked.now.held { next = c.args.to })
     (linked-Held c.args.self.now c.in-Held.slot (record c.in-Some-value_at_mut.linked.now.held { next = c.args.to }) c.in-Some-value_at_mut.linked.now (sym c.value_at_mut-in-Held.ensures.value ∙ ap option_copied_mut c.in-Some-value_at_mut.is)) c.args.to refl)
 
 pub returns-in-Some-value_at_mut-clause-previous : goal.returns-in-Some-value_at_mut-clause-previous
-returns-in-Some-value_at_mut-clause-previous g c = left_previous (link_at c.args.self.now) _ (Held c.in-Held.slot) (record c.in-Some-value_at_mut.linked.now.held { next = c.args.to })
+returns-in-Some-value_at_mut-clause-previous g c = rw c.set_held_next.ensures (left_previous (link_at c.args.self.now) _ (Held c.in-Held.slot) (record c.in-Some-value_at_mut.linked.now.held { next = c.args.to })
     (linked-Held c.args.self.now c.in-Held.slot (record c.in-Some-value_at_mut.linked.now.held { next = c.args.to }) c.in-Some-value_at_mut.linked.now (sym c.value_at_mut-in-Held.ensures.value ∙ ap option_copied_mut c.in-Some-value_at_mut.is))
-    (sym (ap (λ o. (option_map_or (λ l. l.held) o (alone (Held c.in-Held.slot))).previous) (sym c.value_at_mut-in-Held.ensures.value ∙ ap option_copied_mut c.in-Some-value_at_mut.is)))
+    (sym (ap (λ o. (option_map_or (λ l. l.held) o (alone (Held c.in-Held.slot))).previous) (sym c.value_at_mut-in-Held.ensures.value ∙ ap option_copied_mut c.in-Some-value_at_mut.is))))
 
 pub returns-in-Some-value_at_mut-clause-rest : goal.returns-in-Some-value_at_mut-clause-rest
-returns-in-Some-value_at_mut-clause-rest g c = relinks-Held c.args.self.now c.in-Held.slot (record c.in-Some-value_at_mut.linked.now.held { next = c.args.to }) c.in-Some-value_at_mut.linked.now (sym c.value_at_mut-in-Held.ensures.value ∙ ap option_copied_mut c.in-Some-value_at_mut.is)
+returns-in-Some-value_at_mut-clause-rest g c = rw c.set_held_next.ensures (relinks-Held c.args.self.now c.in-Held.slot (record c.in-Some-value_at_mut.linked.now.held { next = c.args.to }) c.in-Some-value_at_mut.linked.now (sym c.value_at_mut-in-Held.ensures.value ∙ ap option_copied_mut c.in-Some-value_at_mut.is))
 
 pub returns-in-Some-value_at_mut-2-clause-next : goal.returns-in-Some-value_at_mut-2-clause-next
-returns-in-Some-value_at_mut-2-clause-next g c = rw c.in-Sibling.is (wrote_next (link_at c.args.self.now) _ (Sibling c.in-Sibling.slot) (record c.in-Some-value_at_mut-2.linked.now.sibling { next = c.args.to })
+returns-in-Some-value_at_mut-2-clause-next g c = rw (c.in-Sibling.is, c.set_sibling_next.ensures) (wrote_next (link_at c.args.self.now) _ (Sibling c.in-Sibling.slot) (record c.in-Some-value_at_mut-2.linked.now.sibling { next = c.args.to })
     (linked-Sibling c.args.self.now c.in-Sibling.slot (record c.in-Some-value_at_mut-2.linked.now.sibling { next = c.args.to }) c.in-Some-value_at_mut-2.linked.now (sym c.value_at_mut-in-Sibling.ensures.value ∙ ap option_copied_mut c.in-Some-value_at_mut-2.is)) c.args.to refl)
 
 pub returns-in-Some-value_at_mut-2-clause-previous : goal.returns-in-Some-value_at_mut-2-clause-previous
-returns-in-Some-value_at_mut-2-clause-previous g c = left_previous (link_at c.args.self.now) _ (Sibling c.in-Sibling.slot) (record c.in-Some-value_at_mut-2.linked.now.sibling { next = c.args.to })
+returns-in-Some-value_at_mut-2-clause-previous g c = rw c.set_sibling_next.ensures (left_previous (link_at c.args.self.now) _ (Sibling c.in-Sibling.slot) (record c.in-Some-value_at_mut-2.linked.now.sibling { next = c.args.to })
     (linked-Sibling c.args.self.now c.in-Sibling.slot (record c.in-Some-value_at_mut-2.linked.now.sibling { next = c.args.to }) c.in-Some-value_at_mut-2.linked.now (sym c.value_at_mut-in-Sibling.ensures.value ∙ ap option_copied_mut c.in-Some-value_at_mut-2.is))
-    (sym (ap (λ o. (option_map_or (λ l. l.sibling) o (alone (Sibling c.in-Sibling.slot))).previous) (sym c.value_at_mut-in-Sibling.ensures.value ∙ ap option_copied_mut c.in-Some-value_at_mut-2.is)))
+    (sym (ap (λ o. (option_map_or (λ l. l.sibling) o (alone (Sibling c.in-Sibling.slot))).previous) (sym c.value_at_mut-in-Sibling.ensures.value ∙ ap option_copied_mut c.in-Some-value_at_mut-2.is))))
 
 pub returns-in-Some-value_at_mut-2-clause-rest : goal.returns-in-Some-value_at_mut-2-clause-rest
-returns-in-Some-value_at_mut-2-clause-rest g c = relinks-Sibling c.args.self.now c.in-Sibling.slot (record c.in-Some-value_at_mut-2.linked.now.sibling { next = c.args.to }) c.in-Some-value_at_mut-2.linked.now (sym c.value_at_mut-in-Sibling.ensures.value ∙ ap option_copied_mut c.in-Some-value_at_mut-2.is)
+returns-in-Some-value_at_mut-2-clause-rest g c = rw c.set_sibling_next.ensures (relinks-Sibling c.args.self.now c.in-Sibling.slot (record c.in-Some-value_at_mut-2.linked.now.sibling { next = c.args.to }) c.in-Some-value_at_mut-2.linked.now (sym c.value_at_mut-in-Sibling.ensures.value ∙ ap option_copied_mut c.in-Some-value_at_mut-2.is))
 
 pub returns-in-Some-value_at_mut-3-clause-next : goal.returns-in-Some-value_at_mut-3-clause-next
-returns-in-Some-value_at_mut-3-clause-next g c = rw c.in-Noted.is (wrote_next (link_at c.args.self.now) _ (Noted c.in-Noted.slot) (record c.in-Some-value_at_mut-3.linked.now.noted { next = c.args.to })
+returns-in-Some-value_at_mut-3-clause-next g c = rw (c.in-Noted.is, c.set_noted_next.ensures) (wrote_next (link_at c.args.self.now) _ (Noted c.in-Noted.slot) (record c.in-Some-value_at_mut-3.linked.now.noted { next = c.args.to })
     (linked-Noted c.args.self.now c.in-Noted.slot (record c.in-Some-value_at_mut-3.linked.now.noted { next = c.args.to }) c.in-Some-value_at_mut-3.linked.now (sym c.value_at_mut-in-Noted.ensures.value ∙ ap option_copied_mut c.in-Some-value_at_mut-3.is)) c.args.to refl)
 
 pub returns-in-Some-value_at_mut-3-clause-previous : goal.returns-in-Some-value_at_mut-3-clause-previous
-returns-in-Some-value_at_mut-3-clause-previous g c = left_previous (link_at c.args.self.now) _ (Noted c.in-Noted.slot) (record c.in-Some-value_at_mut-3.linked.now.noted { next = c.args.to })
+returns-in-Some-value_at_mut-3-clause-previous g c = rw c.set_noted_next.ensures (left_previous (link_at c.args.self.now) _ (Noted c.in-Noted.slot) (record c.in-Some-value_at_mut-3.linked.now.noted { next = c.args.to })
     (linked-Noted c.args.self.now c.in-Noted.slot (record c.in-Some-value_at_mut-3.linked.now.noted { next = c.args.to }) c.in-Some-value_at_mut-3.linked.now (sym c.value_at_mut-in-Noted.ensures.value ∙ ap option_copied_mut c.in-Some-value_at_mut-3.is))
-    (sym (ap (λ o. (option_map_or (λ l. l.noted) o (alone (Noted c.in-Noted.slot))).previous) (sym c.value_at_mut-in-Noted.ensures.value ∙ ap option_copied_mut c.in-Some-value_at_mut-3.is)))
+    (sym (ap (λ o. (option_map_or (λ l. l.noted) o (alone (Noted c.in-Noted.slot))).previous) (sym c.value_at_mut-in-Noted.ensures.value ∙ ap option_copied_mut c.in-Some-value_at_mut-3.is))))
 
 pub returns-in-Some-value_at_mut-3-clause-rest : goal.returns-in-Some-value_at_mut-3-clause-rest
-returns-in-Some-value_at_mut-3-clause-rest g c = relinks-Noted c.args.self.now c.in-Noted.slot (record c.in-Some-value_at_mut-3.linked.now.noted { next = c.args.to }) c.in-Some-value_at_mut-3.linked.now (sym c.value_at_mut-in-Noted.ensures.value ∙ ap option_copied_mut c.in-Some-value_at_mut-3.is)
+returns-in-Some-value_at_mut-3-clause-rest g c = rw c.set_noted_next.ensures (relinks-Noted c.args.self.now c.in-Noted.slot (record c.in-Some-value_at_mut-3.linked.now.noted { next = c.args.to }) c.in-Some-value_at_mut-3.linked.now (sym c.value_at_mut-in-Noted.ensures.value ∙ ap option_copied_mut c.in-Some-value_at_mut-3.is))
 
 pub returns-in-Some-value_at_mut-4-clause-next : goal.returns-in-Some-value_at_mut-4-clause-next
 returns-in-Some-value_at_mut-4-clause-next g c = rw c.in-Stored.is (wrote_next (link_at c.args.self.now) _ (Stored c.in-Stored.slot) (record c.in-Some-value_at_mut-4.stored.now.link { next = c.args.to })

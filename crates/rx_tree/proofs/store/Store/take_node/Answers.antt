@@ -1,5 +1,6 @@
 use Rattle.std.proofs.Common.{◌≡◌, ◌+◌, ◌-◌, Bool, true, false, option_map, refl, sym, ap, ◌∙◌, arith}
 use Rattle.rx_tree.specs.declared.links.Place.TheVariants.{Children, Held, Sibling, Noted}
+use Rattle.rx_tree.specs.declared.store.Counts.{Counts}
 use Rattle.rx_tree.specs.Store.{alone, count_if}
 use Rattle.rx_tree.proofs.StoreLemmas.{find-project, takes-project, changes-project, part-taken, part-gone, links_taken}
 use Rattle.rx_tree.proofs.CountSteps.{out_fits, some_owed, counted_gone}
@@ -25,7 +26,8 @@ overflow_add-self g c =
     (changes-project (λ l. l.node) _ _ c.args.key.slot _ c.in_ok-linked.ensures.changes) false in
     let slots = c.slot_count-slots.ensures.value in
     let fits = c.slot_count-slots.type_inv in
-    omega (arith, few, slots, fits)
+    let same = ap (λ (k : Counts). k.free) c.held_count-count.ensures in
+    omega (arith, few, slots, fits, same)
 
 pub overflow_add-self-2 : goal.overflow_add-self-2
 overflow_add-self-2 g c =
@@ -35,18 +37,19 @@ overflow_add-self-2 g c =
     (changes-project (λ l. l.node) _ _ c.args.key.slot _ c.in_ok-linked.ensures.changes) true in
     let slots = c.slot_count-slots.ensures.value in
     let fits = c.slot_count-slots.type_inv in
-    omega (arith, few, slots, fits)
+    let same = ap (λ (k : Counts). k.lent) c.held_count-count.ensures in
+    omega (arith, few, slots, fits, same)
 
 pub overflow_sub-self : goal.overflow_sub-self
 overflow_sub-self g c =
-    let a = c.args.self.now in
+    rw c.node-node.ensures (let a = c.args.self.now in
     let b = record c.args.self.now { nodes = c.take.new.self } in
     some_owed a b c.requires.counted c.args.key c.in_ok-linked.linked (sym c.take.ensures.value ∙ c.in_ok-linked.was)
-    (changes-project (λ l. l.node) _ _ c.args.key.slot _ c.in_ok-linked.ensures.changes)
+    (changes-project (λ l. l.node) _ _ c.args.key.slot _ c.in_ok-linked.ensures.changes))
 
 pub returns-clause-counted : goal.returns-clause-counted
 returns-clause-counted g c =
-    let both : (l : Bool) → count_if l (record {
+    rw (c.held_count-count.ensures, c.node-node.ensures) (let both : (l : Bool) → count_if l (record {
       free = c.args.self.now.waiting_count.free + c.in_ok-linked.linked.held_count.free;
       lent =
           c.args.self.now.waiting_count.lent + c.in_ok-linked.linked.held_count.lent;
@@ -68,8 +71,8 @@ returns-clause-counted g c =
       owed = c.args.self.now.owed - c.in_ok-linked.linked.node.marks.owed;
     } in
     counted_gone a b c.requires.counted c.args.key c.in_ok-linked.linked (sym c.take.ensures.value ∙ c.in_ok-linked.was)
-    (changes-project (λ l. l.node) _ _ c.args.key.slot _ c.in_ok-linked.ensures.changes) refl both c.in_ok-linked.ensures.changes refl
+    (changes-project (λ l. l.node) _ _ c.args.key.slot _ c.in_ok-linked.ensures.changes) refl both c.in_ok-linked.ensures.changes refl)
 
 pub returns-clause-value : goal.returns-clause-value
-returns-clause-value g c = sym (find-project (λ l. l.node) c.args.self.now.nodes c.args.key ∙
-    ap (option_map (λ l. l.node)) (sym c.take.ensures.value ∙ c.in_ok-linked.was))
+returns-clause-value g c = rw c.node-node.ensures (sym (find-project (λ l. l.node) c.args.self.now.nodes c.args.key ∙
+    ap (option_map (λ l. l.node)) (sym c.take.ensures.value ∙ c.in_ok-linked.was)))

@@ -11,12 +11,12 @@ use Rattle.rx_tree.proofs.store.Store.write_marks.Goals as goal
 
 pub returns-in-Some-clause-rewrites : goal.returns-in-Some-clause-rewrites
 returns-in-Some-clause-rewrites g c =
-    rewrites-project (λ l. l.node) c.args.self.now.nodes c.args.key c.in-Some.linked.now _ (with_marks c.args.marks)
-    (sym c.get_mut.ensures.value ∙ ap option_copied_mut c.in-Some.is) refl
+    rw c.set_marks.ensures (rewrites-project (λ l. l.node) c.args.self.now.nodes c.args.key c.in-Some.linked.now _ (with_marks c.args.marks)
+    (sym c.get_mut.ensures.value ∙ ap option_copied_mut c.in-Some.is) refl)
 
 pub returns-in-Some-clause-links : goal.returns-in-Some-clause-links
 returns-in-Some-clause-links g c =
-    let found = sym c.get_mut.ensures.value ∙ ap option_copied_mut c.in-Some.is in
+    rw c.set_marks.ensures (let found = sym c.get_mut.ensures.value ∙ ap option_copied_mut c.in-Some.is in
     keeps_links c.args.self.now (record c.args.self.now
     { nodes = with_value c.args.self.now.nodes c.args.key (record c.in-Some.linked.now { node = with_marks c.args.marks c.in-Some.linked.now.node }) }) refl
     refl refl
@@ -25,28 +25,28 @@ returns-in-Some-clause-links g c =
     (part-rewritten (λ l. l.held) (λ j. alone (Held j)) c.args.self.now.nodes _ c.args.key.slot c.args.key.number c.in-Some.linked.now _ found refl refl)
     (part-rewritten (λ l. l.sibling) (λ j. alone (Sibling j)) c.args.self.now.nodes _ c.args.key.slot c.args.key.number c.in-Some.linked.now _ found refl refl)
     (part-rewritten (λ l. l.noted) (λ j. alone (Noted j)) c.args.self.now.nodes _ c.args.key.slot c.args.key.number c.in-Some.linked.now _ found refl refl)
-    (λ j. refl)
+    (λ j. refl))
 
 pub returns-in-Some-clause-changes : goal.returns-in-Some-clause-changes
 returns-in-Some-clause-changes g c node found =
-    changes-written (λ l. l.node) c.args.self.now.nodes c.args.key c.in-Some.linked.now _ node (with_marks c.args.marks)
-    (sym c.get_mut.ensures.value ∙ ap option_copied_mut c.in-Some.is) refl found
+    rw c.set_marks.ensures (changes-written (λ l. l.node) c.args.self.now.nodes c.args.key c.in-Some.linked.now _ node (with_marks c.args.marks)
+    (sym c.get_mut.ensures.value ∙ ap option_copied_mut c.in-Some.is) refl found)
 
 pub overflow_add-self : goal.overflow_add-self
 overflow_add-self g c = let was = c.requires.counted.owed in let few = c.requires.countable in omega (arith, was, few)
 
 pub overflow_sub-self : goal.overflow_sub-self
 overflow_sub-self g c =
-    let a = c.args.self.now in
+    rw c.node-before.ensures (let a = c.args.self.now in
     let found = sym c.get_mut.ensures.value ∙ ap option_copied_mut c.in-Some.is in
     let seen = find-project (λ l. l.node) a.nodes c.args.key ∙ ap (option_map (λ l. l.node)) found in
     let part = owed_part (nodes_of a) c.args.key c.in-Some.linked.now.node seen in
     let was = c.requires.counted.owed in
-    omega (arith, part, was)
+    omega (arith, part, was))
 
 pub returns-in-Some-clause-counted : goal.returns-in-Some-clause-counted
 returns-in-Some-clause-counted g c =
-    let found = sym c.get_mut.ensures.value ∙ ap option_copied_mut c.in-Some.is in
+    rw (c.set_marks.ensures, c.node-before.ensures) (let found = sym c.get_mut.ensures.value ∙ ap option_copied_mut c.in-Some.is in
     let a = c.args.self.now in
     let node = c.in-Some.linked.now.node in
     let b = record c.args.self.now {
@@ -64,4 +64,4 @@ returns-in-Some-clause-counted g c =
     let more = owed_written (nodes_of a) (nodes_of b) c.args.key node (with_marks c.args.marks node) seen
     (changes-written (λ l. l.node) a.nodes c.args.key c.in-Some.linked.now _ node (with_marks c.args.marks) found refl seen) in
     let was = c.requires.counted.owed in
-    omega (arith, part, more, was))
+    omega (arith, part, more, was)))

@@ -1,0 +1,21 @@
+-- A place is what its kind and its slot tell.
+use Rattle.std.proofs.Common.{◌≡◌, refl}
+use Rattle.rx_tree.specs.declared.links.Link.{Link}
+use Rattle.rx_tree.specs.declared.links.Place.{Place}
+use Rattle.rx_tree.specs.declared.links.Place.TheVariants.{Roots, Due, Waiting, Children, Held, Sibling, Noted, Stored}
+use Rattle.rx_tree.specs.Places.{slot_of}
+use Rattle.rx_tree.specs.Record.{kind_of, place_of, link_of}
+
+pub leads_back : (p : Place) → place_of (kind_of p) (slot_of p) ≡ p
+leads_back Roots = refl
+leads_back Due = refl
+leads_back Waiting = refl
+leads_back (Children s) = refl
+leads_back (Held s) = refl
+leads_back (Sibling s) = refl
+leads_back (Noted s) = refl
+leads_back (Stored s) = refl
+
+pub links_back : (l : Link) → link_of (record { next = slot_of l.next; previous = slot_of l.previous })
+    (record { next = kind_of l.next; previous = kind_of l.previous }) ≡ l
+links_back l = λ i. record { next = leads_back l.next i; previous = leads_back l.previous i }
