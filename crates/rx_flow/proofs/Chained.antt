@@ -1,15 +1,19 @@
 -- Looking for the first of a chain at which something is due.
-use Rattle.std.proofs.Common.{◌≡◌, ◌==◌, Bool, true, false, List, [], ◌∷◌, cond, Option, Some, None, is_some, refl, sym, ap, ◌∙◌}
+use Rattle.std.proofs.Common.{◌≡◌, ◌==◌, Bool, true, false, List, [], ◌∷◌, cond, Option, Some, None, is_some, option_map, refl, sym, ap, ◌∙◌}
 use Rattle.std.proofs.Math.Bool.{◌||◌}
 use Rattle.std.proofs.lemmas.Bool.{and_parts, eqb-true}
 use Rattle.std.proofs.lemmas.Option.{same_Some, none-some}
+use Rattle.std.specs.Option.{option_and_then}
+use Rattle.rx_note.specs.declared.note.Terminal.{Terminal}
 use Rattle.rx_event.specs.declared.event.Event.{Event}
+use Rattle.rx_event.specs.declared.event.Event.TheVariants.{End}
+use Rattle.rx_event.specs.Marks.{due_at, terminal_due}
 use Rattle.rx_slots.specs.declared.Key.{Key}
-use Rattle.rx_slots.specs.Slots.{Slots}
+use Rattle.rx_slots.specs.Slots.{Slots, find}
 use Rattle.rx_tree.specs.declared.node.Node.{Node}
 use Rattle.rx_tree.specs.Tree.{Tree, is_key, is_on, first_of}
 use Rattle.rx_tree.proofs.Laws.Keys.{same_key}
-use Rattle.rx_flow.specs.Due.{due_of, from_due, IsQuiet, IsChained}
+use Rattle.rx_flow.specs.Due.{terminal_of, IsDueAt, due_of, from_due, IsQuiet, IsChained}
 
 first_is : (chain : List Key) (key : Key) → first_of chain ≡ Some key → (rest : List Key) × (chain ≡ key ∷ rest)
 first_is [] key none = absurd (none-some key none)
@@ -37,6 +41,28 @@ quiet_first nodes key rest quiet = ap (λ (o : Option Event). cond (is_some o) (
 due_first : (nodes : Slots Node) (key : Key) (rest : List Key) (e : Event) → due_of nodes key ≡ Some e → from_due nodes (key ∷ rest) ≡ key ∷ rest
 due_first nodes key rest e gives = ap (λ (o : Option Event). cond (is_some o) (key ∷ rest) (from_due nodes rest)) gives
 
+-- what a record's marks give, as an event
+due_none : (nodes : Slots Node) (key : Key) → terminal_of nodes key ≡ None → due_of nodes key ≡ None
+due_none nodes key none = by_node (find nodes key) none where
+  by_node : (o : Option Node) → option_and_then (λ (n : Node). terminal_due n.made n.marks) o ≡ None →
+      option_and_then (λ (n : Node). due_at n.made n.marks key.number) o ≡ None
+  by_node None quiet = refl
+  by_node (Some node) quiet = ap (option_map (λ t. End key.number t)) quiet
+
+due_some : (nodes : Slots Node) (key : Key) (t : Terminal) → terminal_of nodes key ≡ Some t → due_of nodes key ≡ Some (End key.number t)
+due_some nodes key t gives = by_node (find nodes key) gives where
+  by_node : (o : Option Node) → option_and_then (λ (n : Node). terminal_due n.made n.marks) o ≡ Some t →
+      option_and_then (λ (n : Node). due_at n.made n.marks key.number) o ≡ Some (End key.number t)
+  by_node None none = absurd (none-some t none)
+  by_node (Some node) some = ap (option_map (λ t. End key.number t)) some
+
+due_at_key : (nodes : Slots Node) (key : Key) (t : Terminal) → terminal_of nodes key ≡ Some t → IsDueAt nodes (record { node = key; terminal = t })
+due_at_key nodes key t gives = by_node (find nodes key) refl gives where
+  by_node : (o : Option Node) → find nodes key ≡ o → option_and_then (λ (n : Node). terminal_due n.made n.marks) o ≡ Some t →
+      IsDueAt nodes (record { node = key; terminal = t })
+  by_node None found none = absurd (none-some t none)
+  by_node (Some node) found some = record { node = node; found = found; gives = some }
+
 module _ {T : Type 0} where
   -- heads at which nothing is due were dropped
   pub record IsSearched (old now : Tree T) : Type 0 where
@@ -57,5 +83,3 @@ module _ {T : Type 0} where
       let empty = none_is now.chain none in
       let chain = s.drops ∙ ap (from_due old.nodes) empty ∙ sym empty in
       (s.kept ∙ ap (λ (ks : List Key). record old { chain = ks }) (sym chain), λ k. s.chained k (ap (is_on k) empty))
-
--- what a test says of what was found --------------------------------------------------------------

@@ -1,4 +1,5 @@
 pub mod Laws
 mod Walked
+mod Stepped
 mod Chained
 mod Marked

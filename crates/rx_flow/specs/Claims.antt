@@ -5,7 +5,7 @@ use Rattle.std.specs.Option.{option_and_then, option_to_list}
 use Rattle.rx_event.specs.Kept.{Kept}
 use Rattle.rx_note.specs.declared.note.Terminal.{Terminal}
 use Rattle.rx_event.specs.declared.event.Event.{Event}
-use Rattle.rx_event.specs.declared.event.Event.TheVariants.{Connect, Close}
+use Rattle.rx_event.specs.declared.event.Event.TheVariants.{Connect, End, Close}
 use Rattle.rx_event.specs.Events.{makes_hub}
 use Rattle.rx_event.specs.Tree.{is_open, open_subscribers}
 use Rattle.rx_event.specs.Climb.{Stop as NumberedStop, Delivery as DeliveryTo, Projection as ProjectionTo, Firing as FiringOf}
@@ -19,7 +19,8 @@ use Rattle.rx_tree.specs.Tree.{IsSound}
 use Rattle.rx_flow.specs.declared.stop.Stop.{Stop}
 use Rattle.rx_flow.specs.declared.stop.Stop.TheVariants.{Delivery, Projection, Firing, Connection}
 use Rattle.rx_flow.specs.Way.{made_of, way, end_of}
-use Rattle.rx_flow.specs.Due.{IsDueIn, IsQuiet}
+use Rattle.rx_flow.specs.declared.forcing.Due.{Due}
+use Rattle.rx_flow.specs.Due.{IsDueAt, IsDueIn, IsQuiet}
 use Rattle.rx_flow.specs.Records.{AreRecordsOf}
 
 abbrev pub numbers : List Key → List ℕ
@@ -59,6 +60,9 @@ pub record WaysAreClimbs (base : Kept) : Type 0 where
 pub record DueIsForced (base : Kept) : Type 0 where
   pub forced : (h : List Event) (nodes : Slots Node) (e : Event) → AreRecordsOf base h nodes → IsConnected h →
       IsDueIn nodes e → IsForced base h e
+  -- and so is the end of a node that has to end
+  pub ends : (h : List Event) (nodes : Slots Node) (due : Due) → AreRecordsOf base h nodes → IsConnected h →
+      IsDueAt nodes due → IsForced base h (End due.node.number due.terminal)
   pub settled : (h : List Event) (nodes : Slots Node) → AreRecordsOf base h nodes → IsQuiet nodes → IsConnected h →
       ((n : ℕ) (t : Terminal) → IsTrue (is_open h n) → ¬ SourceEnded h n t) → ((c : ℕ) → ¬ IsDue base h (Close c)) →
       IsSettled base h

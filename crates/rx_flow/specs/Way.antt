@@ -5,7 +5,7 @@ use Rattle.std.specs.Option.{option_and_then, option_map_or}
 use Rattle.rx_event.specs.declared.event.Place.TheVariants.{Root, Source, Notifier}
 use Rattle.rx_event.specs.declared.event.Event.{Event}
 use Rattle.rx_event.specs.declared.event.Event.TheVariants.{Open, Connect}
-use Rattle.rx_event.specs.Events.{is_merging}
+use Rattle.rx_event.specs.Events.{is_merging, hub_connected}
 use Rattle.rx_event.specs.Climb.{most_visits}
 use Rattle.rx_event.specs.Marks.{first_some}
 use Rattle.rx_slots.specs.declared.Key.{Key}
@@ -52,3 +52,11 @@ way nodes key = way_within (suc most_visits) nodes key
 -- where it stops: at the last of them
 abbrev pub end_of : Slots Node → List Key → Option Stop
 end_of nodes keys = first_some (stop_of nodes) keys
+
+-- the hub from whose connection it goes on in other trees; none where it stops elsewhere
+abbrev pub hub_of : Slots Node → Option Stop → Option ℕ
+hub_of nodes (Some (Connection key)) = option_and_then hub_connected (made_of nodes key)
+hub_of nodes (Some (Delivery key)) = None
+hub_of nodes (Some (Projection key)) = None
+hub_of nodes (Some (Firing key)) = None
+hub_of nodes None = None

@@ -1,37 +1,45 @@
 //! What the operators have to do.
 
 ghost use Rattle.std.specs.Prelude.{◌≡◌, IfSome, IfNone};
-ghost use Rattle.rx_flow.specs.Due.{IsChained, IsDueIn, IsQuiet, due_of, from_due};
+ghost use Rattle.rx_flow.specs.Due.{IsChained, IsDueAt, IsQuiet, terminal_of, from_due};
 
-use rx_event::Event;
+use rx_event::Terminal;
 use rx_resource::Resource;
 use rx_tree::{Key, Tree};
 
-/// What the marks of the key's record give.
-fn due_of<R: Resource>(tree: &Tree<R>, key: Key) -> Option<Event>
-    ensures { result ≡ due_of tree.now.nodes key }
-{
-    let made = tree.made(key)?;
-    tree.marks(key)?.due_at(made, key.number)
+/// A node that has to end by its operator's rule, and how.
+#[derive(Clone, Copy, Debug, PartialEq, Eq)]
+pub struct Due {
+    /// The node's key.
+    pub node: Key,
+    /// How it has to end.
+    pub terminal: Terminal,
 }
 
-/// What an operator has to do next, by the marks of the records: the end of a mirroring node, of a
-/// TakeUntil, of a FlatMap or of a Switch (Observable Contract; TakeUntil, FlatMap, Switch). None
-/// only where nothing is due at any record.
+/// How the key's node has to end by its marks; None where it has not, and where the key finds none.
+fn terminal_of<R: Resource>(tree: &Tree<R>, key: Key) -> Option<Terminal>
+    ensures { result ≡ terminal_of tree.now.nodes key }
+{
+    let made = tree.made(key)?;
+    tree.marks(key)?.terminal_due(made)
+}
+
+/// What an operator has to do next, by the marks of the records: which mirroring node ends, TakeUntil,
+/// FlatMap or Switch, and how (Observable Contract; TakeUntil, FlatMap, Switch). None only where
+/// nothing is due at any record.
 ///
 /// It looks at what is on the chain alone, drops the heads at which nothing is due, and leaves the
 /// records as they are. It takes no memory.
-pub fn next_forced<R: Resource>(tree: &mut Tree<R>) -> Option<Event>
+pub fn next_due<R: Resource>(tree: &mut Tree<R>) -> Option<Due>
     requires chained { IsChained tree.old.nodes tree.old.chain }
-    ensures due { IfSome result (IsDueIn tree.old.nodes) }
+    ensures due { IfSome result (IsDueAt tree.old.nodes) }
     ensures none { IfNone result (IsQuiet tree.old.nodes) }
     ensures kept { tree.new ≡ record tree.old { chain = from_due tree.old.nodes tree.old.chain } }
     ensures chained { IsChained tree.new.nodes tree.new.chain }
 {
-    while let Some(key) = tree.pending() {
-        let due = due_of(tree, key);
-        if due.is_some() {
-            return due;
+    while let Some(node) = tree.pending() {
+        if let Some(terminal) = terminal_of(tree, node) {
+            return Some(Due { node, terminal });
         }
         tree.unchain();
     }

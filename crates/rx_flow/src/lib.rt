@@ -11,8 +11,9 @@
 //!
 //! # What is promised
 //!
-//! `climb` answers the stop and the visits of the way. `next_forced` gives what is due at some record
-//! and leaves the records as they are; it gives nothing only where nothing is due. The laws say of
+//! `climb` answers the stop and the visits of the way, and from a connection the hub behind it.
+//! `next_due` gives a node at whose record something is due, with its key, and leaves the records as
+//! they are; it gives nothing only where nothing is due. The laws say of
 //! every history whose records these are that the way is the climb of the history, and that what is
 //! due is forced in it.
 //!
@@ -27,6 +28,6 @@ mod stop;
 mod theorems;
 
 pub use climbing::climb;
-pub use forcing::next_forced;
+pub use forcing::{Due, next_due};
 pub use stop::{Reached, Stop};
 pub use theorems::{due_is_forced, ways_are_climbs};

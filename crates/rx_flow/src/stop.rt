@@ -21,6 +21,8 @@ pub enum Stop {
 pub struct Reached {
     /// Where it stops; None where its way was cut off, one visit after the most that an item may make.
     pub stop: Option<Stop>,
+    /// The hub of the connection at which it stops; None where it stops elsewhere.
+    pub hub: Option<u64>,
     /// How many nodes it visits, the first and the last among them: 1 to 1,048,577.
     pub visits: u64,
 }

@@ -1,7 +1,7 @@
 -- Hubs by their numbers, and what is known of those off a chain.
 use Rattle.std.proofs.Common.{◌≡◌, ◌≢◌, ℕ, zero, suc, ◌<◌, ◌==◌, ◌++◌, cond, map, Bool, true, false, List, [], ◌∷◌, length, slice_get, Option, Some, None}
-use Rattle.std.proofs.Common.{option_map, is_some, IsSome, IfSome, refl, sym, ap, subst, ◌∙◌, inl, inr, arith, true≢false}
-use Rattle.std.proofs.lemmas.Bool.{cases_lt}
+use Rattle.std.proofs.Common.{option_map, is_some, IsSome, IfSome, refl, sym, ap, subst, ◌∙◌, ◌⊎◌, inl, inr, arith, true≢false}
+use Rattle.std.proofs.lemmas.Bool.{cases_lt, cases_Bool}
 use Rattle.std.proofs.lemmas.Bool.Decides.{nat_tests}
 use Rattle.std.proofs.lemmas.Option.{same_Some, none-some}
 use Rattle.rx_event.specs.declared.event.Mode.{Mode}
@@ -13,7 +13,7 @@ use Rattle.rx_hub.specs.declared.hub.HubDue.{HubDue}
 use Rattle.rx_hub.specs.Chains.{IsCalm, Notes, IsLinked}
 use Rattle.rx_hub.specs.Due.{connect_of, due_of}
 use Rattle.rx_hub.specs.Hubs.{Hub, Hubs, IsPromised, find_hub, at_hub, new_hub}
-use Rattle.rx_lists.specs.Lists.{Lists}
+use Rattle.rx_lists.specs.Lists.{Lists, list_at, is_in}
 
 eq_is : (a b : ℕ) → (a == b) ≡ true → a ≡ b
 eq_is a b e = grind (arith, nat_tests, e)
@@ -86,18 +86,35 @@ at_same n f g (h ∷ hubs) same = λ i. of (h.number == n) refl i ∷ at_same n 
 
 -- chains ------------------------------------------------------------------------------------------
 
--- a change of one hub that is put on the chain
+-- what is due at an index
+abbrev due_in : (Hub → Option HubDue) → List Hub → ℕ → Option HubDue
+due_in due hubs i = option_and_then due (slice_get hubs i)
+
+-- a change of one hub that is put on the chain where something is due there
 pub calm_changed : (due : Hub → Option HubDue) (s : Hubs) (old new : Lists) (index n : ℕ) (change : Hub → Hub) → IsPromised s →
-    option_map (λ (hub : Hub). hub.number) (slice_get s.hubs index) ≡ Some n → Notes old new index → IsCalm due s.hubs old → IsCalm due (at_hub n change s.hubs) new
-calm_changed due s old new index n change p named noted calm i hub got off = of (slice_get s.hubs i) refl (sym (get_map (λ (h : Hub). cond (h.number == n) (change h) h) s.hubs i) ∙ got) where
-  of : (o : Option Hub) → slice_get s.hubs i ≡ o → option_map (λ (h : Hub). cond (h.number == n) (change h) h) o ≡ Some hub → due hub ≡ None
-  of None at_i none = absurd (none-some hub none)
-  of (Some h) at_i some =
-      let own = hub_at s.hubs index n named in
-      let off' = noted.kept i off in
-      let apart : (h.number == n) ≡ false = eq_not h.number n (λ e. off'.1 (one_index s p i index h own.0 at_i own.1.0 (e ∙ sym own.1.1))) in
-      let same : h ≡ hub = ap (λ b. cond b (change h) h) (sym apart) ∙ same_Some (cond (h.number == n) (change h) h) hub some in
-      ap due (sym same) ∙ calm i h at_i off'.0
+    option_map (λ (hub : Hub). hub.number) (slice_get s.hubs index) ≡ Some n → Notes (due_in due (at_hub n change s.hubs) index) old new index →
+    IsCalm due s.hubs old → IsCalm due (at_hub n change s.hubs) new
+calm_changed due s old new index n change p named noted calm i hub got off =
+    of (slice_get s.hubs i) refl (sym (get_map (λ (h : Hub). cond (h.number == n) (change h) h) s.hubs i) ∙ got)
+  where
+    off' : (is_in i (list_at old 0) ≡ false) × (i ≡ index → due_in due (at_hub n change s.hubs) index ≡ None)
+    off' = noted.kept i off
+
+    at_index : i ≡ index → due hub ≡ None
+    at_index same = sym (ap (option_and_then due) got) ∙ ap (due_in due (at_hub n change s.hubs)) same ∙ off'.1 same
+
+    by_number : (h : Hub) → slice_get s.hubs i ≡ Some h → Some (cond (h.number == n) (change h) h) ≡ Some hub →
+        ((h.number == n) ≡ true) ⊎ ((h.number == n) ≡ false) → due hub ≡ None
+    by_number h at_i some (inl e) =
+        let own = hub_at s.hubs index n named in
+        at_index (one_index s p i index h own.0 at_i own.1.0 (eq_is h.number n e ∙ sym own.1.1))
+    by_number h at_i some (inr apart) =
+        let same : h ≡ hub = ap (λ b. cond b (change h) h) (sym apart) ∙ same_Some (cond (h.number == n) (change h) h) hub some in
+        ap due (sym same) ∙ calm i h at_i off'.0
+
+    of : (o : Option Hub) → slice_get s.hubs i ≡ o → option_map (λ (h : Hub). cond (h.number == n) (change h) h) o ≡ Some hub → due hub ≡ None
+    of None at_i none = absurd (none-some hub none)
+    of (Some h) at_i some = by_number h at_i some (cases_Bool (h.number == n))
 
 -- one more hub at which nothing is due
 pub calm_added : (due : Hub → Option HubDue) (hubs : List Hub) (chain : Lists) (added : Hub) → due added ≡ None → IsCalm due hubs chain → IsCalm due (hubs ++ added ∷ []) chain
@@ -125,7 +142,8 @@ not_found hubs n none there = true≢false (sym there ∙ ap is_some (find_none 
 pub linked_changed : (s new : Hubs) (w d w' d' : Lists) (index n : ℕ) (change : Hub → Hub) → IsPromised s →
     option_map (λ (hub : Hub). hub.number) (slice_get s.hubs index) ≡ Some n →
     ((hub : Hub) → slice_get s.hubs index ≡ Some hub → new ≡ record s { hubs = at_hub hub.number change s.hubs }) →
-    Notes w w' index → Notes d d' index → IsLinked s w d → IsLinked new w' d'
+    Notes (due_in connect_of new.hubs index) w w' index → Notes (due_in due_of new.hubs index) d d' index →
+    IsLinked s w d → IsLinked new w' d'
 linked_changed s new w d w' d' index n change p named is notes_w notes_d linked =
     let own = hub_at s.hubs index n named in
     let new_is : new ≡ record s { hubs = at_hub n change s.hubs } = is own.0 own.1.0 ∙ ap (λ k. record s { hubs = at_hub k change s.hubs }) own.1.1 in
@@ -136,8 +154,10 @@ linked_changed s new w d w' d' index n change p named is notes_w notes_d linked 
     let both = linked.both in
     let room = linked.room in
     subst (λ (t : Hubs). IsLinked t w' d') (sym new_is) (record {
-      waits = calm_changed connect_of s w w' index n change p named notes_w linked.waits;
-      acts = calm_changed due_of s d d' index n change p named notes_d linked.acts;
+      waits = calm_changed connect_of s w w' index n change p named
+          (subst (λ (t : Hubs). Notes (due_in connect_of t.hubs index) w w' index) new_is notes_w) linked.waits;
+      acts = calm_changed due_of s d d' index n change p named
+          (subst (λ (t : Hubs). Notes (due_in due_of t.hubs index) d d' index) new_is notes_d) linked.acts;
       waiting_chain = notes_w.chain;
       due_chain = notes_d.chain;
       fit = omega (arith, count, w_same, fit);

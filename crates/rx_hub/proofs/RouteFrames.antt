@@ -139,7 +139,7 @@ frame_fits hubs frames frame are is behind =
 
 -- how it goes on ----------------------------------------------------------------------------------------
 
-behind_later : (frames : List Frame) (a b : ℕ) → a ≤ b → IsBehind a frames → IsBehind b frames
+pub behind_later : (frames : List Frame) (a b : ℕ) → a ≤ b → IsBehind a frames → IsBehind b frames
 behind_later [] a b l behind = tt
 behind_later (f ∷ frames) a b l behind = omega (arith, l, behind)
 

@@ -15,8 +15,14 @@ pub record IsChain (chain : Lists) : Type 0 where
   pub there : 0 < chain.members → 0 < length chain.lists
 
 -- an index is put on a chain where it is not there
-pub record Notes (old new : Lists) (index : ℕ) : Type 0 where
+pub record Puts (old new : Lists) (index : ℕ) : Type 0 where
   pub kept : (i : ℕ) → is_in i (list_at new 0) ≡ false → (is_in i (list_at old 0) ≡ false) × (i ≡ index → ⊥)
+  pub chain : IsChain new
+  pub members : new.members ≡ old.members
+
+-- the same, where something is due there
+pub record Notes (gives : Option HubDue) (old new : Lists) (index : ℕ) : Type 0 where
+  pub kept : (i : ℕ) → is_in i (list_at new 0) ≡ false → (is_in i (list_at old 0) ≡ false) × (i ≡ index → gives ≡ None)
   pub chain : IsChain new
   pub members : new.members ≡ old.members
 

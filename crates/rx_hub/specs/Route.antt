@@ -2,7 +2,7 @@
 -- the way the oldest of its subscribers from which it goes on after that (Publish: a connection passes on to every subscriber).
 use Rattle.std.specs.Prelude.{◌≡◌, ℕ, suc, ◌+◌, ◌-◌, ◌<◌, ◌≤◌, ◌++◌, cond, List, [], ◌∷◌, length, Option, Some, IsSome, IsTrue, IfSome, IfNone}
 use Rattle.std.specs.List.{AllByRecursion, filter_map, cons_option}
-use Rattle.std.specs.Option.{option_map_or, option_to_list}
+use Rattle.std.specs.Option.{option_and_then, option_map_or, option_to_list}
 use Rattle.rx_event.specs.declared.event.Event.TheVariants.{Connect}
 use Rattle.rx_event.specs.Climb.{most_visits}
 use Rattle.rx_slots.specs.declared.Key.{Key}
@@ -120,11 +120,9 @@ pub record IsTurn (hubs : List Hub) (frames : List Frame) (key : Key) : Type 0 w
 abbrev pub beyond_end : Slots Node → List Hub → Option Stop → List Key
 beyond_end nodes hubs stop = option_map_or (beyond nodes hubs) stop []
 
--- the stop is a connection of the frame's hub
-pub record IsReached (nodes : Slots Node) (stop : Option Stop) (frame : Frame) : Type 0 where
-  pub connection : Key
-  pub stops : stop ≡ Some (Connection connection)
-  pub connects : made_of nodes connection ≡ Some (Connect frame.hub)
+-- and from the hub behind it
+abbrev pub hub_keys : List Hub → Option ℕ → List Key
+hub_keys hubs hub = option_map_or (λ (h : Hub). h.subscribers) (option_and_then (find_hub hubs) hub) []
 
 abbrev pub first_keys : List Hub → Option Frame → List Key
 first_keys hubs first = option_map_or (frame_keys hubs) first []

@@ -77,7 +77,7 @@ fn due_by(hub: Published, oldest: Option<Key>) -> Option<HubDue>
 }
 
 // What a rule gives at an index.
-fn due_at(store: &Store, rule: Rule, index: usize) -> Option<HubDue>
+pub(crate) fn due_at(store: &Store, rule: Rule, index: usize) -> Option<HubDue>
     ensures { result ≡ option_and_then (given_by rule) (slice_get store.now.hubs index) }
 {
     store.promise();

@@ -3,10 +3,11 @@
 ghost use Rattle.std.specs.Prelude.{◌≡◌, ◌+◌, ◌<◌, ◌≤◌, ◌++◌, ◌∷◌, [], length, option_map, max, slice_get};
 ghost use Rattle.std.specs.Prelude.{OnOk, OnErr, IsOk, IsTrue, IfSome, IfNone, IsSome, Some, None};
 ghost use Rattle.std.specs.Option.{option_and_then};
-ghost use Rattle.rx_hub.specs.Chains.{IsChain, Notes};
+ghost use Rattle.rx_hub.specs.Chains.{IsChain, Notes, Puts};
+ghost use Rattle.rx_hub.specs.Rules.{given_by};
 ghost use Rattle.rx_lists.specs.Lists.{list_at};
 
-use crate::forcing::{Rule, next_at};
+use crate::forcing::{Rule, due_at, next_at};
 use crate::hub::{HubDue, LastEnd, Published};
 use crate::store::Store;
 use rx_event::Mode;
@@ -60,13 +61,24 @@ fn lengthen(chain: &mut Rings, members: usize) -> Result<(), AllocError>
 }
 
 // Puts an index on a chain, where it is not there.
-fn note(chain: &mut Rings, index: usize)
+fn put(chain: &mut Rings, index: usize)
     requires chain { IsChain chain.old }
     requires index { index < chain.old.members }
-    ensures { Notes chain.old chain.new index }
+    ensures { Puts chain.old chain.new index }
 {
     if chain.is_free(index) {
         chain.join(0, index);
+    }
+}
+
+// Puts an index on a chain where the rule gives something there.
+fn note(store: &Store, chain: &mut Rings, rule: Rule, index: usize)
+    requires chain { IsChain chain.old }
+    requires index { index < chain.old.members }
+    ensures { Notes (option_and_then (given_by rule) (slice_get store.now.hubs index)) chain.old chain.new index }
+{
+    if due_at(store, rule, index).is_some() {
+        put(chain, index);
     }
 }
 
@@ -190,8 +202,8 @@ impl Hubs {
             unreachable!()
         };
         self.store.subscribe(index, key);
-        note(&mut self.waiting, index);
-        note(&mut self.due, index);
+        note(&self.store, &mut self.waiting, Rule::Connect, index);
+        note(&self.store, &mut self.due, Rule::Other, index);
     }
 
     /// Takes a subscriber away from its hub, when its node is closed. It takes the same time however
@@ -206,8 +218,8 @@ impl Hubs {
             unreachable!()
         };
         self.store.unsubscribe(index, key);
-        note(&mut self.waiting, index);
-        note(&mut self.due, index);
+        note(&self.store, &mut self.waiting, Rule::Connect, index);
+        note(&self.store, &mut self.due, Rule::Other, index);
     }
 
     /// Gives the hub its open connection. It has none: a connection is never replaced.
@@ -221,8 +233,8 @@ impl Hubs {
             unreachable!()
         };
         self.store.connect(index, key);
-        note(&mut self.waiting, index);
-        note(&mut self.due, index);
+        note(&self.store, &mut self.waiting, Rule::Connect, index);
+        note(&self.store, &mut self.due, Rule::Other, index);
     }
 
     /// Takes the hub's connection away, when its node is closed. Where it ended by itself, that end is
@@ -237,8 +249,8 @@ impl Hubs {
             unreachable!()
         };
         self.store.disconnect(index, ended);
-        note(&mut self.waiting, index);
-        note(&mut self.due, index);
+        note(&self.store, &mut self.waiting, Rule::Connect, index);
+        note(&self.store, &mut self.due, Rule::Other, index);
     }
 
     /// What a hub has to do next: connect, before anything else, where a hub with RefCount has a

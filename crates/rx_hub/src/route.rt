@@ -6,10 +6,9 @@ ghost use Rattle.std.specs.Option.{option_and_then};
 ghost use Rattle.rx_event.specs.Climb.{most_visits};
 ghost use Rattle.rx_slots.specs.Slots.{find};
 ghost use Rattle.rx_hub.specs.Walk.{arrival, climb_over, stops_over};
-ghost use Rattle.rx_hub.specs.Route.{IsFrame, IsBehind, AreFrames, IsReached, GoesOn, first_keys, beyond_end};
+ghost use Rattle.rx_hub.specs.Route.{IsFrame, IsBehind, AreFrames, GoesOn, first_keys, hub_keys};
 
 use crate::hubs::Hubs;
-use rx_event::Event;
 use rx_flow::{Stop, climb};
 use rx_resource::Resource;
 use rx_slots::Key;
@@ -57,20 +56,13 @@ impl Model for Route {
     ghost invariant = { λ r. Unit {0} };
 }
 
-// The first subscriber beyond a stop: at a connection.
-fn first_beyond<R: Resource>(tree: &Tree<R>, hubs: &Hubs, stop: Option<Stop>) -> Option<Frame>
-    ensures keys { first_keys hubs.now.hubs result ≡ beyond_end tree.now.nodes hubs.now.hubs stop }
+// The first subscriber of the hub behind a connection.
+fn first_beyond(hubs: &Hubs, hub: Option<u64>) -> Option<Frame>
+    ensures keys { first_keys hubs.now.hubs result ≡ hub_keys hubs.now.hubs hub }
     ensures frame { IfSome result (IsFrame hubs.now.hubs) }
-    ensures reached { IfSome result (IsReached tree.now.nodes stop) }
+    ensures behind { IfSome result (λ frame. hub ≡ Some frame.hub) }
 {
-    let connection = match stop? {
-        Stop::Connection(connection) => connection,
-        _ => return None,
-    };
-    let hub = match tree.made(connection)? {
-        Event::Connect(hub) => hub,
-        _ => return None,
-    };
+    let hub = hub?;
     let key = hubs.first_subscriber(hub)?;
     Some(Frame { hub, key })
 }
@@ -188,7 +180,7 @@ impl Route {
             return None;
         }
         self.visits += reached.visits;
-        let first = first_beyond(tree, hubs, reached.stop);
+        let first = first_beyond(hubs, reached.hub);
         self.at = go_on(&mut self.frames, hubs, first);
         arrival(reached.stop)
     }

@@ -1,5 +1,5 @@
 -- Marks that are set on the way change nothing of it.
-use Rattle.std.proofs.Common.{◌≡◌, ◌≢◌, ℕ, zero, suc, ◌+◌, ◌++◌, List, [], ◌∷◌, Option, Some, None, IsSome, IfSome, is_some, option_map}
+use Rattle.std.proofs.Common.{◌≡◌, ◌≢◌, ℕ, zero, suc, ◌++◌, List, [], ◌∷◌, Option, Some, None, IsSome, IfSome, is_some, option_map}
 use Rattle.std.proofs.Common.{refl, sym, ap, ◌∙◌, inl, inr, ◌⊎◌}
 use Rattle.std.specs.Prelude.{false, if◌then◌else◌}
 use Rattle.std.specs.List.{AllByRecursion, filter_map}
