@@ -28,7 +28,8 @@ module _ (nodes : Slots Node) (hubs : List Hub) where
 
   stop_bare : (key : Key) → stop_of (nodes_at nodes.entries) key ≡ stop_of nodes key
   stop_bare key = by_made (made_of nodes key) where
-    by_made : (o : Option Event) → option_and_then (stop_made (nodes_at nodes.entries) key (above_of nodes key)) o ≡ option_and_then (stop_made nodes key (above_of nodes key)) o
+    by_made : (o : Option Event) → option_and_then (stop_made (nodes_at nodes.entries) key (above_of nodes key)) o ≡
+        option_and_then (stop_made nodes key (above_of nodes key)) o
     by_made None = refl
     by_made (Some made) = stop_made_bare key (above_of nodes key) made
 
@@ -52,4 +53,5 @@ module _ (nodes : Slots Node) (hubs : List Hub) where
   arrivals_bare keys = λ i. filter_map (λ (key : Key). option_and_then arrival (stop_bare key i)) keys
 
   pub stops_bare : (key : Key) → stops_over (nodes_at nodes.entries) hubs key ≡ stops_over nodes hubs key
-  stops_bare key = ap (filter_map (arrival_at (nodes_at nodes.entries))) (visited_bare (suc most_visits) (key ∷ [])) ∙ arrivals_bare (climb_over nodes hubs key)
+  stops_bare key = ap (filter_map (arrival_at (nodes_at nodes.entries))) (visited_bare (suc most_visits) (key ∷ [])) ∙
+      arrivals_bare (climb_over nodes hubs key)

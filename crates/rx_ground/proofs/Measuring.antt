@@ -1,5 +1,6 @@
 -- What is counted of an item on its way.
-use Rattle.std.proofs.Common.{◌≡◌, ℕ, zero, suc, ◌+◌, ◌++◌, ◌<◌, ◌≤◌, true, false, nat_lt, List, [], ◌∷◌, length, Option, Some, None, Bool, IfSome, refl, sym, ap, subst, ◌∙◌, arith}
+use Rattle.std.proofs.Common.{◌≡◌, ℕ, zero, suc, ◌+◌, ◌++◌, ◌<◌, ◌≤◌, true, false, nat_lt, List, [], ◌∷◌, length, Option, Some, None, Bool}
+use Rattle.std.proofs.Common.{IfSome, refl, sym, ap, subst, ◌∙◌, arith}
 use Rattle.std.specs.Prelude.{if◌then◌else◌}
 use Rattle.std.proofs.Math.Bool.{not}
 use Rattle.std.specs.List.{filter_map, cons_option}
@@ -53,7 +54,8 @@ visits_within n v same less = within n v most_visits same less limit_is where
 -- on its way --------------------------------------------------------------------------------------
 
 -- so much was counted, and the rest is ahead
-pub record IsMeasuring (nodes : Slots Node) (hubs : List Hub) (key : Key) (room : ℕ) (route : Route) (events notes : ℕ) (is_first : Bool) (only : Option Stop) : Type 0 where
+pub record IsMeasuring (nodes : Slots Node) (hubs : List Hub) (key : Key) (room : ℕ) (route : Route) (events notes : ℕ) (is_first : Bool)
+    (only : Option Stop) : Type 0 where
   pub under_way : IsUnderWay nodes hubs route
   pub room_is : route.room ≡ room
   pub visits : all_visits nodes hubs route ≡ length (climb_over nodes hubs key)

@@ -363,7 +363,8 @@ module _ {T : Type 0} (first : Register) (start : Tree T) (hubs : List Hub) (lea
     (found : IsSome (find start.nodes leaf)) (stop : Stop) (one : stops_over start.nodes hubs leaf ≡ stop ∷ []) where
   pub one_there : IsThere start.nodes stop
   one_there =
-      let all : AllByRecursion (IsThere start.nodes) (stop ∷ []) = subst (AllByRecursion (IsThere start.nodes)) one (stops_there start.nodes hubs walk.sound walk.found leaf found) in
+      let whole = stops_there start.nodes hubs walk.sound walk.found leaf found in
+      let all : AllByRecursion (IsThere start.nodes) (stop ∷ []) = subst (AllByRecursion (IsThere start.nodes)) one whole in
       all.0
 
   one_stop : stops first.history leaf.number ≡ filter_map numbered (stop ∷ [])
@@ -395,7 +396,8 @@ module _ {T : Type 0} (first : Register) (start : Tree T) (hubs : List Hub) (lea
         done = last ∷ [];
         whole = one_stop ∙ ap (λ (o : Option NumberedStop). cons_option o []) is.named;
         same = same;
-        pending = pending ∙ ap (λ (ms : List Mail). ms ++ option_to_list (mail_at (length first.history) value stop)) none ∙ is.mail (length first.history) value;
+        pending = pending ∙ ap (λ (ms : List Mail). ms ++ option_to_list (mail_at (length first.history) value stop)) none ∙
+            is.mail (length first.history) value;
         mail_room = let b = is.told_is (length first.history) value in omega arith;
         records = further.records;
         there = further.there;

@@ -1,8 +1,8 @@
 //! Where an item goes, and what it does on its way: up from its leaf, and from a connection on to each
 //! subscriber of its hub (Publish), the first one's climb before the second's.
 
-ghost use Rattle.std.specs.Prelude.{◌≡◌, ◌+◌, ◌<◌, ◌≤◌, ◌++◌, [], ◌∷◌, length, option_map, Some, None, is_some, nat_lt, IsSome, IfSome, IfOk, IfErr, OnOk};
-ghost use Rattle.std.specs.Prelude.{if◌then◌else◌};
+ghost use Rattle.std.specs.Prelude.{◌≡◌, ◌+◌, ◌<◌, ◌≤◌, ◌++◌, [], ◌∷◌, length, option_map, Some, None, is_some, nat_lt, IsSome, IfSome};
+ghost use Rattle.std.specs.Prelude.{IfOk, IfErr, OnOk, if◌then◌else◌};
 ghost use Rattle.std.specs.Option.{option_to_list};
 ghost use Rattle.std.proofs.Math.Bool.{not};
 ghost use Rattle.rx_event.specs.declared.event.Event.{Event};
@@ -89,7 +89,8 @@ fn measure<R: Resource>(
     requires ordered { IsOrdered tree.now.nodes hubs.now.hubs }
     requires room { length hubs.now.hubs ≤ route.old.room }
     ensures reach { IfSome result (λ counted. IsMeasured (stops_over tree.now.nodes hubs.now.hubs node) counted.reach) }
-    ensures only { IfSome result (λ counted. IfSome counted.only (λ stop. stops_over tree.now.nodes hubs.now.hubs node ≡ stop ∷ [])) }
+    ensures only { IfSome result (λ counted. IfSome counted.only (λ stop.
+        stops_over tree.now.nodes hubs.now.hubs node ≡ stop ∷ [])) }
     ensures visits { is_some result ≡ not (nat_lt most_visits (length (climb_over tree.now.nodes hubs.now.hubs node))) }
     ensures room { route.new.room ≡ route.old.room }
 {

@@ -16,7 +16,8 @@ invariant_of-self-2 g c = (
   c.self.invariant.0,
   c.self.invariant.1,
   (let room = c.self.invariant.2 in let same = c.measure.ensures.room in omega arith),
-  only_kept c.self.inside.tree.nodes c.self.inside.hubs.hubs c.args.node c.in-Some.counted.only c.in-Some.ensures.only c.only_at-self-inside.result c.only_at-self-inside.ensures,
+  only_kept c.self.inside.tree.nodes c.self.inside.hubs.hubs c.args.node c.in-Some.counted.only c.in-Some.ensures.only
+      c.only_at-self-inside.result c.only_at-self-inside.ensures,
 )
 
 pub returns-clause-reach : goal.returns-clause-reach
