@@ -18,6 +18,7 @@ pub mod Connections
 pub mod Taking
 pub mod Told
 pub mod Ordered
+mod Bare
 pub mod Routed
 pub mod Measuring
 pub mod Passed

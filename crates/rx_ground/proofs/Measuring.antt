@@ -1,8 +1,10 @@
 -- What is counted of an item on its way.
-use Rattle.std.proofs.Common.{◌≡◌, ℕ, zero, suc, ◌+◌, ◌++◌, ◌<◌, ◌≤◌, true, false, nat_lt, List, [], ◌∷◌, length, Option, Some, None, refl, sym, ap, ◌∙◌, arith}
+use Rattle.std.proofs.Common.{◌≡◌, ℕ, zero, suc, ◌+◌, ◌++◌, ◌<◌, ◌≤◌, true, false, nat_lt, List, [], ◌∷◌, length, Option, Some, None, Bool}
+use Rattle.std.proofs.Common.{IfSome, refl, sym, ap, subst, ◌∙◌, arith}
+use Rattle.std.specs.Prelude.{if◌then◌else◌}
 use Rattle.std.proofs.Math.Bool.{not}
 use Rattle.std.specs.List.{filter_map, cons_option}
-use Rattle.std.proofs.lemmas.Bool.{lt-ltb, le-ltb}
+use Rattle.std.proofs.lemmas.Bool.{lt-ltb, le-ltb, false≢true}
 use Rattle.rx_event.specs.Climb.{most_visits}
 use Rattle.rx_slots.specs.declared.Key.{Key}
 use Rattle.rx_slots.specs.Slots.{Slots}
@@ -52,7 +54,8 @@ visits_within n v same less = within n v most_visits same less limit_is where
 -- on its way --------------------------------------------------------------------------------------
 
 -- so much was counted, and the rest is ahead
-pub record IsMeasuring (nodes : Slots Node) (hubs : List Hub) (key : Key) (room : ℕ) (route : Route) (events notes : ℕ) : Type 0 where
+pub record IsMeasuring (nodes : Slots Node) (hubs : List Hub) (key : Key) (room : ℕ) (route : Route) (events notes : ℕ) (is_first : Bool)
+    (only : Option Stop) : Type 0 where
   pub under_way : IsUnderWay nodes hubs route
   pub room_is : route.room ≡ room
   pub visits : all_visits nodes hubs route ≡ length (climb_over nodes hubs key)
@@ -60,6 +63,9 @@ pub record IsMeasuring (nodes : Slots Node) (hubs : List Hub) (key : Key) (room 
   pub told : notes + sum_at told_at (stops_left nodes hubs route) ≡ sum_at told_at (stops_over nodes hubs key)
   pub few_events : events + length (stops_left nodes hubs route) ≤ 1048578
   pub few_notes : notes + length (stops_left nodes hubs route) ≤ 1048577
+  -- before the first stop all are ahead, and after it all but that
+  pub first : is_first ≡ true → stops_over nodes hubs key ≡ stops_left nodes hubs route
+  pub one : IfSome only (λ stop. stops_over nodes hubs key ≡ stop ∷ stops_left nodes hubs route)
 
 one_at : (stop : Stop) → (owed_at stop ≤ 1) × (told_at stop ≤ 1)
 one_at (Delivery key) = (omega arith, omega arith)
@@ -69,7 +75,7 @@ one_at (Connection key) = (omega arith, omega arith)
 
 module _ (nodes : Slots Node) (hubs : List Hub) (key : Key) (room : ℕ) where
   pub measuring_starts : (route : Route) → IsUnderWay nodes hubs route → route.room ≡ room → all_visits nodes hubs route ≡ length (climb_over nodes hubs key) →
-      stops_left nodes hubs route ≡ stops_over nodes hubs key → IsMeasuring nodes hubs key room route 1 0
+      stops_left nodes hubs route ≡ stops_over nodes hubs key → IsMeasuring nodes hubs key room route 1 0 true None
   measuring_starts route under_way same visits left =
       let n = ap (length {A = Stop}) left in
       let all = stops_few nodes hubs key in
@@ -81,12 +87,46 @@ module _ (nodes : Slots Node) (hubs : List Hub) (key : Key) (room : ℕ) where
         told = let t = ap (sum_at told_at) left in omega arith;
         few_events = omega arith;
         few_notes = omega arith;
+        first = λ at_first. sym left;
+        one = tt;
       }
 
+  -- at a stop more
+  pub measuring_on : (old new : Route) (stop : Stop) (events notes owed told : ℕ) (is_first : Bool) (only : Option Stop) →
+      IsMeasuring nodes hubs key room old events notes is_first only →
+      Arrives nodes hubs old new (Some stop) → owed ≡ owed_at stop → told ≡ told_at stop → (after : Option Stop) →
+      after ≡ (if is_first then Some stop else None) → IsMeasuring nodes hubs key room new (events + owed) (notes + told) false after
+  measuring_on old new stop events notes owed told is_first only was arrives owed_is told_is after after_is =
+      let o : sum_at owed_at (stops_left nodes hubs old) ≡ owed_at stop + sum_at owed_at (stops_left nodes hubs new) = ap (sum_at owed_at) arrives.stops in
+      let t : sum_at told_at (stops_left nodes hubs old) ≡ told_at stop + sum_at told_at (stops_left nodes hubs new) = ap (sum_at told_at) arrives.stops in
+      let n : length (stops_left nodes hubs old) ≡ suc (length (stops_left nodes hubs new)) = ap (length {A = Stop}) arrives.stops in
+      let most = one_at stop in
+      let w = was.owed in
+      let x = was.told in
+      let y = was.few_events in
+      let z = was.few_notes in
+      record {
+        under_way = arrives.under_way;
+        room_is = arrives.room ∙ was.room_is;
+        visits = arrives.visits ∙ was.visits;
+        owed = omega arith;
+        told = omega arith;
+        few_events = let m = most.0 in omega arith;
+        few_notes = let m = most.1 in omega arith;
+        first = λ no. absurd (false≢true no);
+        one = by_first is_first after_is was.first;
+      }
+    where
+      by_first : (b : Bool) → after ≡ (if b then Some stop else None) → (b ≡ true → stops_over nodes hubs key ≡ stops_left nodes hubs old) →
+          IfSome after (λ s. stops_over nodes hubs key ≡ s ∷ stops_left nodes hubs new)
+      by_first true is all = subst (λ o. IfSome o (λ s. stops_over nodes hubs key ≡ s ∷ stops_left nodes hubs new)) (sym is) (all refl ∙ arrives.stops)
+      by_first false is all = subst (λ o. IfSome o (λ s. stops_over nodes hubs key ≡ s ∷ stops_left nodes hubs new)) (sym is) tt
+
   -- at the end all was counted
-  pub measuring_ends : (old new : Route) (events notes : ℕ) → IsMeasuring nodes hubs key room old events notes → Arrives nodes hubs old new None →
+  pub measuring_ends : (old new : Route) (events notes : ℕ) (is_first : Bool) (only : Option Stop) →
+      IsMeasuring nodes hubs key room old events notes is_first only → Arrives nodes hubs old new None →
       IsMeasured (stops_over nodes hubs key) (record { events = events; notes = notes }) × (new.visits ≡ length (climb_over nodes hubs key)) × (new.room ≡ room)
-  measuring_ends old new events notes was arrives =
+  measuring_ends old new events notes is_first only was arrives =
       let none : stops_left nodes hubs old ≡ [] = arrives.stops ∙ arrives.ended in
       let o = ap (sum_at owed_at) none in
       let t = ap (sum_at told_at) none in
@@ -94,3 +134,13 @@ module _ (nodes : Slots Node) (hubs : List Hub) (key : Key) (room : ℕ) where
       let x = was.told in
       let z = was.few_notes in
       (record { events = omega arith; notes = omega arith; few = omega arith }, arrives.counted ∙ was.visits, arrives.room ∙ was.room_is)
+
+  -- and the stop is the only one that was the first and the last
+  pub measuring_only : (old new : Route) (events notes : ℕ) (is_first : Bool) (only : Option Stop) →
+      IsMeasuring nodes hubs key room old events notes is_first only → Arrives nodes hubs old new None →
+      IfSome only (λ stop. stops_over nodes hubs key ≡ stop ∷ [])
+  measuring_only old new events notes is_first only was arrives = by_value only was.one where
+    by_value : (o : Option Stop) → IfSome o (λ s. stops_over nodes hubs key ≡ s ∷ stops_left nodes hubs old) →
+        IfSome o (λ s. stops_over nodes hubs key ≡ s ∷ [])
+    by_value None is = tt
+    by_value (Some s) is = is ∙ ap (λ (ss : List Stop). s ∷ ss) (arrives.stops ∙ arrives.ended)

@@ -340,3 +340,68 @@ module _ {T : Type 0} (first : Register) (start : Tree T) (hubs : List Hub) (roo
       let same = ap (length {A = Stop}) marked_further.2.left in
       let one : length (stops_left tree.nodes hubs route) ≡ suc (length (stops_left tree.nodes hubs next)) = ap (length {A = Stop}) arrives.stops in
       omega arith
+
+-- the way that makes just one stop ----------------------------------------------------------------
+
+abbrev nowhere : List Hub → Route
+nowhere hubs = record { at = None; frames = []; visits = 0; room = length hubs }
+
+nowhere_under_way : (nodes : Slots Node) (hubs : List Hub) → IsUnderWay nodes hubs (nowhere hubs)
+nowhere_under_way nodes hubs = record {
+  room = omega arith;
+  frames = tt;
+  there = tt;
+  hub = 0;
+  reaches = tt;
+  behind = tt;
+  ended = refl;
+  visits = omega arith;
+}
+
+module _ {T : Type 0} (first : Register) (start : Tree T) (hubs : List Hub) (leaf : Key) (value : ℤ) (law : IsLawful first.base first.history)
+    (walk : IsWalk first.base first.history start.nodes hubs) (records : AreRecords first.base first.history start.nodes start.chain)
+    (found : IsSome (find start.nodes leaf)) (stop : Stop) (one : stops_over start.nodes hubs leaf ≡ stop ∷ []) where
+  pub one_there : IsThere start.nodes stop
+  one_there =
+      let whole = stops_there start.nodes hubs walk.sound walk.found leaf found in
+      let all : AllByRecursion (IsThere start.nodes) (stop ∷ []) = subst (AllByRecursion (IsThere start.nodes)) one whole in
+      all.0
+
+  one_stop : stops first.history leaf.number ≡ filter_map numbered (stop ∷ [])
+  one_stop = all_stops_told first.base first.history start.nodes hubs leaf walk found ∙ ap (filter_map numbered) one
+
+  -- there is room for what it tells
+  pub one_room : length (mail_of first.history (Item leaf.number value)) ≤ first.mail_room → told_at stop ≤ first.mail_room
+  one_room notes =
+      let f = told (length first.history) value in
+      let all = ap (λ (ss : List NumberedStop). length (filter_map f ss)) one_stop in
+      let sum = told_sum (length first.history) value (stop ∷ []) in
+      let none : sum_at told_at (stop ∷ []) ≡ told_at stop + 0 = refl in
+      omega arith
+
+  module _ (told_register : Register) (marked : Tree T) (marks : IsMarkedAt stop start marked) where
+    one_further : (last : NumberedStop) × IsNumbered stop last × IsFurther first.base first.history [] hubs (nowhere hubs) stop last start marked
+    one_further = further first.base first.history [] hubs (nowhere hubs) start marked
+        (passed_none first.base first.history start.nodes start.chain records) walk.sound.apart
+        (IsOrdered-walk first.base first.history start.nodes hubs law walk) (nowhere_under_way start.nodes hubs) stop one_there marks
+
+    -- it told and marked what it had to
+    pub one_passed : first.pending ≡ [] → told_register ≡ record first { pending = told_register.pending; mail_room = told_register.mail_room } →
+        told_register.pending ≡ first.pending ++ option_to_list (mail_at (length first.history) value stop) →
+        first.mail_room ≡ told_register.mail_room + told_at stop → IsPassing first start leaf.number value told_register marked []
+    one_passed none same pending mail_room = by_last one_further.0 one_further.1 one_further.2 where
+      by_last : (last : NumberedStop) → IsNumbered stop last → IsFurther first.base first.history [] hubs (nowhere hubs) stop last start marked →
+          IsPassing first start leaf.number value told_register marked []
+      by_last last is further = record {
+        done = last ∷ [];
+        whole = one_stop ∙ ap (λ (o : Option NumberedStop). cons_option o []) is.named;
+        same = same;
+        pending = pending ∙ ap (λ (ms : List Mail). ms ++ option_to_list (mail_at (length first.history) value stop)) none ∙
+            is.mail (length first.history) value;
+        mail_room = let b = is.told_is (length first.history) value in omega arith;
+        records = further.records;
+        there = further.there;
+        places = further.places;
+        resources = further.resources;
+        owed = let b = further.owed in let c = is.owed_is in omega arith;
+      }

@@ -1,6 +1,6 @@
 -- Where an item goes by a tree and hubs is where it goes by their history, and what it wants there.
 use Rattle.std.proofs.Common.{◌≡◌, ℕ, ℤ, Bool, cond, count_by, ◌+◌, true, false, nat_lt, List, [], ◌∷◌, length, Option, Some, None, IsSome}
-use Rattle.std.proofs.Common.{IfSome, is_some, option_map, refl, sym, ap, ◌∙◌, arith}
+use Rattle.std.proofs.Common.{IfSome, is_some, option_map, refl, sym, ap, subst, ◌∙◌, arith}
 use Rattle.std.proofs.Math.Bool.{not}
 use Rattle.std.specs.List.{filter_map}
 use Rattle.std.specs.Option.{option_map_or}
@@ -22,7 +22,8 @@ use Rattle.rx_event.specs.Climb.{Stop as NumberedStop, Delivery as DeliveryTo, P
 use Rattle.rx_slots.specs.declared.Key.{Key}
 use Rattle.rx_slots.specs.Slots.{Slots, find}
 use Rattle.rx_tree.specs.declared.node.Node.{Node}
-use Rattle.rx_tree.specs.Tree.{Tree, IsSound}
+use Rattle.rx_tree.specs.Tree.{Tree, IsSound, is_key}
+use Rattle.rx_tree.proofs.Laws.Keys.{key_is}
 use Rattle.rx_flow.specs.declared.stop.Stop.{Stop}
 use Rattle.rx_flow.specs.declared.stop.Stop.TheVariants.{Delivery, Projection, Firing, Connection}
 use Rattle.rx_flow.specs.Records.{AreRecordsOf}
@@ -30,10 +31,12 @@ use Rattle.rx_flow.specs.Claims.{numbered}
 use Rattle.rx_hub.specs.Hubs.{Hub, Hubs}
 use Rattle.rx_hub.specs.Walk.{IsWalk, stops_over}
 use Rattle.rx_hub.proofs.Laws.Walks.{all_stops_told, found_hub}
+use Rattle.rx_ground.specs.declared.base.Only.{Only}
 use Rattle.rx_ground.specs.declared.route.Reach.{Reach}
 use Rattle.rx_ground.specs.Ties.{AreRecords, AreTied}
 use Rattle.rx_ground.specs.Reached.{IsReach}
-use Rattle.rx_ground.specs.Passing.{IsMeasured, owed_at, told_at, sum_at}
+use Rattle.rx_ground.proofs.Bare.{stops_bare}
+use Rattle.rx_ground.specs.Passing.{IsMeasured, IsOnly, owed_at, told_at, sum_at}
 
 -- the records are those of the history, whatever is due
 as_records : (base : Kept) → (h : List Event) (nodes : Slots Node) (chain : List Key) → AreRecords base h nodes chain → AreRecordsOf base h nodes
@@ -81,12 +84,6 @@ reach_told base h nodes hubs key walk there reach is = record {
   where
     same : stops h key.number ≡ filter_map numbered (stops_over nodes hubs key)
     same = all_stops_told base h nodes hubs key walk there
-
-pub reach_if : (base : Kept) → (h : List Event) (nodes : Slots Node) (hubs : List Hub) (key : Key) → IsWalk base h nodes hubs → IsSome (find nodes key) →
-    (answer : Option Reach) →
-    IfSome answer (IsMeasured (stops_over nodes hubs key)) → IfSome answer (IsReach h nodes key)
-reach_if base h nodes hubs key walk there None is = tt
-reach_if base h nodes hubs key walk there (Some reach) is = reach_told base h nodes hubs key walk there reach is
 
 -- refusals ----------------------------------------------------------------------------------------
 
@@ -141,3 +138,23 @@ module _ (base : Kept) (h : List Event) (limit : ℕ) (nodes : Slots Node) (chai
   cause_of-room reach full leaf narrow reached room =
       let few = test_is _ true narrow in
       row true leaf ∙ rw (few, ← reached.events, ← room) refl
+
+-- the one stop ------------------------------------------------------------------------------------
+
+-- what was counted of it is kept
+pub only_kept : (nodes : Slots Node) (hubs : List Hub) (leaf : Key) (counted : Option Stop) →
+    IfSome counted (λ stop. stops_over nodes hubs leaf ≡ stop ∷ []) →
+    (kept : Option Only) → kept ≡ option_map (λ stop. record { leaf = leaf; stop = stop }) counted → IfSome kept (IsOnly nodes.entries hubs)
+only_kept nodes hubs leaf counted one kept same = subst (λ (o : Option Only). IfSome o (IsOnly nodes.entries hubs)) (sym same) (by_value counted one) where
+  by_value : (o : Option Stop) → IfSome o (λ stop. stops_over nodes hubs leaf ≡ stop ∷ []) →
+      IfSome (option_map (λ stop. record { leaf = leaf; stop = stop }) o) (IsOnly nodes.entries hubs)
+  by_value None one = tt
+  by_value (Some stop) one = record { one = stops_bare nodes hubs leaf ∙ one }
+
+-- and what is kept is of its leaf
+pub only_found : (nodes : Slots Node) (hubs : List Hub) (kept : Option Only) (only : Only) (leaf : Key) →
+    IfSome kept (IsOnly nodes.entries hubs) → kept ≡ Some only → is_key only.leaf leaf ≡ true → stops_over nodes hubs leaf ≡ only.stop ∷ []
+only_found nodes hubs kept only leaf is found same =
+    let one : IsOnly nodes.entries hubs only = subst (λ (o : Option Only). IfSome o (IsOnly nodes.entries hubs)) found is in
+    subst (λ (key : Key). stops_over nodes hubs key ≡ only.stop ∷ []) (key_is only.leaf leaf same)
+    (sym (stops_bare nodes hubs only.leaf) ∙ one.one)

@@ -11,6 +11,7 @@ use Rattle.rx_event.specs.Marks.{marks_of, due_at, after_stops, after_projection
 use Rattle.rx_event.specs.Moments.{is_projection}
 use Rattle.rx_event.specs.Notes.{told}
 use Rattle.rx_event.specs.Tree.{is_open}
+use Rattle.rx_slots.specs.declared.Entry.{Entry}
 use Rattle.rx_slots.specs.declared.Key.{Key}
 use Rattle.rx_slots.specs.Slots.{Slots, find}
 use Rattle.rx_tree.specs.declared.node.Node.{Node}
@@ -19,7 +20,10 @@ use Rattle.rx_tree.specs.Tree.{Tree, is_on}
 use Rattle.rx_flow.specs.declared.stop.Stop.{Stop}
 use Rattle.rx_flow.specs.declared.stop.Stop.TheVariants.{Delivery, Projection, Firing, Connection}
 use Rattle.rx_flow.specs.Claims.{numbered}
+use Rattle.rx_hub.specs.Hubs.{Hub}
+use Rattle.rx_hub.specs.Walk.{stops_over}
 use Rattle.rx_register.specs.State.{State as Register}
+use Rattle.rx_ground.specs.declared.base.Only.{Only}
 use Rattle.rx_ground.specs.declared.route.Reach.{Reach}
 use Rattle.rx_ground.specs.Ties.{HasKey, Remarks}
 
@@ -69,6 +73,14 @@ pub record IsMeasured (stops : List Stop) (reach : Reach) : Type 0 where
   pub events : reach.events ≡ 1 + sum_at owed_at stops
   pub notes : reach.notes ≡ sum_at told_at stops
   pub few : reach.notes ≤ 1048577
+
+-- the nodes at these slots
+abbrev pub nodes_at : List (Option (Entry Node)) → Slots Node
+nodes_at entries = record { entries = entries; next_slot = 0; count = 0; room = 0 }
+
+-- an item of this leaf makes this stop and no other
+pub record IsOnly (entries : List (Option (Entry Node))) (hubs : List Hub) (only : Only) : Type 0 where
+  pub one : stops_over (nodes_at entries) hubs only.leaf ≡ only.stop ∷ []
 
 -- the records of the open nodes, as they are marked after these stops of an item that is not yet written
 pub record ArePassed (base : Kept) (h : List Event) (done : List NumberedStop) (nodes : Slots Node) (chain : List Key) : Type 0 where

@@ -46,6 +46,7 @@ impl<R: Resource> Ground<R> {
             leases: Leases::new(alloc),
             closed: Vec::new(alloc),
             route: Route::new(alloc),
+            only: None,
         }
     }
 

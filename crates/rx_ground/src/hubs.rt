@@ -205,6 +205,7 @@ impl<R: Resource> Ground<R> {
         self.register.promise();
         let number = self.register.len();
         self.hubs.add(number, mode);
+        self.only = None;
         self.register.write(Event::Hub(mode));
         number
     }
@@ -239,6 +240,7 @@ impl<R: Resource> Ground<R> {
             unreachable!()
         };
         self.hubs.connect(hub, key);
+        self.only = None;
         self.register.write(made);
         key
     }

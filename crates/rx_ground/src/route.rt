@@ -1,7 +1,8 @@
 //! Where an item goes, and what it does on its way: up from its leaf, and from a connection on to each
 //! subscriber of its hub (Publish), the first one's climb before the second's.
 
-ghost use Rattle.std.specs.Prelude.{◌≡◌, ◌+◌, ◌<◌, ◌≤◌, ◌++◌, [], length, Some, None, is_some, nat_lt, IsSome, IfSome, IfOk, IfErr, OnOk};
+ghost use Rattle.std.specs.Prelude.{◌≡◌, ◌+◌, ◌<◌, ◌≤◌, ◌++◌, [], ◌∷◌, length, option_map, Some, None, is_some, nat_lt, IsSome, IfSome};
+ghost use Rattle.std.specs.Prelude.{IfOk, IfErr, OnOk, if◌then◌else◌};
 ghost use Rattle.std.specs.Option.{option_to_list};
 ghost use Rattle.std.proofs.Math.Bool.{not};
 ghost use Rattle.rx_event.specs.declared.event.Event.{Event};
@@ -12,6 +13,7 @@ ghost use Rattle.rx_event.specs.Marks.{after_projection, after_firing};
 ghost use Rattle.rx_event.specs.Notes.{mail_of};
 ghost use Rattle.rx_slots.specs.Slots.{find};
 ghost use Rattle.rx_tree.specs.Owed.{owed_in};
+ghost use Rattle.rx_tree.specs.Tree.{is_key};
 ghost use Rattle.rx_hub.specs.Route.{IsOrdered};
 ghost use Rattle.rx_hub.specs.Walk.{IsWalk, climb_over, stops_over};
 ghost use Rattle.rx_ground.specs.FirstCause.{first_at};
@@ -19,7 +21,7 @@ ghost use Rattle.rx_ground.specs.Ties.{AreRecords, IsStanding, Remarks};
 ghost use Rattle.rx_ground.specs.Passing.{owed_at, told_at, mail_at, IsThere, IsMarkedAt, IsMeasured, IsPassing};
 ghost use Rattle.rx_ground.specs.Reached.{IsReach};
 
-use crate::base::Ground;
+use crate::base::{Ground, Only};
 use rx_event::{Mail, Refusal};
 use rx_flow::Stop;
 use rx_hub::{Hubs, Route};
@@ -39,6 +41,13 @@ pub struct Reach {
     pub events: u64,
     /// How many notes: one for each time that it reaches a root, or a FlatMap or a Switch.
     pub notes: u64,
+}
+
+/// What an item wants, and its one stop where it makes just one.
+#[derive(Clone, Copy)]
+pub(crate) struct Counted {
+    pub(crate) reach: Reach,
+    pub(crate) only: Option<Stop>,
 }
 
 /// How many answers an item is owed that stops there.
@@ -61,27 +70,65 @@ fn told_at(stop: Stop) -> u64
     }
 }
 
-/// What an item of this node wants, by one walk of its way; None where it would make more visits than it
-/// may.
-fn measure<R: Resource>(tree: &Tree<R>, hubs: &Hubs, route: &mut Route, node: Key) -> Option<Reach>
+/// The stop, where it is the first of its way.
+fn if_first(is_first: bool, stop: Stop) -> Option<Stop>
+    ensures { result ≡ (if is_first then Some stop else None) }
+{
+    if is_first { Some(stop) } else { None }
+}
+
+/// What an item of this node wants, by one walk of its way, and its stop where it makes just one; None
+/// where it would make more visits than it may.
+fn measure<R: Resource>(
+    tree: &Tree<R>,
+    hubs: &Hubs,
+    route: &mut Route,
+    node: Key,
+) -> Option<Counted>
     requires open { IsSome (find tree.now.nodes node) }
     requires ordered { IsOrdered tree.now.nodes hubs.now.hubs }
     requires room { length hubs.now.hubs ≤ route.old.room }
-    ensures reach { IfSome result (IsMeasured (stops_over tree.now.nodes hubs.now.hubs node)) }
+    ensures reach { IfSome result (λ counted. IsMeasured (stops_over tree.now.nodes hubs.now.hubs node) counted.reach) }
+    ensures only { IfSome result (λ counted. IfSome counted.only (λ stop.
+        stops_over tree.now.nodes hubs.now.hubs node ≡ stop ∷ [])) }
     ensures visits { is_some result ≡ not (nat_lt most_visits (length (climb_over tree.now.nodes hubs.now.hubs node))) }
     ensures room { route.new.room ≡ route.old.room }
 {
     route.start(node);
     let mut events = 1;
     let mut notes = 0;
+    let mut is_first = true;
+    let mut only = None;
     while let Some(stop) = route.next(tree, hubs) {
         events += owed_at(stop);
         notes += told_at(stop);
+        only = if_first(is_first, stop);
+        is_first = false;
     }
     if route.visits() > MOST_VISITS {
         return None;
     }
-    Some(Reach { events, notes })
+    Some(Counted {
+        reach: Reach { events, notes },
+        only,
+    })
+}
+
+/// Whether two keys are one.
+fn is_same(a: Key, b: Key) -> bool
+    ensures { result ≡ is_key a b }
+{
+    a.slot == b.slot && a.number == b.number
+}
+
+/// The one stop of this leaf, where there is one.
+fn only_at(leaf: Key, stop: Option<Stop>) -> Option<Only>
+    ensures { result ≡ option_map (λ stop. record { leaf = leaf; stop = stop }) stop }
+{
+    match stop {
+        Some(stop) => Some(Only { leaf, stop }),
+        None => None,
+    }
 }
 
 /// Tells of an item at one of its stops: a root is told it, and a FlatMap or a Switch to project it.
@@ -146,7 +193,7 @@ fn mark_at<R: Resource>(tree: &mut Tree<R>, stop: Stop)
 }
 
 /// Takes an item its way: at each stop it tells who is to be told of it, and marks what it changes there.
-pub(crate) fn pass_on<R: Resource>(
+fn pass_on<R: Resource>(
     register: &mut Register,
     tree: &mut Tree<R>,
     hubs: &Hubs,
@@ -172,8 +219,76 @@ pub(crate) fn pass_on<R: Resource>(
     }
 }
 
+/// Takes an item its way that makes this stop and no other.
+fn pass_one<R: Resource>(
+    register: &mut Register,
+    tree: &mut Tree<R>,
+    hubs: &Hubs,
+    only: Stop,
+    leaf: Key,
+    value: i64,
+)
+    requires lawful { IsLawful register.old.base register.old.history }
+    requires walk { IsWalk register.old.base register.old.history tree.old.nodes hubs.now.hubs }
+    requires records { AreRecords register.old.base register.old.history tree.old.nodes tree.old.chain }
+    requires open { IsSome (find tree.old.nodes leaf) }
+    requires notes { length (mail_of register.old.history (Event.Item leaf.number value)) ≤ register.old.mail_room }
+    requires pending { register.old.pending ≡ [] }
+    requires only { stops_over tree.old.nodes hubs.now.hubs leaf ≡ only ∷ [] }
+    requires countable { owed_in tree.old.nodes ≤ 4503608216256510 }
+    ensures { IsPassing register.old tree.old leaf.number value register.new tree.new [] }
+{
+    let _ = hubs;
+    let _ = leaf;
+    tell_at(register, only, value);
+    mark_at(tree, only);
+}
+
+/// Takes an item its way, where it is known whether that has just one stop: then without a walk.
+pub(crate) fn pass<R: Resource>(
+    register: &mut Register,
+    tree: &mut Tree<R>,
+    hubs: &Hubs,
+    route: &mut Route,
+    only: Option<Stop>,
+    leaf: Key,
+    value: i64,
+)
+    requires lawful { IsLawful register.old.base register.old.history }
+    requires walk { IsWalk register.old.base register.old.history tree.old.nodes hubs.now.hubs }
+    requires records { AreRecords register.old.base register.old.history tree.old.nodes tree.old.chain }
+    requires open { IsSome (find tree.old.nodes leaf) }
+    requires notes { length (mail_of register.old.history (Event.Item leaf.number value)) ≤ register.old.mail_room }
+    requires pending { register.old.pending ≡ [] }
+    requires room { length hubs.now.hubs ≤ route.old.room }
+    requires only { IfSome only (λ stop. stops_over tree.old.nodes hubs.now.hubs leaf ≡ stop ∷ []) }
+    requires countable { owed_in tree.old.nodes ≤ 4503608216256510 }
+    ensures passed { IsPassing register.old tree.old leaf.number value register.new tree.new [] }
+    ensures room { route.new.room ≡ route.old.room }
+{
+    match only {
+        Some(stop) => pass_one(register, tree, hubs, stop, leaf, value),
+        None => pass_on(register, tree, hubs, route, leaf, value),
+    }
+}
+
 impl<R: Resource> Ground<R> {
-    /// What an item of this node wants; None where it would make more visits than it may.
+    /// The one stop of an item of this leaf, where it was measured last and makes just one.
+    pub(crate) fn only_of(&self, leaf: Key) -> Option<Stop>
+        ensures { IfSome result (λ stop. stops_over self.now.tree.nodes self.now.hubs.hubs leaf ≡ stop ∷ []) }
+    {
+        let Some(only) = self.only else {
+            return None;
+        };
+        if is_same(only.leaf, leaf) {
+            Some(only.stop)
+        } else {
+            None
+        }
+    }
+
+    /// What an item of this node wants; None where it would make more visits than it may. Where it makes just
+    /// one stop, that is kept.
     fn measured(&mut self, node: Key) -> Option<Reach>
         requires standing { IsStanding R.Resource self.old }
         requires open { IsSome (find self.old.tree.nodes node) }
@@ -183,7 +298,11 @@ impl<R: Resource> Ground<R> {
     {
         self.register.promise();
         self.tree.promise();
-        measure(&self.tree, &self.hubs, &mut self.route, node)
+        let Some(counted) = measure(&self.tree, &self.hubs, &mut self.route, node) else {
+            return None;
+        };
+        self.only = only_at(node, counted.only);
+        Some(counted.reach)
     }
 
     /// What an item of this leaf wants, or what stands first against it: `TooMany` counts the visits of its

@@ -19,7 +19,7 @@ ghost use Rattle.rx_hub.specs.After.{end_by};
 ghost use Rattle.rx_ground.specs.Memory.{TakesNoMemory};
 
 use crate::base::Ground;
-use crate::route::pass_on;
+use crate::route::pass;
 use rx_event::{Event, Mail, Terminal};
 use rx_hub::LastEnd;
 use rx_note::Note;
@@ -171,6 +171,7 @@ impl<R: Resource> Ground<R> {
             unreachable!()
         };
         self.tree.set_marks(merging, marks.after_decline());
+        self.only = None;
         self.register.write(Event::Decline(merging.number));
     }
 
@@ -193,14 +194,17 @@ impl<R: Resource> Ground<R> {
     {
         self.register.promise();
         self.tree.promise();
-        pass_on(
+        let only = self.only_of(leaf);
+        pass(
             &mut self.register,
             &mut self.tree,
             &self.hubs,
             &mut self.route,
+            only,
             leaf,
             value,
         );
+        self.only = None;
         self.register.write(Event::Item(leaf.number, value));
     }
 
@@ -223,6 +227,7 @@ impl<R: Resource> Ground<R> {
         self.tree.close_below(node, &mut self.closed);
         self.hubs.leave_closed(&self.closed, ended);
         self.closed.clear();
+        self.only = None;
     }
 
     /// Ends an open node, and closes all below it. Of a connection its hub keeps how it ended.
@@ -256,6 +261,7 @@ impl<R: Resource> Ground<R> {
         );
         let place = self.register.len();
         self.cut(node, Some(LastEnd { place, terminal }));
+        self.only = None;
         self.register.write(Event::End(node.number, terminal));
         self.tree.promise();
         mark_end(

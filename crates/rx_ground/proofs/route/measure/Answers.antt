@@ -1,6 +1,6 @@
 use Rattle.std.proofs.Common.{ap, ◌∙◌}
 use Rattle.rx_hub.specs.Route.{Route}
-use Rattle.rx_ground.proofs.Measuring.{measuring_starts, measuring_ends, visits_past, visits_within}
+use Rattle.rx_ground.proofs.Measuring.{measuring_starts, measuring_on, measuring_ends, measuring_only, visits_past, visits_within}
 use Rattle.rx_ground.proofs.route.measure.Goals as goal
 
 pub loop-stop-init : goal.loop-stop-init
@@ -13,11 +13,23 @@ pub returns-then-visits-gt-MOST_VISITS-clause-visits :
     goal.returns-then-visits-gt-MOST_VISITS-clause-visits
 returns-then-visits-gt-MOST_VISITS-clause-visits g c =
     let ends = measuring_ends c.args.tree.now.nodes c.args.hubs.now.hubs c.args.node c.args.route.now.room c.loop-stop.route c.next.new.self
-    c.loop-stop.events c.loop-stop.notes c.loop-stop.invariant c.in_default.ensures in
+    c.loop-stop.events c.loop-stop.notes c.loop-stop.is_first c.loop-stop.only c.loop-stop.invariant c.in_default.ensures in
     visits_past c.visits.result _ (c.visits.ensures ∙ ends.1) c.if-visits-gt-MOST_VISITS.true
 
 pub returns-clause-visits : goal.returns-clause-visits
 returns-clause-visits g c =
     let ends = measuring_ends c.args.tree.now.nodes c.args.hubs.now.hubs c.args.node c.args.route.now.room c.loop-stop.route c.next.new.self
-    c.loop-stop.events c.loop-stop.notes c.loop-stop.invariant c.in_default.ensures in
+    c.loop-stop.events c.loop-stop.notes c.loop-stop.is_first c.loop-stop.only c.loop-stop.invariant c.in_default.ensures in
     visits_within c.visits.result _ (c.visits.ensures ∙ ends.1) c.if-visits-gt-MOST_VISITS.false
+
+pub loop-stop-preserved : goal.loop-stop-preserved
+loop-stop-preserved g c =
+    measuring_on c.args.tree.now.nodes c.args.hubs.now.hubs c.args.node c.args.route.now.room c.loop-stop.route c.next.new.self c.in-Some.stop
+    c.loop-stop.events c.loop-stop.notes c.owed_at-events.result c.told_at-notes.result c.loop-stop.is_first c.loop-stop.only
+    c.loop-stop.invariant c.in-Some.ensures
+    c.owed_at-events.ensures c.told_at-notes.ensures c.if_first-only.result c.if_first-only.ensures
+
+pub returns-clause-only : goal.returns-clause-only
+returns-clause-only g c =
+    measuring_only c.args.tree.now.nodes c.args.hubs.now.hubs c.args.node c.args.route.now.room c.loop-stop.route c.next.new.self
+    c.loop-stop.events c.loop-stop.notes c.loop-stop.is_first c.loop-stop.only c.loop-stop.invariant c.in_default.ensures

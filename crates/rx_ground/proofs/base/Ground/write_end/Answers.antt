@@ -92,7 +92,7 @@ ended g c =
     rw (grown g c) all
 
 pub invariant_of-self-2 : goal.invariant_of-self-2
-invariant_of-self-2 g c = let count = (ended g c).3 in (c.self-2.invariant.0, (let room = c.self-2.invariant.1 in omega arith), c.self-2.invariant.2)
+invariant_of-self-2 g c = let count = (ended g c).3 in (c.self-2.invariant.0, (let room = c.self-2.invariant.1 in omega arith), c.self-2.invariant.2, tt)
 
 -- the hubs are left by what stands inside the node
 left_hubs : (g : Over) (c : goal.After-mark_end g) → c.self-2.inside.hubs ≡ left_inside c.self.inside.register.history c.args.node.number

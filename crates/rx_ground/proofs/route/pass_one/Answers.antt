@@ -1,0 +1,22 @@
+use Rattle.std.proofs.Common.{w64}
+use Rattle.std.proofs.lemmas.Int.{to_z-of_z}
+use Rattle.rx_ground.proofs.Passage.{one_there, one_room, one_passed}
+use Rattle.rx_ground.proofs.route.pass_one.Goals as goal
+
+pub tell_at-requires : goal.tell_at-requires
+tell_at-requires g c = record {
+  room = one_room c.args.register.now c.args.tree.now c.args.hubs.now.hubs c.args.leaf c.args.value c.requires.lawful c.requires.walk c.requires.records
+      c.requires.open c.args.only c.requires.only c.requires.notes;
+}
+
+pub mark_at-requires-clause-there : goal.mark_at-requires-clause-there
+mark_at-requires-clause-there g c κs within =
+    one_there c.args.register.now c.args.tree.now c.args.hubs.now.hubs c.args.leaf c.args.value c.requires.lawful c.requires.walk c.requires.records
+    c.requires.open c.args.only c.requires.only
+
+pub returns : goal.returns
+returns g c =
+    let told = rw (to_z-of_z w64 c.args.value c.ranges.value) at c.tell_at.ensures.told in
+    one_passed c.args.register.now c.args.tree.now c.args.hubs.now.hubs c.args.leaf c.args.value c.requires.lawful c.requires.walk c.requires.records
+    c.requires.open c.args.only c.requires.only c.tell_at.new.register c.mark_at.new.tree c.mark_at.ensures c.requires.pending
+    c.tell_at.ensures.same told c.tell_at.ensures.mail_room
