@@ -11,7 +11,8 @@ returns-in-Some-clause-linked g c =
 
 pub returns-in-Some-clause-rest : goal.returns-in-Some-clause-rest
 returns-in-Some-clause-rest g c =
-    rw c.set_children.ensures (relinks-Children c.args.self.now c.in-Children.slot c.args.link c.in-Some.linked.now (sym c.value_at_mut.ensures.value ∙ ap option_copied_mut c.in-Some.is))
+    rw c.set_children.ensures (relinks-Children c.args.self.now c.in-Children.slot c.args.link c.in-Some.linked.now
+    (sym c.value_at_mut.ensures.value ∙ ap option_copied_mut c.in-Some.is))
 
 pub returns-in-Some-value_at_mut-clause-linked : goal.returns-in-Some-value_at_mut-clause-linked
 returns-in-Some-value_at_mut-clause-linked g c =
