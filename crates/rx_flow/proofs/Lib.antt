@@ -1,5 +1,4 @@
 pub mod Laws
 mod Walked
-mod Stepped
 mod Chained
 mod Marked
