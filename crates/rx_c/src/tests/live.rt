@@ -60,21 +60,30 @@ impl Client {
 
     // With room for a part of the buffer alone.
     fn send_into(&mut self, line: &[u8], room: usize) -> u8 {
-        let alloc = self.alloc;
-        let buffer = &mut self.buffer[..room.min(256)];
-        rx_live_send(alloc, &mut self.handle, line, buffer, &mut self.told)
+        let (mut buffer, mut told) = (self.buffer, self.told);
+        let part = &mut buffer[..room.min(256)];
+        let status = rx_live_send(self.alloc, &mut self.handle, line, part, &mut told);
+        self.buffer = buffer;
+        self.told = told;
+        status
     }
 
     fn read(&mut self, room: usize) -> u8 {
-        let alloc = self.alloc;
-        let buffer = &mut self.buffer[..room.min(256)];
-        rx_live_read(alloc, &mut self.handle, buffer, &mut self.told)
+        let (mut buffer, mut told) = (self.buffer, self.told);
+        let part = &mut buffer[..room.min(256)];
+        let status = rx_live_read(self.alloc, &mut self.handle, part, &mut told);
+        self.buffer = buffer;
+        self.told = told;
+        status
     }
 
     fn end(&mut self, room: usize) -> u8 {
-        let alloc = self.alloc;
-        let buffer = &mut self.buffer[..room.min(256)];
-        rx_live_end(alloc, &mut self.handle, buffer, &mut self.told)
+        let (mut buffer, mut told) = (self.buffer, self.told);
+        let part = &mut buffer[..room.min(256)];
+        let status = rx_live_end(self.alloc, &mut self.handle, part, &mut told);
+        self.buffer = buffer;
+        self.told = told;
+        status
     }
 
     fn says(&self, text: &str) -> bool {
