@@ -5,7 +5,6 @@ use crate::handle::Handle;
 use crate::{rx_live_drop, rx_live_end, rx_live_new, rx_live_read, rx_live_send};
 use rx_scarce::{MOST_BLOCKS, Scarce};
 use std::alloc::Global;
-use std::test::Fail;
 
 const USING: &[u8] = b"{\"do\":\"using\",\"name\":\"a\",\"place\":\"root\",\"res\":\"r\"}";
 
@@ -210,20 +209,26 @@ fn done_in_the_end(client: &mut Client, asking: Asking, scarce: &mut Scarce) -> 
     None
 }
 
-// Makes a book, subscribes and ends, each with no memory left at first; answers whether each was refused at
-// first, and at last answered as with memory.
-fn are_done_in_the_end(client: &mut Client, scarce: &mut Scarce) -> bool {
+// Asks with no memory left at first; answers whether it was refused then, and at last answered as with memory.
+fn is_done_in_the_end(client: &mut Client, asking: Asking, answer: &str) -> bool {
+    let Ok(mut scarce) = Scarce::new(client.alloc) else {
+        return false;
+    };
+    match done_in_the_end(client, asking, &mut scarce) {
+        Some(refusals) => 0 < refusals && (answer.is_empty() || client.says(answer)),
+        None => false,
+    }
+}
+
+// Makes a book, subscribes and ends, each so.
+fn are_done_in_the_end(client: &mut Client) -> bool {
     for (asking, answer) in [
         (Asking::Make, ""),
         (Asking::Send(USING), "{\"ok\":0}"),
         (Asking::Send(OPEN), "{\"ok\":2}"),
         (Asking::End, CLOSED),
     ] {
-        match done_in_the_end(client, asking, scarce) {
-            Some(refusals) if 0 < refusals => {}
-            _ => return false,
-        }
-        if !answer.is_empty() && !client.says(answer) {
+        if !is_done_in_the_end(client, asking, answer) {
             return false;
         }
     }
@@ -231,11 +236,9 @@ fn are_done_in_the_end(client: &mut Client, scarce: &mut Scarce) -> bool {
 }
 
 #[test]
-fn a_call_that_is_refused_memory_did_nothing(rt: HostRuntime) -> Result<(), Fail> {
-    let mut scarce = Scarce::new(rt.alloc())?;
+fn a_call_that_is_refused_memory_did_nothing(rt: HostRuntime) {
     let mut client = Client::new(rt.alloc());
-    let are_done = are_done_in_the_end(&mut client, &mut scarce);
+    let are_done = are_done_in_the_end(&mut client);
     assert!(rt; client.close());
     assert!(rt; are_done);
-    Ok(())
 }
