@@ -1,7 +1,7 @@
-/* The audit of a dump and the run of a scenario, as the library rx offers them: text in, text out.
+/* The library rx: the audit of a dump, the run of a scenario, and a live book behind a handle. Text in, text out.
  *
- * Each call reads `length` bytes at its first pointer, writes its answer to the front of `buffer`, which
- * has room for `capacity` bytes, and answers a status. docs/C.md tells what a caller has to see to. */
+ * A call that takes a text reads `length` bytes at its pointer; one that answers a text writes it to the front of
+ * `buffer`, which has room for `capacity` bytes. Each answers a status. docs/C.md tells what a caller has to see to. */
 #ifndef RX_H
 #define RX_H
 
@@ -14,6 +14,8 @@
 #ifdef __cplusplus
 extern "C" {
 #endif
+
+/* The audit and the run ------------------------------------------------------------------------------------ */
 
 enum rx_status {
   /* The run is done, or the verdict is `lawful`: *told bytes of text are in the buffer. */
@@ -37,6 +39,52 @@ uint8_t rx_run(const uint8_t *scenario, size_t length, uint8_t *buffer, size_t c
 
 /* Runs a scenario and writes the dump of its history, as `rxbook run --dump` does. */
 uint8_t rx_run_dump(const uint8_t *scenario, size_t length, uint8_t *buffer, size_t capacity, size_t *told);
+
+/* A live book ---------------------------------------------------------------------------------------------- */
+
+/* A handle, which keeps a live book or nothing: `struct rx_live book = {0};`. It is zeros before the first call
+ * on it, and the library's from then on. It is never copied, since two copies would own one book; it may be moved
+ * while no call runs. One call at a time is made on it. */
+struct rx_live {
+  void *at; /* neither read nor written by the caller */
+};
+
+enum rx_live_status {
+  /* Done. Where there is a buffer, *told bytes of text are at its front. */
+  RX_LIVE_DONE = 0,
+  /* Done, but the buffer is too small for the answer, and is as it was. The answer waits: rx_live_read hands it
+   * out into a buffer of *told bytes. The line was taken, and is not to be sent again. */
+  RX_LIVE_TOO_SMALL = 1,
+  /* The handle keeps nothing. Nothing was done, and *told is 0. */
+  RX_LIVE_NOTHING_KEPT = 2,
+  /* An answer of *told bytes waits for rx_live_read. Nothing was done. */
+  RX_LIVE_ANSWER_WAITS = 3,
+  /* Memory was refused. No line was taken, nothing was made or ended, and *told is 0; the same call may be made again. */
+  RX_LIVE_OUT_OF_MEMORY = 4,
+  /* The handle keeps something already. Nothing was done. */
+  RX_LIVE_HELD = 5,
+  /* No answer waits. Nothing was done, and *told is 0. */
+  RX_LIVE_NOTHING_WAITS = 6
+};
+
+/* Makes a live book in a handle that keeps nothing: 0, 4 or 5. Its history may have `max_events`. */
+uint8_t rx_live_new(struct rx_live *book, uint32_t max_events);
+
+/* Sends a line, which is a command as the program rxlive takes them, without a newline, and writes its answer: 0 to
+ * 4. With 0 and 1 the line was taken, with any other status it was not; with 4 the book may have made a checkpoint. */
+uint8_t rx_live_send(struct rx_live *book, const uint8_t *line, size_t length, uint8_t *buffer, size_t capacity,
+                     size_t *told);
+
+/* Writes the answer that waits: 0, 1, 2 or 6. After the last answer of a book its handle keeps nothing. */
+uint8_t rx_live_read(struct rx_live *book, uint8_t *buffer, size_t capacity, size_t *told);
+
+/* Closes all, and writes the last answer, which names what is left to release: 0 to 4. With 0 the handle keeps
+ * nothing, and with 1 only that answer. */
+uint8_t rx_live_end(struct rx_live *book, uint8_t *buffer, size_t capacity, size_t *told);
+
+/* Gives back the memory of what the handle keeps, whatever that is, and leaves it keeping nothing; it cannot fail.
+ * Nothing is told: what rx_live_end would have named, and an answer that waits, are lost. */
+void rx_live_drop(struct rx_live *book);
 
 #ifdef __cplusplus
 }

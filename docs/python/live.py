@@ -4,22 +4,19 @@
         book.using("log", print, open("log.txt").close)
         book.send("dispose", node="log")
 """
-import contextlib
-import json
-import subprocess
-import threading
+import contextlib, json, threading
+from subprocess import PIPE, Popen
 
 
 class Refused(Exception):
     """The book refuses the line, or calls it faulty; nothing has changed."""
 
 
-class Book:
+class Book(contextlib.AbstractContextManager):
     def __init__(self, program):
-        self._child = subprocess.Popen(program, stdin=subprocess.PIPE, stdout=subprocess.PIPE, encoding="ascii")
+        self._child = program and Popen(program, stdin=PIPE, stdout=PIPE, encoding="ascii")
         self._lock = threading.Lock()
-        self._held = {}  # by the names of resources, what releases each
-        self._observers = {}  # by the names of nodes, who is told
+        self._held, self._observers = {}, {}  # by the names of resources what releases each, of nodes who is told
 
     def send(self, do, **members):
         """One command. What it makes due is done here, in its order: observers are told, then resources released."""
@@ -31,30 +28,33 @@ class Book:
         return self._ask(line, observer, release)
 
     def _ask(self, line, observer, release):
-        with self._lock:
-            self._child.stdin.write(json.dumps(line) + "\n")
-            self._child.stdin.flush()
-            answer = json.loads(self._child.stdout.readline())
-            if "ok" in answer and line["do"] == "using":
-                self._held[line["res"]], self._observers[line["name"]] = release, observer
-            due = self._due(answer)
-        with due:
+        with contextlib.ExitStack() as due:  # the last one first, and all of them even where one fails
+            due.callback(release)
+            with self._lock:
+                answer = json.loads(self._answer(json.dumps(line)))
+                if "ok" in answer and line["do"] == "using":
+                    self._held[line["res"]], self._observers[line["name"]] = due.pop_all().close, observer
+                due.push(self._due(answer))
             if "ok" not in answer:
-                due.callback(release)
                 raise Refused(answer.get("refused") or answer["faulty"])
         return answer
 
     def _due(self, answer):
-        calls = [self._held.pop(name, lambda: None) for name in reversed(answer.get("release", ()))]
+        due = contextlib.ExitStack()
+        for name in reversed(answer.get("release", ())):
+            due.callback(self._held.pop(name, lambda: None))
         for note in reversed(answer.get("notes", ())):
-            calls.append(lambda note=note, tell=self._observers.get(note["to"]): tell and tell(note))
-        due = contextlib.ExitStack()  # the last one first, and all of them even where one fails
-        for call in calls:
-            due.callback(call)
+            due.callback(self._observers.get(note["to"]) or (lambda _: None), note)
         return due
 
-    def __enter__(self):
-        return self
-
     def __exit__(self, *_):
-        self._due(json.loads(self._child.communicate()[0].splitlines()[-1])).close()
+        with self._lock:
+            due = self._due({"release": list(self._held), **json.loads(self._end())})
+        due.close()
+
+    def _answer(self, line):
+        print(line, file=self._child.stdin, flush=True)
+        return self._child.stdout.readline() or '{"faulty":"the book is gone"}'
+
+    def _end(self):
+        return ["{}", *self._child.communicate()[0].splitlines()][-1]

@@ -1,12 +1,15 @@
 """Four threads read a file each through one live book; one of them fails. No file stays open.
 
 Run as `python3 live_example.py PROGRAM ..`, where the words are those that start a live book: ./rxbook live
+Without any word the book is in this process, by the shared library.
 """
 import sys
 import tempfile
 import threading
 
-from live import Book, Refused
+import live
+import live_ctypes
+from live import Refused
 
 FAILS = 2
 files = []
@@ -36,7 +39,7 @@ def run(book, number):
 
 
 def main():
-    with Book(sys.argv[1:]) as book:
+    with live.Book(sys.argv[1:]) if sys.argv[1:] else live_ctypes.Book() as book:
         threads = [threading.Thread(target=run, args=(book, number)) for number in range(4)]
         for thread in threads:
             thread.start()

@@ -13,10 +13,14 @@ pub record IsTooLong (text buffer buffer' : List ℕ) (told : ℕ) : Type 0 wher
   pub kept : buffer' ≡ buffer
   pub count : told ≡ length text
 
--- there is no text, the buffer stays, and 0 is told
-pub record IsSilent (buffer buffer' : List ℕ) (told : ℕ) : Type 0 where
+-- the buffer stays, and a number is told
+pub record IsUntouched (number : ℕ) (buffer buffer' : List ℕ) (told : ℕ) : Type 0 where
   pub kept : buffer' ≡ buffer
-  pub count : told ≡ 0
+  pub count : told ≡ number
+
+-- there is no text, the buffer stays, and 0 is told
+abbrev pub IsSilent : (buffer buffer' : List ℕ) → (told : ℕ) → Type 0
+IsSilent buffer buffer' told = IsUntouched 0 buffer buffer' told
 
 -- a call is answered, by a text with a status of its own, or by a fault: the buffer is too small (1), the input
 -- says nothing of the kind (3), or memory was refused (4)

@@ -1,4 +1,8 @@
 pub mod Answers
 pub mod Audited
-pub mod Ran
+pub mod Calls
+pub mod Courses
 pub mod Handing
+pub mod Ownership
+pub mod Ran
+pub mod Stages

@@ -1,9 +1,23 @@
 //! How an outcome is handed out: its text and its status.
 
-ghost use Rattle.std.specs.Prelude.{◌≡◌};
+ghost use Rattle.std.specs.Prelude.{◌≡◌, true, false};
+ghost use Rattle.rx_c.specs.Answers.{IsGiven, IsTooLong};
 ghost use Rattle.rx_c.specs.Handing.{IsHandedOut, fault_status};
 
 use rx_device::ScriptError;
+
+/// Hands the text out if it fits: to the front of `buffer`. Its length is told in either case.
+pub fn fits(text: &[u8], buffer: &mut [u8], told: &mut usize) -> bool
+    ensures given { result ≡ true → IsGiven text.now buffer.old buffer.new told.new }
+    ensures too_long { result ≡ false → IsTooLong text.now buffer.old buffer.new told.new }
+{
+    *told = text.len();
+    if text.len() > buffer.len() {
+        return false;
+    }
+    buffer[..text.len()].copy_from_slice(text);
+    true
+}
 
 // The status of a fault: as the program has it of faulty input and of memory that was refused. A text
 // that is read from memory and written to it meets no other fault, so that 1 is left to a small buffer.
@@ -32,10 +46,5 @@ pub fn hand_out(
         Ok(status) => status,
         Err(error) => return fault_status(&error),
     };
-    *told = text.len();
-    if text.len() > buffer.len() {
-        return 1;
-    }
-    buffer[..text.len()].copy_from_slice(text);
-    status
+    if fits(text, buffer, told) { status } else { 1 }
 }

@@ -1,7 +1,7 @@
-//! The audit of a dump and the run of a scenario, for C: text in, text out.
+//! For C: the audit of a dump, the run of a scenario, and a live book behind a handle. Text in, text out.
 //!
 //! A call takes a text as a pointer and a length, writes its answer to the front of the caller's buffer,
-//! and answers a status, as the program `rxbook` does:
+//! and answers a status. Those of the audit and the run are as the program `rxbook` has them:
 //!
 //! | Status | Of an audit | Of a run |
 //! |---|---|---|
@@ -15,22 +15,55 @@
 //! what is told is the length that the buffer needs, which is more than it has. With 3 and 4 nothing is
 //! written, and 0 is told.
 //!
+//! A call on a live book takes a handle, which keeps a book or nothing:
+//!
+//! | Status | Meaning |
+//! |---|---|
+//! | 0 | done |
+//! | 1 | done, but the buffer is too small: the answer waits in the handle, and its length is told |
+//! | 2 | the handle keeps nothing, and nothing was done |
+//! | 3 | an answer waits, its length is told, and nothing was done |
+//! | 4 | memory was refused: no line was taken, and nothing was made or ended |
+//! | 5 | the handle keeps something already, and nothing was done |
+//! | 6 | no answer waits |
+//!
+//! A line is taken at most once: with 0 or 1 it was, with any other status it was not. Its answer is handed
+//! out by that call or, where it waits, by `rx_live_read`.
+//!
 //! # Promised, and not
 //!
-//! - Each answer is one line of `Answers` (`specs/`): the text is the verdict on the history of which the
-//!   input is a dump, or what `rx_script` says of a scenario, and a status comes only for its cause.
+//! - Each answer of an audit or a run is one line of `Answers` (`specs/`): the text is the verdict on the
+//!   history of which the input is a dump, or what `rx_script` says of a scenario, and a status comes only for
+//!   its cause.
 //! - Which resources of the stock answer their release with a fault is proved of the stock; that a report
 //!   counts them is tested.
-//! - No pointer is kept: all that a call uses is the caller's, or given back before it answers.
+//! - Each call on a live book is one line of `Calls` (`specs/`): what the handle keeps before and after it, as
+//!   `rx_live` promises of its book, and the answer, where it stands or waits.
+//! - Of all calls on one handle, from a new book to its end: the texts that were handed out are the answers to
+//!   the lines that were taken, in order and each once, and each resource's name is released once
+//!   ([`answers_are_handed_out_once`]).
+//! - A handle owns what it keeps. Otherwise no pointer is kept: all that a call uses is the caller's, or given
+//!   back before it answers.
+//! - That a call gives back what the handle no longer keeps, and that 4 comes for want of memory alone, is
+//!   tested and not proved.
 //! - What a C caller must see to is in docs/C.md: no clause can say it.
 #![tactic(auto)]
 
 mod audit;
 mod handing;
+mod handle;
+mod kept;
+mod laws;
+mod live;
+mod loose;
 mod running;
+mod status;
 mod stock;
 #[cfg(test)]
 mod tests;
 
 pub use audit::rx_audit;
+pub use handle::Handle;
+pub use laws::answers_are_handed_out_once;
+pub use live::{rx_live_drop, rx_live_end, rx_live_new, rx_live_read, rx_live_send};
 pub use running::{rx_run, rx_run_dump};

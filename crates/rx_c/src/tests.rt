@@ -1,6 +1,8 @@
 //! What no clause says: that each call can succeed, with the texts of a worked example, and that a fault
 //! of the stock is told.
 
+mod live;
+
 use crate::{rx_audit, rx_run, rx_run_dump};
 use std::test::Fail;
 
@@ -24,7 +26,7 @@ const FIRST_VERDICT: &str = "lawful\nlive:\nheld:\nwaiting:\n";
 const DISPOSED_TWICE: &str = "[[\"open\",\"root\",\"leaf\"],[\"close\",0],[\"close\",0]]";
 
 // Whether the text is the front of the buffer that was told.
-fn holds(buffer: &[u8], told: usize, text: &str) -> bool {
+pub(super) fn holds(buffer: &[u8], told: usize, text: &str) -> bool {
     match buffer.get(..told) {
         Some(front) => front == text.as_bytes(),
         None => false,

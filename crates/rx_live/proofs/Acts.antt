@@ -16,7 +16,7 @@ use Rattle.rx_live.specs.Given.{IsAlike, Gives, NamesOne, BindsHub}
 use Rattle.rx_live.specs.Promise.{Act, released, with_held, Leads, no_act, hands_in, IsKept}
 use Rattle.rx_live.specs.Lines.{Runs, handed_by, IsCarried, Ends, GoesOn, no_line, one_line, IsFresh}
 use Rattle.rx_live.proofs.Binding.{or_false, alike_same}
-use Rattle.rx_live.proofs.Drops.{leads_on, leads_same}
+use Rattle.rx_live.proofs.Laws.Held.{leads_on, leads_same, alike_held, fresh_held}
 use Rattle.rx_live.proofs.Renewed.{refused_same}
 
 -- what an accepted command says -----------------------------------------------------------------------
@@ -38,9 +38,6 @@ went old new (Some call) carries = carries.1
 
 same_held : (old new : Session) → new.resources ≡ old.resources → new.unnamed ≡ old.unnamed → (n : Name) → has_resource new n ≡ has_resource old n
 same_held old new resources unnamed n = λ i. is_some (spot_of (resources i) n) || option_map_or (bytes_eq n) (unnamed i) false
-
-pub alike_held : (old new : Session) → IsAlike old new → (n : Name) → has_resource new n ≡ has_resource old n
-alike_held old new alike n = λ i. is_some (alike.resources.spots n i) || option_map_or (bytes_eq n) (alike.unnamed i) false
 
 one_held : (old new : Session) (name : Name) (number : ℕ) → NamesOne old.resources name number new.resources → new.unnamed ≡ old.unnamed →
     (n : Name) → has_resource new n ≡ with_held true name (has_resource old) n
@@ -103,9 +100,6 @@ carried_leads old new c text acts carried =
 pub goes_leads : {old last : Session} {acts : List Act} → GoesOn old acts last → Leads (has_resource old) acts (has_resource last)
 goes_leads no_line = no_act (λ n. refl)
 goes_leads (one_line line text new sent rest) = leads_on sent.leads (goes_leads rest)
-
-fresh_held : (s : Session) → IsFresh s → (n : Name) → has_resource s n ≡ false
-fresh_held s fresh n = λ i. is_some (fresh.resources.0 n i) || option_map_or (bytes_eq n) (fresh.unnamed i) false
 
 -- every name that is handed in is released once, to the last line
 pub session_kept : (first last new : Session) (acts : List Act) (text : List ℕ) → IsFresh first → GoesOn first acts last → (ends : Ends last text new) → IsKept (acts ++ map released ends.names)

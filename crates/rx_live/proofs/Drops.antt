@@ -23,9 +23,10 @@ use Rattle.rx_line.specs.declared.names.Names.{Names}
 use Rattle.rx_line.specs.Names.{spot_of, name_of, IsPaired, Forgets}
 use Rattle.rx_line.specs.Pieces.{name_text, joined}
 use Rattle.rx_live.specs.Session.{Session, IsSound, is_kept, has_resource}
-use Rattle.rx_live.specs.Promise.{Act, released, Leads, no_act, hands_in, releases}
+use Rattle.rx_live.specs.Promise.{Act, released, Leads, no_act, releases}
 use Rattle.rx_live.specs.Answers.{Takes, none_taken, one_taken, WritesNames}
 use Rattle.rx_live.specs.Steps.{TakesName, DropsName, WritesName, WritesNoName, AreNamesWritten}
+use Rattle.rx_live.proofs.Laws.Held.{leads_on}
 use Rattle.rx_live.proofs.Remaining.{kept_taken, out_same}
 use Rattle.rx_live.proofs.Soundness.{accepted_longer}
 use Rattle.rx_live.proofs.Binding.{placed_longer, some_gone}
@@ -176,14 +177,6 @@ wrote_no_name s new begun same none =
     subst (λ (t : Session). WritesNoName s begun t begun) (sym same) (record { held = λ n. refl; takes = none_taken; all = λ told. none; rest = refl; written = refl })
 
 -- many ------------------------------------------------------------------------------------------------
-
-pub leads_same : (a b c : Name → Bool) (acts : List Act) → ((n : Name) → b n ≡ a n) → Leads b acts c → Leads a acts c
-leads_same a b c acts same leads = subst (λ (held : Name → Bool). Leads held acts c) (λ i n. same n i) leads
-
-pub leads_on : {a b c : Name → Bool} {xs ys : List Act} → Leads a xs b → Leads b ys c → Leads a (xs ++ ys) c
-leads_on {a} {b} {c} {xs} {ys} (no_act same) q = leads_same a b c ys same q
-leads_on (hands_in name free rest) q = hands_in name free (leads_on rest q)
-leads_on (releases name was rest) q = releases name was (leads_on rest q)
 
 takes_on : {a b c : State} → Takes a b → Takes b c → Takes a c
 takes_on p none_taken = p

@@ -1,3 +1,4 @@
+pub mod Laws
 pub mod Remaining
 pub mod Soundness
 pub mod Binding

@@ -17,7 +17,8 @@ use Rattle.rx_live.specs.Promise.{Act, released, with_held, Leads, no_act, relea
 use Rattle.rx_live.specs.Listed.{names_below, all_names, is_nil, led_text, open_text}
 use Rattle.rx_live.proofs.Remaining.{kept_past}
 use Rattle.rx_live.proofs.Tellings.{joined_more}
-use Rattle.rx_live.proofs.Drops.{leads_on, leads_same, dropped_unnamed, or_none}
+use Rattle.rx_live.proofs.Laws.Held.{leads_on, leads_same}
+use Rattle.rx_live.proofs.Drops.{dropped_unnamed, or_none}
 
 -- text -----------------------------------------------------------------------------------------------
 

@@ -1,12 +1,8 @@
 -- What a line's answer says of the session.
-use Rattle.std.proofs.Common.{◌≡◌, ℕ, false, List, [], ◌++◌, codes, length, map, Option, Some, None, Result, Ok, Err, refl, ap, ◌∙◌, subst, String, Global, string_bytes}
+use Rattle.std.proofs.Common.{◌≡◌, ℕ, List, [], ◌++◌, codes, length, map, Option, Some, None, Result, Ok, Err, refl, ap, ◌∙◌, subst, String, Global, string_bytes}
 use Rattle.std.specs.Prelude.{IfOk, IfSome, is_some}
-use Rattle.std.proofs.Math.Bool.{◌||◌}
-use Rattle.std.specs.Str.{bytes_eq}
-use Rattle.std.specs.Option.{option_map_or}
 use Rattle.std.specs.declared.alloc.AllocError.{AllocError}
 use Rattle.rx_scenario.specs.Scenario.{Name, Command}
-use Rattle.rx_line.specs.Names.{spot_of}
 use Rattle.rx_line.specs.Orders.{command, list, dump, IsOrderOf, IsFaulty}
 use Rattle.rx_line.specs.Pieces.{ok_text, refused_text, faulty_text, name_text, member_text}
 use Rattle.rx_line.specs.declared.outcome.Cause.{Cause}
@@ -20,9 +16,9 @@ use Rattle.rx_live.specs.Renewals.{Renews, as_it_was, renewed, IsFullByOpen}
 use Rattle.rx_live.specs.Dumps.{dump_text}
 use Rattle.rx_live.specs.Lines.{Runs, handed_by, TellsAll, CarriesOut, refuses, carries, is_faulty, is_refused, is_carried, is_listed, is_dumped, Sends, Ends, IsClosed}
 use Rattle.rx_live.specs.Taken.{Answered}
-use Rattle.rx_live.proofs.Drops.{leads_same}
+use Rattle.rx_live.proofs.Laws.Held.{leads_same, alike_held, renewed_held}
 use Rattle.rx_live.proofs.Binding.{alike_same}
-use Rattle.rx_live.proofs.Acts.{alike_held, carried_leads, refused_alike}
+use Rattle.rx_live.proofs.Acts.{carried_leads, refused_alike}
 use Rattle.rx_live.proofs.Listings.{leads_all}
 
 -- a command that is carried out
@@ -60,11 +56,6 @@ answered_faulty old line told text faulty is = record { acts = []; answer = is_f
 pub sent_first : (old new : Session) (line text : List ℕ) → Answered old line text new → IsSound new → Sends old line text new
 sent_first old new line text answered sound =
     record { aged = old; ages = as_it_was; acts = answered.acts; answer = answered.answer; leads = answered.leads; sound = sound }
-
-renewed_held : (old mid aged : Session) → IsAlike old mid → Renews mid aged → (n : Name) → has_resource aged n ≡ has_resource old n
-renewed_held old mid aged alike renews n =
-    (λ i. is_some (spot_of (ap (λ (s : Session). s.resources) renews.rest i) n) || option_map_or (bytes_eq n) (ap (λ (s : Session). s.unnamed) renews.rest i) false)
-    ∙ alike_held old mid alike n
 
 pub sent_again : (old mid aged new : Session) (line text : List ℕ) → IsAlike old mid → Renews mid aged → Answered aged line text new → IsSound new → Sends old line text new
 sent_again old mid aged new line text alike renews answered sound =

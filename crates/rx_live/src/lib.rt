@@ -37,7 +37,6 @@ mod closing;
 mod dumping;
 mod engine;
 mod holding;
-mod laws;
 mod lines;
 mod listing;
 mod live;
@@ -46,8 +45,9 @@ mod renewing;
 mod running;
 mod sending;
 mod telling;
+mod theorems;
 mod token;
 
-pub use laws::{names_are_released_once, notes_are_told_in_order};
 pub use live::Live;
 pub use rx_line::faulty_text;
+pub use theorems::{names_are_released_once, notes_are_told_in_order};

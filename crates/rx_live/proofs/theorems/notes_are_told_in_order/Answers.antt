@@ -1,5 +1,5 @@
 use Rattle.rx_live.proofs.Noted.{session_told}
-use Rattle.rx_live.proofs.laws.notes_are_told_in_order.Goals as goal
+use Rattle.rx_live.proofs.theorems.notes_are_told_in_order.Goals as goal
 
 pub returns : goal.returns
 returns c = session_told

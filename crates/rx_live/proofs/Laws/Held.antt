@@ -1,0 +1,43 @@
+-- Which names are held, along acts and from session to session.
+use Rattle.std.proofs.Common.{◌≡◌, Bool, false, List, ◌++◌, refl, ap, ◌∙◌, subst}
+use Rattle.std.specs.Prelude.{is_some}
+use Rattle.std.proofs.Math.Bool.{◌||◌}
+use Rattle.std.specs.Str.{bytes_eq}
+use Rattle.std.specs.Option.{option_map_or}
+use Rattle.rx_scenario.specs.Scenario.{Name}
+use Rattle.rx_line.specs.Names.{spot_of}
+use Rattle.rx_live.specs.Session.{Session, has_resource}
+use Rattle.rx_live.specs.Given.{IsAlike}
+use Rattle.rx_live.specs.Renewals.{Renews, IsAged, as_it_was, renewed, IsPutOff}
+use Rattle.rx_live.specs.Promise.{Act, Leads, no_act, hands_in, releases}
+use Rattle.rx_live.specs.Lines.{IsFresh}
+
+-- acts ------------------------------------------------------------------------------------------------
+
+pub leads_same : (a b c : Name → Bool) (acts : List Act) → ((n : Name) → b n ≡ a n) → Leads b acts c → Leads a acts c
+leads_same a b c acts same leads = subst (λ (held : Name → Bool). Leads held acts c) (λ i n. same n i) leads
+
+pub leads_on : {a b c : Name → Bool} {xs ys : List Act} → Leads a xs b → Leads b ys c → Leads a (xs ++ ys) c
+leads_on {a} {b} {c} {xs} {ys} (no_act same) q = leads_same a b c ys same q
+leads_on (hands_in name free rest) q = hands_in name free (leads_on rest q)
+leads_on (releases name was rest) q = releases name was (leads_on rest q)
+
+-- sessions --------------------------------------------------------------------------------------------
+
+pub alike_held : (old new : Session) → IsAlike old new → (n : Name) → has_resource new n ≡ has_resource old n
+alike_held old new alike n = λ i. is_some (alike.resources.spots n i) || option_map_or (bytes_eq n) (alike.unnamed i) false
+
+pub renewed_held : (old mid aged : Session) → IsAlike old mid → Renews mid aged → (n : Name) → has_resource aged n ≡ has_resource old n
+renewed_held old mid aged alike renews n =
+    (λ i. is_some (spot_of (ap (λ (s : Session). s.resources) renews.rest i) n) || option_map_or (bytes_eq n) (ap (λ (s : Session). s.unnamed) renews.rest i) false)
+    ∙ alike_held old mid alike n
+
+pub aged_held : {old aged : Session} → IsAged old aged → (n : Name) → has_resource aged n ≡ has_resource old n
+aged_held as_it_was n = refl
+aged_held {old} {aged} (renewed mid alike renews) n = renewed_held old mid aged alike renews n
+
+pub put_off_held : (old new : Session) → IsPutOff old new → (n : Name) → has_resource new n ≡ has_resource old n
+put_off_held old new off n = alike_held off.aged new off.alike n ∙ aged_held off.ages n
+
+pub fresh_held : (s : Session) → IsFresh s → (n : Name) → has_resource s n ≡ false
+fresh_held s fresh n = λ i. is_some (fresh.resources.0 n i) || option_map_or (bytes_eq n) (fresh.unnamed i) false
