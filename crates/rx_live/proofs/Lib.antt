@@ -1,4 +1,5 @@
 pub mod Remaining
+pub mod Older
 pub mod Soundness
 pub mod Binding
 pub mod Opened

@@ -14,4 +14,5 @@ sound_of s kept tied = record {
   resources = tied.resources;
   leases = tied.leases;
   unnamed = tied.unnamed;
+  past = tied.past;
 }

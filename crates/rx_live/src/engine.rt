@@ -4,10 +4,10 @@ ghost use Rattle.std.specs.Prelude.{◌≡◌, ◌≤◌};
 ghost use Rattle.rx_live.specs.Lines.{IsFresh};
 ghost use Rattle.rx_live.specs.Session.{session_of, node_of, resource_of, lease_of, hub_of, has_resource, IsSound};
 
-use crate::listing::Past;
 use crate::token::Token;
 use rx_book::{Book, Key, LeaseKey, Mail, ResKey};
 use rx_line::Names;
+use rx_listing::Past;
 use std::alloc::Global;
 
 /// A book, and the names of its nodes, of its hubs, of its resources and of its leases.
@@ -23,7 +23,7 @@ pub struct Engine {
     pub untold: Option<Mail>,
     /// The name of a resource that was taken from the book and is still to be told.
     pub unnamed: Option<String>,
-    /// What `list` tells of the events before the last checkpoint. No contract speaks of it.
+    /// What is known of the events before the last checkpoint.
     pub past: Past,
 }
 

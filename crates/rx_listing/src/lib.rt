@@ -1,0 +1,35 @@
+//! What a book holds, as text: its open nodes, its resources and leases and its hubs, under their names.
+//!
+//! # Vocabulary
+//!
+//! - [`Known`] is what is known beside the book: what its numbers are called, and its [`Past`], which has what
+//!   is told of the events before its last checkpoint.
+//! - An **object** is what is said of one number; a **part** of the text has the objects of one kind, by rising
+//!   number.
+//!
+//! # Promised, and not
+//!
+//! - [`list_text`] is the text of `specs/Listed.antt`: of each open node that has a name its kind, its place and
+//!   what it is below; of each named resource its node and its uses; of each lease its resource; of each hub its
+//!   mode, whether it is connected, and how many of the nodes that are listed subscribe to it.
+//! - [`past_of`] gives a past that recalls all events so far, and so is one for the book behind a checkpoint
+//!   (`specs/Recalled.antt`).
+//! - What is told of a book goes over the events since its last checkpoint and over what has names, and changes
+//!   nothing.
+#![tactic(auto)]
+
+mod counts;
+mod known;
+mod list;
+mod numbers;
+mod object;
+mod past;
+mod recent;
+mod seen;
+mod text;
+
+pub use known::Known;
+pub use list::list_text;
+pub use numbers::rising;
+pub use past::{Past, past_of};
+pub use recent::{is_since, since};
