@@ -64,10 +64,3 @@ lease_text name resource = front_text name ++ member_of (codes "res") resource +
 
 abbrev pub bool_word : Bool → List ℕ
 bool_word b = if b then codes "true" else codes "false"
-
-unfoldable pub connected_text : Bool → (subscribers : ℕ) → List ℕ
-connected_text connected subscribers =
-    codes ",\"connected\":" ++ bool_word connected ++ codes ",\"subscribers\":" ++ decimal subscribers ++ codes "}"
-
-unfoldable pub hub_text : Name → (manual connected : Bool) → (subscribers : ℕ) → List ℕ
-hub_text name manual connected subscribers = front_text name ++ member_of (codes "mode") (Some (mode_word manual)) ++ connected_text connected subscribers

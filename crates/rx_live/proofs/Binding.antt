@@ -29,11 +29,6 @@ use Rattle.rx_line.specs.declared.outcome.Outcome.TheVariants.{Accepted, Refused
 use Rattle.rx_live.specs.Session.{Session, IsSound, IsPlaced, is_kept, has_resource, lease_of, lease_key_at}
 use Rattle.rx_live.specs.Given.{AreOpenSame, IsAlike, GivesNames, IsUnchanged, BindsResource, BindsLease, BindsHub}
 use Rattle.rx_live.proofs.Remaining.{keeps_resources, keeps_leases, kept_same, out_same, kept_held, kept_past, out_leased, out_returned}
-use Rattle.rx_event.specs.Kept.{shown}
-use Rattle.rx_listing.specs.declared.past.Past.{Past}
-use Rattle.rx_listing.specs.Recalled.{IsPastOf}
-use Rattle.rx_listing.proofs.Laws.Past.{past_on}
-use Rattle.rx_live.proofs.Older.{older_open, older_room, older_bound, older_forgot, base_before, past_resources, past_leases, past_hubs}
 use Rattle.rx_live.proofs.Soundness.{accepted_longer}
 
 -- names ----------------------------------------------------------------------------------------------
@@ -79,12 +74,6 @@ pub unnamed_lease : (s : Session) → IsSound s → name_of s.leases (length s.b
 unnamed_lease s sound =
     none_of (name_of s.leases (length s.book.history)) (sound.leases (length s.book.history) ∙ is_out_past s.book.history (length s.book.history) (omega arith))
 
-pub placed_resources : (s : Session) → IsSound s → (n : ℕ) → length s.book.history ≤ n → name_of s.resources n ≡ None
-placed_resources s sound n past = none_of (name_of s.resources n) (sound.resources n ∙ kept_past s.book.history n past)
-
-pub placed_leases : (s : Session) → IsSound s → (n : ℕ) → length s.book.history ≤ n → name_of s.leases n ≡ None
-placed_leases s sound n past = none_of (name_of s.leases n) (sound.leases n ∙ is_out_past s.book.history n past)
-
 pub placed_longer : (h k : List Event) (t : Names) → IsPlaced h t → length h ≤ length k → IsPlaced k t
 placed_longer h k t placed longer n past = placed n (omega arith)
 
@@ -108,7 +97,6 @@ alike_same s = record {
   leases = same_names s.leases;
   untold = refl;
   unnamed = refl;
-  past = refl;
 }
 
 lost : (a b : Option Name) → (a ≡ b) ⊎ (a ≡ None) → b ≡ None → a ≡ None
@@ -127,10 +115,6 @@ sound_alike old new sound alike nodes hubs resources leases = record {
   resources = λ r. ap is_some (alike.resources.names r) ∙ sound.resources r ∙ ap (λ (b : State). is_kept b.history r) (sym alike.book);
   leases = λ l. ap is_some (alike.leases.names l) ∙ sound.leases l ∙ ap (λ (b : State). is_out b.history l) (sym alike.book);
   unnamed = λ name is. alike.resources.spots name ∙ sound.unnamed name (sym alike.unnamed ∙ is);
-  past = subst (λ (p : Past). IsPastOf p new.book new.nodes new.hubs new.resources new.leases) (sym alike.past)
-      (past_on old.past old.book new.book old.nodes old.hubs old.resources old.leases new.nodes new.hubs new.resources new.leases sound.past (ap (λ (b : State). b.base) alike.book)
-      (older_open (length (shown old.book.base)) old.untold old.book old.nodes new.nodes alike.nodes) (older_room (length (shown old.book.base)) old.hubs new.hubs alike.hubs)
-      (older_room (length (shown old.book.base)) old.resources new.resources alike.resources) (older_room (length (shown old.book.base)) old.leases new.leases alike.leases));
 }
 
 -- outcomes -------------------------------------------------------------------------------------------
@@ -155,9 +139,6 @@ given_accepted s t asked call taken bound known is accepts binds sound =
 -- a resource -----------------------------------------------------------------------------------------
 
 module _ (s : Session) (book : State) (name : Name) (spot : Spot) (mid t : Names) (sound : IsSound s) (kept : IsPromised book) (paired : IsPaired t) where
-  later : spot.number ≡ length s.book.history → length (shown s.book.base) ≤ spot.number
-  later number = let l = base_before s sound in omega (arith, number, l)
-
   abbrev after_binding : Call → Bool → Type 0
   after_binding call known = Accepts s.book (record { call = call; is_known = known; is_fresh = true }) book
 
@@ -182,7 +163,6 @@ module _ (s : Session) (book : State) (name : Name) (spot : Spot) (mid t : Names
             ∙ (λ i. cond (number i == r) true (sound.resources r i)) ∙ sym (kept_held s.book.base s.book.history book.history node tag sound.kept.lawful accepts.step r);
         leases = λ l. sound.leases l ∙ sym (out_same s.book.base s.book.history book.history (Holding node tag) accepts.step refl l);
         unnamed = λ n is. binds.spots n ∙ ap (λ (b : Bool). cond b (Some spot) (spot_of s.resources n)) (not_unnamed s name n free is) ∙ sound.unnamed n is;
-        past = past_resources s book sound accepts.base t (older_bound (length (shown s.book.base)) s.resources t name spot binds (later number));
       }
 
   pub leased_bound : AreSame s.leases mid → Binds mid name spot t → spot.number ≡ length s.book.history → BindsLease s name (record s { book = book; leases = t })
@@ -206,7 +186,6 @@ module _ (s : Session) (book : State) (name : Name) (spot : Spot) (mid t : Names
         leases = λ l. ap is_some (binds.names l) ∙ some_cond (spot.number == l) name (name_of s.leases l)
             ∙ (λ i. cond (number i == l) true (sound.leases l i)) ∙ sym (out_leased s.book.base s.book.history book.history q sound.kept.lawful accepts.step l);
         unnamed = sound.unnamed;
-        past = past_leases s book sound accepts.base t (older_bound (length (shown s.book.base)) s.leases t name spot binds (later number));
       }
 
   pub hub_bound : AreSame s.hubs mid → Binds mid name spot t → spot.number ≡ length s.book.history → BindsHub s name (record s { book = book; hubs = t })
@@ -227,7 +206,6 @@ module _ (s : Session) (book : State) (name : Name) (spot : Spot) (mid t : Names
         resources = λ r. sound.resources r ∙ sym (kept_same s.book.base s.book.history book.history asked.call accepts.step resources r);
         leases = λ l. sound.leases l ∙ sym (out_same s.book.base s.book.history book.history asked.call accepts.step leases l);
         unnamed = sound.unnamed;
-        past = past_hubs s book sound accepts.base t (older_bound (length (shown s.book.base)) s.hubs t name spot binds (later number));
       }
 
 -- a lease that is given back -------------------------------------------------------------------------
@@ -254,7 +232,6 @@ returned_sound s book q known name t sound kept paired forgets accepts =
       leases = λ l. ap is_some (forgets.names l) ∙ some_gone (q == l) (name_of s.leases l)
           ∙ ap (λ (b : Bool). cond (q == l) false b) (sound.leases l) ∙ sym (out_returned s.book.base s.book.history book.history q accepts.step l);
       unnamed = sound.unnamed;
-      past = past_leases s book sound accepts.base t (older_forgot (length (shown s.book.base)) s.leases t q name forgets);
     }
 
 -- the name of a lease that is out

@@ -23,9 +23,6 @@ use Rattle.rx_live.specs.Session.{Session, IsSound, IsPlaced, has_resource}
 use Rattle.rx_live.specs.Given.{AreOpenSame, IsAlike, IsUnchanged}
 use Rattle.rx_live.specs.Openings.{using_at, is_node, is_open_taken, BindsMade, BindsNode, BindsUsing, BindsConnection}
 use Rattle.rx_live.proofs.Remaining.{keeps_resources, keeps_leases, kept_same, out_same, kept_used, kept_past}
-use Rattle.rx_event.specs.Kept.{shown}
-use Rattle.rx_listing.proofs.Laws.Past.{NamesNoOlder}
-use Rattle.rx_live.proofs.Older.{older_open, older_on, older_bound, older_made, base_before, past_nodes, past_using}
 use Rattle.rx_live.proofs.Soundness.{accepted_longer}
 use Rattle.rx_live.proofs.Binding.{same_names, bound_after, none_of, some_cond, not_unnamed, placed_longer, placed_bound, sound_alike}
 use Rattle.rx_live.proofs.Opened.{open_same, open_on, placed_open, made_placed, made_within}
@@ -41,7 +38,6 @@ alike_nodes s t same = record {
   leases = same_names s.leases;
   untold = refl;
   unnamed = refl;
-  past = refl;
 }
 
 pub unchanged_nodes : (s : Session) (t : Names) → IsSound s → AreOpenSame s.untold s.book s.nodes t → IsPaired t → IsUnchanged s (record s { nodes = t })
@@ -65,7 +61,6 @@ unchanged_rooms s mid t r sound same room more paired pairs =
       leases = same_names s.leases;
       untold = refl;
       unnamed = refl;
-      past = refl;
     } in
     record { alike = alike; sound = sound_alike s (record s { nodes = t; resources = r }) sound alike paired sound.hub_pairs pairs sound.lease_pairs }
 
@@ -97,9 +92,9 @@ made_number h k n is = by_test (at makes_connection k (length h + 1)) is where
 
 -- an opened node -------------------------------------------------------------------------------------
 
-nodes_sound : (s : Session) (asked : Request) (book : State) (t : Names) → IsSound s → IsPromised book → IsPaired t → IsPlaced book.history t → NamesNoOlder (length (shown s.book.base)) s.nodes t → Accepts s.book asked book →
+nodes_sound : (s : Session) (asked : Request) (book : State) (t : Names) → IsSound s → IsPromised book → IsPaired t → IsPlaced book.history t → Accepts s.book asked book →
     keeps_resources asked.call ≡ true → keeps_leases asked.call ≡ true → IsSound (record s { book = book; nodes = t })
-nodes_sound s asked book t sound kept paired placed older accepts resources leases = record {
+nodes_sound s asked book t sound kept paired placed accepts resources leases = record {
   kept = kept;
   node_pairs = paired;
   hub_pairs = sound.hub_pairs;
@@ -110,16 +105,12 @@ nodes_sound s asked book t sound kept paired placed older accepts resources leas
   resources = λ r. sound.resources r ∙ sym (kept_same s.book.base s.book.history book.history asked.call accepts.step resources r);
   leases = λ l. sound.leases l ∙ sym (out_same s.book.base s.book.history book.history asked.call accepts.step leases l);
   unnamed = sound.unnamed;
-  past = past_nodes s book sound accepts.base t older;
 }
 
 -- names as some of closed nodes are forgotten, and as room is made
 module _ (s : Session) (mid t : Names) (sound : IsSound s) (same : AreOpenSame s.untold s.book s.nodes mid) (room : AreSame mid t) where
   all_same : AreOpenSame s.untold s.book s.nodes t
   all_same = open_on s.untold s.book s.nodes mid t same (open_same s.untold s.book mid t room)
-
-  older : NamesNoOlder (length (shown s.book.base)) s.nodes t
-  older = older_open (length (shown s.book.base)) s.untold s.book s.nodes t all_same
 
   placed : IsPlaced s.book.history t
   placed = placed_open s.untold s.book.history s.book s.nodes t all_same sound.nodes
@@ -149,14 +140,7 @@ module _ (s : Session) (mid t : Names) (sound : IsSound s) (same : AreOpenSame s
         subst (λ (m : Option ℕ). BindsMade with_node connection m new) opened.connection made in
         let two : IsPlaced book.history new =
         made_placed book.history book.history with_node new connection (connection_made s.book.history book.history) made_there one (omega arith) (made_within s.book.history book.history) in
-        let elder : NamesNoOlder (length (shown s.book.base)) s.nodes with_node =
-        older_on (length (shown s.book.base)) s.nodes t with_node older
-        (older_bound (length (shown s.book.base)) t with_node name spot binds (let l = base_before s sound in let n : spot.number ≡ length s.book.history = number in omega (arith, l))) in
-        let eldest : NamesNoOlder (length (shown s.book.base)) s.nodes new =
-        older_on (length (shown s.book.base)) s.nodes with_node new elder
-        (older_made (length (shown s.book.base)) with_node new connection (connection_made s.book.history book.history) made_there
-        (λ n is. let l = base_before s sound in let m = made_number s.book.history book.history n is in omega (arith, l, m))) in
-        nodes_sound s asked book new sound kept paired two eldest accepts refl refl
+        nodes_sound s asked book new sound kept paired two accepts refl refl
 
 -- one with a resource --------------------------------------------------------------------------------
 
@@ -191,10 +175,6 @@ module _ (s : Session) (mid t : Names) (sound : IsSound s) (same : AreOpenSame s
             ∙ (λ i. cond (number_res i == r) true (sound.resources r i)) ∙ sym (kept_used s.book.base s.book.history book.history (place_of place) 0 sound.kept.lawful accepts.step r);
         leases = λ l. sound.leases l ∙ sym (out_same s.book.base s.book.history book.history asked.call accepts.step refl l);
         unnamed = λ n is. bound.spots n ∙ ap (λ (b : Bool). cond b (Some held) (spot_of s.resources n)) (not_unnamed s res n free is) ∙ sound.unnamed n is;
-        past = past_using s book sound accepts.base nodes resources
-            (older_on (length (shown s.book.base)) s.nodes t nodes (older s mid t sound same room)
-            (older_bound (length (shown s.book.base)) t nodes name spot binds (let l = base_before s sound in let n : spot.number ≡ length s.book.history = number in omega (arith, l))))
-            (older_bound (length (shown s.book.base)) s.resources resources res held bound (let l = base_before s sound in let n : held.number ≡ length s.book.history + 1 = number_res in omega (arith, l)));
       }
 
 pub unnamed_used : (s : Session) (more : Names) → IsSound s → AreSame s.resources more → name_of more (length s.book.history + 1) ≡ None
@@ -217,11 +197,7 @@ module _ (s : Session) (mid t : Names) (sound : IsSound s) (same : AreOpenSame s
       let all : IsPlaced book.history new =
       made_placed s.book.history book.history t new name (Some (length s.book.history)) made (placed s mid t sound same room) (omega arith)
       (λ n is. let l : length s.book.history ≡ n = same_Some (length s.book.history) n is in omega arith) in
-      let elder : NamesNoOlder (length (shown s.book.base)) s.nodes new =
-      older_on (length (shown s.book.base)) s.nodes t new (older s mid t sound same room)
-      (older_made (length (shown s.book.base)) t new name (Some (length s.book.history)) made
-      (λ n is. let l = base_before s sound in let m : length s.book.history ≡ n = same_Some (length s.book.history) n is in omega (arith, l))) in
-      nodes_sound s asked book new sound kept paired all elder accepts refl refl
+      nodes_sound s asked book new sound kept paired all accepts refl refl
 
 -- what is asked --------------------------------------------------------------------------------------
 

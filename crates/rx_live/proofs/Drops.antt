@@ -27,8 +27,6 @@ use Rattle.rx_live.specs.Promise.{Act, released, Leads, no_act, hands_in, releas
 use Rattle.rx_live.specs.Answers.{Takes, none_taken, one_taken, WritesNames}
 use Rattle.rx_live.specs.Steps.{TakesName, DropsName, WritesName, WritesNoName, AreNamesWritten}
 use Rattle.rx_live.proofs.Remaining.{kept_taken, out_same}
-use Rattle.rx_event.specs.Kept.{shown}
-use Rattle.rx_live.proofs.Older.{older_forgot, past_resources}
 use Rattle.rx_live.proofs.Soundness.{accepted_longer}
 use Rattle.rx_live.proofs.Binding.{placed_longer, some_gone}
 use Rattle.rx_live.proofs.Opened.{free_forgot}
@@ -81,7 +79,6 @@ taken_sound s book q t (Some n) sound kept paired accepts named value forgets =
           ∙ sym (kept_taken s.book.base s.book.history book.history q accepts.step r);
       leases = λ l. sound.leases l ∙ sym (out_same s.book.base s.book.history book.history (Taking q) accepts.step refl l);
       unnamed = λ m is. free_after m (bytes_eq name m) refl (sound.unnamed m is);
-      past = past_resources s book sound accepts.base t (older_forgot (length (shown s.book.base)) s.resources t q name forgets);
     }
   where
     free_after : (m : Name) (b : Bool) → bytes_eq (string_bytes n) m ≡ b → spot_of s.resources m ≡ None → spot_of t m ≡ None

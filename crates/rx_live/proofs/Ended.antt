@@ -11,7 +11,6 @@ use Rattle.rx_event.specs.Tree.{at}
 use Rattle.rx_event.specs.Resources.{is_out, is_held, is_waiting, is_taken}
 use Rattle.rx_book.specs.State.{IsPromised}
 use Rattle.rx_line.specs.Names.{IsPaired}
-use Rattle.rx_listing.specs.Recalled.{IsPastOf}
 use Rattle.rx_live.specs.Session.{Session, IsSound, is_kept}
 use Rattle.rx_live.specs.Lines.{IsClosed}
 
@@ -29,8 +28,8 @@ kept_where h r kept = kept_shape (at makes_resource h r) (is_held h r) (list_any
 none_in : {L : Type 0} (number : L → ℕ) (ls : List L) (r : ℕ) → ls ≡ [] → Contains (map number ls) r → ⊥
 none_in {L} number ls r none within = let there : Contains (map number []) r = subst (λ (l : List L). Contains (map number l) r) none within in (let l : there.0 < 0 = there.1 in omega arith)
 
-pub closed_sound : (t : Session) → IsPromised t.book → IsClosed t → IsPaired t.nodes → IsPaired t.hubs → IsPaired t.resources → IsPaired t.leases → IsPastOf t.past t.book t.nodes t.hubs t.resources t.leases → IsSound t
-closed_sound t kept closed nodes hubs resources leases past = record {
+pub closed_sound : (t : Session) → IsPromised t.book → IsClosed t → IsPaired t.nodes → IsPaired t.hubs → IsPaired t.resources → IsPaired t.leases → IsSound t
+closed_sound t kept closed nodes hubs resources leases = record {
   kept = kept;
   node_pairs = nodes;
   hub_pairs = hubs;
@@ -41,7 +40,6 @@ closed_sound t kept closed nodes hubs resources leases past = record {
   resources = λ r. ap is_some (closed.resources.1 r) ∙ sym (none_kept r);
   leases = λ l. ap is_some (closed.leases.1 l) ∙ sym (false_from_ne_true (is_out t.book.history l) (λ out. none_in (λ k. k.number) t.book.lease_keys l closed.none_out (kept.lease_keys.every l out)));
   unnamed = λ name is. absurd (none-some name (sym closed.unnamed ∙ is));
-  past = past;
 } where
   by_where : (r : ℕ) → (is_held t.book.history r ≡ true) ⊎ (is_waiting t.book.history r ≡ true) → ⊥
   by_where r (inl held) = none_in (λ k. k.number) t.book.held r closed.none_held (kept.held.every r held)

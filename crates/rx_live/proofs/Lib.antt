@@ -1,5 +1,4 @@
 pub mod Remaining
-pub mod Older
 pub mod Soundness
 pub mod Binding
 pub mod Opened

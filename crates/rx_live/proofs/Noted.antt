@@ -197,7 +197,7 @@ answer_balances : (old new : Session) (line text : List â„•) (acts : List Act) â
 answer_balances old new line text acts behind (is_faulty told faulty is) = idle old old refl
 answer_balances old new line text acts behind (is_refused c why order runs by_open is) = idle old new (alike_tells old new (refused_alike old new c why runs))
 answer_balances old new line text acts behind (is_carried c order carried) = carried_balances old new c text acts carried behind
-answer_balances old new line text acts behind (is_listed order is) = idle old old refl
+answer_balances old new line text acts behind (is_listed order) = idle old old refl
 answer_balances old new line text acts behind (is_dumped order is) = idle old old refl
 
 -- a checkpoint before it

@@ -1,13 +1,10 @@
 -- What a checkpoint makes of a session.
-use Rattle.std.proofs.Common.{◌≡◌, ℕ, ◌-◌, ◌<◌, ◌≤◌, suc, Bool, true, false, List, [], ◌++◌, length, drop, Option, Some, None, Result, Ok, Err, map, cond, option_map, refl, sym, ap, ◌∙◌, arith, subst, inl, inr, ◌⊎◌}
-use Rattle.std.specs.Prelude.{IfOk, IsTrue, is_some, nat_lt}
+use Rattle.std.proofs.Common.{◌≡◌, ℕ, ◌-◌, ◌<◌, ◌≤◌, suc, Bool, true, false, List, [], ◌++◌, length, drop, Option, Some, None, Result, Ok, Err, refl, sym, ap, ◌∙◌, arith, subst, inl, inr, ◌⊎◌}
+use Rattle.std.specs.Prelude.{IfOk, is_some, nat_lt}
 use Rattle.std.specs.List.{list_any}
-use Rattle.std.specs.Option.{option_to_list, option_and_then}
+use Rattle.std.specs.Option.{option_to_list}
 use Rattle.std.proofs.Math.Bool.{not, ◌&&◌, ◌||◌}
-use Rattle.std.proofs.lemmas.List.Elements.{All-contains}
-use Rattle.std.proofs.lemmas.Option.{none-some, same_Some}
-use Rattle.rx_live.proofs.Drops.{contains_number}
-use Rattle.std.proofs.lemmas.Bool.{false≢true, and_cases, and_parts, and_right, not-false, ltb-true, ltb-false, lt-ltb, le-ltb, cases_lt}
+use Rattle.std.proofs.lemmas.Bool.{and_cases, and_parts, and_right, not-false, ltb-true, ltb-false, lt-ltb, le-ltb, cases_lt}
 use Rattle.std.proofs.lemmas.List.{drop_all, length-drop}
 use Rattle.rx_event.specs.declared.mail.Mail.{Mail}
 use Rattle.rx_event.specs.declared.event.Event.{Event}
@@ -15,8 +12,8 @@ use Rattle.rx_event.specs.declared.refusal.Refusal.{Refusal}
 use Rattle.rx_event.specs.declared.refusal.Refusal.TheVariants.{Full, MailLeft, TooMany}
 use Rattle.rx_event.specs.Events.{makes_resource, is_take_of}
 use Rattle.rx_event.specs.Kept.{Kept, shown}
-use Rattle.rx_event.specs.Bases.{base_of, Agree}
-use Rattle.rx_event.specs.Tree.{at, is_open}
+use Rattle.rx_event.specs.Bases.{base_of}
+use Rattle.rx_event.specs.Tree.{at}
 use Rattle.rx_event.specs.Resources.{is_held, is_waiting, is_taken}
 use Rattle.rx_event.specs.Lawful.{IsLawful}
 use Rattle.rx_event.specs.Notes.{notes}
@@ -25,7 +22,7 @@ use Rattle.rx_event.proofs.Laws.Making.{made_untold}
 use Rattle.rx_event.proofs.Laws.Resources.{held_resource, held_not_taken}
 use Rattle.rx_register.specs.Causes.{checkpoint_causes, most_places}
 use Rattle.rx_register.proofs.Laws.NoCause.{no_cause}
-use Rattle.rx_book.specs.State.{State, IsPromised, has_key}
+use Rattle.rx_book.specs.State.{State, IsPromised}
 use Rattle.rx_book.specs.Checkpoints.{Checkpoints}
 use Rattle.rx_line.specs.declared.names.Names.{Names}
 use Rattle.rx_line.specs.declared.outcome.Cause.{Cause}
@@ -33,15 +30,8 @@ use Rattle.rx_line.specs.declared.outcome.Cause.TheVariants.{NoName, NameTaken, 
 use Rattle.rx_line.specs.declared.outcome.Outcome.{Outcome}
 use Rattle.rx_line.specs.declared.outcome.Outcome.TheVariants.{Refused}
 use Rattle.std.specs.declared.alloc.AllocError.{AllocError}
-use Rattle.rx_line.specs.declared.names.Spot.{Spot}
-use Rattle.rx_line.specs.Names.{spot_of, name_of, IsPaired}
-use Rattle.rx_scenario.specs.Scenario.{Name}
-use Rattle.rx_book.specs.declared.key.Key.{Key}
-use Rattle.rx_book.proofs.Laws.Keys.{Contains-has_key}
-use Rattle.rx_listing.specs.declared.past.Past.{Past}
-use Rattle.rx_listing.specs.Recalled.{Recalls}
-use Rattle.rx_listing.proofs.Laws.Behind.{recalls_behind}
-use Rattle.rx_live.specs.Session.{Session, IsSound, is_kept, node_in, if_open, key_at}
+use Rattle.rx_line.specs.Names.{name_of, IsPaired}
+use Rattle.rx_live.specs.Session.{Session, IsSound, is_kept}
 use Rattle.rx_live.specs.Given.{AreOpenSame, IsAlike}
 use Rattle.rx_live.specs.Answers.{to_tell}
 use Rattle.rx_live.specs.Renewals.{AreOpen, Renews, renewing_causes, Renewing, IsFullByOpen}
@@ -62,27 +52,11 @@ kept_is : (base : Kept) (h : List Event) → IsLawful base h → (r : ℕ) → i
 unfolding is_waiting is_taken is_kept
 kept_is base h law r = kept_shape (at makes_resource h r) (list_any (is_take_of r) h) (is_held h r) (λ held. (held_resource h r held, held_not_taken base h law r held))
 
--- a name that is left is that of an open node
-open_spot : (book : State) (n : ℕ) (o : Option Spot) → IsPromised book → option_map (λ (p : Spot). p.number) o ≡ Some n →
-    is_some (option_and_then (λ (p : Spot). if_open book (key_at p)) o) ≡ is_some o → is_open book.history n ≡ true
-open_spot book n None kept is alive = absurd (none-some n is)
-open_spot book n (Some p) kept is alive = by_key (has_key book.keys (key_at p)) refl alive where
-  by_key : (b : Bool) → has_key book.keys (key_at p) ≡ b → is_some (cond b (Some (key_at p)) None) ≡ true → is_open book.history n ≡ true
-  by_key true there opened =
-      ap (is_open book.history) (sym (same_Some p.number n is))
-      ∙ All-contains (λ (m : ℕ). IsTrue (is_open book.history m)) (map (λ k. k.number) book.keys) p.number kept.keys.each
-          (contains_number (λ (k : Key). k.number) book.keys (key_at p) p.number (Contains-has_key book.keys (key_at p) there) refl)
-  by_key false gone opened = absurd (cc)
-
-named_open : (book : State) (nodes : Names) (n : ℕ) (name : Name) → IsPromised book → IsPaired nodes → AreOpen book nodes → name_of nodes n ≡ Some name → is_open book.history n ≡ true
-unfolding node_in
-named_open book nodes n name kept paired alive known = open_spot book n (spot_of nodes name) kept (paired.numbered n name known) (alive name)
-
 -- a session that is sound stays so --------------------------------------------------------------------
 
-pub renewed_sound : (s : Session) (book : State) (nodes : Names) (past : Past) → IsSound s → IsPromised book → Checkpoints s.book book → IsPaired nodes → AreOpenSame None book s.nodes nodes →
-    AreOpen book nodes → Recalls past s.book.base s.book.history s.nodes s.hubs s.resources s.leases → IsSound (record s { book = book; nodes = nodes; past = past })
-renewed_sound s book nodes past sound kept made paired same alive recalls = record {
+pub renewed_sound : (s : Session) (book : State) (nodes : Names) → IsSound s → IsPromised book → Checkpoints s.book book → IsPaired nodes → AreOpenSame None book s.nodes nodes →
+    IsSound (record s { book = book; nodes = nodes })
+renewed_sound s book nodes sound kept made paired same = record {
   kept = kept;
   node_pairs = paired;
   hub_pairs = sound.hub_pairs;
@@ -94,22 +68,10 @@ renewed_sound s book nodes past sound kept made paired same alive recalls = reco
       ∙ sym (kept_is book.base book.history kept.lawful r);
   leases = λ l. sound.leases l ∙ made.agree.out l;
   unnamed = sound.unnamed;
-  past = recalls_behind past s.book.base s.book.history book.base s.nodes nodes s.hubs s.resources s.leases
-      (subst (λ (k : List Event). Agree s.book.base s.book.history book.base k) made.history made.agree) recalls
-      (λ n named. (named_before n named (same.names n), alive_before n (name_of nodes n) refl named))
-      (λ r named. sym (kept_is s.book.base s.book.history sound.kept.lawful r) ∙ sym (sound.resources r) ∙ named) (λ l named. sym (sound.leases l) ∙ named);
 } where
   by_old : (n : ℕ) → length book.history ≤ n → (name_of nodes n ≡ name_of s.nodes n) ⊎ (name_of nodes n ≡ None) → name_of nodes n ≡ None
   by_old n past (inl was) = was ∙ sound.nodes n (omega (arith, made.agree.alike.same_length))
   by_old n past (inr none) = none
-
-  named_before : (n : ℕ) → is_some (name_of nodes n) ≡ true → (name_of nodes n ≡ name_of s.nodes n) ⊎ (name_of nodes n ≡ None) → is_some (name_of s.nodes n) ≡ true
-  named_before n named (inl is) = sym (ap is_some is) ∙ named
-  named_before n named (inr none) = absurd (false≢true (sym (ap is_some none) ∙ named))
-
-  alive_before : (n : ℕ) (o : Option Name) → name_of nodes n ≡ o → is_some (name_of nodes n) ≡ true → is_open s.book.history n ≡ true
-  alive_before n None known named = absurd (false≢true (sym (ap is_some known) ∙ named))
-  alive_before n (Some name) known named = made.agree.alike.same_open n ∙ named_open book nodes n name kept paired alive known
 
 -- what is still to be told ----------------------------------------------------------------------------
 
@@ -126,8 +88,8 @@ told_after s book nodes none kept made =
     (λ i. option_to_list (none i) ++ drop book.given (notes book.history)) ∙ drop_all book.given (notes book.history) all
 
 pub renews : (s : Session) (book : State) (nodes : Names) → s.untold ≡ None → IsPromised book → Checkpoints s.book book → AreOpenSame None book s.nodes nodes → AreOpen book nodes →
-    (past : Past) → Renews s (record s { book = book; nodes = nodes; past = past })
-renews s book nodes none kept made same alive past = record {
+    Renews s (record s { book = book; nodes = nodes })
+renews s book nodes none kept made same alive = record {
   told = told_before s none made.no_cause;
   book = made;
   untold = told_after s book nodes none kept made;

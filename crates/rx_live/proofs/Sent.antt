@@ -11,7 +11,6 @@ use Rattle.rx_line.specs.Orders.{command, list, dump, IsOrderOf, IsFaulty}
 use Rattle.rx_line.specs.Pieces.{ok_text, refused_text, faulty_text, name_text, member_text}
 use Rattle.rx_line.specs.declared.outcome.Cause.{Cause}
 use Rattle.rx_line.specs.declared.outcome.Outcome.TheVariants.{Accepted, Refused}
-use Rattle.rx_listing.specs.Listed.{list_text}
 use Rattle.rx_live.specs.Session.{Session, IsSound, has_resource}
 use Rattle.rx_live.specs.Promise.{released, no_act}
 use Rattle.rx_live.specs.Answers.{told_text, WritesNotes, late_text}
@@ -48,8 +47,8 @@ answered_command old new line c (Ok None) order carried = carried
 answered_command old new line c (Ok (Some s)) order carried = answered_one old new line (string_bytes s) c order carried
 
 -- of the others
-pub answered_listed : (old : Session) (line text : List ℕ) → IsOrderOf line list → text ≡ list_text old.book old.nodes old.hubs old.resources old.leases → Answered old line text old
-answered_listed old line text order is = record { acts = []; answer = is_listed order is; leads = no_act (λ n. refl) }
+pub answered_listed : (old : Session) (line text : List ℕ) → IsOrderOf line list → Answered old line text old
+answered_listed old line text order = record { acts = []; answer = is_listed order; leads = no_act (λ n. refl) }
 
 pub answered_dumped : (old : Session) (line text : List ℕ) → IsOrderOf line dump → text ≡ dump_text old → Answered old line text old
 answered_dumped old line text order is = record { acts = []; answer = is_dumped order is; leads = no_act (λ n. refl) }

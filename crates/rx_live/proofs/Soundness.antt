@@ -15,8 +15,6 @@ use Rattle.rx_book.proofs.Laws.Going.{step_longer}
 use Rattle.rx_line.specs.declared.outcome.Outcome.{Outcome}
 use Rattle.rx_live.specs.Session.{Session, IsSound, is_kept}
 use Rattle.rx_live.specs.Carried.{outcome_of, Goes}
-use Rattle.rx_listing.specs.Recalled.{IsPastOf}
-use Rattle.rx_live.proofs.Older.{past_same}
 use Rattle.rx_live.proofs.Remaining.{keeps_resources, keeps_leases, kept_same, out_same}
 
 pub accepted_longer : (old new : State) (asked : Request) → Accepts old asked new → length old.history ≤ length new.history
@@ -36,7 +34,6 @@ sound_on s asked book sound kept accepts resources leases = record {
   resources = λ r. sound.resources r ∙ sym (kept_same s.book.base s.book.history book.history asked.call accepts.step resources r);
   leases = λ l. sound.leases l ∙ sym (out_same s.book.base s.book.history book.history asked.call accepts.step leases l);
   unnamed = sound.unnamed;
-  past = past_same s book sound accepts.base;
 }
 
 -- what such a call is answered
@@ -70,8 +67,8 @@ unfolding is_kept
 kept_none r = refl
 
 pub sound_start : (s : Session) → IsPromised s.book → s.book.history ≡ [] → IsPaired s.nodes → IsPaired s.hubs → IsPaired s.resources → IsPaired s.leases →
-    AreNone s.nodes → AreNone s.hubs → AreNone s.resources → AreNone s.leases → s.unnamed ≡ None → IsPastOf s.past s.book s.nodes s.hubs s.resources s.leases → IsSound s
-sound_start s kept empty node_pairs hub_pairs resource_pairs lease_pairs nodes hubs resources leases unnamed past = record {
+    AreNone s.nodes → AreNone s.hubs → AreNone s.resources → AreNone s.leases → s.unnamed ≡ None → IsSound s
+sound_start s kept empty node_pairs hub_pairs resource_pairs lease_pairs nodes hubs resources leases unnamed = record {
   kept = kept;
   node_pairs = node_pairs;
   hub_pairs = hub_pairs;
@@ -82,5 +79,4 @@ sound_start s kept empty node_pairs hub_pairs resource_pairs lease_pairs nodes h
   resources = λ r. ap is_some (resources.1 r) ∙ sym (ap (λ (h : List Event). is_kept h r) empty ∙ kept_none r);
   leases = λ l. ap is_some (leases.1 l) ∙ sym (ap (λ (h : List Event). is_out h l) empty ∙ is_out_past [] l (omega arith));
   unnamed = λ name is. absurd (none-some name (sym unnamed ∙ is));
-  past = past;
 }

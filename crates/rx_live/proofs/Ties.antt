@@ -14,5 +14,4 @@ sound_of s kept tied = record {
   resources = tied.resources;
   leases = tied.leases;
   unnamed = tied.unnamed;
-  past = tied.past;
 }

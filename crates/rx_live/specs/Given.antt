@@ -33,7 +33,6 @@ pub record IsAlike (old new : Session) : Type 0 where
   pub leases : AreSame old.leases new.leases
   pub untold : new.untold ≡ old.untold
   pub unnamed : new.unnamed ≡ old.unnamed
-  pub past : new.past ≡ old.past
 
 -- what is asked of the book, whether a name is taken, and what becomes of names where the book accepts it
 abbrev pub Gives : Session → Option Request → (taken : Bool) → (Session → Type 0) → Outcome → Session → Type 0

@@ -9,7 +9,6 @@ use Rattle.rx_line.specs.Pieces.{ok_text, refused_text, faulty_text, name_text, 
 use Rattle.rx_line.specs.declared.outcome.Cause.{Cause}
 use Rattle.rx_line.specs.declared.outcome.Outcome.{Outcome}
 use Rattle.rx_line.specs.declared.outcome.Outcome.TheVariants.{Accepted, Refused}
-use Rattle.rx_listing.specs.Listed.{list_text}
 use Rattle.rx_live.specs.Session.{Session, node_of, resource_of, lease_of, hub_of, has_resource, IsSound}
 use Rattle.rx_live.specs.Carried.{Goes}
 use Rattle.rx_live.specs.Given.{IsAlike, GivesNames, BindsResource, BindsLease, BindsHub, FreesLease, hold_asked}
@@ -84,7 +83,7 @@ pub data IsAnswer (old : Session) (line text : List ℕ) : List Act → Session 
   is_faulty : (told : List ℕ) → IsFaulty line → text ≡ faulty_text told → IsAnswer old line text [] old
   is_refused : {new : Session} (c : Command) (why : Cause) → IsOrderOf line (command c) → Runs old c (Refused why) new → IsFullByOpen old why → text ≡ refused_text why → IsAnswer old line text [] new
   is_carried : {new : Session} {acts : List Act} (c : Command) → IsOrderOf line (command c) → IsCarried old c text acts new → IsAnswer old line text acts new
-  is_listed : IsOrderOf line list → text ≡ list_text old.book old.nodes old.hubs old.resources old.leases → IsAnswer old line text [] old
+  is_listed : IsOrderOf line list → IsAnswer old line text [] old
   is_dumped : IsOrderOf line dump → text ≡ dump_text old → IsAnswer old line text [] old
 
 -- a line's answer, and the names that it hands in and releases; a line that finds the history full by its age is taken again behind

@@ -28,7 +28,7 @@ pub record Renews (old new : Session) : Type 0 where
   pub untold : to_tell new ≡ []
   pub nodes : AreOpenSame old.untold new.book old.nodes new.nodes
   pub open_alone : AreOpen new.book new.nodes
-  pub rest : new ≡ record old { book = new.book; nodes = new.nodes; past = new.past }
+  pub rest : new ≡ record old { book = new.book; nodes = new.nodes }
 
 -- what stands against one: something is still to be told, or the history is past the last place for one
 abbrev pub renewing_causes : Session → Refusal → Bool

@@ -17,12 +17,9 @@ use Rattle.rx_book.specs.State.{State, has_key, IsPromised}
 use Rattle.rx_line.specs.declared.names.Spot.{Spot}
 use Rattle.rx_line.specs.declared.names.Names.{Names}
 use Rattle.rx_line.specs.Names.{spot_of, name_of, IsPaired}
-use Rattle.rx_listing.specs.declared.past.Past.{Past}
-use Rattle.rx_listing.specs.Recalled.{IsPastOf}
 use Rattle.rx_live.specs.declared.engine.Engine.{Engine}
 
--- its book, its names, what was taken from the book and, in want of memory, is still to be told: a note, a resource's name; and what is
--- known of the events before the last checkpoint
+-- its book, its names, and what was taken from the book and, in want of memory, is still to be told: a note, a resource's name
 pub record Session : Type 0 where
   pub book : State
   pub nodes : Names
@@ -31,11 +28,10 @@ pub record Session : Type 0 where
   pub leases : Names
   pub untold : Option Mail
   pub unnamed : Option Name
-  pub past : Past
 
 -- the session that an engine is at
 abbrev pub session_of : Engine → Session
-session_of l = record { book = l.book; nodes = l.nodes; hubs = l.hubs; resources = l.resources; leases = l.leases; untold = l.untold; unnamed = option_map string_bytes l.unnamed; past = l.past }
+session_of l = record { book = l.book; nodes = l.nodes; hubs = l.hubs; resources = l.resources; leases = l.leases; untold = l.untold; unnamed = option_map string_bytes l.unnamed }
 
 -- what a name is bound to ----------------------------------------------------------------------------
 
@@ -100,8 +96,6 @@ pub record IsSound (s : Session) : Type 0 where
   pub leases : (l : ℕ) → is_some (name_of s.leases l) ≡ is_out s.book.history l
   -- a name that is still to be told is not given again
   pub unnamed : (name : Name) → s.unnamed ≡ Some name → spot_of s.resources name ≡ None
-  -- what is known of the events before the last checkpoint is what they were
-  pub past : IsPastOf s.past s.book s.nodes s.hubs s.resources s.leases
 
 -- how names are tied to the history, without what the book promises by itself
 pub record IsTied (s : Session) : Type 0 where
@@ -114,5 +108,3 @@ pub record IsTied (s : Session) : Type 0 where
   pub resources : (r : ℕ) → is_some (name_of s.resources r) ≡ is_kept s.book.history r
   pub leases : (l : ℕ) → is_some (name_of s.leases l) ≡ is_out s.book.history l
   pub unnamed : (name : Name) → s.unnamed ≡ Some name → spot_of s.resources name ≡ None
-  -- what is known of the events before the last checkpoint is what they were
-  pub past : IsPastOf s.past s.book s.nodes s.hubs s.resources s.leases

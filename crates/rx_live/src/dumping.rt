@@ -1,6 +1,6 @@
 //! The history so far, as a dump.
 
-ghost use Rattle.std.specs.Prelude.{◌≡◌, ◌≤◌, nat_lt, length, string_bytes, IfOk};
+ghost use Rattle.std.specs.Prelude.{◌≡◌, string_bytes, IfOk};
 ghost use Rattle.rx_live.specs.Session.{session_of};
 ghost use Rattle.rx_live.specs.Dumps.{whole_text, since_text, dump_text};
 

@@ -23,7 +23,7 @@ pub struct Engine {
     pub untold: Option<Mail>,
     /// The name of a resource that was taken from the book and is still to be told.
     pub unnamed: Option<String>,
-    /// What is known of the events before the last checkpoint.
+    /// What `list` tells of the events before the last checkpoint. No contract speaks of it.
     pub past: Past,
 }
 

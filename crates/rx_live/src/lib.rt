@@ -28,11 +28,8 @@
 //!   ([`notes_are_told_in_order`]).
 //! - Where memory is refused a line was not taken, and nothing has changed, but that a checkpoint may have been
 //!   made. While something is late no name of a node is forgotten.
-//! - `list` is answered with each open node that has a name, its kind, its place and what it is below; each
-//!   resource with its node and uses; each lease with its resource; each hub with its mode, whether it is connected
-//!   and how many of those nodes subscribe to it; before and after a checkpoint (`rx_listing`).
-//! - Nothing is promised of the words of a faulty line. That something is late, or a checkpoint not made, only
-//!   where memory was refused is tested and not proved.
+//! - Nothing is promised of the text with which `list` is answered, nor of the words of a faulty line. That
+//!   something is late, or a checkpoint not made, only where memory was refused is tested and not proved.
 #![tactic(auto)]
 
 mod calls;

@@ -11,12 +11,12 @@ pub returns-in-Ok-clause-ok : goal.returns-in-Ok-clause-ok
 returns-in-Ok-clause-ok c =
     let s = session_of c.args.engine.now in
     renews s c.checkpoint.new.self c.forget_all_closed.new.nodes (none_of s.untold (sym c.is_some.ensures ∙ c.if-is_some.false)) c.promise.ensures c.in-Ok.ensures.made
-    c.forget_all_closed.ensures.same c.forget_all_closed.ensures.open_alone c.in_ok-past.past
+    c.forget_all_closed.ensures.same c.forget_all_closed.ensures.open_alone
 
 pub returns-in-Ok-clause-sound : goal.returns-in-Ok-clause-sound
 returns-in-Ok-clause-sound c =
-    renewed_sound (session_of c.args.engine.now) c.checkpoint.new.self c.forget_all_closed.new.nodes c.in_ok-past.past c.requires c.promise.ensures c.in-Ok.ensures.made
-    c.forget_all_closed.ensures.paired c.forget_all_closed.ensures.same c.forget_all_closed.ensures.open_alone c.in_ok-past.ensures
+    renewed_sound (session_of c.args.engine.now) c.checkpoint.new.self c.forget_all_closed.new.nodes c.requires c.promise.ensures c.in-Ok.ensures.made
+    c.forget_all_closed.ensures.paired c.forget_all_closed.ensures.same
 
 pub returns-in-Err-clause-ok : goal.returns-in-Err-clause-ok
 returns-in-Err-clause-ok c =

@@ -18,7 +18,7 @@ pub returns-in_ok-list_text-in-Ok-List-clause-some : goal.returns-in_ok-list_tex
 returns-in_ok-list_text-in-Ok-List-clause-some c =
     let line = c.args.line.now in
     let order : IsOrderOf line list = subst (λ (o : OrderInCode). IsOrderOf line (order_of o)) c.in-Ok-List.field-0-is c.in-Ok-List.ensures.ok in
-    answered_listed (session_of c.args.engine.now) line (string_bytes c.in_ok-list_text-in-Ok-List.field-0) order c.in_ok-list_text-in-Ok-List.ensures
+    answered_listed (session_of c.args.engine.now) line (string_bytes c.in_ok-list_text-in-Ok-List.field-0) order
 
 pub returns-in_ok-dump_text-in-Ok-Dump-clause-some : goal.returns-in_ok-dump_text-in-Ok-Dump-clause-some
 returns-in_ok-dump_text-in-Ok-Dump-clause-some c =

@@ -1,19 +1,17 @@
 use Rattle.std.proofs.Common.{refl, ap}
 use Rattle.rx_book.specs.State.{State}
 use Rattle.rx_live.specs.Session.{Session}
-use Rattle.rx_listing.proofs.Laws.Past.{past_first}
 use Rattle.rx_live.proofs.Soundness.{sound_start}
 use Rattle.rx_live.proofs.engine.Engine.new.Goals as goal
 use Rattle.std.specs.Prelude.{None}
 
 pub returns : goal.returns
 returns c =
-    let s : Session = record { book = c.new-book.result; nodes = c.new.result; hubs = c.new-2.result; resources = c.new-3.result; leases = c.new-4.result; untold = None; unnamed = None; past = c.new-5.result } in
+    let s : Session = record { book = c.new-book.result; nodes = c.new.result; hubs = c.new-2.result; resources = c.new-3.result; leases = c.new-4.result; untold = None; unnamed = None } in
     record {
       sound = sound_start s c.promise.ensures (ap (λ (b : State). b.history) c.new-book.ensures)
           c.new.ensures.paired c.new-2.ensures.paired c.new-3.ensures.paired c.new-4.ensures.paired
-          c.new.ensures.none c.new-2.ensures.none c.new-3.ensures.none c.new-4.ensures.none refl
-          (past_first s.past s.book s.nodes s.hubs s.resources s.leases c.new-5.ensures (ap (λ (b : State). b.base) c.new-book.ensures));
+          c.new.ensures.none c.new-2.ensures.none c.new-3.ensures.none c.new-4.ensures.none refl;
       fresh = record {
         history = ap (λ (b : State). b.history) c.new-book.ensures;
         given = ap (λ (b : State). b.given) c.new-book.ensures;
