@@ -1,17 +1,8 @@
 //! A run that is longer than its limit.
 
+use crate::asked::expect;
 use rx_live::Live;
 use std::test::Fail;
-
-// Sends a line for which there is memory, and compares its answer.
-fn expect(live: &mut Live, line: &str, answer: &str) -> Result<(), Fail> {
-    let told = live.send(line.as_bytes())?;
-    if told.as_str() == answer {
-        Ok(())
-    } else {
-        Err(Fail::new(told))
-    }
-}
 
 // A root that holds a resource, and its source.
 fn begin(live: &mut Live) -> Result<(), Fail> {
