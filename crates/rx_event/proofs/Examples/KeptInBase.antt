@@ -1,4 +1,4 @@
--- The definitions at worked examples: bases.
+-- The definitions at worked examples: what a base keeps, and what it shows.
 use Rattle.std.proofs.Common.{◌≡◌, true, false, List, [], ◌∷◌, refl, pos}
 use Rattle.rx_note.specs.declared.note.Terminal.TheVariants.{Completed}
 use Rattle.rx_event.specs.declared.event.Place.TheVariants.{Root, Source, Inner}

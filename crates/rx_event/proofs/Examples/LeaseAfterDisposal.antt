@@ -1,4 +1,4 @@
--- The definitions at worked examples: leases.
+-- The definitions at worked examples: a lease that is given back after its subscription was disposed of.
 use Rattle.std.proofs.Common.{◌≡◌, true, false, Some, List, [], ◌∷◌, ◌++◌, refl}
 use Rattle.rx_event.specs.declared.base.BaseState.TheVariants.{Leased}
 use Rattle.rx_event.specs.declared.event.Place.TheVariants.{Root}
