@@ -612,10 +612,10 @@ module _ (b : Kept) (h : List Event) where
 
     pub s_paid : (f : ℕ) → is_open h f ≡ true → count_by (pays f) (shown (base_of b h)) ≤ projected_by (base_of b h) (shown (base_of b h)) f
     s_paid f o =
-        let known : projected_by (base_of b h) (shown (base_of b h)) f ≡
-        owed b h f + count_by (pays f) (shown (base_of b h)) + projections (shown (base_of b h)) f =
-        ap (λ k. option_map_or (λ x. x.owed + count_by (pays f) (shown (base_of b h)) + projections (shown (base_of b h)) f) k
-        (projections (shown (base_of b h)) f)) (s_node f o) in
+        let paid = count_by (pays f) (shown (base_of b h)) in
+        let shows = projections (shown (base_of b h)) f in
+        let known : projected_by (base_of b h) (shown (base_of b h)) f ≡ owed b h f + paid + shows =
+        ap (λ k. option_map_or (λ x. x.owed + paid + shows) k shows) (s_node f o) in
         omega arith
 
     pub base_sound : Sound (base_of b h) (shown (base_of b h))
