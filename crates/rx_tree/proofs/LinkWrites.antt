@@ -1,5 +1,5 @@
 -- A write of one link in a store: what it says of every place's link, and of the one side that it writes.
-use Rattle.std.proofs.Common.{◌≡◌, ℕ, Option, Some, refl, sym, ap}
+use Rattle.std.proofs.Common.{◌≡◌, ℕ, Some, refl, sym, ap}
 use Rattle.std.specs.Option.{option_map_or}
 use Rattle.rx_slots.specs.Slots.{value_at, with_value_at}
 use Rattle.rx_tree.specs.declared.links.Link.{Link}
