@@ -1,4 +1,4 @@
-use Rattle.std.proofs.Common.{length, refl}
+use Rattle.std.proofs.Common.{refl}
 use Rattle.rx_register.proofs.Written.{may_rebase, base_long, placed_base, rebased, rebases_seen, made_rebased}
 use Rattle.rx_register.proofs.register.Register.rebase.Goals as goal
 
