@@ -11,6 +11,7 @@ pub list_any_map : {A B : Type 0} (p : B → Bool) (f : A → B) (xs : List A) �
 list_any_map p f [] = refl
 list_any_map p f (x ∷ xs) = ap (λ (b : Bool). p (f x) || b) (list_any_map p f xs)
 
-pub list_all_keys : (p : List ℕ → Bool) (es : List (String Global × Value)) → list_all p (keys (members_view es)) ≡ list_all (λ (k : String Global). p (string_bytes k)) (keys_of es)
+pub list_all_keys : (p : List ℕ → Bool) (es : List (String Global × Value))
+    → list_all p (keys (members_view es)) ≡ list_all (λ (k : String Global). p (string_bytes k)) (keys_of es)
 list_all_keys p [] = refl
 list_all_keys p (e ∷ es) = ap (λ (b : Bool). p (string_bytes e.0) && b) (list_all_keys p es)
