@@ -62,7 +62,8 @@ off_outside nodes top k (x ∷ chain) apart off = by_test (off_outside nodes top
   by_key rest e off true same = absurd (false≢true (sym apart ∙ ap (λ (j : Key). is_below nodes top j.number) (key_is k x same) ∙ e))
   by_key rest e off false other = rest off
 
-  by_test : (is_on k (outside nodes top chain) ≡ false → is_on k chain ≡ false) → (b : Bool) → is_below nodes top x.number ≡ b → is_on k (cond (not b) (x ∷ outside nodes top chain) (outside nodes top chain)) ≡ false → (is_key k x || is_on k chain) ≡ false
+  by_test : (is_on k (outside nodes top chain) ≡ false → is_on k chain ≡ false) → (b : Bool) → is_below nodes top x.number ≡ b →
+      is_on k (cond (not b) (x ∷ outside nodes top chain) (outside nodes top chain)) ≡ false → (is_key k x || is_on k chain) ≡ false
   by_test rest false e off = let parts = or_parts (is_key k x) (is_on k (outside nodes top chain)) off in rw parts.0 (rest parts.1)
   by_test rest true e off = by_key rest e off (is_key k x) refl
 
@@ -84,7 +85,9 @@ all_fresh base h nodes chain near = record {
 }
 
 -- the marks of that record are set
-pub remarked : (base : Kept) → (h : List Event) (nodes new : Slots Node) (chain : List Key) (p : Key) (before : Node) (change : Marks → Marks) → AreNearly base h (Some p.number) nodes chain → AreApart nodes → find nodes p ≡ Some before → marks_of base h p.number ≡ change before.marks → Rewrites nodes new p (λ node. with_marks (change node.marks) node) → AreRecords base h new (with_last p chain)
+pub remarked : (base : Kept) → (h : List Event) (nodes new : Slots Node) (chain : List Key) (p : Key) (before : Node) (change : Marks → Marks) →
+    AreNearly base h (Some p.number) nodes chain → AreApart nodes → find nodes p ≡ Some before → marks_of base h p.number ≡ change before.marks →
+    Rewrites nodes new p (λ node. with_marks (change node.marks) node) → AreRecords base h new (with_last p chain)
 remarked base h nodes new chain p before change near apart at_p marked rewrites = record { each = each; every = every; quiet = quiet } where
   here : find new p ≡ Some (with_marks (change before.marks) before)
   here = rewrites.changed ∙ ap (option_map (λ (node : Node). with_marks (change node.marks) node)) at_p
@@ -127,7 +130,9 @@ remarked base h nodes new chain p before change near apart at_p marked rewrites 
         near.quiet key node was (fresh key node differs was) (off_last key p chain off)
 
 -- another chain, off which nothing is due
-pub rechained : (base : Kept) → (h : List Event) (nodes : Slots Node) (chain other : List Key) → AreRecords base h nodes chain → ((key : Key) (node : Node) → find nodes key ≡ Some node → is_on key other ≡ false → is_on key chain ≡ true → due_at node.made node.marks key.number ≡ None) → AreRecords base h nodes other
+pub rechained : (base : Kept) → (h : List Event) (nodes : Slots Node) (chain other : List Key) → AreRecords base h nodes chain →
+    ((key : Key) (node : Node) → find nodes key ≡ Some node → is_on key other ≡ false → is_on key chain ≡ true →
+    due_at node.made node.marks key.number ≡ None) → AreRecords base h nodes other
 rechained base h nodes chain other r quiet = record {
   each = r.each;
   every = r.every;
@@ -162,7 +167,9 @@ module _ (base : Kept) (h : List Event) (nodes : Slots Node) (chain : List Key) 
     climbs_agree (suc k) n l alive =
         let has = r.every n alive in
         let at : up nodes n ≡ parent h n = subst (λ (m : ℕ). up nodes m ≡ parent h m) has.numbered (up_is_parent has.key has.value has.found) in
-        tree_ancestors_step nodes n ∙ ap (λ o. n ∷ option_map_or (tree_ancestors nodes) o []) at ∙ ap (λ (xs : List ℕ). n ∷ xs) (option_map_or-same (tree_ancestors nodes) (ancestors h) (parent h n) [] (λ p below. let s : p < n = parent-lt h n p below in climbs_agree k p (omega arith) (parent_open h n p alive below))) ∙ sym (ancestors_step h n)
+        tree_ancestors_step nodes n ∙ ap (λ o. n ∷ option_map_or (tree_ancestors nodes) o []) at ∙
+        ap (λ (xs : List ℕ). n ∷ xs) (option_map_or-same (tree_ancestors nodes) (ancestors h) (parent h n) []
+        (λ p below. let s : p < n = parent-lt h n p below in climbs_agree k p (omega arith) (parent_open h n p alive below))) ∙ sym (ancestors_step h n)
 
     -- what is below a node of the tree is within it in the history
     pub below_is_within : (key : Key) (node : Node) → find nodes key ≡ Some node → (top : ℕ) → is_below nodes top key.number ≡ list_any (λ a. top == a) (ancestors h key.number)
@@ -221,10 +228,14 @@ module _ (base : Kept) (h : List Event) (e : Event) (law : IsLawful base h) (nex
   }
 
   -- where it closes a node and all below it, the others stay
-  pub cut_left : (left : Slots Node) (rest : List Key) (top : ℕ) → IsSound nodes → ((n : ℕ) → n < length h → is_open (h ++ e ∷ []) n ≡ (is_open h n && not (list_any (λ a. top == a) (ancestors h n)))) → ((key : Key) → find left key ≡ cond (is_below nodes top key.number) None (find nodes key)) → rest ≡ outside nodes top chain → AreLeft h e nodes left chain rest
+  pub cut_left : (left : Slots Node) (rest : List Key) (top : ℕ) → IsSound nodes →
+      ((n : ℕ) → n < length h → is_open (h ++ e ∷ []) n ≡ (is_open h n && not (list_any (λ a. top == a) (ancestors h n)))) →
+      ((key : Key) → find left key ≡ cond (is_below nodes top key.number) None (find nodes key)) → rest ≡ outside nodes top chain →
+      AreLeft h e nodes left chain rest
   cut_left left rest top sound opens cuts chained = record {
     was = λ k node f. (was k node f).1;
-    alive = λ k node f. let o = was k node f in let is = r.each k node o.1 in opens k.number (is_open_within h k.number is.alive) ∙ and_from _ _ is.alive (not_from_false _ (sym (below_is_within base h nodes chain r sound k node o.1 top) ∙ o.0));
+    alive = λ k node f. let o = was k node f in let is = r.each k node o.1 in opens k.number (is_open_within h k.number is.alive) ∙
+        and_from _ _ is.alive (not_from_false _ (sym (below_is_within base h nodes chain r sound k node o.1 top) ∙ o.0));
     still = still;
     off = λ k node f off. off_outside nodes top k chain (was k node f).0 (sym (ap (is_on k) chained) ∙ off);
   }
@@ -241,7 +252,10 @@ module _ (base : Kept) (h : List Event) (e : Event) (law : IsLawful base h) (nex
           cuts k ∙ ap (λ b. cond b None (find nodes k)) (below_is_within base h nodes chain r sound k node f top ∙ not-true (list_any (λ a. top == a) (ancestors h k.number)) parts.1) ∙ f
 
   -- a new node beside those that stay
-  pub records_opened : (left : Slots Node) (rest : List Key) → AreLeft h e nodes left chain rest → (new : Slots Node) (key : Key) (above : Option Key) → makes_node e ≡ true → ((n : ℕ) → parent_named e ≢ Some n → touches h n e ≡ false) → key.number ≡ length h → entry_at left key.slot ≡ None → find new key ≡ Some (blank_node e above) → KeepsOthers left new key → AreNearly base (h ++ e ∷ []) (parent_named e) new rest
+  pub records_opened : (left : Slots Node) (rest : List Key) → AreLeft h e nodes left chain rest →
+      (new : Slots Node) (key : Key) (above : Option Key) → makes_node e ≡ true → ((n : ℕ) → parent_named e ≢ Some n → touches h n e ≡ false) →
+      key.number ≡ length h → entry_at left key.slot ≡ None → find new key ≡ Some (blank_node e above) → KeepsOthers left new key →
+      AreNearly base (h ++ e ∷ []) (parent_named e) new rest
   records_opened left rest stays new key above makes untouched numbered free found others = record {
     made = made;
     alive = alive;
@@ -297,7 +311,11 @@ module _ (base : Kept) (h : List Event) (e : Event) (law : IsLawful base h) (nex
         by_key (inr differs) = let here = old k node differs f in r.quiet k node (stays.was k node here) (stays.off k node here off)
 
   -- what a closing leaves
-  pub records_cut : (new : Slots Node) (rest : List Key) (top : ℕ) (stale : Option ℕ) → IsSound nodes → ((n : ℕ) → stale ≢ Some n → is_open (h ++ e ∷ []) n ≡ true → marks_of base (h ++ e ∷ []) n ≡ marks_of base h n) → ((n : ℕ) → is_open (h ++ e ∷ []) n ≡ (is_open h n && not (list_any (λ a. top == a) (ancestors h n)))) → ((key : Key) → find new key ≡ cond (is_below nodes top key.number) None (find nodes key)) → rest ≡ outside nodes top chain → AreNearly base (h ++ e ∷ []) stale new rest
+  pub records_cut : (new : Slots Node) (rest : List Key) (top : ℕ) (stale : Option ℕ) → IsSound nodes →
+      ((n : ℕ) → stale ≢ Some n → is_open (h ++ e ∷ []) n ≡ true → marks_of base (h ++ e ∷ []) n ≡ marks_of base h n) →
+      ((n : ℕ) → is_open (h ++ e ∷ []) n ≡ (is_open h n && not (list_any (λ a. top == a) (ancestors h n)))) →
+      ((key : Key) → find new key ≡ cond (is_below nodes top key.number) None (find nodes key)) → rest ≡ outside nodes top chain →
+      AreNearly base (h ++ e ∷ []) stale new rest
   records_cut new rest top stale sound kept opens cuts chained = record {
     made = λ k node f. let o = was k node f in made_still k node o.1;
     alive = λ k node f. let o = was k node f in alive k node o.1 o.0;

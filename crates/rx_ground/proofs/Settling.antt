@@ -1,6 +1,5 @@
--- What an opening, an end, and the loop that settles, leave of the tie.
+-- What the loop that settles leaves of the tie.
 use Rattle.std.proofs.Common.{◌≡◌, ℕ, ◌<◌, Bool, true, false, cond, List, [], ◌∷◌, ◌++◌, length, Option, Some, None, is_some, IsSome, IfSome, option_map, slice_get, drop, refl, sym, ap, subst, ◌∙◌, ◌≤◌, ◌+◌, arith, length-append}
-use Rattle.std.specs.Prelude.{IfNone}
 use Rattle.std.specs.List.{AllByRecursion}
 use Rattle.std.specs.Option.{option_and_then}
 use Rattle.std.proofs.Math.Bool.{◌||◌}
@@ -12,27 +11,26 @@ use Rattle.rx_note.specs.declared.note.Terminal.{Terminal}
 use Rattle.rx_event.specs.declared.marks.Marks.{Marks}
 use Rattle.rx_event.specs.declared.event.Event.{Event}
 use Rattle.rx_event.specs.declared.event.Event.TheVariants.{Connect, End}
-use Rattle.rx_event.specs.Events.{source_named, is_merging}
-use Rattle.rx_event.specs.Tree.{is_open, parent}
+use Rattle.rx_event.specs.Events.{is_merging}
+use Rattle.rx_event.specs.Tree.{is_open}
 use Rattle.rx_event.specs.Marks.{marks_of, due_at, terminal_due, after_child}
 use Rattle.rx_event.specs.Notes.{mail_of}
 use Rattle.rx_event.specs.Forced.{IsConnectDue, IsConnected, IsForced, IsSettled, connecting, due}
-use Rattle.rx_event.specs.Lawful.{MayFollow, IsLawful, IsForcedOn, forced, stays, more}
+use Rattle.rx_event.specs.Lawful.{IsLawful, IsForcedOn, forced, stays, more}
 use Rattle.rx_event.proofs.Laws.MarksDue.{due_at_forced, settled_by_marks}
-use Rattle.rx_event.proofs.Laws.Openness.{is_open_outside-end, is_open_within, stays_closed}
+use Rattle.rx_event.proofs.Laws.Openness.{is_open_within, stays_closed}
 use Rattle.rx_event.proofs.Laws.Waits.{forced_connected}
-use Rattle.rx_event.proofs.Laws.MarksTouched.{child_counted}
 use Rattle.rx_slots.specs.declared.Key.{Key}
 use Rattle.rx_slots.specs.Slots.{Slots, find}
 use Rattle.rx_tree.specs.declared.node.Node.{Node}
-use Rattle.rx_tree.specs.Tree.{Tree, IsSound, AreApart, Rewrites, first_of, is_on, is_key, with_marks, with_last}
+use Rattle.rx_tree.specs.Tree.{Tree, Rewrites, first_of, is_on, is_key, with_marks, with_last}
 use Rattle.rx_tree.proofs.Laws.Keys.{key_is, some_of}
 use Rattle.rx_register.specs.State.{State as Register, Writes}
 use Rattle.rx_register.specs.Paid.{IsPaid}
 use Rattle.rx_register.proofs.Laws.Paid.{forced_room, end_room, forced_pays}
 use Rattle.rx_register.proofs.Laws.Fits.{told_by_end}
 use Rattle.rx_ground.specs.declared.settle.Due.{Due}
-use Rattle.rx_ground.specs.Ties.{AreLeased, IsTied, AreTied, IsReady, WithChain, IsDueNext, IsNext, AllQuiet, KeepsNodes, KeepsOlder, Remarks, Cuts, HasRoomToConnect, is_there, key_due}
+use Rattle.rx_ground.specs.Ties.{AreLeased, IsTied, AreTied, IsReady, WithChain, IsDueNext, IsNext, AllQuiet, KeepsOlder, Remarks, HasRoomToConnect, is_there, key_due}
 use Rattle.rx_ground.specs.Memory.{TakesNoMemory}
 use Rattle.rx_ground.proofs.Memory.{memory_on}
 use Rattle.rx_ground.specs.Shown.{Ground}
@@ -43,29 +41,6 @@ use Rattle.rx_hub.specs.Due.{event_of, IsDueIn, IsQuiet, ConcernsHub}
 use Rattle.rx_hub.specs.Hubs.{Hub, find_hub}
 use Rattle.rx_hub.proofs.Laws.Dues.{hubs_forced, none_waits, none_cut, none_left}
 use Rattle.rx_hub.proofs.Laws.Walks.{found_hub}
-use Rattle.rx_ground.proofs.Tied.{tied_end_top, tied_end_child, parent_stays, cut_keeps, keeps_marked}
-
--- ends ----------------------------------------------------------------------------------------------
-
-module _ (base : Kept) {T : Type 0} (g : Ghosts T) (h : List Event) (c : ℕ) (t : Terminal) (law : IsLawful base h) (next : MayFollow base h (End c t)) (old mid new : Tree T) (tied : IsTied base g h old) (sound : IsSound old.nodes) (cuts : Cuts old mid c) (made : Event) (alive : is_open h c ≡ true) (at_c : slice_get h c ≡ Some made) where
-  -- the one above has an open child
-  pub above_counted : (above : Option Key) → option_map (λ k. k.number) above ≡ parent h c → IfSome above (λ k. IsSome (find old.nodes k)) → IfSome above (λ key. IfSome (find mid.nodes key) (λ node. 0 < node.marks.open_children))
-  above_counted None named there = tt
-  above_counted (Some p) named there =
-      let x = some_of (find old.nodes p) there in
-      let stays = parent_stays base g h c t law next old mid new tied sound cuts p x.0 alive (sym named) x.1 in
-      let counted = child_counted h c p.number alive (sym named) in
-      let marks = (tied.records.each p x.0 x.1).marks in
-      subst (λ o. IfSome o (λ (node : Node). 0 < node.marks.open_children)) (sym stays) (rw marks counted)
-
-  pub ended_tied : (above : Option Key) → AreApart mid.nodes → option_map (λ k. k.number) above ≡ parent h c → IfSome above (λ k. IsSome (find old.nodes k)) → IfSome above (λ key. IfSome (find mid.nodes key) (λ node. Remarks mid new key (after_child (is_some (source_named made)) (is_merging node.made) t))) → IfNone above (new ≡ mid) → IsTied base g (h ++ End c t ∷ []) new × KeepsNodes (h ++ End c t ∷ []) old.nodes new.nodes × (new.resources ≡ old.resources) × (new.nodes.count ≡ mid.nodes.count)
-  ended_tied None apart named there marked same =
-      subst (λ (tree : Tree T). IsTied base g (h ++ End c t ∷ []) tree × KeepsNodes (h ++ End c t ∷ []) old.nodes tree.nodes × (tree.resources ≡ old.resources) × (tree.nodes.count ≡ mid.nodes.count)) (sym same) (tied_end_top base g h c t law next old mid new tied sound cuts (sym named), cut_keeps base h (End c t) old mid tied.records sound c (is_open_outside-end h c t) cuts, cuts.resources, refl)
-  ended_tied (Some p) apart named there marked same =
-      let x = some_of (find old.nodes p) there in
-      let stays = parent_stays base g h c t law next old mid new tied sound cuts p x.0 alive (sym named) x.1 in
-      let m : Remarks mid new p (after_child (is_some (source_named made)) (is_merging x.0.made) t) = subst (λ o. IfSome o (λ (node : Node). Remarks mid new p (after_child (is_some (source_named made)) (is_merging node.made) t))) stays marked in
-      (tied_end_child base g h c t law next old mid new tied sound cuts p made x.0 apart alive (sym named) at_c x.1 stays m, keeps_marked base h (End c t) old mid tied.records sound c (is_open_outside-end h c t) cuts new p _ m, m.resources ∙ cuts.resources, ap (λ (s : Slots Node). s.count) m.nodes.rest)
 
 -- settling ------------------------------------------------------------------------------------------
 
@@ -209,7 +184,15 @@ way_rechained {T = T} g start old new w kept tied = record {
   hubs = ap (λ (b : Ground T). length b.hubs.hubs) kept.same ∙ w.hubs;
   limit = ap (λ (s : Register). s.limit) register ∙ w.limit;
   given = ap (λ (s : Register). s.given) register ∙ w.given;
-  memory = subst (TakesNoMemory start) (sym kept.same) (record { events = w.memory.events; notes = w.memory.notes; nodes = w.memory.nodes; resources = w.memory.resources; hubs = w.memory.hubs; slots = w.memory.slots; closing = w.memory.closing });
+  memory = subst (TakesNoMemory start) (sym kept.same) (record {
+    events = w.memory.events;
+    notes = w.memory.notes;
+    nodes = w.memory.nodes;
+    resources = w.memory.resources;
+    hubs = w.memory.hubs;
+    slots = w.memory.slots;
+    closing = w.memory.closing;
+  });
 }
   where
     register : new.register ≡ old.register
@@ -255,7 +238,9 @@ way_on g start old new d w law next written tied leased kept resources hubs leas
 -- the chain -----------------------------------------------------------------------------------------
 
 -- where the first of the chain is not due it may be dropped
-pub chain_dropped : (base : Kept) → {T : Type 0} (g : Ghosts T) (h : List Event) (tree new : Tree T) (p : Key) → IsTied base g h tree → first_of tree.chain ≡ Some p → option_and_then (λ (node : Node). terminal_due node.made node.marks) (find tree.nodes p) ≡ None → new ≡ record tree { chain = drop 1 tree.chain } → IsTied base g h new
+pub chain_dropped : (base : Kept) → {T : Type 0} (g : Ghosts T) (h : List Event) (tree new : Tree T) (p : Key) → IsTied base g h tree →
+    first_of tree.chain ≡ Some p → option_and_then (λ (node : Node). terminal_due node.made node.marks) (find tree.nodes p) ≡ None →
+    new ≡ record tree { chain = drop 1 tree.chain } → IsTied base g h new
 chain_dropped base {T = T} g h tree new p tied first undue same = subst (IsTied base g h) (sym same) (record {
   records = rechained base h tree.nodes tree.chain (drop 1 tree.chain) tied.records (λ key node found off on. by_chain key node found tree.chain first off on);
   stored = record { each = tied.stored.each; every = tied.stored.every };
@@ -314,7 +299,12 @@ set_remarks {T = T} old new key marks after change at_marks changes w chain reso
       }
 
 -- those of an end are set by the record that is found
-pub found_end : {T : Type 0} (old new : Tree T) (key : Key) (made : Event) (marks : Marks) (source merging : Bool) (t : Terminal) → option_map (λ (node : Node). node.made) (find old.nodes key) ≡ Some made → option_map (λ (node : Node). node.marks) (find old.nodes key) ≡ Some marks → merging ≡ is_merging made → Rewrites old.nodes new.nodes key (with_marks (after_child source merging t marks)) → new.chain ≡ cond (is_some (find old.nodes key)) (with_last key old.chain) old.chain → new.resources ≡ old.resources → IfSome (find old.nodes key) (λ node. Remarks old new key (after_child source (is_merging node.made) t))
+pub found_end : {T : Type 0} (old new : Tree T) (key : Key) (made : Event) (marks : Marks) (source merging : Bool) (t : Terminal) →
+    option_map (λ (node : Node). node.made) (find old.nodes key) ≡ Some made →
+    option_map (λ (node : Node). node.marks) (find old.nodes key) ≡ Some marks → merging ≡ is_merging made →
+    Rewrites old.nodes new.nodes key (with_marks (after_child source merging t marks)) →
+    new.chain ≡ cond (is_some (find old.nodes key)) (with_last key old.chain) old.chain → new.resources ≡ old.resources →
+    IfSome (find old.nodes key) (λ node. Remarks old new key (after_child source (is_merging node.made) t))
 found_end {T = T} old new key made marks source merging t at_made at_marks merges w chain resources = by_value (find old.nodes key) refl where
   by_value : (o : Option Node) → find old.nodes key ≡ o → IfSome o (λ node. Remarks old new key (after_child source (is_merging node.made) t))
   by_value None e = tt
