@@ -7,10 +7,12 @@ use Rattle.std.proofs.lemmas.Bool.{false≢true, cases_order, and_parts, and_fro
 use Rattle.std.proofs.lemmas.Option.{none-some, same_Some}
 use Rattle.rx_event.specs.Kept.{Kept}
 use Rattle.rx_event.specs.declared.marks.Marks.{Marks}
+use Rattle.rx_note.specs.declared.note.Terminal.{Terminal}
 use Rattle.rx_event.specs.declared.event.Event.{Event}
+use Rattle.rx_event.specs.declared.event.Event.TheVariants.{End}
 use Rattle.rx_event.specs.Events.{makes_node, parent_named}
 use Rattle.rx_event.specs.Tree.{is_open, parent, if_less, ancestors, shuts}
-use Rattle.rx_event.specs.Marks.{marks_of, due_at, touches}
+use Rattle.rx_event.specs.Marks.{marks_of, due_at, terminal_due, touches}
 use Rattle.rx_event.specs.Lawful.{MayFollow, IsLawful}
 use Rattle.rx_event.proofs.Laws.Places.{slice_get-append, slice_get_last}
 use Rattle.rx_event.proofs.Laws.Parents.{ancestors_step, parent-lt, option_map_or-same}
@@ -21,7 +23,7 @@ use Rattle.rx_event.proofs.Laws.MarksTouched.{marks_untouched, blank_quiet}
 use Rattle.rx_slots.specs.declared.Key.{Key}
 use Rattle.rx_slots.specs.Slots.{Slots, find, entry_at, with_number, KeepsOthers}
 use Rattle.rx_tree.specs.declared.node.Node.{Node}
-use Rattle.rx_tree.specs.Tree.{IsSound, AreApart, Rewrites, blank_node, named_above, parent_number, with_marks, with_last, is_key, is_on}
+use Rattle.rx_tree.specs.Tree.{IsSound, AreApart, Rewrites, blank_node, named_above, parent_number, with_marks, with_last, with_due, is_key, is_on, is_due}
 use Rattle.rx_tree.specs.Below.{up, ancestors as tree_ancestors, is_below}
 use Rattle.rx_tree.specs.Closing.{outside}
 use Rattle.rx_tree.proofs.Laws.Below.{climb_step, up-lt, record_found}
@@ -41,18 +43,42 @@ on_append k (x ∷ xs) ys = by_test (is_key k x) (on_append k xs ys) where
   by_test false e = e
 
 -- a key that is put on the chain is there
-pub on_last : (p : Key) (chain : List Key) → is_on p (with_last p chain) ≡ true
+on_last : (p : Key) (chain : List Key) → is_on p (with_last p chain) ≡ true
 on_last p chain = by_test (is_on p chain) refl where
   by_test : (b : Bool) → is_on p chain ≡ b → is_on p (cond b chain (chain ++ p ∷ [])) ≡ true
   by_test true e = e
   by_test false e = on_append p chain (p ∷ []) ∙ rw (e, key_itself p) refl
 
 -- and what is not there then was not there before
-pub off_last : (k p : Key) (chain : List Key) → is_on k (with_last p chain) ≡ false → is_on k chain ≡ false
+off_last : (k p : Key) (chain : List Key) → is_on k (with_last p chain) ≡ false → is_on k chain ≡ false
 off_last k p chain off = by_test (is_on p chain) off where
   by_test : (b : Bool) → is_on k (cond b chain (chain ++ p ∷ [])) ≡ false → is_on k chain ≡ false
   by_test true e = e
   by_test false e = (or_parts (is_on k chain) _ (sym (on_append k chain (p ∷ [])) ∙ e)).0
+
+-- a node that has to end is put there
+pub off_due : (nodes : Slots Node) (k p : Key) (chain : List Key) → is_on k (with_due nodes p chain) ≡ false → is_on k chain ≡ false
+off_due nodes k p chain off = by_test (is_due nodes p) off where
+  by_test : (b : Bool) → is_on k (cond b (with_last p chain) chain) ≡ false → is_on k chain ≡ false
+  by_test true e = off_last k p chain e
+  by_test false e = e
+
+-- and one that is not there then has not to end
+pub undue : (nodes : Slots Node) (p : Key) (node : Node) (chain : List Key) → find nodes p ≡ Some node → is_on p (with_due nodes p chain) ≡ false →
+    due_at node.made node.marks p.number ≡ None
+undue nodes p node chain found off =
+    ap (option_map (λ (t : Terminal). End p.number t)) (none_of (terminal_due node.made node.marks) (sym now ∙ by_test (is_due nodes p) refl off))
+  where
+    now : is_due nodes p ≡ is_some (terminal_due node.made node.marks)
+    now = ap (λ (o : Option Node). option_map_or (λ (x : Node). is_some (terminal_due x.made x.marks)) o false) found
+
+    none_of : (o : Option Terminal) → is_some o ≡ false → o ≡ None
+    none_of None e = refl
+    none_of (Some t) e = absurd (false≢true (sym e))
+
+    by_test : (b : Bool) → is_due nodes p ≡ b → is_on p (cond b (with_last p chain) chain) ≡ false → is_due nodes p ≡ false
+    by_test true is e = absurd (both_ways (is_on p (with_last p chain)) e (on_last p chain))
+    by_test false is e = is
 
 -- what stays open and is not on the chain that stays was not on it
 pub off_outside : (nodes : Slots Node) (top : ℕ) (k : Key) (chain : List Key) → is_below nodes top k.number ≡ false → is_on k (outside nodes top chain) ≡ false → is_on k chain ≡ false
@@ -87,7 +113,7 @@ all_fresh base h nodes chain near = record {
 -- the marks of that record are set
 pub remarked : (base : Kept) → (h : List Event) (nodes new : Slots Node) (chain : List Key) (p : Key) (before : Node) (change : Marks → Marks) →
     AreNearly base h (Some p.number) nodes chain → AreApart nodes → find nodes p ≡ Some before → marks_of base h p.number ≡ change before.marks →
-    Rewrites nodes new p (λ node. with_marks (change node.marks) node) → AreRecords base h new (with_last p chain)
+    Rewrites nodes new p (λ node. with_marks (change node.marks) node) → AreRecords base h new (with_due new p chain)
 remarked base h nodes new chain p before change near apart at_p marked rewrites = record { each = each; every = every; quiet = quiet } where
   here : find new p ≡ Some (with_marks (change before.marks) before)
   here = rewrites.changed ∙ ap (option_map (λ (node : Node). with_marks (change node.marks) node)) at_p
@@ -121,13 +147,15 @@ remarked base h nodes new chain p before change near apart at_p marked rewrites 
       by_cases (inl same) = record { key = p; value = with_marks (change before.marks) before; found = here; numbered = ap (λ (k : Key). k.number) (sym same) ∙ has.numbered }
       by_cases (inr differs) = record { key = has.key; value = has.value; found = rewrites.others has.key differs ∙ has.found; numbered = has.numbered }
 
-  quiet : (key : Key) (node : Node) → find new key ≡ Some node → is_on key (with_last p chain) ≡ false → due_at node.made node.marks key.number ≡ None
+  quiet : (key : Key) (node : Node) → find new key ≡ Some node → is_on key (with_due new p chain) ≡ false → due_at node.made node.marks key.number ≡ None
   quiet key node found off = by_key (cases_key key p) where
     by_key : (key ≡ p) ⊎ (key ≢ p) → due_at node.made node.marks key.number ≡ None
-    by_key (inl same) = absurd (both_ways (is_on p (with_last p chain)) (sym (ap (λ (k : Key). is_on k (with_last p chain)) same) ∙ off) (on_last p chain))
+    by_key (inl same) =
+        ap (λ (k : Key). due_at node.made node.marks k.number) same ∙
+        undue new p node chain (sym (ap (find new) same) ∙ found) (sym (ap (λ (k : Key). is_on k (with_due new p chain)) same) ∙ off)
     by_key (inr differs) =
         let was = other key node differs found in
-        near.quiet key node was (fresh key node differs was) (off_last key p chain off)
+        near.quiet key node was (fresh key node differs was) (off_due new key p chain off)
 
 -- another chain, off which nothing is due
 pub rechained : (base : Kept) → (h : List Event) (nodes : Slots Node) (chain other : List Key) → AreRecords base h nodes chain →

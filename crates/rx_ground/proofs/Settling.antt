@@ -1,5 +1,5 @@
 -- What the loop that settles leaves of the tie.
-use Rattle.std.proofs.Common.{◌≡◌, ℕ, ◌<◌, Bool, true, false, cond, List, [], ◌∷◌, ◌++◌, length, Option, Some, None, is_some, IsSome, IfSome, option_map, slice_get, drop, refl, sym, ap, subst, ◌∙◌, ◌≤◌, ◌+◌, arith, length-append}
+use Rattle.std.proofs.Common.{◌≡◌, ℕ, ◌<◌, Bool, true, false, List, [], ◌∷◌, ◌++◌, length, Option, Some, None, is_some, IsSome, IfSome, option_map, slice_get, drop, refl, sym, ap, subst, ◌∙◌, ◌≤◌, ◌+◌, arith, length-append}
 use Rattle.std.specs.List.{AllByRecursion}
 use Rattle.std.specs.Option.{option_and_then}
 use Rattle.std.proofs.Math.Bool.{◌||◌}
@@ -23,7 +23,7 @@ use Rattle.rx_event.proofs.Laws.Waits.{forced_connected}
 use Rattle.rx_slots.specs.declared.Key.{Key}
 use Rattle.rx_slots.specs.Slots.{Slots, find}
 use Rattle.rx_tree.specs.declared.node.Node.{Node}
-use Rattle.rx_tree.specs.Tree.{Tree, Rewrites, first_of, is_on, is_key, with_marks, with_last}
+use Rattle.rx_tree.specs.Tree.{Tree, Rewrites, first_of, is_on, is_key, with_marks, with_due}
 use Rattle.rx_tree.proofs.Laws.Keys.{key_is, some_of}
 use Rattle.rx_register.specs.State.{State as Register, Writes}
 use Rattle.rx_register.specs.Paid.{IsPaid}
@@ -281,7 +281,7 @@ with_chain_on {T = T} start old new tree kept changed chained = record { same = 
 
 -- marks that were read and set anew change so
 pub set_remarks : {T : Type 0} (old new : Tree T) (key : Key) (marks after : Marks) (change : Marks → Marks) → option_map (λ (node : Node). node.marks) (find old.nodes key) ≡ Some marks → after ≡ change marks →
-    Rewrites old.nodes new.nodes key (with_marks after) → new.chain ≡ cond (is_some (find old.nodes key)) (with_last key old.chain) old.chain → new.resources ≡ old.resources → Remarks old new key change
+    Rewrites old.nodes new.nodes key (with_marks after) → new.chain ≡ with_due new.nodes key old.chain → new.resources ≡ old.resources → Remarks old new key change
 set_remarks {T = T} old new key marks after change at_marks changes w chain resources = by_value (find old.nodes key) refl where
   by_value : (o : Option Node) → find old.nodes key ≡ o → Remarks old new key change
   by_value None e = absurd (none-some marks (sym (ap (option_map (λ (node : Node). node.marks)) e) ∙ at_marks))
@@ -294,7 +294,7 @@ set_remarks {T = T} old new key marks after change at_marks changes w chain reso
           others = w.others;
           rest = w.rest;
         };
-        chain = chain ∙ ap (λ (o : Option Node). cond (is_some o) (with_last key old.chain) old.chain) e;
+        chain = chain;
         resources = resources;
       }
 
@@ -303,7 +303,7 @@ pub found_end : {T : Type 0} (old new : Tree T) (key : Key) (made : Event) (mark
     option_map (λ (node : Node). node.made) (find old.nodes key) ≡ Some made →
     option_map (λ (node : Node). node.marks) (find old.nodes key) ≡ Some marks → merging ≡ is_merging made →
     Rewrites old.nodes new.nodes key (with_marks (after_child source merging t marks)) →
-    new.chain ≡ cond (is_some (find old.nodes key)) (with_last key old.chain) old.chain → new.resources ≡ old.resources →
+    new.chain ≡ with_due new.nodes key old.chain → new.resources ≡ old.resources →
     IfSome (find old.nodes key) (λ node. Remarks old new key (after_child source (is_merging node.made) t))
 found_end {T = T} old new key made marks source merging t at_made at_marks merges w chain resources = by_value (find old.nodes key) refl where
   by_value : (o : Option Node) → find old.nodes key ≡ o → IfSome o (λ node. Remarks old new key (after_child source (is_merging node.made) t))

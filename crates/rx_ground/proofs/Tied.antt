@@ -25,7 +25,7 @@ use Rattle.rx_event.proofs.Laws.MarksTouched.{marks-decline_at, marks-end_at}
 use Rattle.rx_slots.specs.declared.Key.{Key}
 use Rattle.rx_slots.specs.Slots.{Slots, find, entry_at, with_number, KeepsOthers}
 use Rattle.rx_tree.specs.declared.node.Node.{Node}
-use Rattle.rx_tree.specs.Tree.{Tree, IsSound, AreApart, Rewrites, blank_node, with_last}
+use Rattle.rx_tree.specs.Tree.{Tree, IsSound, AreApart, Rewrites, blank_node, with_due}
 use Rattle.rx_tree.specs.Below.{is_below}
 use Rattle.rx_tree.proofs.Laws.Keys.{cases_key, some_of}
 use Rattle.rx_ground.specs.Ties.{AreRecords, AreStored, IsTied, KeepsNodes, Remarks, Cuts}
@@ -156,7 +156,7 @@ module _ (base : Kept) {T : Type 0} (g : Ghosts T) (h : List Event) (kind : Kind
       marks_of base (h ++ e ∷ []) p.number ≡ change (marks_of base h p.number)
       → AreApart mid.nodes → IsSome (find left.nodes p) → IsOpenedIn h e (Some p) left mid key → Remarks mid new p change → IsTied base g (h ++ e ∷ []) new)
   tied_below place p change next stays same named apart_marks changed apart there opened marked = record {
-    records = subst (AreRecords base (h ++ e ∷ []) new.nodes) (ap (with_last p) (sym opened.chain) ∙ sym marked.chain) (remarked base (h ++ e ∷ []) mid.nodes new.nodes left.chain p before.0 change near apart at_p marks marked.nodes);
+    records = subst (AreRecords base (h ++ e ∷ []) new.nodes) (ap (with_due new.nodes p) (sym opened.chain) ∙ sym marked.chain) (remarked base (h ++ e ∷ []) mid.nodes new.nodes left.chain p before.0 change near apart at_p marks marked.nodes);
     stored = all_stored base g h law e old new tied.stored (marked.resources ∙ opened.resources ∙
         same) refl (apart_all place) (λ k some alive. still_there p marked.nodes k
         (opened_there base g h law old left mid tied key e (Some p) stays opened k some alive));

@@ -28,7 +28,7 @@ use Rattle.rx_tree.specs.declared.node.ResKey.{ResKey}
 use Rattle.rx_tree.specs.Below.{is_below}
 use Rattle.rx_tree.specs.Closing.{outside}
 use Rattle.rx_tree.specs.Resources.{is_held_at, store_key}
-use Rattle.rx_tree.specs.Tree.{Tree, Rewrites, is_on, with_last, with_marks}
+use Rattle.rx_tree.specs.Tree.{Tree, Rewrites, is_on, with_due, with_marks}
 use Rattle.rx_hub.specs.declared.hub.HubDue.{HubDue}
 use Rattle.rx_hub.specs.declared.hub.HubDue.TheVariants.{Connect as ConnectDue, End as EndDue, Close as CloseDue}
 use Rattle.rx_hub.specs.declared.hub.LastEnd.{LastEnd}
@@ -188,10 +188,10 @@ module _ {T : Type 0} where
     pub chain : new.chain ≡ outside old.nodes top old.chain
     pub resources : new.resources ≡ old.resources
 
-  -- the marks of this key's record change so, and its key goes on the chain
+  -- the marks of this key's record change so, and its key goes on the chain where its node has to end by them
   pub record Remarks (old new : Tree T) (key : Key) (change : Marks → Marks) : Type 0 where
     pub nodes : Rewrites old.nodes new.nodes key (λ node. with_marks (change node.marks) node)
-    pub chain : new.chain ≡ with_last key old.chain
+    pub chain : new.chain ≡ with_due new.nodes key old.chain
     pub resources : new.resources ≡ old.resources
 
 -- of its leases, those out now that are older than this were out
