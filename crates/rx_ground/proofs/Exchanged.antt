@@ -29,7 +29,8 @@ use Rattle.rx_tree.specs.declared.node.Node.{Node}
 use Rattle.rx_tree.specs.Tree.{Tree, IsSound, AreApart, IsNewest, IsPlaced}
 use Rattle.rx_tree.proofs.Laws.Keys.{some_of}
 use Rattle.rx_tree.proofs.Laws.Newest.{newest_fewer}
-use Rattle.rx_ground.specs.Ties.{IsTied, IsRecordOf, Remarks, IsNewNode, opened_marks}
+use Rattle.rx_flow.specs.Records.{IsRecordOf}
+use Rattle.rx_ground.specs.Ties.{IsTied, Remarks, IsNewNode, opened_marks}
 use Rattle.rx_ground.specs.Inners.{ReplacesNone, Exchanges, MakesWay}
 use Rattle.rx_ground.proofs.Records.{AreLeft, all_left, cut_left}
 use Rattle.rx_ground.proofs.Tied.{IsOpenedIn, found_still, still_there, rewritten_there, tied_root, tied_below}

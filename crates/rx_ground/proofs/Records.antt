@@ -26,7 +26,9 @@ use Rattle.rx_tree.specs.Below.{up, ancestors as tree_ancestors, is_below}
 use Rattle.rx_tree.specs.Closing.{outside}
 use Rattle.rx_tree.proofs.Laws.Below.{climb_step, up-lt, record_found}
 use Rattle.rx_tree.proofs.Laws.Keys.{key_is, cases_key}
-use Rattle.rx_ground.specs.Ties.{IsRecordOf, HasKey, AreRecords}
+use Rattle.rx_flow.specs.Due.{IsChained}
+use Rattle.rx_flow.specs.Records.{IsRecordOf, AreRecordsOf}
+use Rattle.rx_ground.specs.Ties.{HasKey, AreRecords}
 
 -- the chain ---------------------------------------------------------------------------------------
 
@@ -126,17 +128,28 @@ remarked base h nodes new chain p before change near apart at_p marked rewrites 
         let was = other key node differs found in
         near.quiet key node was (fresh key node differs was) (off_last key p chain off)
 
+-- the records are those of the history, whatever is due
+pub as_records : (base : Kept) → (h : List Event) (nodes : Slots Node) (chain : List Key) → AreRecords base h nodes chain → AreRecordsOf base h nodes
+as_records base h nodes chain r = record {
+  each = r.each;
+  every = λ n alive. let has = r.every n alive in record { key = has.key; node = has.value; numbered = has.numbered; found = has.found };
+}
+
+-- nothing is due off their chain
+pub chained : (base : Kept) → (h : List Event) (nodes : Slots Node) (chain : List Key) → AreRecords base h nodes chain → IsChained nodes chain
+chained base h nodes chain r key off = by_node (find nodes key) refl where
+  by_node : (o : Option Node) → find nodes key ≡ o → option_and_then (λ (node : Node). due_at node.made node.marks key.number) o ≡ None
+  by_node None found = refl
+  by_node (Some node) found = r.quiet key node found off
+
 -- another chain, off which nothing is due
-pub rechained : (base : Kept) → (h : List Event) (nodes : Slots Node) (chain other : List Key) → AreRecords base h nodes chain → ((key : Key) (node : Node) → find nodes key ≡ Some node → is_on key other ≡ false → is_on key chain ≡ true → due_at node.made node.marks key.number ≡ None) → AreRecords base h nodes other
-rechained base h nodes chain other r quiet = record {
+pub rechained : (base : Kept) → (h : List Event) (nodes : Slots Node) (chain other : List Key) → AreRecords base h nodes chain → IsChained nodes other →
+    AreRecords base h nodes other
+rechained base h nodes chain other r off_it = record {
   each = r.each;
   every = r.every;
-  quiet = λ key node found off. by_test key node found off (is_on key chain) refl;
+  quiet = λ key node found off. sym (ap (option_and_then (λ (n : Node). due_at n.made n.marks key.number)) found) ∙ off_it key off;
 }
-  where
-    by_test : (key : Key) (node : Node) → find nodes key ≡ Some node → is_on key other ≡ false → (b : Bool) → is_on key chain ≡ b → due_at node.made node.marks key.number ≡ None
-    by_test key node found off true on = quiet key node found off on
-    by_test key node found off false on = r.quiet key node found on
 
 -- the way up --------------------------------------------------------------------------------------
 
