@@ -46,7 +46,7 @@ pub fn is_object_of(value: &Value, names: &[&str]) -> bool
 fn is_of_steps(key: &str) -> bool
     ensures { result ≡ is_of_steps key.now }
 {
-    is_one_of(key, &["do", "label", "at", "after", "then"])
+    matches!(key, "do" | "label" | "at" | "after" | "then")
 }
 
 fn are_all_of_steps(members: &Map<String, Value>, names: &[&str]) -> bool
